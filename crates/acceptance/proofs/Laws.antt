@@ -1,0 +1,120 @@
+-- `accepted` is document 01's sentence: degree 8 to 63, and irreducible.
+use mathlib.Core.Path.{_≡_, refl, sym, _∙_}
+use mathlib.Core.Logic.{_↔_}
+use mathlib.Core.Bool.{Bool, true, false, _&&_, _||_, not, true≢false, false≢true}
+use Prim.Native.Nat.{ℕ, zero, suc, _^_, _≤_, _<_}
+use native.Mathlib.Nat.{le-refl, le-trans, zero-lt-suc, not-suc-le-zero, lt-of-le-of-lt, lt-of-lt-of-le, le-of-suc-le-suc}
+use native.Mathlib.Decide.{ℕ-discrete}
+use native.Mathlib.Omega.{arith}
+use lib.Dec.{leb, ltb, eqb}
+use lib.Pow.{pow-mono}
+use borrow.Author.Tests.{leb-true, eqb-true, le-leb, eq-eqb, not-true, le-ltb, ltb-false}
+use Rattle.gf2.specs.Polynomials.{halvings, degree, rem, Divides, Irreducible}
+use Rattle.gf2.proofs.Degree.{degree-is, deg-lo, deg-hi, deg-le, lt-of-pow-lt}
+use Rattle.gf2.proofs.Rem.{rem-of-dvd, dvd-of-rem-zero}
+use Rattle.gf2.proofs.Irreducible.{irreducible, no-divisor}
+use Rattle.acceptance.specs.Keys.{anyBelow, reducible, accepted}
+
+pub and-both : (a b : Bool) → (a && b) ≡ true → (a ≡ true) × (b ≡ true)
+and-both true b e = (refl, e)
+and-both false b e = absurd (false≢true e)
+
+pub or-neither : (a b : Bool) → (a || b) ≡ false → (a ≡ false) × (b ≡ false)
+or-neither true b e = absurd (true≢false e)
+or-neither false b e = (refl, e)
+
+any-false : (f : ℕ → Bool) (n d : ℕ) → anyBelow f n ≡ false → d < n → f d ≡ false
+unfolding anyBelow
+any-false f zero d e l = absurd (not-suc-le-zero l)
+any-false f (suc n) d e l = go (ℕ-discrete d n) (λ m. any-false f n d (or-neither (f n) (anyBelow f n) e .1) m)
+  where
+    go : Dec (d ≡ n) → (d < n → f d ≡ false) → f d ≡ false
+    go (yes q) h = rw q (or-neither (f n) (anyBelow f n) e .0)
+    go (no q) h = h (omega arith)
+
+any-none : (f : ℕ → Bool) (n : ℕ) → ((d : ℕ) → d < n → f d ≡ false) → anyBelow f n ≡ false
+unfolding anyBelow
+any-none f zero h = refl
+any-none f (suc n) h = rw (h n (le-refl (suc n))) (any-none f n (λ d l. h d (omega arith)))
+
+by-cases : (b : Bool) → (b ≡ true → ⊥) → b ≡ false
+by-cases true h = absurd (h refl)
+by-cases false h = refl
+
+big : (p : ℕ) → 1 ≤ degree p → 1 < p
+unfolding degree halvings
+big zero l = absurd (not-suc-le-zero l)
+big (suc p) l = le-trans (pow-mono {i = 1} l) (deg-lo (suc p) (degree (suc p)) (degree-is (suc p) (zero-lt-suc p)))
+
+pub irreducible-of : (p : ℕ) → 1 ≤ degree p → reducible p ≡ false → Irreducible p
+unfolding reducible
+irreducible-of p l e = irreducible p (big p l) none
+  where
+    none : (d : ℕ) → 1 < d → d < 2 ^ degree p → Divides d p → ⊥
+    none d two lt h =
+        true≢false
+        (sym (rw (le-leb 2 d two, eq-eqb (rem d p) 0 (rem-of-dvd (omega arith) p h)))
+        ∙ any-false (λ c. leb 2 c && eqb (rem c p) 0) (2 ^ degree p) d e lt)
+
+pub not-reducible : (p : ℕ) → Irreducible p → reducible p ≡ false
+unfolding reducible
+not-reducible p i = any-none (λ c. leb 2 c && eqb (rem c p) 0) (2 ^ degree p) (λ d l. by-cases (leb 2 d && eqb (rem d p) 0) (none d l))
+  where
+    none : (d : ℕ) → d < 2 ^ degree p → (leb 2 d && eqb (rem d p) 0) ≡ true → ⊥
+    none d l e =
+        let b = and-both (leb 2 d) (eqb (rem d p) 0) e in
+        let two = leb-true 2 d (b .0) in
+        no-divisor p d i two l (dvd-of-rem-zero (omega arith) p (eqb-true (rem d p) 0 (b .1)))
+
+pub accepted-iff : (p : ℕ) → (accepted p ≡ true) ↔ ((8 ≤ degree p) × (degree p ≤ 63) × Irreducible p)
+unfolding accepted
+accepted-iff p = (there, back)
+  where
+    there : (leb 8 (degree p) && leb (degree p) 63 && not (reducible p)) ≡ true → (8 ≤ degree p) × (degree p ≤ 63) × Irreducible p
+    there e =
+        let x = and-both (leb 8 (degree p) && leb (degree p) 63) (not (reducible p)) e in
+        let y = and-both (leb 8 (degree p)) (leb (degree p) 63) (x .0) in
+        let lo = leb-true 8 (degree p) (y .0) in
+        (lo, leb-true (degree p) 63 (y .1), irreducible-of p (omega arith) (not-true (reducible p) (x .1)))
+
+    back : (8 ≤ degree p) × (degree p ≤ 63) × Irreducible p → (leb 8 (degree p) && leb (degree p) 63 && not (reducible p)) ≡ true
+    back h = rw (le-leb 8 (degree p) (h .0), le-leb (degree p) 63 (h .1), not-reducible p (h .2))
+
+-- the same in document 01's words: no polynomial of degree 1 to k - 1 divides it
+pub accepted-words : (p : ℕ) → (accepted p ≡ true) ↔ ((8 ≤ degree p) × (degree p ≤ 63) × ((d : ℕ) → 1 ≤ degree d → degree d < degree p → Divides d p → ⊥))
+accepted-words p = (there, back)
+  where
+    there : accepted p ≡ true → (8 ≤ degree p) × (degree p ≤ 63) × ((d : ℕ) → 1 ≤ degree d → degree d < degree p → Divides d p → ⊥)
+    there e =
+        let a = accepted-iff p .0 e in
+        (a .0, a .1, λ d l m h. no-divisor p d (a .2) (big d l) (lt-of-lt-of-le (deg-hi d (degree d) (degree-is d (pos-of d (big d l)))) (pow-mono m)) h)
+      where
+        pos-of : (d : ℕ) → 1 < d → 0 < d
+        pos-of d l = omega arith
+
+    back : (8 ≤ degree p) × (degree p ≤ 63) × ((d : ℕ) → 1 ≤ degree d → degree d < degree p → Divides d p → ⊥) → accepted p ≡ true
+    back h = accepted-iff p .1 (h .0, h .1, irreducible p (big p (omega (arith, h .0))) none)
+      where
+        none : (d : ℕ) → 1 < d → d < 2 ^ degree p → Divides d p → ⊥
+        none d two lt =
+            let is = degree-is d (omega arith) in
+            h .2 d (le-of-suc-le-suc (lt-of-pow-lt 1 (suc (degree d)) (lt-of-le-of-lt two (deg-hi d (degree d) is)))) (deg-le d (degree d) (degree p) is lt)
+
+pub accepted-pos : (p : ℕ) → accepted p ≡ true → 0 < p
+accepted-pos p e = omega (arith, accepted-iff p .0 e .2 .proper)
+
+-- of a key handed in, a number below 2^64: neither 1 nor 2 applies where it is accepted, and only there
+pub key-iff : (key : ℕ) → key < 2 ^ 64 → (accepted key ≡ true) ↔ ((ltb key 256 ≡ false) × (reducible key ≡ false))
+key-iff key lt = (there, back)
+  where
+    there : accepted key ≡ true → (ltb key 256 ≡ false) × (reducible key ≡ false)
+    there e =
+        let a = accepted-iff key .0 e in
+        (le-ltb key 256 (le-trans (pow-mono {i = 8} (a .0)) (deg-lo key (degree key) (degree-is key (accepted-pos key e)))), not-reducible key (a .2))
+
+    back : (ltb key 256 ≡ false) × (reducible key ≡ false) → accepted key ≡ true
+    back h =
+        let l = ltb-false key 256 (h .0) in
+        let is = degree-is key (omega arith) in
+        let lo = lt-of-pow-lt 8 (suc (degree key)) (lt-of-le-of-lt l (deg-hi key (degree key) is)) in
+        accepted-iff key .1 (le-of-suc-le-suc lo, le-of-suc-le-suc (deg-le key (degree key) 64 is lt), irreducible-of key (omega (arith, lo)) (h .1))

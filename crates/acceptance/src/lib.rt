@@ -1,0 +1,1 @@
+// Which polynomials are keys: document 01's definition in specs/, and in proofs/ the criterion by which the code decides it.

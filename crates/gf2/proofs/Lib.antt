@@ -1,0 +1,9 @@
+pub mod Lists
+pub mod Xor
+pub mod Mul
+pub mod Degree
+pub mod Divides
+pub mod Rem
+pub mod Irreducible
+pub mod Power
+pub mod Monic

@@ -1,0 +1,53 @@
+-- Laws of powers, and of powers modulo a polynomial.
+use mathlib.Core.Path.{_≡_, refl, sym, ap, ap₂, _∙_}
+use Prim.Native.Nat.{ℕ, zero, suc, _+_, _*_, _/_, _%_, _^_, _≤_, _<_}
+use native.Mathlib.Nat.{add-zero, zero-add, suc-add, pow-suc, zero-mul, suc-mul, mul-one}
+use native.Mathlib.Omega.{arith}
+use lib.Pow.{pow-pos}
+use Rattle.gf2.specs.Polynomials.{_⊕_, _⊗_, _⊗^_, rem}
+use Rattle.gf2.proofs.Xor.{⊕-zero}
+use Rattle.gf2.proofs.Mul.{one-⊗, ⊗-one, ⊗-comm, ⊗-assoc, ⊗-left-comm, ⊗-pow}
+use Rattle.gf2.proofs.Rem.{rem-⊗, rem-lt, rem-small, rem-append}
+
+pub pow-zero : (a : ℕ) → a ⊗^ 0 ≡ 1
+unfolding _⊗^_
+pow-zero a = refl
+
+pub pow-step : (a n : ℕ) → a ⊗^ suc n ≡ a ⊗ a ⊗^ n
+unfolding _⊗^_
+pow-step a n = refl
+
+pub pow-one : (a : ℕ) → a ⊗^ 1 ≡ a
+pow-one a = pow-step a 0 ∙ ap (λ (x : ℕ). a ⊗ x) (pow-zero a) ∙ ⊗-one a
+
+pub pow-add : (a m n : ℕ) → a ⊗^ (m + n) ≡ a ⊗^ m ⊗ a ⊗^ n
+pow-add a zero n = rw (zero-add, pow-zero) (sym (one-⊗ (a ⊗^ n)))
+pow-add a (suc m) n =
+    rw (suc-add, pow-step a (m + n), pow-step a m, pow-add a m n) (sym (⊗-assoc a (a ⊗^ m) (a ⊗^ n)))
+
+-- t^n is 2 ^ n
+pub pow-t : (n : ℕ) → 2 ⊗^ n ≡ 2 ^ n
+pow-t zero = pow-zero 2
+pow-t (suc n) = rw (pow-step 2 n, pow-t n, ⊗-comm 2 (2 ^ n), pow-suc 2 n) (⊗-pow 1 (2 ^ n))
+
+module _ {p : ℕ} (pos : 0 < p) where
+  pub rem-rem : (a : ℕ) → rem p (rem p a) ≡ rem p a
+  rem-rem a = rem-small pos (rem p a) (rem-lt pos a)
+
+  -- t^w times a residue
+  pub rem-shl : (a w : ℕ) → rem p (rem p a * 2 ^ w) ≡ rem p (a * 2 ^ w)
+  rem-shl a w = sym (ap (rem p) (sym (add-zero (a * 2 ^ w))) ∙ rem-append pos a w 0 (pow-pos w) ∙ ap (rem p) (⊕-zero (rem p a * 2 ^ w)))
+
+  -- a factor may be reduced first
+  pub rem-⊗-left : (a b : ℕ) → rem p (rem p a ⊗ b) ≡ rem p (a ⊗ b)
+  rem-⊗-left a b = rem-⊗ pos (rem p a) b ∙ ap (λ (x : ℕ). rem p (x ⊗ rem p b)) (rem-rem a) ∙ sym (rem-⊗ pos a b)
+
+  pub rem-⊗-right : (a b : ℕ) → rem p (a ⊗ rem p b) ≡ rem p (a ⊗ b)
+  rem-⊗-right a b = ap (rem p) (⊗-comm a (rem p b)) ∙ rem-⊗-left b a ∙ ap (rem p) (⊗-comm b a)
+
+  -- the base may be reduced first
+  pub rem-pow : (a n : ℕ) → rem p (rem p a ⊗^ n) ≡ rem p (a ⊗^ n)
+  rem-pow a zero = rw (pow-zero, pow-zero)
+  rem-pow a (suc n) =
+      rw (pow-step (rem p a) n, pow-step a n)
+      (rem-⊗-left a (rem p a ⊗^ n) ∙ sym (rem-⊗-right a (rem p a ⊗^ n)) ∙ ap (λ (x : ℕ). rem p (a ⊗ x)) (rem-pow a n) ∙ rem-⊗-right a (a ⊗^ n))

@@ -1,0 +1,85 @@
+-- Polynomials over the field of two elements, as numbers: bit i is the coefficient of t^i (document 01, "Polynomials and keys").
+-- So 2 is t, 2 ^ n is t^n, and the numbers below 2 ^ k are the polynomials of degree less than k.
+use mathlib.Core.Path.{_≡_}
+use mathlib.Core.Logic.{_⊎_}
+use mathlib.Core.List.{List, [], _∷_}
+use Prim.Native.Nat.{ℕ, zero, suc, _+_, _*_, _/_, _%_, _^_, _<_}
+use lib.Bits.{bitXor}
+
+-- ---- the sum: exclusive or
+
+infixl 65 _⊕_
+unfoldable pub _⊕_ : ℕ → ℕ → ℕ
+a ⊕ b = bitXor a b
+
+-- ---- the product: long multiplication without carries
+
+-- by the bits of a, at most n of them
+unfoldable pub longProduct : ℕ → ℕ → ℕ → ℕ
+longProduct zero a b = 0
+longProduct (suc n) zero b = 0
+longProduct (suc n) (suc a) b = longProduct n (suc a / 2) b * 2 ⊕ suc a % 2 * b
+
+infixl 70 _⊗_
+unfoldable pub _⊗_ : ℕ → ℕ → ℕ
+a ⊗ b = longProduct a a b
+
+-- the power a^n, and the product of a list
+infixr 75 _⊗^_
+unfoldable pub _⊗^_ : ℕ → ℕ → ℕ
+a ⊗^ zero = 1
+a ⊗^ suc n = a ⊗ a ⊗^ n
+
+unfoldable pub productOf : List ℕ → ℕ
+productOf [] = 1
+productOf (a ∷ rest) = a ⊗ productOf rest
+
+-- ---- the degree: the place of the highest one bit, counted from 0
+
+-- how often a can be halved before it is 1, at most n times
+unfoldable pub halvings : ℕ → ℕ → ℕ
+halvings zero a = 0
+halvings (suc n) zero = 0
+halvings (suc n) (suc zero) = 0
+halvings (suc n) (suc (suc a)) = suc (halvings n (suc (suc a) / 2))
+
+unfoldable pub degree : ℕ → ℕ
+degree a = halvings a a
+
+-- the same as an equation: a has degree d where nothing but a 1 stands at t^d and above
+abbrev pub Degree : ℕ → ℕ → Type 0
+Degree a d = a / 2 ^ d ≡ 1
+
+unfoldable pub degreeSum : List ℕ → ℕ
+degreeSum [] = 0
+degreeSum (a ∷ rest) = degree a + degreeSum rest
+
+-- the polynomial t^k with the coefficients c below it
+unfoldable pub monic : ℕ → ℕ → ℕ
+monic k c = 2 ^ k + c
+
+-- ---- the residue modulo p: long division, the highest coefficient first
+
+-- s less p where the coefficient of t^k in s is 1
+unfoldable pub reduce : ℕ → ℕ → ℕ → ℕ
+reduce p k s = s / 2 ^ k * p ⊕ s
+
+-- by the bits of a, at most n of them: one bit comes in below, and p is added where a bit reaches t^k
+unfoldable pub longDivision : ℕ → ℕ → ℕ → ℕ → ℕ
+longDivision p k zero a = 0
+longDivision p k (suc n) zero = 0
+longDivision p k (suc n) (suc a) = reduce p k (longDivision p k n (suc a / 2) * 2 + suc a % 2)
+
+unfoldable pub rem : ℕ → ℕ → ℕ
+rem p a = longDivision p (degree p) a a
+
+-- ---- divisors
+
+pub record Divides (d a : ℕ) : Type 0 where
+  pub quotient : ℕ
+  pub product : quotient ⊗ d ≡ a
+
+-- of degree at least 1, and with no divisor but 1 and itself (over the field of two elements no other constant is left)
+pub record Irreducible (p : ℕ) : Type 0 where
+  pub proper : 1 < p
+  pub only : (d : ℕ) → Divides d p → (d ≡ 1) ⊎ (d ≡ p)

@@ -1,0 +1,104 @@
+-- Laws of lists of tests: the first refusal of a list that stands in the order of the numbers is the lowest that applies; what is
+-- known where nothing is refused; and when two lists of tests answer alike.
+use mathlib.Core.Path.{_≡_, refl, sym, ap, _∙_}
+use mathlib.Core.Bool.{Bool, true, false, _||_}
+use mathlib.Core.List.{List, [], _∷_, _++_}
+use Prim.Native.Nat.{ℕ, _<_, min}
+use native.Mathlib.Nat.{lt-trans}
+use native.Mathlib.Omega.{arith}
+use lib.Dec.{T, ltb, ltb→lt}
+use Rattle.gf2.specs.Lists.{All}
+use Rattle.gf2.proofs.Lists.{all-map, rising, and-left, and-right}
+use Rattle.refusals.specs.declared.Refusal.{Refusal}
+use Rattle.refusals.specs.declared.Refusal.the-variants.{KeyBelow256, KeyReducible, DegreeNotListed, ElementOutOfRange, TableSize, TableWord, TooLong, MarkNotReduced, PageLengthsDiffer, PagePastEnd, EmptyPattern, PageSize, BufferShort, SheetMalformed}
+use Rattle.refusals.specs.Refusals.{number, Answer, Done, numberOf, stateOf, Test, _⇒_, firstOf}
+
+-- ---- the lowest number that applies
+
+-- the numbers of all tests, and of those that hold
+abbrev pub numbers : List Test → List ℕ
+numbers [] = []
+numbers (b ⇒ r ∷ ts) = number r ∷ numbers ts
+
+abbrev pub applying : List Test → List ℕ
+applying [] = []
+applying (true ⇒ r ∷ ts) = number r ∷ applying ts
+applying (false ⇒ r ∷ ts) = applying ts
+
+-- the lowest of a list, 0 where it has none
+abbrev pub least : ℕ → List ℕ → ℕ
+least n [] = n
+least n (m ∷ ns) = least (min n m) ns
+
+abbrev pub lowest : List ℕ → ℕ
+lowest [] = 0
+lowest (n ∷ ns) = least n ns
+
+above : (b : ℕ) (ts : List Test) → T (rising b (numbers ts)) → All (λ n. b < n) (applying ts)
+unfolding rising
+above b [] t = tt
+above b (true ⇒ r ∷ ts) t =
+    let l = ltb→lt b (number r) (and-left (ltb b (number r)) (rising (number r) (numbers ts)) t) in
+    (l, all-map (λ n h. lt-trans l h) (applying ts) (above (number r) ts (and-right (ltb b (number r)) (rising (number r) (numbers ts)) t)))
+above b (false ⇒ r ∷ ts) t =
+    let l = ltb→lt b (number r) (and-left (ltb b (number r)) (rising (number r) (numbers ts)) t) in
+    all-map (λ n h. lt-trans l h) (applying ts) (above (number r) ts (and-right (ltb b (number r)) (rising (number r) (numbers ts)) t))
+
+least-is : (n : ℕ) (ns : List ℕ) → All (λ m. n < m) ns → n ≡ least n ns
+least-is n [] h = refl
+least-is n (m ∷ ns) h = least-is n ns (h .1) ∙ ap (λ (x : ℕ). least x ns) (omega (arith, h .0))
+
+first-from : {S A : Type 0} (b : ℕ) (ts : List Test) (x : S) (y : A) → T (rising b (numbers ts)) → numberOf (firstOf ts x y) ≡ lowest (applying ts)
+unfolding rising
+first-from b [] x y t = refl
+first-from b (true ⇒ r ∷ ts) x y t =
+    least-is (number r) (applying ts) (above (number r) ts (and-right (ltb b (number r)) (rising (number r) (numbers ts)) t))
+first-from b (false ⇒ r ∷ ts) x y t = first-from (number r) ts x y (and-right (ltb b (number r)) (rising (number r) (numbers ts)) t)
+
+pub first-is-lowest : {S A : Type 0} (ts : List Test) (x : S) (y : A) → T (rising 0 (numbers ts)) → numberOf (firstOf ts x y) ≡ lowest (applying ts)
+first-is-lowest ts x y t = first-from 0 ts x y t
+
+-- ---- where nothing is refused
+
+pub no-zero : (r : Refusal) → number r ≡ 0 → ⊥
+no-zero KeyBelow256 e = omega arith
+no-zero KeyReducible e = omega arith
+no-zero DegreeNotListed e = omega arith
+no-zero ElementOutOfRange e = omega arith
+no-zero TableSize e = omega arith
+no-zero TableWord e = omega arith
+no-zero TooLong e = omega arith
+no-zero MarkNotReduced e = omega arith
+no-zero PageLengthsDiffer e = omega arith
+no-zero PagePastEnd e = omega arith
+no-zero EmptyPattern e = omega arith
+no-zero PageSize e = omega arith
+no-zero BufferShort e = omega arith
+no-zero SheetMalformed e = omega arith
+
+module _ {S A : Type 0} where
+  -- a test that fails may be left out
+  pub skip : (ts us : List Test) (r : Refusal) (x : S) (y : A) → firstOf (ts ++ false ⇒ r ∷ us) x y ≡ firstOf (ts ++ us) x y
+  skip [] us r x y = refl
+  skip (true ⇒ q ∷ ts) us r x y = refl
+  skip (false ⇒ q ∷ ts) us r x y = skip ts us r x y
+
+  -- where nothing is refused, no test holds
+  pub passed : (ts us : List Test) (b : Bool) (r : Refusal) (x : S) (y : A) → numberOf (firstOf (ts ++ b ⇒ r ∷ us) x y) ≡ 0 → b ≡ false
+  passed [] us true r x y e = absurd (no-zero r e)
+  passed [] us false r x y e = refl
+  passed (true ⇒ q ∷ ts) us b r x y e = absurd (no-zero q e)
+  passed (false ⇒ q ∷ ts) us b r x y e = passed ts us b r x y e
+
+  -- only where nothing is refused does the value matter
+  pub same-value : (ts : List Test) (x : S) (y z : A) → (numberOf (firstOf ts x y) ≡ 0 → y ≡ z) → firstOf ts x y ≡ firstOf ts x z
+  same-value [] x y z h = ap Done (h refl)
+  same-value (true ⇒ r ∷ ts) x y z h = refl
+  same-value (false ⇒ r ∷ ts) x y z h = same-value ts x y z h
+
+-- the same tests on two sides: the same refusal, and on both sides what was kept or what comes next
+pub agree : {A B : Type 0} (f : B → A) (ts : List Test) (kept next : B) (nxt : A) → (numberOf (firstOf ts kept next) ≡ 0 → nxt ≡ f next)
+    → (stateOf (firstOf ts (f kept) nxt) ≡ f (stateOf (firstOf ts kept next))) × (numberOf (firstOf ts (f kept) nxt) ≡ numberOf (firstOf ts kept next))
+agree f [] kept next nxt h = (h refl, refl)
+agree f (true ⇒ r ∷ ts) kept next nxt h = (refl, refl)
+agree f (false ⇒ r ∷ ts) kept next nxt h = agree f ts kept next nxt h

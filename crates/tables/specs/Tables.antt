@@ -1,0 +1,53 @@
+-- Tables (document 01, "Tables"; 003, section 4, for every degree), for groups of w bits: document 01 has w = 8 and four groups.
+use mathlib.Core.Bool.{Bool, false, _||_, not}
+use mathlib.Core.List.{List, [], _∷_, _++_}
+use Prim.Native.Nat.{ℕ, zero, suc, _+_, _*_, _/_, _%_, _^_}
+use lib.Dec.{eqb}
+use lib.ListN.{length}
+use Rattle.gf2.specs.Polynomials.{degree, rem}
+use Rattle.refusals.specs.declared.Refusal.the-variants.{TableSize, TableWord}
+use Rattle.refusals.specs.Refusals.{Answer, Test, _⇒_, firstOf}
+use Rattle.acceptance.specs.Keys.{keyTests}
+use Rattle.files.specs.declared.Mark.{Mark}
+use Rattle.marks.specs.Feeding.{feedTests, fedMark}
+
+-- the rule: word 2^w·j + i is the residue of i·t^(k + w·j)
+unfoldable pub word : ℕ → ℕ → ℕ → ℕ
+word w key n = rem key (n % 2 ^ w * 2 ^ (degree key + w * (n / 2 ^ w)))
+
+-- a word differs from the rule, the first of the list standing at place n
+unfoldable pub differs : (ℕ → ℕ) → ℕ → List ℕ → Bool
+differs rule n [] = false
+differs rule n (x ∷ xs) = not (eqb x (rule n)) || differs rule (suc n) xs
+
+-- the table: c words from place n on
+unfoldable pub tableFrom : (ℕ → ℕ) → ℕ → ℕ → List ℕ
+tableFrom rule n zero = []
+tableFrom rule n (suc c) = rule n ∷ tableFrom rule (suc n) c
+
+-- number 5
+abbrev pub sizeTest : List ℕ → Test
+sizeTest words = not (eqb (length words) 1024) ⇒ TableSize
+
+-- numbers 5 and 6
+abbrev pub tableTests : ℕ → List ℕ → List Test
+tableTests key words = sizeTest words ∷ differs (word 8 key) 0 words ⇒ TableWord ∷ []
+
+-- what the lent words are after the call
+unfoldable pub makeTable : ℕ → List ℕ → Answer (List ℕ) (List ℕ)
+makeTable key words = firstOf (keyTests key ++ sizeTest words ∷ []) words (tableFrom (word 8 key) 0 1024)
+
+unfoldable pub testTable : ℕ → List ℕ → Answer Unit Unit
+testTable key words = firstOf (keyTests key ++ tableTests key words) tt tt
+
+-- All words are tested first, so the value is the one of feeding by bits: a reader need not believe how the words are used.
+unfoldable pub feedTable : ℕ → Mark → List ℕ → List ℕ → Answer Mark Mark
+feedTable key m words part = firstOf (keyTests key ++ tableTests key words ++ feedTests key m part) m (fedMark key m part)
+
+-- the key of document 01's house table: the stock key of degree 61
+abbrev pub houseKey : ℕ
+houseKey = 0x2000000000000027
+
+-- feeding under the house key, by the constant table
+unfoldable pub feedHouse : Mark → List ℕ → Answer Mark Mark
+feedHouse m part = firstOf (feedTests houseKey m part) m (fedMark houseKey m part)

@@ -1,0 +1,1 @@
+// Tables of residues: making one, testing one against its key, and feeding a file by one, four bytes at a time.
