@@ -8,12 +8,12 @@ use native.Mathlib.Decide.{ℕ-discrete, decLt}
 use native.Mathlib.Omega.{arith}
 use lib.Pow.{pow-mono}
 use Rattle.gf2.specs.Polynomials.{_⊕_, _⊗_, degree, rem, Divides, Irreducible}
-use Rattle.gf2.proofs.Xor.{⊕-eq, ⊕-lt, xor}
-use Rattle.gf2.proofs.Mul.{one-⊗, ⊗-one, ⊗-comm, ring}
-use Rattle.gf2.proofs.Degree.{degree-is, degree-eq, degree-⊗, deg-hi, deg-zero}
-use Rattle.gf2.proofs.Divides.{dvd-by, dvd-left, dvd-⊕, dvd-trans, dvd-small}
-use Rattle.gf2.proofs.Rem.{rem-lt, rem-dvd, rem-cong, rem-⊗, rem-of-dvd, dvd-of-rem-zero}
-use Rattle.gf2.proofs.Irreducible.{Bezout, bezout, euclid-lemma, pos-left, pos-right, whole}
+use Rattle.gf2.proofs.Sums.{⊕-eq, ⊕-lt, xor}
+use Rattle.gf2.proofs.Products.{one-⊗, ⊗-one, ⊗-comm, ring}
+use Rattle.gf2.proofs.Degrees.{degree-is, degree-eq, degree-⊗, deg-hi, deg-zero}
+use Rattle.gf2.proofs.Divisors.{dvd-by, dvd-left, dvd-⊕, dvd-trans, dvd-small}
+use Rattle.gf2.proofs.Residues.{rem-lt, rem-dvd, rem-cong, rem-⊗, rem-of-dvd, dvd-of-rem-zero}
+use Rattle.gf2.proofs.Irreducibles.{Bezout, bezout, euclid-lemma, pos-left, pos-right, whole}
 
 pub record Rigid (p : ℕ) : Type 0 where
   pub proper : 1 < p

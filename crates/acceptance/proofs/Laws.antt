@@ -10,9 +10,9 @@ use lib.Dec.{leb, ltb, eqb}
 use lib.Pow.{pow-mono}
 use borrow.Author.Tests.{leb-true, eqb-true, le-leb, eq-eqb, not-true, le-ltb, ltb-false}
 use Rattle.gf2.specs.Polynomials.{halvings, degree, rem, Divides, Irreducible}
-use Rattle.gf2.proofs.Degree.{degree-is, deg-lo, deg-hi, deg-le, lt-of-pow-lt}
-use Rattle.gf2.proofs.Rem.{rem-of-dvd, dvd-of-rem-zero}
-use Rattle.gf2.proofs.Irreducible.{irreducible, no-divisor}
+use Rattle.gf2.proofs.Degrees.{degree-is, deg-lo, deg-hi, deg-le, lt-of-pow-lt}
+use Rattle.gf2.proofs.Residues.{rem-of-dvd, dvd-of-rem-zero}
+use Rattle.gf2.proofs.Irreducibles.{irreducible, no-divisor}
 use Rattle.acceptance.specs.Keys.{anyBelow, reducible, accepted}
 
 pub and-both : (a b : Bool) → (a && b) ≡ true → (a ≡ true) × (b ≡ true)

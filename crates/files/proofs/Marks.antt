@@ -6,9 +6,9 @@ use native.Mathlib.Nat.{add-zero, one-mul}
 use lib.ListN.{length, length-append}
 use lib.Pow.{pow-pos}
 use Rattle.gf2.specs.Polynomials.{_⊕_, rem}
-use Rattle.gf2.proofs.Xor.{⊕-zero, ⊕-move, xor}
-use Rattle.gf2.proofs.Rem.{rem-⊕}
-use Rattle.gf2.proofs.Power.{rem-rem, rem-shl}
+use Rattle.gf2.proofs.Sums.{⊕-zero, ⊕-move, xor}
+use Rattle.gf2.proofs.Residues.{rem-⊕}
+use Rattle.gf2.proofs.Powers.{rem-rem, rem-shl}
 use Rattle.files.specs.Files.{bits, valueFrom, value, fingerprint, markOf}
 use Rattle.files.specs.declared.Mark.{Mark}
 use Rattle.files.proofs.Values.{value-append, value-⊕, length-bits, bits-append, rem-from, value-change}

@@ -9,10 +9,10 @@ use lib.Arith.{digits-lt, digits-div}
 use lib.ListN.{length, length-append}
 use lib.Pow.{mod-pow-add}
 use Rattle.gf2.specs.Polynomials.{_⊕_, Degree, rem}
-use Rattle.gf2.proofs.Xor.{⊕-append, ⊕-shl, xor}
-use Rattle.gf2.proofs.Mul.{shl-suc}
-use Rattle.gf2.proofs.Degree.{deg-unique}
-use Rattle.gf2.proofs.Rem.{rem-lt, rem-small, rem-append}
+use Rattle.gf2.proofs.Sums.{⊕-append, ⊕-shl, xor}
+use Rattle.gf2.proofs.Products.{shl-suc}
+use Rattle.gf2.proofs.Degrees.{deg-unique}
+use Rattle.gf2.proofs.Residues.{rem-lt, rem-small, rem-append}
 use Rattle.files.specs.Files.{lowBits, bits, valueFrom, value, Bytes}
 
 pub value-append : (s : ℕ) (a b : List ℕ) → valueFrom s (a ++ b) ≡ valueFrom (valueFrom s a) b

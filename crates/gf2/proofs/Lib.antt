@@ -1,9 +1,9 @@
 pub mod Lists
-pub mod Xor
-pub mod Mul
-pub mod Degree
-pub mod Divides
-pub mod Rem
-pub mod Irreducible
-pub mod Power
-pub mod Monic
+pub mod Sums
+pub mod Products
+pub mod Degrees
+pub mod Divisors
+pub mod Residues
+pub mod Irreducibles
+pub mod Powers
+pub mod Monics

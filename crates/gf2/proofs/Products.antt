@@ -8,7 +8,7 @@ use native.Mathlib.Decide.{le-ind}
 use native.Mathlib.Omega.{arith}
 use lib.Arith.{half-le, bin-ind}
 use Rattle.gf2.specs.Polynomials.{_⊕_, longProduct, _⊗_}
-use Rattle.gf2.proofs.Xor.{⊕-zero, zero-⊕, ⊕-half, ⊕-low, ⊕-dbl, ⊕-bit, xor}
+use Rattle.gf2.proofs.Sums.{⊕-zero, zero-⊕, ⊕-half, ⊕-low, ⊕-dbl, ⊕-bit, xor}
 
 more : (n a b : ℕ) → a ≤ n → longProduct (suc n) a b ≡ longProduct n a b
 unfolding longProduct

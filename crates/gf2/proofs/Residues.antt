@@ -8,10 +8,10 @@ use native.Mathlib.Omega.{arith}
 use lib.Arith.{half-le, bin-ind}
 use lib.Pow.{pow-pos}
 use Rattle.gf2.specs.Polynomials.{_⊕_, _⊗_, degree, Degree, reduce, longDivision, rem, Divides}
-use Rattle.gf2.proofs.Xor.{⊕-zero, zero-⊕, ⊕-bit, ⊕-append, ⊕-lt, ⊕-eq, ⊕-shl, ⊕-dbl, xor}
-use Rattle.gf2.proofs.Mul.{zero-⊗, one-⊗, dbl-⊗, ⊗-pow, ⊗-comm, by-low, mod-2, bit-cases, ring}
-use Rattle.gf2.proofs.Degree.{degree-is, deg-cancel, lt-of-high}
-use Rattle.gf2.proofs.Divides.{dvd-by, dvd-left, dvd-zero, dvd-⊕, dvd-⊗, dvd-small}
+use Rattle.gf2.proofs.Sums.{⊕-zero, zero-⊕, ⊕-bit, ⊕-append, ⊕-lt, ⊕-eq, ⊕-shl, ⊕-dbl, xor}
+use Rattle.gf2.proofs.Products.{zero-⊗, one-⊗, dbl-⊗, ⊗-pow, ⊗-comm, by-low, mod-2, bit-cases, ring}
+use Rattle.gf2.proofs.Degrees.{degree-is, deg-cancel, lt-of-high}
+use Rattle.gf2.proofs.Divisors.{dvd-by, dvd-left, dvd-zero, dvd-⊕, dvd-⊗, dvd-small}
 
 more : (p k n a : ℕ) → a ≤ n → longDivision p k (suc n) a ≡ longDivision p k n a
 unfolding longDivision

@@ -5,8 +5,8 @@ use native.Mathlib.Nat.{eq-zero-or-pos, le-add-left, not-le-of-lt, le-trans}
 use mathlib.Core.Logic.{_⊎_, inl, inr}
 use lib.Pow.{pow-mono}
 use Rattle.gf2.specs.Polynomials.{_⊕_, _⊗_, degree, Degree, Divides}
-use Rattle.gf2.proofs.Mul.{zero-⊗, one-⊗, ⊕-⊗, ⊗-assoc}
-use Rattle.gf2.proofs.Degree.{deg-⊗, deg-lo, degree-is}
+use Rattle.gf2.proofs.Products.{zero-⊗, one-⊗, ⊕-⊗, ⊗-assoc}
+use Rattle.gf2.proofs.Degrees.{deg-⊗, deg-lo, degree-is}
 
 -- the same, of an equal polynomial
 pub dvd-by : {p a b : ℕ} → Divides p a → a ≡ b → Divides p b

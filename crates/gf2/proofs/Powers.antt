@@ -5,9 +5,9 @@ use native.Mathlib.Nat.{add-zero, zero-add, suc-add, pow-suc, zero-mul, suc-mul,
 use native.Mathlib.Omega.{arith}
 use lib.Pow.{pow-pos}
 use Rattle.gf2.specs.Polynomials.{_⊕_, _⊗_, _⊗^_, rem}
-use Rattle.gf2.proofs.Xor.{⊕-zero}
-use Rattle.gf2.proofs.Mul.{one-⊗, ⊗-one, ⊗-comm, ⊗-assoc, ⊗-left-comm, ⊗-pow}
-use Rattle.gf2.proofs.Rem.{rem-⊗, rem-lt, rem-small, rem-append}
+use Rattle.gf2.proofs.Sums.{⊕-zero}
+use Rattle.gf2.proofs.Products.{one-⊗, ⊗-one, ⊗-comm, ⊗-assoc, ⊗-left-comm, ⊗-pow}
+use Rattle.gf2.proofs.Residues.{rem-⊗, rem-lt, rem-small, rem-append}
 
 pub pow-zero : (a : ℕ) → a ⊗^ 0 ≡ 1
 unfolding _⊗^_

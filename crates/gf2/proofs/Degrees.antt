@@ -8,8 +8,8 @@ use native.Mathlib.Omega.{arith}
 use lib.Arith.{half-le}
 use lib.Pow.{pow-pos, pow-mono}
 use Rattle.gf2.specs.Polynomials.{_⊕_, _⊗_, halvings, degree, Degree}
-use Rattle.gf2.proofs.Xor.{⊕-zero, ⊕-self, ⊕-shr, ⊕-eq}
-use Rattle.gf2.proofs.Mul.{⊗-step, one-⊗, ⊕-⊗, by-bit}
+use Rattle.gf2.proofs.Sums.{⊕-zero, ⊕-self, ⊕-shr, ⊕-eq}
+use Rattle.gf2.proofs.Products.{⊗-step, one-⊗, ⊕-⊗, by-bit}
 
 -- ---- as an order: 2 ^ d ≤ n < 2 ^ (d + 1)
 

@@ -10,11 +10,11 @@ use lib.ListN.{length}
 use Rattle.gf2.specs.Lists.{All, Some, Distinct}
 use Rattle.gf2.specs.Polynomials.{_⊕_, _⊗_, productOf, degree, Degree, degreeSum, rem, Divides, Irreducible}
 use Rattle.gf2.proofs.Lists.{all-map, all-zip}
-use Rattle.gf2.proofs.Xor.{xor}
-use Rattle.gf2.proofs.Mul.{zero-⊗, one-⊗, ⊕-⊗, ⊗-assoc, ⊗-comm, ring}
-use Rattle.gf2.proofs.Degree.{degree-is, degree-eq, degree-⊗, pos-⊗, deg-⊗, deg-lo, deg-hi, lt-of-pow-lt, deg-zero}
-use Rattle.gf2.proofs.Divides.{dvd-by, dvd-left, dvd-refl, dvd-zero, dvd-⊕, dvd-⊗, dvd-trans}
-use Rattle.gf2.proofs.Rem.{rem-lt, rem-dvd}
+use Rattle.gf2.proofs.Sums.{xor}
+use Rattle.gf2.proofs.Products.{zero-⊗, one-⊗, ⊕-⊗, ⊗-assoc, ⊗-comm, ring}
+use Rattle.gf2.proofs.Degrees.{degree-is, degree-eq, degree-⊗, pos-⊗, deg-⊗, deg-lo, deg-hi, lt-of-pow-lt, deg-zero}
+use Rattle.gf2.proofs.Divisors.{dvd-by, dvd-left, dvd-refl, dvd-zero, dvd-⊕, dvd-⊗, dvd-trans}
+use Rattle.gf2.proofs.Residues.{rem-lt, rem-dvd}
 
 -- ---- Bezout: a common divisor that is a combination
 

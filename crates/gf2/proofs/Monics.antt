@@ -5,8 +5,8 @@ use native.Mathlib.Nat.{one-mul, mod-lt, div-self}
 use native.Mathlib.Omega.{arith}
 use lib.Pow.{pow-pos, split}
 use Rattle.gf2.specs.Polynomials.{_⊕_, degree, Degree, monic}
-use Rattle.gf2.proofs.Xor.{⊕-append}
-use Rattle.gf2.proofs.Degree.{degree-eq, deg-pos, deg-⊕}
+use Rattle.gf2.proofs.Sums.{⊕-append}
+use Rattle.gf2.proofs.Degrees.{degree-eq, deg-pos, deg-⊕}
 
 pub monic-⊕ : (k c : ℕ) → c < 2 ^ k → monic k c ≡ 2 ^ k ⊕ c
 unfolding monic
