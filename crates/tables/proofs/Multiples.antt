@@ -4,9 +4,12 @@ use mathlib.Core.Path.{_≡_, refl, sym, ap, ap₂, _∙_}
 use mathlib.Core.List.{List}
 use Prim.Native.Nat.{ℕ, zero, suc, _+_, _-_, _*_, _/_, _%_, _^_, _≤_, _<_}
 use native.Mathlib.Nat.{add-zero, one-mul, add-assoc, pow-suc}
-use native.Mathlib.Decide.{decLt}
+use native.Mathlib.Decide.{decLt, ℕ-discrete}
 use native.Mathlib.Omega.{arith}
-use lib.ListN.{getD}
+use lib.Arith.{lt-of-le-ne}
+use lib.ListN.{length, getD, set}
+use lib.Pow.{pow-mono}
+use lib.Seq.{getD-set-same, getD-set-other}
 use Rattle.gf2.specs.Polynomials.{_⊕_, _⊗_, rem}
 use Rattle.gf2.proofs.Sums.{⊕-append, ⊕-comm}
 use Rattle.gf2.proofs.Products.{zero-⊗, one-⊗, dbl-⊗, ⊕-⊗}
@@ -62,3 +65,39 @@ module _ {key : ℕ} (pos : 0 < key) (x : ℕ) where
         ∙ f (z + m) (omega arith)
         ∙ at-double m l
         ∙ ap (λ (v : ℕ). v ⊕ y) (sym (f m (omega arith)))
+
+-- ---- filling by doubling, one store at a time
+
+module _ (a b y : ℕ) (from words : List ℕ) (i : ℕ) (l : b + i < length words) (h : a + i < b) where
+  abbrev pub stored : List ℕ
+  stored = set words (b + i) (getD words (a + i) 0 ⊕ y)
+
+  pub same-more : SameBefore b from words → SameBefore b from stored
+  same-more s m g = getD-set-other words (b + i) m (getD words (a + i) 0 ⊕ y) 0 (λ e. omega arith) ∙ s m g
+
+  pub shifted-more : SameBefore b from words → Shifted a b i y from words → Shifted a b (i + 1) y from stored
+  shifted-more s f m g = go (ℕ-discrete m i)
+    where
+      go : Dec (m ≡ i) → getD (set words (b + i) (getD words (a + i) 0 ⊕ y)) (b + m) 0 ≡ getD from (a + m) 0 ⊕ y
+      go (yes e) = rw e (getD-set-same words (b + i) (getD words (a + i) 0 ⊕ y) 0 l ∙ ap (λ (v : ℕ). v ⊕ y) (s (a + i) h))
+      go (no e) = getD-set-other words (b + i) (b + m) (getD words (a + i) 0 ⊕ y) 0 (λ q. e (omega arith)) ∙ f m (lt-of-le-ne (omega arith) e)
+
+-- the row of one word, the multiple by 0
+pub row-one : {key : ℕ} (pos : 0 < key) (x a : ℕ) (words : List ℕ) → a < length words → Multiples key x a 1 (set words a 0)
+row-one {key} pos x a words l i h =
+    let e : i ≡ 0 = omega arith in
+    rw (e, add-zero) (getD-set-same words a 0 0 l ∙ sym (multiple-zero pos x))
+
+pub row-before : (a : ℕ) (words : List ℕ) → SameBefore a words (set words a 0)
+row-before a words i l = getD-set-other words a i 0 0 (λ e. omega arith)
+
+-- what a list's double keeps of a row
+pub row-kept : (key x a n : ℕ) (from words : List ℕ) → SameBefore (a + n) from words → Multiples key x a n from → Multiples key x a n words
+row-kept key x a n from words s f i l = s (a + i) (omega arith) ∙ f i l
+
+pub shifted-kept : (a n y : ℕ) (from words : List ℕ) → SameBefore (a + n) from words → Shifted a (a + n) n y from words → Shifted a (a + n) n y words words
+shifted-kept a n y from words s f i l = f i l ∙ ap (λ (v : ℕ). v ⊕ y) (sym (s (a + i) (omega arith)))
+
+-- half of the row that is still to be made
+pub double-le : {b width : ℕ} → b < width → 2 ^ b * 2 ≤ 2 ^ width
+double-le {b} {width} h = rw (← (pow-suc 2 b)) (pow-mono {i = suc b} {j = width} h)
