@@ -169,3 +169,180 @@ pub fn feed_table(key: u64, mark: Mark, words: &[u64], part: &[u8]) -> Answer<Ma
 pub fn feed_house(mark: Mark, part: &[u8]) -> Answer<Mark> {
     feed(0x2000_0000_0000_0027, mark, part)
 }
+
+// ---- Site: joining, page change, search, page sheets
+
+/// F·t^(8b) + G + t^(8b), length a + b.
+fn joined(key: u64, front: Mark, back: Mark) -> Mark {
+    let power = power_of_t(key, 8 * back.length);
+    let fingerprint = multiply_modulo(key, front.fingerprint, power) ^ back.fingerprint ^ power;
+    Mark { fingerprint, length: front.length + back.length }
+}
+
+fn join_tests(key: u64, mark: Mark, other: Mark) -> Answer<()> {
+    test_key(key)?;
+    refuse(&[
+        (7, sum_too_long(mark.length, other.length)),
+        (8, unreduced(key, mark.fingerprint) || unreduced(key, other.fingerprint)),
+    ])
+}
+
+pub fn join_behind(key: u64, mark: Mark, other: Mark) -> Answer<Mark> {
+    join_tests(key, mark, other)?;
+    Ok(joined(key, mark, other))
+}
+
+pub fn join_in_front(key: u64, mark: Mark, other: Mark) -> Answer<Mark> {
+    join_tests(key, mark, other)?;
+    Ok(joined(key, other, mark))
+}
+
+pub fn replace_page(key: u64, mark: Mark, place: u64, old: &[u8], new: &[u8]) -> Answer<Mark> {
+    test_key(key)?;
+    let end = u128::from(place) + old.len() as u128;
+    refuse(&[
+        (7, too_long(&[mark.length.into(), old.len() as u128, new.len() as u128])),
+        (8, unreduced(key, mark.fingerprint)),
+        (9, old.len() != new.len()),
+        (10, end > u128::from(mark.length)),
+    ])?;
+    let difference = fingerprint(key, old) ^ fingerprint(key, new);
+    let after = power_of_t(key, 8 * (mark.length - end as u64));
+    Ok(Mark { fingerprint: mark.fingerprint ^ multiply_modulo(key, difference, after), length: mark.length })
+}
+
+/// The places, and the number of windows with the pattern's fingerprint and other bytes.
+pub fn search(key: u64, text: &[u8], pattern: &[u8]) -> Answer<(Vec<u32>, u64)> {
+    test_key(key)?;
+    refuse(&[(7, too_long(&[text.len() as u128, pattern.len() as u128])), (11, pattern.is_empty())])?;
+    let wanted = fingerprint(key, pattern);
+    let mut places = Vec::new();
+    let mut alarms = 0;
+    for (at, window) in text.windows(pattern.len()).enumerate() {
+        if window == pattern {
+            places.push(at as u32);
+        } else if fingerprint(key, window) == wanted {
+            alarms += 1;
+        }
+    }
+    Ok((places, alarms))
+}
+
+fn pages(n: u64, s: u64) -> u64 {
+    (u128::from(n) + u128::from(s) - 1).div_euclid(u128::from(s)) as u64
+}
+
+/// Each page, the last one filled up with zero bytes.
+fn filled_pages(file: &[u8], s: usize) -> impl Iterator<Item = Vec<u8>> + '_ {
+    file.chunks(s).map(move |page| {
+        let mut page = page.to_vec();
+        page.resize(s, 0);
+        page
+    })
+}
+
+pub fn sheet(key: u64, s: u64, file: &[u8]) -> Vec<u8> {
+    let mut bytes = b"GFP\x00\x01".to_vec();
+    bytes.extend(key.to_be_bytes());
+    bytes.extend((file.len() as u32).to_be_bytes());
+    bytes.extend((s as u16).to_be_bytes());
+    for page in filled_pages(file, s as usize) {
+        bytes.extend(fingerprint(key, &page).to_be_bytes());
+    }
+    bytes.extend(fingerprint(key, file).to_be_bytes());
+    bytes
+}
+
+/// The lent buffer after the call.
+pub fn write_sheet(key: u64, s: u64, file: &[u8], buffer: &[u8]) -> Answer<Vec<u8>> {
+    test_key(key)?;
+    refuse(&[(7, too_long(&[file.len() as u128])), (12, !(16..=4096).contains(&s))])?;
+    refuse(&[(13, (buffer.len() as u64) < 27 + 8 * pages(file.len() as u64, s))])?;
+    let mut after = sheet(key, s, file);
+    after.extend(&buffer[after.len()..]);
+    Ok(after)
+}
+
+#[derive(Clone, Debug, PartialEq, Eq)]
+pub struct Sheet {
+    pub key: u64,
+    pub length: u64,
+    pub page_size: u64,
+    pub pages: Vec<u64>,
+    pub fingerprint: u64,
+}
+
+fn number(bytes: &[u8]) -> u64 {
+    bytes.iter().fold(0, |n, &b| n << 8 | u64::from(b))
+}
+
+pub fn read_sheet(bytes: &[u8]) -> Answer<Sheet> {
+    if bytes.len() < 27 || bytes[..3] != *b"GFP" || number(&bytes[3..5]) != 1 {
+        return Err(14);
+    }
+    let key = number(&bytes[5..13]);
+    let length = number(&bytes[13..17]);
+    let page_size = number(&bytes[17..19]);
+    test_key(key)?;
+    refuse(&[(12, !(16..=4096).contains(&page_size))])?;
+    let c = pages(length, page_size);
+    refuse(&[(14, bytes.len() as u64 != 27 + 8 * c)])?;
+    let fields: Vec<u64> = bytes[19..].chunks(8).map(number).collect();
+    refuse(&[(14, fields.iter().any(|&f| unreduced(key, f)))])?;
+    let (&fingerprint, page_marks) = fields.split_last().expect("the file's field");
+    // the page marks joined, each of length s: F·t^(8s) + G + t^(8s) from 1
+    let power = power_of_t(key, 8 * page_size);
+    let whole = page_marks.iter().fold(residue(key, 1), |f, g| multiply_modulo(key, f, power) ^ g ^ power);
+    let filled = power_of_t(key, 8 * (c * page_size - length));
+    refuse(&[(14, whole != multiply_modulo(key, fingerprint, filled))])?;
+    Ok(Sheet { key, length, page_size, pages: page_marks.to_vec(), fingerprint })
+}
+
+#[derive(Clone, Copy, Debug, PartialEq, Eq)]
+pub enum Check {
+    Same,
+    Page(u64),
+    OtherLength,
+}
+
+pub fn check_file(bytes: &[u8], file: &[u8]) -> Answer<Check> {
+    let sheet = read_sheet(bytes)?;
+    refuse(&[(7, too_long(&[file.len() as u128]))])?;
+    if file.len() as u64 != sheet.length {
+        return Ok(Check::OtherLength);
+    }
+    let changed = filled_pages(file, sheet.page_size as usize).zip(&sheet.pages).position(|(page, &f)| fingerprint(sheet.key, &page) != f);
+    Ok(changed.map_or(Check::Same, |i| Check::Page(i as u64)))
+}
+
+// ---- Keyholder: drawing
+
+pub const DRAWN_DEGREES: [u32; 14] = [11, 13, 17, 19, 23, 29, 31, 37, 41, 43, 47, 53, 59, 61];
+
+/// The smallest irreducible polynomial of degree k.
+pub fn stock_key(k: u32) -> u64 {
+    (1u64 << k..).find(|&p| irreducible(p)).expect("one of each degree")
+}
+
+/// The product of (x + c) over the conjugates c of the element: its minimal polynomial where the degree is prime.
+pub fn draw(k: u64, element: u64) -> Answer<u64> {
+    refuse(&[(3, !DRAWN_DEGREES.contains(&(k.min(64) as u32)))])?;
+    refuse(&[(4, element < 2 || element >> k != 0)])?;
+    let f = stock_key(k as u32);
+    // coefficients in the field, the lowest first
+    let mut product = vec![1u64];
+    let mut conjugate = element;
+    for _ in 0..k {
+        let mut next = vec![0u64; product.len() + 1];
+        for (i, &c) in product.iter().enumerate() {
+            next[i + 1] ^= c;
+            next[i] ^= multiply_modulo(f, c, conjugate);
+        }
+        product = next;
+        conjugate = multiply_modulo(f, conjugate, conjugate);
+    }
+    Ok(product.iter().enumerate().fold(0, |p, (i, &c)| {
+        assert!(c < 2, "a coefficient outside the field of two elements");
+        p | c << i
+    }))
+}
