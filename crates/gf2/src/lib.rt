@@ -30,7 +30,8 @@ pub fn step(k: u32, low: u64, f: u64, bit: u64) -> u64
     let cut = k - 1;
     let top = f >> cut;
     let rest = low_bits(f, cut);
-    (rest * 2 + bit) ^ (low * top)
+    let reduced = low * top;
+    (rest * 2 + bit) ^ reduced
 }
 
 // The product of two residues, by the bits of b from the lowest.

@@ -46,7 +46,8 @@ product-requires-2 : tie.Need-product-requires-2 Inv-loop μ-loop
 product-requires-2 c κs =
     let s = c .before .before .before .before in
     let x = c .before .before .before .loop .x in
-    (s .pre .0, rw (c .before .product .ensures) (residue-lt (s .args .k) (s .args .low) (s .pre .0 .2) (x ⊗ x)), s .pre .1)
+    let h = rw (← (c .before .product .ensures)) at (residue-lt (s .args .k) (s .args .low) (s .pre .0 .2) (x ⊗ x)) in
+    (s .pre .0, h, omega arith)
 
 loop-less : tie.Need-loop-less Inv-loop μ-loop
 loop-less c = omega arith

@@ -2,7 +2,7 @@
 -- The measure is the number of bits that are left.
 use mathlib.Core.Path.{_≡_, sym, ap, _∙_}
 use Prim.Native.Nat.{ℕ, _+_, _-_, _*_, _/_, _%_, _^_, _≤_, _<_}
-use native.Mathlib.Nat.{mul-one, mod-one, mod-eq-of-lt}
+use native.Mathlib.Nat.{mul-one, mod-one, mod-eq-of-lt, lt-of-le-of-lt}
 use native.Mathlib.Numerals.{add-one}
 use native.Mathlib.Omega.{arith}
 use borrow.Author.Needs.{needs}
@@ -39,10 +39,9 @@ shr-bit c = omega arith
 mul-sum : tie.Need-mul-sum Inv-loop μ-loop
 mul-sum c =
     let s = c .before .before in
-    let a = s .args in
     let l = c .before .loop in
-    let q = a .b / 2 ^ (l .i) in
-    record { fits = omega (arith, bit-mul-le (l .shifted) (q % 2) (mod-2 q), residue-word (a .k) (a .low) (s .pre .0 .2) (s .pre .0 .1) (a .a * 2 ^ (l .i))) }
+    let h = rw (← (l .inv .1)) at (residue-word (s .args .k) (s .args .low) (s .pre .0 .2) (s .pre .0 .1) (s .args .a * 2 ^ (l .i))) in
+    record { fits = lt-of-le-of-lt (bit-mul-le _ _ (mod-2 _)) h }
 
 step-requires : tie.Need-step-requires Inv-loop μ-loop
 step-requires c κs =
