@@ -10,7 +10,7 @@ use native.Mathlib.Omega.{arith}
 use lib.Dec.{T, eqb, ltb, eqb→eq, ltb→lt}
 use lib.ListN.{length, getD}
 use Rattle.gf2.specs.Lists.{All}
-use Rattle.gf2.specs.Polynomials.{_⊕_, degree, Degree, rem, Divides, Irreducible}
+use Rattle.gf2.specs.Polynomials.{_⊕_, halvings, degree, Degree, reduce, longDivision, rem, Divides, Irreducible}
 use Rattle.gf2.proofs.Lists.{and-left, and-right, every, all-by-test}
 use Rattle.gf2.proofs.Sums.{⊕-self, ⊕-append}
 use Rattle.gf2.proofs.Degrees.{degree-is, degree-eq, deg-lo, deg-hi}
@@ -50,7 +50,9 @@ unfoldable pub stocked : ℕ → ℕ → List ℕ → Bool
 stocked n p ds = good n p && sieved (suc n) p (2 ∷ 3 ∷ ds)
 
 -- a whole table, its first key of degree n + 1, with a list of divisors for each key
+-- (`unfolding stockedTable` opens all that the test computes with)
 unfoldable pub stockedTable : ℕ → List ℕ → List (List ℕ) → Bool
+unfolding stocked good sieved every proper allStruck struck residues rem longDivision reduce degree halvings _⊕_
 stockedTable n [] dss = true
 stockedTable n (p ∷ ps) [] = false
 stockedTable n (p ∷ ps) (ds ∷ dss) = stocked n p ds && stockedTable (suc n) ps dss

@@ -1,24 +1,16 @@
--- The stock list, tested by the checker.
+-- The theorems about the stock list: one law for a list that passes the test, and the test, computed.
 use mathlib.Core.Path.{_≡_, refl, sym}
-use mathlib.Core.Bool.{Bool}
 use mathlib.Core.List.{List, [], _∷_}
 use Prim.Native.Nat.{ℕ, _+_, _-_, _≤_, _<_}
 use native.Mathlib.Nat.{le-refl}
 use native.Mathlib.Omega.{arith}
 use lib.Dec.{T}
 use lib.ListN.{length, getD}
-use Rattle.gf2.specs.Polynomials.{_⊕_, halvings, degree, reduce, longDivision, rem}
-use Rattle.gf2.proofs.Lists.{every}
 use Rattle.stock.specs.Stock.{stockKey, Smallest}
-use Rattle.stock.proofs.Irreducibility.{good}
-use Rattle.stock.proofs.Sieve.{residues, struck, allStruck, proper, sieved, stocked, stockedTable, smallest-at}
+use Rattle.stock.proofs.Sieve.{stockedTable, smallest-at}
 use Rattle.stock.proofs.Searches.{stock-is}
 
-unfoldable pub keys : List ℕ
-keys =
-    0x11b ∷ 0x203 ∷ 0x409 ∷ 0x805 ∷ 0x1009 ∷ 0x201b ∷ 0x4021 ∷ 0x8003 ∷ 0x1002b ∷ 0x20009 ∷ 0x40009 ∷ 0x80027 ∷ 0x100009 ∷ 0x200005 ∷ 0x400003 ∷ 0x800021 ∷ 0x100001b ∷ 0x2000009 ∷ 0x400001b ∷ 0x8000027 ∷ 0x10000003 ∷ 0x20000005 ∷ 0x40000003 ∷ 0x80000009 ∷ 0x10000008d ∷ 0x20000004b ∷ 0x40000001b ∷ 0x800000005 ∷ 0x1000000035 ∷ 0x200000003f ∷ 0x4000000063 ∷ 0x8000000011 ∷ 0x10000000039 ∷ 0x20000000009 ∷ 0x40000000027 ∷ 0x80000000059 ∷ 0x100000000021 ∷ 0x20000000001b ∷ 0x400000000003 ∷ 0x800000000021 ∷ 0x100000000002d ∷ 0x2000000000071 ∷ 0x400000000001d ∷ 0x800000000004b ∷ 0x10000000000009 ∷ 0x20000000000047 ∷ 0x4000000000007d ∷ 0x80000000000047 ∷ 0x100000000000095 ∷ 0x200000000000011 ∷ 0x400000000000063 ∷ 0x80000000000007b ∷ 0x1000000000000003 ∷ 0x2000000000000027 ∷ 0x4000000000000069 ∷ 0x8000000000000003 ∷ []
-
--- for each key the divisors beside t and t + 1 that the smaller numbers of its degree have
+-- for each degree from 8 on: divisors beside t and t + 1, of which every smaller number of that degree than the stock key has one
 unfoldable pub divisors : List (List ℕ)
 divisors =
     (7 ∷ 11 ∷ 13 ∷ 19 ∷ 25 ∷ []) ∷
@@ -79,30 +71,41 @@ divisors =
     [] ∷
     []
 
-tested : T (stockedTable 7 keys divisors)
-unfolding keys divisors stockedTable stocked good sieved every proper allStruck struck residues rem longDivision reduce degree halvings _⊕_
+-- the test of a stock list
+abbrev pub Stocked : List ℕ → Type 0
+Stocked ps = T (stockedTable 7 ps divisors)
+
+module _ (ps : List ℕ) (all : length ps ≡ 56) (tested : Stocked ps) (k : ℕ) (lo : 8 ≤ k) (hi : k < 64) where
+  pub entry-smallest : Smallest k (getD ps (k - 8) 0)
+  entry-smallest = rw place at (smallest-at ps divisors 7 (le-refl 8) (rw all (le-refl 63)) tested (k - 8) (rw all (omega arith)))
+    where
+      place : 8 + (k - 8) ≡ k
+      place = omega arith
+
+  -- a list that passes is the stock list
+  pub entry-stock : getD ps (k - 8) 0 ≡ stockKey k
+  entry-stock = sym (stock-is k (getD ps (k - 8) 0) entry-smallest)
+
+-- ---- such a list
+
+unfoldable pub keys : List ℕ
+keys =
+    0x11b ∷ 0x203 ∷ 0x409 ∷ 0x805 ∷ 0x1009 ∷ 0x201b ∷ 0x4021 ∷ 0x8003 ∷ 0x1002b ∷ 0x20009 ∷ 0x40009 ∷ 0x80027 ∷ 0x100009 ∷ 0x200005 ∷ 0x400003 ∷ 0x800021 ∷ 0x100001b ∷ 0x2000009 ∷ 0x400001b ∷ 0x8000027 ∷ 0x10000003 ∷ 0x20000005 ∷ 0x40000003 ∷ 0x80000009 ∷ 0x10000008d ∷ 0x20000004b ∷ 0x40000001b ∷ 0x800000005 ∷ 0x1000000035 ∷ 0x200000003f ∷ 0x4000000063 ∷ 0x8000000011 ∷ 0x10000000039 ∷ 0x20000000009 ∷ 0x40000000027 ∷ 0x80000000059 ∷ 0x100000000021 ∷ 0x20000000001b ∷ 0x400000000003 ∷ 0x800000000021 ∷ 0x100000000002d ∷ 0x2000000000071 ∷ 0x400000000001d ∷ 0x800000000004b ∷ 0x10000000000009 ∷ 0x20000000000047 ∷ 0x4000000000007d ∷ 0x80000000000047 ∷ 0x100000000000095 ∷ 0x200000000000011 ∷ 0x400000000000063 ∷ 0x80000000000007b ∷ 0x1000000000000003 ∷ 0x2000000000000027 ∷ 0x4000000000000069 ∷ 0x8000000000000003 ∷ []
+
+tested : Stocked keys
+unfolding keys divisors stockedTable
 tested = tt
 
-number-of-keys : length keys ≡ 56
-unfolding keys
-number-of-keys = refl
+module _ (k : ℕ) (lo : 8 ≤ k) (hi : k < 64) where
+  all : length keys ≡ 56
+  unfolding keys
+  all = refl
 
--- the entry for degree k is the stock key
-smallest-entry : (k : ℕ) → 8 ≤ k → k < 64 → Smallest k (getD keys (k - 8) 0)
-smallest-entry k lo hi = rw place at (smallest-at keys divisors 7 (le-refl 8) (rw number-of-keys (le-refl 63)) tested (k - 8) (rw number-of-keys (omega arith)))
-  where
-    place : 8 + (k - 8) ≡ k
-    place = omega arith
-
-pub entry : (k : ℕ) → 8 ≤ k → k < 64 → getD keys (k - 8) 0 ≡ stockKey k
-entry k lo hi = sym (stock-is k (getD keys (k - 8) 0) (smallest-entry k lo hi))
-
--- ---- the theorems: for each degree 8 to 63 the stock key is accepted, of that degree, and the smallest such number
-
-pub stock-smallest : (k : ℕ) → 8 ≤ k → k < 64 → Smallest k (stockKey k)
-stock-smallest k lo hi = rw (entry k lo hi) at (smallest-entry k lo hi)
+  -- for each degree 8 to 63 the stock key is accepted, has that degree, and is the smallest such number
+  pub stock-smallest : Smallest k (stockKey k)
+  stock-smallest = rw (entry-stock keys all tested k lo hi) at (entry-smallest keys all tested k lo hi)
 
 -- the house key
 pub stock-61 : stockKey 61 ≡ 0x2000000000000027
 unfolding keys
-stock-61 = sym (entry 61 (omega arith) (omega arith))
+stock-61 = sym (entry-stock keys refl tested 61 (omega arith) (omega arith))
