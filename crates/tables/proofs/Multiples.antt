@@ -7,11 +7,14 @@ use native.Mathlib.Nat.{add-zero, one-mul, add-assoc, pow-suc}
 use native.Mathlib.Decide.{decLt, ℕ-discrete}
 use native.Mathlib.Omega.{arith}
 use lib.Arith.{lt-of-le-ne}
+use lib.Bits.{bitOr, or-zero-l, or-add-and, and-le-l, and-le-r}
+use borrow.Author.Count.{below-more}
+use mathlib.Core.Logic.{_↔_}
 use lib.ListN.{length, getD, set}
 use lib.Pow.{pow-mono}
 use lib.Seq.{getD-set-same, getD-set-other}
 use Rattle.gf2.specs.Polynomials.{_⊕_, _⊗_, rem}
-use Rattle.gf2.proofs.Sums.{⊕-append, ⊕-comm}
+use Rattle.gf2.proofs.Sums.{⊕-append, ⊕-comm, ⊕-assoc, ⊕-self, ⊕-eq}
 use Rattle.gf2.proofs.Products.{zero-⊗, one-⊗, dbl-⊗, ⊕-⊗}
 use Rattle.gf2.proofs.Residues.{rem-zero, rem-lt, rem-small, rem-⊕}
 use Rattle.gf2.proofs.Powers.{rem-shl}
@@ -101,3 +104,48 @@ shifted-kept a n y from words s f i l = f i l ∙ ap (λ (v : ℕ). v ⊕ y) (sy
 -- half of the row that is still to be made
 pub double-le : {b width : ℕ} → b < width → 2 ^ b * 2 ≤ 2 ^ width
 double-le {b} {width} h = rw (← (pow-suc 2 b)) (pow-mono {i = suc b} {j = width} h)
+
+-- ---- testing by doubling: differences added up by or
+
+or-zero : (s d : ℕ) → bitOr s d ≡ 0 → (s ≡ 0) × (d ≡ 0)
+or-zero s d e = omega (arith, or-add-and s d, and-le-l s d, and-le-r s d)
+
+both-zero : (s d : ℕ) → s ≡ 0 → d ≡ 0 → bitOr s d ≡ 0
+both-zero s d e f = rw (e, f) (or-zero-l 0)
+
+-- two tests, as one
+pub or-iff : (s d : ℕ) {P Q : Type 0} → (s ≡ 0) ↔ P → (d ≡ 0) ↔ Q → (bitOr s d ≡ 0) ↔ (P × Q)
+or-iff s d p q = (λ e. (p .0 (or-zero s d e .0), q .0 (or-zero s d e .1)), λ h. both-zero s d (p .1 (h .0)) (q .1 (h .1)))
+
+pub iff-trans : {P Q R : Type 0} → P ↔ Q → Q ↔ R → P ↔ R
+iff-trans f g = (λ p. g .0 (f .0 p), λ r. f .1 (g .1 r))
+
+-- one word is another with y added
+pub difference-iff : (u v y : ℕ) → (u ⊕ v ⊕ y ≡ 0) ↔ (u ≡ v ⊕ y)
+difference-iff u v y = (λ e. ⊕-eq u (v ⊕ y) (sym (⊕-assoc u v y) ∙ e), λ e. ⊕-assoc u v y ∙ rw e (⊕-self (v ⊕ y)))
+
+-- one word more
+pub shifted-iff : (a b i y : ℕ) (words : List ℕ)
+    → (Shifted a b i y words words × (getD words (b + i) 0 ≡ getD words (a + i) 0 ⊕ y)) ↔ Shifted a b (i + 1) y words words
+shifted-iff a b i y words = (there, back)
+  where
+    there : Shifted a b i y words words × (getD words (b + i) 0 ≡ getD words (a + i) 0 ⊕ y) → Shifted a b (i + 1) y words words
+    there h = below-more (λ m. getD words (b + m) 0 ≡ getD words (a + m) 0 ⊕ y) i (h .0) (h .1)
+
+    back : Shifted a b (i + 1) y words words → Shifted a b i y words words × (getD words (b + i) 0 ≡ getD words (a + i) 0 ⊕ y)
+    back f = (λ m l. f m (omega arith), f i (omega arith))
+
+-- the row, and its double
+module _ {key : ℕ} (pos : 0 < key) (x a : ℕ) (words : List ℕ) where
+  pub row-iff-one : (getD words a 0 ≡ 0) ↔ Multiples key x a 1 words
+  row-iff-one = (there, back)
+    where
+      there : getD words a 0 ≡ 0 → Multiples key x a 1 words
+      there h i l = let e : i ≡ 0 = omega arith in rw (e, add-zero) (h ∙ sym (multiple-zero pos x))
+
+      back : Multiples key x a 1 words → getD words a 0 ≡ 0
+      back f = ap (λ (n : ℕ). getD words n 0) (sym (add-zero a)) ∙ f 0 (omega arith) ∙ multiple-zero pos x
+
+  pub row-iff : (b z y : ℕ) → z ≡ 2 ^ b → y ≡ rem key (z ⊗ x) → (Multiples key x a z words × Shifted a (a + z) z y words words) ↔ Multiples key x a (z * 2) words
+  row-iff b z y ez ey =
+      (λ h. row-more pos x a b z y words ez ey (h .0) (h .1), λ f. (row-half pos x a b z y words ez ey f, row-shifted pos x a b z y words ez ey f))

@@ -1,6 +1,6 @@
 -- Laws of the rule of a table: row j has the multiples of the residue of t^(k + w·j), and words follow the rule where none differs.
 use mathlib.Core.Path.{_≡_, refl, sym, ap, ap₂, _∙_}
-use mathlib.Core.Bool.{Bool, false, not, _||_}
+use mathlib.Core.Bool.{Bool, true, false, not, _||_}
 use mathlib.Core.List.{List, [], _∷_}
 use Prim.Native.Nat.{ℕ, zero, suc, _+_, _-_, _*_, _/_, _%_, _^_, _≤_, _<_, suc-le-suc}
 use native.Mathlib.Nat.{le-refl, add-zero, zero-add, add-suc, suc-add, one-mul, not-suc-le-zero, le-of-suc-le-suc, pow-suc, mul-comm}
@@ -102,6 +102,13 @@ none-from rule (x ∷ xs) m f =
 
 pub none-differs : (rule : ℕ → ℕ) (words : List ℕ) → Follows rule (length words) words → differs rule 0 words ≡ false
 none-differs rule words f = none-from rule words 0 (λ n l. f n l ∙ ap rule (sym (zero-add n)))
+
+pub some-differs : (rule : ℕ → ℕ) (words : List ℕ) → (Follows rule (length words) words → ⊥) → differs rule 0 words ≡ true
+some-differs rule words none = go (differs rule 0 words) refl
+  where
+    go : (b : Bool) → differs rule 0 words ≡ b → b ≡ true
+    go true e = refl
+    go false e = absurd (none (follows rule words e))
 
 -- ---- the table
 
