@@ -87,7 +87,7 @@ module _ (key : ℕ) (pos : 0 < key) (file : List ℕ) where
   unfolding step feedHouse bookStep bookTests written
   house-agrees part h = other-agree houseKey part h
 
-  each : (c : Call) → (numberOf (bookStep bench key file c) ≡ 0 → Brings key file c) → Agrees key (step key (markOf key file) c) (bookStep bench key file c)
+  pub each : (c : Call) → (numberOf (bookStep bench key file c) ≡ 0 → Brings key file c) → Agrees key (step key (markOf key file) c) (bookStep bench key file c)
   each (ByBits part) h = bits-agree part
   each (ByTable words part) h = table-agree words part
   each (ByHouse part) h = house-agrees part h
