@@ -1,5 +1,11 @@
 // Feeding a file to a running mark, bit by bit.
 use refusals::Refusal;
+ghost use mathlib.Core.Path.{_≡_};
+ghost use mathlib.Core.Bool.{not};
+ghost use mathlib.Core.List.{[], _∷_};
+ghost use Prim.Native.Nat.{_+_, _^_, _<_};
+ghost use lib.Dec.{leb};
+ghost use Rattle.refusals.specs.Refusals.{passes};
 
 // A running mark (document 01's term): the state of a fingerprint that is taken as the file is read. Numbers only.
 pub struct Running {
@@ -18,4 +24,22 @@ pub enum Begun {
 pub enum Fed {
     Next(Running),
     Refused(Refusal, Running),
+}
+
+// Number 7 applies neither to two lengths nor to their sum, which is not made: it might not fit 64 bits.
+pub fn fits(a: u64, b: u64) -> bool
+    ensures { λ r. ⌜ r ≡ not (passes (a ∷ b ∷ (a + b) ∷ [])) ⌝ }
+{
+    if 4294967295 < a {
+        return false;
+    }
+    b <= 4294967295 - a
+}
+
+// Number 8 does not apply to the fingerprint f under a key of degree k.
+pub fn reduced(k: u32, f: u64) -> bool
+    requires { ⌜ k < 64 ⌝ }
+    ensures { λ r. ⌜ r ≡ not (leb (2 ^ k) f) ⌝ }
+{
+    f >> k == 0
 }

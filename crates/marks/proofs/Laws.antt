@@ -1,0 +1,67 @@
+-- Laws for callers: what numbers 7 and 8 come to in the comparisons that the code makes.
+use mathlib.Core.Path.{_≡_, refl, sym, ap, _∙_}
+use mathlib.Core.Logic.{_⊎_, inl, inr}
+use mathlib.Core.Bool.{Bool, true, false, _||_, not}
+use mathlib.Core.List.{List, [], _∷_}
+use Prim.Native.Nat.{ℕ, _+_, _-_, _/_, _^_, _≤_, _<_}
+use native.Mathlib.Nat.{not-le-of-lt, lt-of-not-le, div-eq-of-lt}
+use native.Mathlib.Decide.{decLe}
+use native.Mathlib.Omega.{arith}
+use lib.Dec.{leb, ltb, eqb}
+use borrow.Author.Tests.{lt-ltb, le-ltb, ltb-false, le-leb, lt-leb, eq-eqb, ne-eqb}
+use Rattle.gf2.specs.Lists.{All, Some}
+use Rattle.gf2.proofs.Degrees.{lt-of-high}
+use Rattle.refusals.specs.Refusals.{longest, passes}
+use Rattle.acceptance.proofs.Laws.{or-neither}
+
+-- ---- number 7: of a list of lengths
+
+or-true : (a b : Bool) → b ≡ true → (a || b) ≡ true
+or-true true b e = refl
+or-true false b e = e
+
+pub passes-some : (ns : List ℕ) → Some (λ n. longest < n) ns → passes ns ≡ true
+passes-some [] s = absurd s
+passes-some (n ∷ ns) (inl l) = rw (lt-ltb longest n l)
+passes-some (n ∷ ns) (inr s) = or-true (ltb longest n) (passes ns) (passes-some ns s)
+
+pub passes-none : (ns : List ℕ) → All (λ n. n ≤ longest) ns → passes ns ≡ false
+passes-none [] h = refl
+passes-none (n ∷ ns) h = rw (le-ltb longest n (h .0)) (passes-none ns (h .1))
+
+pub within : (ns : List ℕ) → passes ns ≡ false → All (λ n. n ≤ longest) ns
+within [] e = tt
+within (n ∷ ns) e =
+    let both = or-neither (ltb longest n) (passes ns) e in
+    (ltb-false longest n (both .0), within ns (both .1))
+
+-- ---- number 7: of two lengths and their sum
+
+module _ (a b : ℕ) where
+  pub sum-passes : longest < a + b → passes (a ∷ b ∷ (a + b) ∷ []) ≡ true
+  sum-passes l = passes-some (a ∷ b ∷ (a + b) ∷ []) (inr (inr (inl l)))
+
+  pub sum-fits : a + b ≤ longest → passes (a ∷ b ∷ (a + b) ∷ []) ≡ false
+  sum-fits l = passes-none (a ∷ b ∷ (a + b) ∷ []) (omega arith, (omega arith, (l, tt)))
+
+  pub sum-within : passes (a ∷ b ∷ (a + b) ∷ []) ≡ false → a + b ≤ longest
+  sum-within e = within (a ∷ b ∷ (a + b) ∷ []) e .1 .1 .0
+
+  -- the sum need not be made
+  pub room : a ≤ longest → leb b (longest - a) ≡ not (passes (a ∷ b ∷ (a + b) ∷ []))
+  room l = go (decLe b (longest - a))
+    where
+      go : Dec (b ≤ longest - a) → leb b (longest - a) ≡ not (passes (a ∷ b ∷ (a + b) ∷ []))
+      go (yes h) = rw (le-leb b (longest - a) h, sum-fits (omega arith))
+      go (no h) = rw (lt-leb b (longest - a) (omega arith), sum-passes (omega arith))
+
+-- ---- number 8
+
+pub below-test : (k f : ℕ) → eqb (f / 2 ^ k) 0 ≡ not (leb (2 ^ k) f)
+below-test k f = go (decLe (2 ^ k) f)
+  where
+    go : Dec (2 ^ k ≤ f) → eqb (f / 2 ^ k) 0 ≡ not (leb (2 ^ k) f)
+    go (yes h) = rw (le-leb (2 ^ k) f h) (ne-eqb (f / 2 ^ k) 0 (λ e. not-le-of-lt (lt-of-high f k e) h))
+    go (no h) =
+        let l = lt-of-not-le h in
+        rw (lt-leb (2 ^ k) f l) (eq-eqb (f / 2 ^ k) 0 (div-eq-of-lt l))
