@@ -47,7 +47,7 @@ deg-le n d k h l = lt-of-pow-lt d k (lt-of-le-of-lt (deg-lo n d h) l)
 
 -- ---- one digit more, one digit less
 
-half-pow : (n d : ℕ) → n / 2 ^ suc d ≡ n / 2 / 2 ^ d
+pub half-pow : (n d : ℕ) → n / 2 ^ suc d ≡ n / 2 / 2 ^ d
 half-pow n d = ap (λ (x : ℕ). n / x) (pow-succ' 2 d) ∙ sym (div-div-eq-div-mul n 2 (2 ^ d))
 
 pub deg-half : (n d : ℕ) → Degree n (suc d) → Degree (n / 2) d

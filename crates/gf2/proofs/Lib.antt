@@ -7,3 +7,4 @@ pub mod Residues
 pub mod Irreducibles
 pub mod Powers
 pub mod Monics
+pub mod Steps

@@ -1,1 +1,34 @@
 // Polynomials over the field of two elements, as numbers: bit i is the coefficient of t^i. The definitions are in specs/, their laws in proofs/.
+// A modulus is its degree k, from 1 to 64, and its low word: the coefficients below t^k. These functions are for the project's own crates:
+// what they require, every caller proves.
+ghost use mathlib.Core.Path.{_≡_};
+ghost use Prim.Native.Nat.{_+_, _*_, _%_, _^_, _<_};
+ghost use Rattle.gf2.specs.Polynomials.{_⊗_, _⊗^_, degree, monic, rem, Modulus};
+
+// The degree of a nonzero polynomial: the place of its highest one bit.
+pub fn degree(p: u64) -> u32
+    requires { ⌜ 0 < p ⌝ }
+    ensures { λ r. ⌜ r ≡ degree p ⌝ }
+{
+    63 - u64::leading_zeros(p)
+}
+
+// The coefficients below t^n.
+pub fn low_bits(x: u64, n: u32) -> u64
+    requires { ⌜ n < 64 ⌝ }
+    ensures { λ r. ⌜ r ≡ x % 2 ^ n ⌝ }
+{
+    let power: u64 = 1 << n;
+    x % power
+}
+
+// One bit behind a residue. The coefficient that would reach t^k falls out, and t^k is the low word. No branch: the bits are data.
+pub fn step(k: u32, low: u64, f: u64, bit: u64) -> u64
+    requires { ⌜ Modulus k low × (f < 2 ^ k) × (bit < 2) ⌝ }
+    ensures { λ r. ⌜ r ≡ rem (monic k low) (f * 2 + bit) ⌝ }
+{
+    let cut = k - 1;
+    let top = f >> cut;
+    let rest = low_bits(f, cut);
+    (rest * 2 + bit) ^ (low * top)
+}

@@ -1,0 +1,55 @@
+-- `gf2::step` meets its contract: `step-is`.
+use mathlib.Core.Path.{sym}
+use Prim.Native.Nat.{ℕ, _+_, _-_, _*_, _/_, _%_, _^_, _≤_, _<_}
+use native.Mathlib.Nat.{lt-of-lt-of-le}
+use lib.Pow.{pow-mono}
+use borrow.Author.Needs.{needs}
+use native.Mathlib.Omega.{arith}
+use Rattle.gf2.specs.Polynomials.{_⊕_}
+use Rattle.gf2.proofs.Steps.{step-is, top-bit, append-lt, bit-mul-le}
+use Rattle.gf2.proofs.step.Statement.{statement}
+use Rattle.gf2.proofs.step.Tie as tie
+
+sub-cut : tie.Need-sub-cut
+sub-cut c = search needs
+
+cast-top : tie.Need-cast-top
+cast-top c = search needs
+
+shr-top : tie.Need-shr-top
+shr-top c = search needs
+
+low-bits-requires : tie.Need-low-bits-requires
+low-bits-requires c κs = search needs
+
+-- the residue with the bit behind it, less the coefficient that falls out, is below 2 ^ k
+rest-fits : (k f b : ℕ) → 0 < k → k ≤ 64 → b < 2 → f % 2 ^ (k - 1) * 2 + b < 2 ^ 64
+rest-fits k f b p l m = lt-of-lt-of-le (append-lt k f b p m) (pow-mono l)
+
+mul-result : tie.Need-mul-result
+mul-result c =
+    let a = c .before .args in
+    let p = c .before .pre in
+    record { fits = omega (arith, c .low-bits .ensures, rest-fits (a .k) (a .f) (a .bit) (p .0 .0) (p .0 .1) (p .2)) }
+
+add-result : tie.Need-add-result
+add-result c =
+    let a = c .before .args in
+    let p = c .before .pre in
+    record { fits = omega (arith, c .low-bits .ensures, rest-fits (a .k) (a .f) (a .bit) (p .0 .0) (p .0 .1) (p .2)) }
+
+mul-result-2 : tie.Need-mul-result-2
+mul-result-2 c =
+    let a = c .before .args in
+    let p = c .before .pre in
+    record { fits = omega (arith, bit-mul-le (a .low) (a .f / 2 ^ (a .k - 1)) (top-bit (a .k) (a .f) (p .0 .0) (p .1))) }
+
+returns : tie.Need-returns
+unfolding _⊕_
+returns c =
+    let a = c .before .args in
+    let p = c .before .pre in
+    rw (c .low-bits .ensures) (sym (step-is (a .k) (a .low) (a .f) (a .bit) (p .0 .0) (p .0 .2) (p .1) (p .2)))
+
+pub step-spec : {M : Type 1} → statement M
+step-spec = tie.close (tie.spec sub-cut cast-top shr-top low-bits-requires mul-result add-result mul-result-2 returns)
