@@ -2,17 +2,23 @@
 use mathlib.Core.Path.{_≡_, refl, sym, ap, _∙_}
 use mathlib.Core.Logic.{_⊎_, inl, inr}
 use mathlib.Core.Bool.{Bool, true, false, _||_, not}
-use mathlib.Core.List.{List, [], _∷_}
-use Prim.Native.Nat.{ℕ, _+_, _-_, _/_, _^_, _≤_, _<_}
-use native.Mathlib.Nat.{not-le-of-lt, lt-of-not-le, div-eq-of-lt}
+use mathlib.Core.List.{List, [], _∷_, append-nil}
+use Prim.Native.Nat.{ℕ, zero, suc, _+_, _-_, _*_, _/_, _%_, _^_, _≤_, _<_}
+use native.Mathlib.Nat.{not-le-of-lt, lt-of-not-le, div-eq-of-lt, mod-eq-of-lt}
 use native.Mathlib.Decide.{decLe}
+use native.Mathlib.Numerals.{add-one}
 use native.Mathlib.Omega.{arith}
+use lib.ListN.{length, getD, drop}
+use lib.Seq.{drop-cons}
 use lib.Dec.{leb, ltb, eqb}
 use borrow.Author.Tests.{lt-ltb, le-ltb, ltb-false, le-leb, lt-leb, eq-eqb, ne-eqb}
 use Rattle.gf2.specs.Lists.{All, Some}
+use Rattle.gf2.specs.Polynomials.{rem}
 use Rattle.gf2.proofs.Degrees.{lt-of-high}
 use Rattle.refusals.specs.Refusals.{longest, passes}
 use Rattle.acceptance.proofs.Laws.{or-neither}
+use Rattle.files.specs.Files.{lowBits, bits, valueFrom}
+use Rattle.files.proofs.Values.{value-low, value-byte, rem-from}
 
 -- ---- number 7: of a list of lengths
 
@@ -65,3 +71,30 @@ below-test k f = go (decLe (2 ^ k) f)
     go (no h) =
         let l = lt-of-not-le h in
         rw (lt-leb (2 ^ k) f l) (eq-eqb (f / 2 ^ k) 0 (div-eq-of-lt l))
+
+-- ---- what is left to feed
+
+mod-twice : (x : ℕ) → x % 2 % 2 ≡ x % 2
+mod-twice x = omega arith
+
+-- all eight bits of a byte
+pub byte-behind : (x b : ℕ) → b < 256 → valueFrom x (lowBits 8 b) ≡ x * 256 + b
+unfolding valueFrom
+byte-behind x b l = ap (valueFrom x) (sym (append-nil (lowBits 8 b))) ∙ value-low 8 x b [] ∙ ap (λ (y : ℕ). x * 256 + y) (mod-eq-of-lt l)
+
+module _ {p : ℕ} (pos : 0 < p) where
+  -- the next of the n low bits of b
+  pub next-bit : (x b n : ℕ) → 0 < n
+      → rem p (valueFrom (rem p (x * 2 + b / 2 ^ (n - 1) % 2)) (lowBits (n - 1) b)) ≡ rem p (valueFrom x (lowBits n b))
+  unfolding valueFrom lowBits
+  next-bit x b zero h = absurd (omega arith)
+  next-bit x b (suc n) h =
+      let e : suc n - 1 ≡ n = omega arith in
+      rw e (rem-from pos (x * 2 + b / 2 ^ n % 2) (lowBits n b) ∙ ap (λ (y : ℕ). rem p (valueFrom (x * 2 + y) (lowBits n b))) (sym (mod-twice (b / 2 ^ n))))
+
+  -- the next byte of a part
+  pub next-byte : (x i : ℕ) (part : List ℕ) → i < length part → getD part i 0 < 256
+      → rem p (valueFrom (rem p (x * 256 + getD part i 0)) (bits (drop (i + 1) part))) ≡ rem p (valueFrom x (bits (drop i part)))
+  next-byte x i part h l =
+      rem-from pos (x * 256 + getD part i 0) (bits (drop (i + 1) part))
+      ∙ ap (rem p) (rw (drop-cons part i 0 h, add-one, value-byte x, mod-eq-of-lt l))

@@ -3,9 +3,11 @@ use refusals::Refusal;
 ghost use mathlib.Core.Path.{_≡_};
 ghost use mathlib.Core.Bool.{not};
 ghost use mathlib.Core.List.{[], _∷_};
-ghost use Prim.Native.Nat.{_+_, _^_, _<_};
+ghost use Prim.Native.Nat.{_+_, _*_, _^_, _<_};
 ghost use lib.Dec.{leb};
+ghost use Rattle.gf2.specs.Polynomials.{rem, monic, Modulus};
 ghost use Rattle.refusals.specs.Refusals.{passes};
+ghost use Rattle.files.specs.Files.{bits, valueFrom};
 
 // A running mark (document 01's term): the state of a fingerprint that is taken as the file is read. Numbers only.
 pub struct Running {
@@ -42,4 +44,33 @@ pub fn reduced(k: u32, f: u64) -> bool
     ensures { λ r. ⌜ r ≡ not (leb (2 ^ k) f) ⌝ }
 {
     f >> k == 0
+}
+
+// A byte behind a residue, the high bit first.
+pub fn feed_byte(k: u32, low: u64, f: u64, b: u8) -> u64
+    requires { ⌜ Modulus k low × (f < 2 ^ k) ⌝ }
+    ensures { λ r. ⌜ r ≡ rem (monic k low) (f * 256 + b) ⌝ }
+{
+    let mut x = f;
+    let mut n: u32 = 8;
+    while 0 < n {
+        n -= 1;
+        let bit = (b >> n) % 2;
+        x = gf2::step(k, low, x, bit as u64);
+    }
+    x
+}
+
+// The bytes of a part behind a residue.
+pub fn feed_bytes(k: u32, low: u64, f: u64, part: &[u8]) -> u64
+    requires { ⌜ Modulus k low × (f < 2 ^ k) ⌝ }
+    ensures { λ r. ⌜ r ≡ rem (monic k low) (valueFrom f (bits (now (part .entry)))) ⌝ }
+{
+    let mut x = f;
+    let mut i = 0;
+    while i < part.len() {
+        x = feed_byte(k, low, x, part[i]);
+        i += 1;
+    }
+    x
 }
