@@ -9,11 +9,13 @@ use lib.ListN.{length, take, drop}
 use Rattle.bytes.specs.Bytes.{indexOf}
 use Rattle.io.specs.Digits.{glyph}
 use Rattle.gf2.specs.Polynomials.{degree}
+use Rattle.refusals.specs.declared.Refusal.{Refusal}
 use Rattle.refusals.specs.declared.Refusal.the-variants.{TooLong}
 use Rattle.refusals.specs.Refusals.{Answer, Done, Refused, number, Test, _⇒_, firstOf, passes}
 use Rattle.acceptance.specs.Keys.{keyTests}
-use Rattle.files.specs.declared.Mark.{Mark}
 use Rattle.files.specs.Files.{markOf}
+use Rattle.marks.specs.declared.Running.{Running}
+use Rattle.marks.specs.Feeding.{begunUnder}
 use Rattle.printing.specs.declared.KeyLine.{KeyLine}
 use Rattle.printing.specs.declared.KeyLine.the-variants.{NoKey, Key}
 
@@ -55,24 +57,34 @@ digitsOf (suc s) b n = cond (ltb n b) (glyph n ∷ []) (digitsOf s b (n / b) ++ 
 unfoldable pub numeral : ℕ → ℕ → List ℕ
 numeral b n = digitsOf n b n
 
-unfoldable pub report : ℕ → Mark → List ℕ
-report key m =
-    ascii "key " ++ numeral 10 (degree key) ++ ascii " " ++ numeral 16 key
-    ++ ascii "\nbytes " ++ numeral 10 (m .length)
-    ++ ascii "\nmark " ++ numeral 16 (m .fingerprint) ++ ascii "\n"
+unfoldable pub report : Running → List ℕ
+report m =
+    ascii "key " ++ numeral 10 (degree (m .key)) ++ (ascii " " ++ numeral 16 (m .key))
+    ++ (ascii "\nbytes " ++ numeral 10 (m .length))
+    ++ (ascii "\nmark " ++ numeral 16 (m .fingerprint))
+    ++ ascii "\n"
 
-unfoldable pub answerText : ℕ → {S : Type 0} → Answer S Mark → List ℕ
-answerText key (Done m) = report key m
-answerText key (Refused r s) = ascii "refused " ++ numeral 10 (number r) ++ ascii "\n"
+unfoldable pub refused : Refusal → List ℕ
+refused r = ascii "refused " ++ numeral 10 (number r) ++ ascii "\n"
+
+abbrev pub answerText : {S : Type 0} → Answer S Running → List ℕ
+answerText (Done m) = report m
+answerText (Refused r s) = refused r
 
 -- The mark of the file behind the key's line. Number 7 applies to the file's length.
-unfoldable pub markFile : ℕ → List ℕ → Answer Unit Mark
-markFile key file = firstOf (keyTests key ++ passes (length file ∷ []) ⇒ TooLong ∷ []) tt (markOf key file)
+unfoldable pub markFile : ℕ → List ℕ → Answer Unit Running
+markFile key file = begunUnder key (firstOf (keyTests key ++ passes (length file ∷ []) ⇒ TooLong ∷ []) tt (markOf key file))
 
-unfoldable pub printedAfter : KeyLine → List ℕ → List ℕ
+abbrev pub printedAfter : KeyLine → List ℕ → List ℕ
 printedAfter NoKey input = ascii "no key\n"
-printedAfter (Key key at) input = answerText key (markFile key (drop at input))
+printedAfter (Key key at) input = answerText (markFile key (drop at input))
 
 -- what the program prints on an input
 unfoldable pub printed : List ℕ → List ℕ
 printed input = printedAfter (keyLine input) input
+
+-- ---- a buffer
+
+-- the buffer with a text at a place
+abbrev pub putAt : List ℕ → ℕ → List ℕ → List ℕ
+putAt out at text = take at out ++ text ++ drop (at + length text) out

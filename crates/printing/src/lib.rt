@@ -1,9 +1,12 @@
 // The text of the printing program: the key's line that it reads, and the lines that it prints.
+use marks::Running;
+use refusals::Refusal;
 ghost use mathlib.Core.Path.{_≡_};
 ghost use mathlib.Core.Bool.{true};
 ghost use Prim.Native.Nat.{_+_, _≤_};
+ghost use mathlib.Core.List.{_++_};
 ghost use lib.ListN.{length};
-ghost use Rattle.printing.specs.Printing.{digit, allDigits, hexFrom, keyLine};
+ghost use Rattle.printing.specs.Printing.{digit, allDigits, hexFrom, keyLine, numeral, putAt};
 
 // What the first line of an input says: the key, and the place where the file begins.
 pub enum KeyLine {
@@ -77,4 +80,48 @@ pub fn key_line(input: &[u8]) -> KeyLine
         return KeyLine::NoKey;
     }
     KeyLine::Key(hex_value(line), n + 1)
+}
+
+// Puts a text at a place of a buffer, and answers the place behind it.
+fn put(out: &mut [u8], at: usize, text: &[u8]) -> usize
+    requires { ⌜ at + length (now text) ≤ length (now out) ⌝ }
+    ensures { λ r. ⌜ r ≡ at + length (now (text .entry)) ⌝ }
+    ensures { λ _. ⌜ now (out .exit) ≡ putAt (now (out .entry)) at (now (text .entry)) ⌝ }
+{
+    let n = bytes::copy(text, &mut out[at..]);
+    at + n
+}
+
+// The same of two texts, one behind the other.
+fn put_both(out: &mut [u8], at: usize, first: &[u8], second: &[u8]) -> usize
+    requires { ⌜ at + length (now first) + length (now second) ≤ length (now out) ⌝ }
+    ensures { λ r. ⌜ r ≡ at + length (now (first .entry) ++ now (second .entry)) ⌝ }
+    ensures { λ _. ⌜ now (out .exit) ≡ putAt (now (out .entry)) at (now (first .entry) ++ now (second .entry)) ⌝ }
+{
+    let next = put(out, at, first);
+    put(out, next, second)
+}
+
+// The same of a label and a number in decimal.
+fn put_decimal(out: &mut [u8], at: usize, label: &[u8], n: u64) -> usize
+    requires { ⌜ at + length (now label) + 20 ≤ length (now out) ⌝ }
+    ensures { λ r. ⌜ r ≡ at + length (now (label .entry) ++ numeral 10 n) ⌝ }
+    ensures { λ r. ⌜ r ≤ at + length (now (label .entry)) + 20 ⌝ }
+    ensures { λ _. ⌜ now (out .exit) ≡ putAt (now (out .entry)) at (now (label .entry) ++ numeral 10 n) ⌝ }
+{
+    let mut digits = [0u8; 20];
+    let k = io::decimal(n, &mut digits);
+    put_both(out, at, label, &digits[..k])
+}
+
+// The same of a label and a number in hexadecimal.
+fn put_hex(out: &mut [u8], at: usize, label: &[u8], n: u64) -> usize
+    requires { ⌜ at + length (now label) + 16 ≤ length (now out) ⌝ }
+    ensures { λ r. ⌜ r ≡ at + length (now (label .entry) ++ numeral 16 n) ⌝ }
+    ensures { λ r. ⌜ r ≤ at + length (now (label .entry)) + 16 ⌝ }
+    ensures { λ _. ⌜ now (out .exit) ≡ putAt (now (out .entry)) at (now (label .entry) ++ numeral 16 n) ⌝ }
+{
+    let mut digits = [0u8; 16];
+    let k = io::hex(n, 1, &mut digits);
+    put_both(out, at, label, &digits[..k])
 }
