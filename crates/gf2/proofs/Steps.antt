@@ -2,17 +2,19 @@
 use mathlib.Core.Path.{_≡_, refl, sym, ap, ap₂, _∙_}
 use mathlib.Core.Logic.{_⊎_, inl, inr}
 use Prim.Native.Nat.{ℕ, zero, suc, _+_, _-_, _*_, _/_, _%_, _^_, _≤_, _<_, zero-le}
-use native.Mathlib.Nat.{le-refl, one-mul, zero-mul, mul-one, mul-zero, mod-lt, pow-suc, pow-succ', div-lt-iff-lt-mul}
-use native.Mathlib.Numerals.{add-one}
+use native.Mathlib.Nat.{le-refl, lt-of-lt-of-le, div-eq-of-lt, one-mul, zero-mul, mul-one, mul-zero, mod-lt, pow-suc, pow-succ', add-zero, div-lt-iff-lt-mul, div-div-eq-div-mul}
+use native.Mathlib.Numerals.{add-one, one-add}
 use native.Mathlib.Omega.{arith}
 use lib.Dec.{lit<}
-use lib.Pow.{pow-pos, split, shl-exact, high, low, mod-pow-add}
+use lib.Count.{leadingZeros, leading-length, leading-le}
+use lib.Pow.{pow-pos, pow-mono, pow-lt, split, shl-exact, high, low, mod-pow-add}
 use Rattle.gf2.specs.Polynomials.{_⊕_, _⊗_, _⊗^_, degree, monic, rem, Divides, Modulus}
 use Rattle.gf2.proofs.Sums.{⊕-append, ⊕-comm}
-use Rattle.gf2.proofs.Products.{bit-cases}
+use Rattle.gf2.proofs.Products.{⊗-zero, ⊗-⊕, ⊗-comm, ⊗-pow, shl-suc, bit-cases, by-bit}
 use Rattle.gf2.proofs.Degrees.{half-pow}
 use Rattle.gf2.proofs.Divisors.{dvd-by, dvd-refl}
-use Rattle.gf2.proofs.Residues.{rem-lt, rem-zero, rem-small, rem-unique, rem-⊕}
+use Rattle.gf2.proofs.Residues.{rem-lt, rem-zero, rem-small, rem-unique, rem-⊕, rem-⊗}
+use Rattle.gf2.proofs.Powers.{pow-add, pow-step, rem-shl, rem-⊗-left}
 use Rattle.gf2.proofs.Monics.{monic-⊕, monic-pos, monic-degree}
 
 -- the power 2 ^ n as the code makes it, by a shift of 1 in 64 bits
@@ -22,6 +24,10 @@ shifted-one n h = shl-exact 1 n 64 (lit< tt) (omega arith) ∙ one-mul (2 ^ n)
 module _ (k c : ℕ) (h : c < 2 ^ k) where
   pub residue-lt : (x : ℕ) → rem (monic k c) x < 2 ^ k
   residue-lt x = rw (monic-degree k c h) at (rem-lt (monic-pos k c h) x)
+
+  -- it fits a word of 64 bits
+  pub residue-word : k ≤ 64 → (x : ℕ) → rem (monic k c) x < 2 ^ 64
+  residue-word l x = lt-of-lt-of-le (residue-lt x) (pow-mono l)
 
   pub residue-small : (x : ℕ) → x < 2 ^ k → rem (monic k c) x ≡ x
   residue-small x l = rem-small (monic-pos k c h) x (rw (monic-degree k c h) l)
@@ -44,6 +50,9 @@ module _ (k c : ℕ) (h : c < 2 ^ k) where
       go : (b ≡ 0) ⊎ (b ≡ 1) → rem (monic k c) (b * 2 ^ k) ≡ c * b
       go (inl e) = rw (e, zero-mul, mul-zero) (rem-zero (monic k c))
       go (inr e) = rw (e, one-mul, mul-one) residue-top
+
+pub residue-one : (k c : ℕ) → Modulus k c → rem (monic k c) 1 ≡ 1
+residue-one k c m = residue-small k c (m .2) 1 (pow-lt (m .0))
 
 -- ---- one bit behind a residue
 
@@ -83,3 +92,61 @@ step-is (suc j) c f b p h l m =
         ap (λ (n : ℕ). (f * 2 + b) % 2 ^ n) (sym (add-one j))
         ∙ mod-pow-add (f * 2 + b) j 1
         ∙ ap₂ (λ (x y : ℕ). x % 2 ^ j * 2 + y) (high f 1 m) (low f 1 m)
+
+-- ---- a product and a power, bit by bit
+
+module _ {p : ℕ} (pos : 0 < p) where
+  -- one bit more of the second factor, from the lowest
+  pub product-next : (a b i : ℕ) → rem p (a ⊗ (b % 2 ^ suc i)) ≡ rem p (a ⊗ (b % 2 ^ i)) ⊕ rem p (a * 2 ^ i) * (b / 2 ^ i % 2)
+  product-next a b i =
+      ap (λ (x : ℕ). rem p (a ⊗ x)) bits
+      ∙ ap (rem p) (⊗-⊕ a (b / 2 ^ i % 2 * 2 ^ i) (b % 2 ^ i))
+      ∙ rem-⊕ pos (a ⊗ (b / 2 ^ i % 2 * 2 ^ i)) (a ⊗ (b % 2 ^ i))
+      ∙ ap (λ (x : ℕ). x ⊕ rem p (a ⊗ (b % 2 ^ i))) one-bit
+      ∙ ⊕-comm (rem p (a * 2 ^ i) * (b / 2 ^ i % 2)) (rem p (a ⊗ (b % 2 ^ i)))
+    where
+      bits : b % 2 ^ suc i ≡ b / 2 ^ i % 2 * 2 ^ i ⊕ b % 2 ^ i
+      bits =
+          ap (λ (n : ℕ). b % 2 ^ n) (sym (one-add i)) ∙ mod-pow-add b 1 i
+          ∙ sym (⊕-append (b / 2 ^ i % 2) i (b % 2 ^ i) (mod-lt b (pow-pos i)))
+
+      one-bit : rem p (a ⊗ (b / 2 ^ i % 2 * 2 ^ i)) ≡ rem p (a * 2 ^ i) * (b / 2 ^ i % 2)
+      one-bit =
+          by-bit (λ (x : ℕ). rem p (a ⊗ (x * 2 ^ i)) ≡ rem p (a * 2 ^ i) * x)
+          (rw (zero-mul, ⊗-zero, rem-zero, mul-zero))
+          (rw (one-mul, ⊗-pow, mul-one))
+          (b / 2 ^ i)
+
+  pub shift-next : (a i : ℕ) → rem p (rem p (a * 2 ^ i) * 2 + 0) ≡ rem p (a * 2 ^ suc i)
+  shift-next a i = rw add-zero (rem-shl pos (a * 2 ^ i) 1 ∙ ap (rem p) (sym (shl-suc a i)))
+
+  -- the square of a power, and one factor more where the exponent is odd
+  pub power-even : (a q : ℕ) → (q % 2 ≡ 1 → ⊥) → rem p (rem p (a ⊗^ (q / 2)) ⊗ rem p (a ⊗^ (q / 2))) ≡ rem p (a ⊗^ q)
+  power-even a q odd =
+      sym (rem-⊗ pos (a ⊗^ (q / 2)) (a ⊗^ (q / 2)))
+      ∙ ap (rem p) (sym (pow-add a (q / 2) (q / 2)))
+      ∙ ap (λ (n : ℕ). rem p (a ⊗^ n)) twice
+    where
+      twice : q / 2 + q / 2 ≡ q
+      twice = omega arith
+
+  pub power-odd : (a q : ℕ) → q % 2 ≡ 1 → rem p (rem p (rem p (a ⊗^ (q / 2)) ⊗ rem p (a ⊗^ (q / 2))) ⊗ a) ≡ rem p (a ⊗^ q)
+  power-odd a q odd =
+      ap (λ (x : ℕ). rem p (x ⊗ a)) (sym (rem-⊗ pos (a ⊗^ (q / 2)) (a ⊗^ (q / 2))) ∙ ap (rem p) (sym (pow-add a (q / 2) (q / 2))))
+      ∙ rem-⊗-left pos (a ⊗^ (q / 2 + q / 2)) a
+      ∙ ap (rem p) (⊗-comm (a ⊗^ (q / 2 + q / 2)) a ∙ sym (pow-step a (q / 2 + q / 2)))
+      ∙ ap (λ (n : ℕ). rem p (a ⊗^ n)) twice
+    where
+      twice : suc (q / 2 + q / 2) ≡ q
+      twice = omega arith
+
+-- the bits of an exponent from the highest
+pub no-bits : (n : ℕ) → n < 2 ^ 64 → n / 2 ^ (64 - leadingZeros 64 n) ≡ 0
+no-bits n h =
+    let t = leading-length 64 n h in
+    let e : t .0 ≡ 64 - leadingZeros 64 n = omega (arith, t .1) in
+    div-eq-of-lt (rw e at (t .2))
+
+pub next-bits : (n i : ℕ) → 0 < i → n / 2 ^ (i - 1) / 2 ≡ n / 2 ^ i
+next-bits n zero h = absurd (omega arith)
+next-bits n (suc j) h = rw less-one (div-div-eq-div-mul n (2 ^ j) 2 ∙ ap (λ (x : ℕ). n / x) (sym (pow-suc 2 j)))

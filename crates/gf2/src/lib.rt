@@ -30,5 +30,57 @@ pub fn step(k: u32, low: u64, f: u64, bit: u64) -> u64
     let cut = k - 1;
     let top = f >> cut;
     let rest = low_bits(f, cut);
-    (rest * 2 + bit) ^ (low * top)
+    let reduced = low * top;
+    (rest * 2 + bit) ^ reduced
+}
+
+// The product of two residues, by the bits of b from the lowest.
+pub fn product(k: u32, low: u64, a: u64, b: u64) -> u64
+    requires { ⌜ Modulus k low × (a < 2 ^ k) × (b < 2 ^ k) ⌝ }
+    ensures { λ r. ⌜ r ≡ rem (monic k low) (a ⊗ b) ⌝ }
+{
+    let mut sum: u64 = 0;
+    let mut shifted = a;
+    let mut i: u32 = 0;
+    while i < k {
+        let bit = (b >> i) % 2;
+        sum = sum ^ (shifted * bit);
+        shifted = step(k, low, shifted, 0);
+        i += 1;
+    }
+    sum
+}
+
+// The power a^n of a residue, by the bits of n from the highest: a square for each, and a product where the bit is one.
+pub fn power(k: u32, low: u64, a: u64, n: u64) -> u64
+    requires { ⌜ Modulus k low × (a < 2 ^ k) ⌝ }
+    ensures { λ r. ⌜ r ≡ rem (monic k low) (a ⊗^ n) ⌝ }
+{
+    let mut x: u64 = 1;
+    let mut i = 64 - u64::leading_zeros(n);
+    while 0 < i {
+        i -= 1;
+        x = product(k, low, x, x);
+        if (n >> i) % 2 == 1 {
+            x = product(k, low, x, a);
+        }
+    }
+    x
+}
+
+// The power t^n, likewise: a step where the bit is one.
+pub fn power_of_t(k: u32, low: u64, n: u64) -> u64
+    requires { ⌜ Modulus k low ⌝ }
+    ensures { λ r. ⌜ r ≡ rem (monic k low) (2 ^ n) ⌝ }
+{
+    let mut x: u64 = 1;
+    let mut i = 64 - u64::leading_zeros(n);
+    while 0 < i {
+        i -= 1;
+        x = product(k, low, x, x);
+        if (n >> i) % 2 == 1 {
+            x = step(k, low, x, 0);
+        }
+    }
+    x
 }

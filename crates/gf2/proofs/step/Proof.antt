@@ -22,6 +22,12 @@ shr-top c = search needs
 low-bits-requires : tie.Need-low-bits-requires
 low-bits-requires c κs = search needs
 
+mul-reduced : tie.Need-mul-reduced
+mul-reduced c =
+    let a = c .before .args in
+    let p = c .before .pre in
+    record { fits = omega (arith, bit-mul-le (a .low) (a .f / 2 ^ (a .k - 1)) (top-bit (a .k) (a .f) (p .0 .0) (p .1))) }
+
 -- the residue with the bit behind it, less the coefficient that falls out, is below 2 ^ k
 rest-fits : (k f b : ℕ) → 0 < k → k ≤ 64 → b < 2 → f % 2 ^ (k - 1) * 2 + b < 2 ^ 64
 rest-fits k f b p l m = lt-of-lt-of-le (append-lt k f b p m) (pow-mono l)
@@ -38,12 +44,6 @@ add-result c =
     let p = c .before .pre in
     record { fits = omega (arith, c .low-bits .ensures, rest-fits (a .k) (a .f) (a .bit) (p .0 .0) (p .0 .1) (p .2)) }
 
-mul-result-2 : tie.Need-mul-result-2
-mul-result-2 c =
-    let a = c .before .args in
-    let p = c .before .pre in
-    record { fits = omega (arith, bit-mul-le (a .low) (a .f / 2 ^ (a .k - 1)) (top-bit (a .k) (a .f) (p .0 .0) (p .1))) }
-
 returns : tie.Need-returns
 unfolding _⊕_
 returns c =
@@ -52,4 +52,4 @@ returns c =
     rw (c .low-bits .ensures) (sym (step-is (a .k) (a .low) (a .f) (a .bit) (p .0 .0) (p .0 .2) (p .1) (p .2)))
 
 pub step-spec : {M : Type 1} → statement M
-step-spec = tie.close (tie.spec sub-cut cast-top shr-top low-bits-requires mul-result add-result mul-result-2 returns)
+step-spec = tie.close (tie.spec sub-cut cast-top shr-top low-bits-requires mul-reduced mul-result add-result returns)

@@ -1,0 +1,143 @@
+#define _GNU_SOURCE
+#include "peers.h"
+#include <string.h>
+
+static int degree(uint64_t p) { return 63 - __builtin_clzll(p); }
+
+/* One bit behind a residue. */
+static inline uint64_t step(uint64_t f, unsigned bit, uint64_t key, int k) {
+    uint64_t v = f << 1 | bit;
+    return v ^ (key & -(v >> k));
+}
+
+uint64_t peer_feed_bits(uint64_t key, uint64_t f, const uint8_t *p, size_t n) {
+    int k = degree(key);
+    for (size_t i = 0; i < n; i++)
+        for (int j = 7; j >= 0; j--)
+            f = step(f, p[i] >> j & 1, key, k);
+    return f;
+}
+
+void peer_fill(uint64_t key, uint64_t *words) {
+    int k = degree(key);
+    uint64_t w = key ^ UINT64_C(1) << k;
+    for (int j = 0; j < 4; j++) {
+        uint64_t *t = words + 256 * j;
+        t[0] = 0;
+        for (int z = 1; z < 256; z *= 2) {
+            for (int m = 0; m < z; m++)
+                t[z + m] = t[m] ^ w;
+            w = step(w, 0, key, k);
+        }
+    }
+}
+
+uint64_t peer_test(uint64_t key, const uint64_t *words) {
+    int k = degree(key);
+    uint64_t w = key ^ UINT64_C(1) << k, differences = 0;
+    for (int j = 0; j < 4; j++) {
+        const uint64_t *t = words + 256 * j;
+        differences |= t[0];
+        for (int z = 1; z < 256; z *= 2) {
+            for (int m = 0; m < z; m++)
+                differences |= t[z + m] ^ t[m] ^ w;
+            w = step(w, 0, key, k);
+        }
+    }
+    return differences;
+}
+
+static inline uint32_t big_endian(const uint8_t *p) {
+    uint32_t x;
+    memcpy(&x, p, 4);
+    return __builtin_bswap32(x);
+}
+
+#define LOOKED_UP(t, h) ((t)[(h) & 255] ^ (t)[256 + ((h) >> 8 & 255)] ^ (t)[512 + ((h) >> 16 & 255)] ^ (t)[768 + ((h) >> 24 & 255)])
+
+uint64_t peer_slicing_by_4(uint64_t key, uint64_t f, const uint64_t *words, const uint8_t *p, size_t n) {
+    int k = degree(key);
+    uint64_t mask = (UINT64_C(1) << k) - 1;
+    size_t i = 0;
+    if (k >= 32) {
+        int s = k - 32;
+        for (; i + 4 <= n; i += 4) {
+            uint64_t h = f >> s;
+            f = ((f << 32 | big_endian(p + i)) & mask) ^ LOOKED_UP(words, h);
+        }
+    } else {
+        for (; i + 4 <= n; i += 4) {
+            uint64_t v = f << 32 | big_endian(p + i), h = v >> k;
+            f = (v & mask) ^ LOOKED_UP(words, h);
+        }
+    }
+    for (; i < n; i++)
+        f = (f << 8 & mask) ^ p[i] ^ words[f >> (k - 8)];
+    return f;
+}
+
+static uint64_t crc_words[4][256];
+
+__attribute__((constructor)) static void crc_fill(void) {
+    for (int s = 0; s < 4; s++)
+        for (int b = 0; b < 256; b++) {
+            uint64_t r = s == 0 ? (uint64_t)b : crc_words[s - 1][b];
+            for (int i = 0; i < 8; i++)
+                r = r & 1 ? r >> 1 ^ UINT64_C(0xC96C5795D7870F42) : r >> 1;
+            crc_words[s][b] = r;
+        }
+}
+
+uint64_t peer_crc64(uint64_t crc, const uint8_t *p, size_t n) {
+    crc = ~crc;
+    for (; n >= 4; n -= 4, p += 4) {
+        uint32_t w;
+        memcpy(&w, p, 4);
+        w ^= (uint32_t)crc;
+        crc = crc_words[3][w & 255] ^ crc_words[2][w >> 8 & 255] ^ crc >> 32 ^ crc_words[1][w >> 16 & 255] ^ crc_words[0][w >> 24];
+    }
+    for (; n > 0; n--, p++)
+        crc = crc_words[0][(*p ^ crc) & 255] ^ crc >> 8;
+    return ~crc;
+}
+
+size_t peer_rabin_karp(const uint8_t *text, size_t n, const uint8_t *pattern, size_t m, uint32_t *places, size_t room) {
+    size_t count = 0;
+    if (m > n)
+        return 0;
+    uint32_t power = 1, window = 0, wanted = 0;
+    for (size_t i = 0; i < m; i++) {
+        window = window * 257 + text[i];
+        wanted = wanted * 257 + pattern[i];
+        power *= 257;
+    }
+    for (size_t i = 0;; i++) {
+        if (window == wanted) {
+            size_t j = 0;
+            while (j < m && text[i + j] == pattern[j])
+                j++;
+            if (j == m) {
+                if (count < room)
+                    places[count] = (uint32_t)i;
+                count++;
+            }
+        }
+        if (i + m >= n)
+            return count;
+        window = window * 257 + text[i + m] - power * text[i];
+    }
+}
+
+size_t peer_memmem(const uint8_t *text, size_t n, const uint8_t *pattern, size_t m, uint32_t *places, size_t room) {
+    size_t count = 0, at = 0;
+    while (at < n) {
+        const uint8_t *found = memmem(text + at, n - at, pattern, m);
+        if (!found)
+            break;
+        if (count < room)
+            places[count] = (uint32_t)(found - text);
+        count++;
+        at = (size_t)(found - text) + 1;
+    }
+    return count;
+}

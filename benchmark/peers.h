@@ -1,0 +1,32 @@
+/* The C programs that the library is measured against: the same work, written plainly and compiled with -O3. */
+#ifndef PEERS_H
+#define PEERS_H
+#include <stddef.h>
+#include <stdint.h>
+#ifdef __cplusplus
+extern "C" {
+#endif
+
+/* A fingerprint bit by bit, with no branch on the data. */
+uint64_t peer_feed_bits(uint64_t key, uint64_t f, const uint8_t *p, size_t n);
+
+/* The table of 1,024 words, and its test by linearity: 0 where the words are right. */
+void peer_fill(uint64_t key, uint64_t *words);
+uint64_t peer_test(uint64_t key, const uint64_t *words);
+
+/* A fingerprint by slicing by four: four bytes at a time through the table, any degree from 8 to 63. */
+uint64_t peer_slicing_by_4(uint64_t key, uint64_t f, const uint64_t *words, const uint8_t *p, size_t n);
+
+/* CRC-64 (the polynomial of ECMA-182, reflected) by slicing by four. */
+uint64_t peer_crc64(uint64_t crc, const uint8_t *p, size_t n);
+
+/* Rabin and Karp's search modulo 2^32, base 257: the number of places, the first ones written. */
+size_t peer_rabin_karp(const uint8_t *text, size_t n, const uint8_t *pattern, size_t m, uint32_t *places, size_t room);
+
+/* The same places by memmem. */
+size_t peer_memmem(const uint8_t *text, size_t n, const uint8_t *pattern, size_t m, uint32_t *places, size_t room);
+
+#ifdef __cplusplus
+}
+#endif
+#endif

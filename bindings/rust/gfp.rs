@@ -1,0 +1,70 @@
+//! Safe Rust over the C interface of include/gfp.h. Each function answers what the C function writes, or the refusal's number.
+#![allow(dead_code)]
+
+mod raw {
+    extern "C" {
+        pub fn gfp_test_key(key: u64) -> u32;
+        pub fn gfp_begin(key: u64, fingerprint: *mut u64, length: *mut u64) -> u32;
+        pub fn gfp_feed(key: u64, fingerprint: *mut u64, length: *mut u64, part: *const u8, part_length: usize) -> u32;
+        pub fn gfp_make_table(key: u64, words: *mut u64, words_length: usize) -> u32;
+        pub fn gfp_test_table(key: u64, words: *const u64, words_length: usize) -> u32;
+        pub fn gfp_feed_table(key: u64, fingerprint: *mut u64, length: *mut u64, words: *const u64, words_length: usize, part: *const u8, part_length: usize) -> u32;
+        pub fn gfp_feed_house(fingerprint: *mut u64, length: *mut u64, part: *const u8, part_length: usize) -> u32;
+    }
+}
+
+/// The number of a refusal, 1 to 14.
+pub type Refusal = u32;
+
+pub const HOUSE_KEY: u64 = 0x2000_0000_0000_0027;
+pub const TABLE_WORDS: usize = 1024;
+
+/// A fingerprint and a length in bytes.
+#[derive(Clone, Copy, Debug, PartialEq, Eq)]
+pub struct Mark {
+    pub fingerprint: u64,
+    pub length: u64,
+}
+
+fn answer<T>(number: u32, value: T) -> Result<T, Refusal> {
+    if number == 0 { Ok(value) } else { Err(number) }
+}
+
+pub fn test_key(key: u64) -> Result<(), Refusal> {
+    answer(unsafe { raw::gfp_test_key(key) }, ())
+}
+
+/// The mark of the empty file.
+pub fn begin(key: u64) -> Result<Mark, Refusal> {
+    let mut mark = Mark { fingerprint: 0, length: 0 };
+    let number = unsafe { raw::gfp_begin(key, &mut mark.fingerprint, &mut mark.length) };
+    answer(number, mark)
+}
+
+impl Mark {
+    /// Feeds the next part of a file, bit by bit. On refusal the mark is unchanged.
+    pub fn feed(&mut self, key: u64, part: &[u8]) -> Result<(), Refusal> {
+        answer(unsafe { raw::gfp_feed(key, &mut self.fingerprint, &mut self.length, part.as_ptr(), part.len()) }, ())
+    }
+
+    /// Feeds the next part by a table.
+    pub fn feed_table(&mut self, key: u64, words: &[u64], part: &[u8]) -> Result<(), Refusal> {
+        let number = unsafe {
+            raw::gfp_feed_table(key, &mut self.fingerprint, &mut self.length, words.as_ptr(), words.len(), part.as_ptr(), part.len())
+        };
+        answer(number, ())
+    }
+
+    /// Feeds the next part under `HOUSE_KEY`.
+    pub fn feed_house(&mut self, part: &[u8]) -> Result<(), Refusal> {
+        answer(unsafe { raw::gfp_feed_house(&mut self.fingerprint, &mut self.length, part.as_ptr(), part.len()) }, ())
+    }
+}
+
+pub fn make_table(key: u64, words: &mut [u64]) -> Result<(), Refusal> {
+    answer(unsafe { raw::gfp_make_table(key, words.as_mut_ptr(), words.len()) }, ())
+}
+
+pub fn test_table(key: u64, words: &[u64]) -> Result<(), Refusal> {
+    answer(unsafe { raw::gfp_test_table(key, words.as_ptr(), words.len()) }, ())
+}

@@ -1,0 +1,40 @@
+//! Compares every public C function with the second implementation of reference.rs, refusals and buffers included.
+//! Usage: conformance [rounds]. The last line counts the comparisons: "N passed, 0 failed".
+mod generator;
+#[path = "../bindings/rust/gfp.rs"]
+mod gfp;
+mod keys;
+mod marks;
+mod reference;
+
+/// Counts what was compared, and reports the first differences.
+pub struct Tally {
+    passed: u64,
+    failed: u64,
+}
+
+impl Tally {
+    pub fn same<T: PartialEq + std::fmt::Debug>(&mut self, what: &str, ours: T, second: T) {
+        if ours == second {
+            self.passed += 1;
+            return;
+        }
+        self.failed += 1;
+        if self.failed <= 20 {
+            println!("{what}: the library gives {ours:?}, the second implementation {second:?}");
+        }
+    }
+}
+
+fn main() {
+    let rounds = std::env::args().nth(1).map_or(1, |n| n.parse().expect("a number of rounds"));
+    let mut tally = Tally { passed: 0, failed: 0 };
+    let suites: [(&str, fn(&mut Tally, u64)); 2] = [("keys", keys::run), ("marks and tables", marks::run)];
+    for (name, suite) in suites {
+        let before = tally.passed + tally.failed;
+        suite(&mut tally, rounds);
+        println!("{name}: {} comparisons", tally.passed + tally.failed - before);
+    }
+    println!("{} passed, {} failed", tally.passed, tally.failed);
+    std::process::exit(i32::from(tally.failed > 0));
+}

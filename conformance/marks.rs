@@ -1,0 +1,141 @@
+//! Beginning and feeding marks, by bits and by tables, and the tables themselves.
+use crate::{generator::Generator, gfp, reference, Tally};
+
+fn ours(mark: reference::Mark) -> gfp::Mark {
+    gfp::Mark { fingerprint: mark.fingerprint, length: mark.length }
+}
+
+/// The state after a call, and the number: on refusal the state handed in.
+fn outcome(before: reference::Mark, answer: Result<reference::Mark, u32>) -> (gfp::Mark, u32) {
+    match answer {
+        Ok(mark) => (ours(mark), 0),
+        Err(number) => (ours(before), number),
+    }
+}
+
+fn after(mut mark: gfp::Mark, call: impl FnOnce(&mut gfp::Mark) -> Result<(), u32>) -> (gfp::Mark, u32) {
+    let number = call(&mut mark).err().unwrap_or(0);
+    (mark, number)
+}
+
+/// Document 01, "Bench readings": files and fingerprints under the key 0x11B.
+const READINGS: [(&[u8], u64); 8] = [
+    (&[], 0x01),
+    (&[0x00], 0x1b),
+    (&[0x1b], 0x00),
+    (&[0x41], 0x5a),
+    (&[0x42], 0x59),
+    (&[0x41, 0x42], 0x9d),
+    (&[0x00, 0x00], 0x5e),
+    (&[0x01, 0x1b], 0x5e),
+];
+
+fn readings(tally: &mut Tally) {
+    let mut words = vec![0; gfp::TABLE_WORDS];
+    tally.same("table of 0x11b", gfp::make_table(0x11b, &mut words), Ok(()));
+    for (n, word) in [(1, 0x1b), (2, 0x36), (128, 0x2f), (257, 0x5e)] {
+        tally.same(&format!("reading, table word {n}"), words[n], word);
+    }
+    for (file, fingerprint) in READINGS {
+        let empty = gfp::begin(0x11b).expect("an accepted key");
+        let whole = gfp::Mark { fingerprint, length: file.len() as u64 };
+        tally.same("reading, fed by bits", after(empty, |m| m.feed(0x11b, file)), (whole, 0));
+        tally.same("reading, fed by table", after(empty, |m| m.feed_table(0x11b, &words, file)), (whole, 0));
+    }
+    let long = gfp::Mark { fingerprint: 1, length: reference::LIMIT };
+    tally.same("reading, one byte past the limit", after(long, |m| m.feed(0x11b, &[0])), (long, 7));
+    tally.same("reading, nothing at the limit", after(long, |m| m.feed(0x11b, &[])), (long, 0));
+}
+
+/// A file fed whole, by bits, by tables, and in two parts cut at every place.
+fn cuts(tally: &mut Tally, generator: &mut Generator) {
+    let k = generator.degree();
+    let key = generator.accepted(k);
+    let words = reference::table(key);
+    let n = generator.below(40) as usize;
+    let file = generator.bytes(n);
+    let whole = gfp::Mark { fingerprint: reference::fingerprint(key, &file), length: n as u64 };
+    for cut in 0..=n {
+        let (front, back) = file.split_at(cut);
+        let by_bits = after(gfp::begin(key).expect("an accepted key"), |m| m.feed(key, front).and(m.feed(key, back)));
+        let by_table = after(gfp::begin(key).expect("an accepted key"), |m| m.feed_table(key, &words, front).and(m.feed_table(key, &words, back)));
+        tally.same(&format!("key {key:#x}, file of {n} bytes cut at {cut}, by bits"), by_bits, (whole, 0));
+        tally.same(&format!("key {key:#x}, file of {n} bytes cut at {cut}, by table"), by_table, (whole, 0));
+    }
+}
+
+/// One call of each kind on random input, good and bad.
+fn calls(tally: &mut Tally, generator: &mut Generator) {
+    let key = generator.key();
+    let mark = generator.mark(key);
+    let n = if generator.one_in(50) { 4000 + generator.below(9000) } else { generator.below(80) };
+    let part = generator.bytes(n as usize);
+    let words = generator.table(key);
+    let what = format!("key {key:#x}, mark {mark:?}, part of {n} bytes");
+    let second_begin = reference::begin(key).map(ours);
+    tally.same(&format!("begin, key {key:#x}"), gfp::begin(key), second_begin);
+    tally.same(&format!("feed, {what}"), after(ours(mark), |m| m.feed(key, &part)), outcome(mark, reference::feed(key, mark, &part)));
+    tally.same(
+        &format!("feed by table of {} words, {what}", words.len()),
+        after(ours(mark), |m| m.feed_table(key, &words, &part)),
+        outcome(mark, reference::feed_table(key, mark, &words, &part)),
+    );
+    tally.same(&format!("test of table, key {key:#x}"), gfp::test_table(key, &words), reference::test_table(key, &words));
+    let house_mark = generator.mark(gfp::HOUSE_KEY);
+    tally.same(
+        &format!("feed under the house key, mark {house_mark:?}, part of {n} bytes"),
+        after(ours(house_mark), |m| m.feed_house(&part)),
+        outcome(house_mark, reference::feed_house(house_mark, &part)),
+    );
+    let mut made = words.clone();
+    let number = gfp::make_table(key, &mut made).err().unwrap_or(0);
+    let second = reference::make_table(key, &words);
+    tally.same(&format!("make table, key {key:#x}"), number, second.clone().err().unwrap_or(0));
+    tally.same(&format!("words made, key {key:#x}"), made, second.unwrap_or(words));
+}
+
+/// Long parts, around the sizes at which feeding by tables changes its way.
+fn long_parts(tally: &mut Tally, generator: &mut Generator) {
+    for k in [8, 9, 16, 31, 32, 33, 61, 63] {
+        let key = generator.accepted(k);
+        let words = reference::table(key);
+        for n in [1023, 1024, 2047, 4095, 4096, 4097, 4111, 8192, 65_536, 65_537] {
+            let file = generator.bytes(n);
+            let whole = gfp::Mark { fingerprint: reference::fingerprint(key, &file), length: n as u64 };
+            let empty = gfp::begin(key).expect("an accepted key");
+            tally.same(&format!("key {key:#x}, {n} bytes by table"), after(empty, |m| m.feed_table(key, &words, &file)), (whole, 0));
+            tally.same(&format!("key {key:#x}, {n} bytes by bits"), after(empty, |m| m.feed(key, &file)), (whole, 0));
+        }
+    }
+    let file = generator.bytes(1 << 20);
+    let whole = gfp::Mark { fingerprint: reference::fingerprint(gfp::HOUSE_KEY, &file), length: 1 << 20 };
+    let empty = gfp::begin(gfp::HOUSE_KEY).expect("an accepted key");
+    tally.same("1 MiB under the house key", after(empty, |m| m.feed_house(&file)), (whole, 0));
+}
+
+/// Each bit of each word of a table, changed: the table is refused.
+fn damaged_tables(tally: &mut Tally, generator: &mut Generator) {
+    for k in [8, 31, 61, 63] {
+        let key = generator.accepted(k);
+        let words = reference::table(key);
+        tally.same(&format!("table of {key:#x}"), gfp::test_table(key, &words), Ok(()));
+        for n in 0..1024 {
+            let mut damaged = words.clone();
+            damaged[n] ^= 1 << generator.below(64);
+            tally.same(&format!("table of {key:#x}, word {n} changed"), gfp::test_table(key, &damaged), Err(6));
+        }
+    }
+}
+
+pub fn run(tally: &mut Tally, rounds: u64) {
+    let mut generator = Generator::new(4);
+    readings(tally);
+    damaged_tables(tally, &mut generator);
+    long_parts(tally, &mut generator);
+    for _ in 0..rounds * 100 {
+        cuts(tally, &mut generator);
+    }
+    for _ in 0..rounds * 2000 {
+        calls(tally, &mut generator);
+    }
+}

@@ -1,0 +1,348 @@
+//! A second implementation, written from document 01's definitions alone and as plainly as they read: long division bit by bit,
+//! trial comparisons, no tables. It shares no code and no method with the library that it is compared with.
+
+pub const LIMIT: u64 = 4_294_967_295;
+
+/// The place of the highest one bit.
+pub fn degree(p: u64) -> u32 {
+    63 - p.leading_zeros()
+}
+
+/// Long division of a string of bits, the highest coefficient first, beginning with the residue `start`.
+pub fn divide(key: u64, start: u64, bits: impl Iterator<Item = bool>) -> u64 {
+    let top = 1u128 << degree(key);
+    let mut rest = u128::from(start);
+    for bit in bits {
+        rest = rest << 1 | u128::from(bit);
+        if rest & top != 0 {
+            rest ^= u128::from(key);
+        }
+    }
+    rest as u64
+}
+
+fn bits_of(bytes: &[u8]) -> impl Iterator<Item = bool> + '_ {
+    bytes.iter().flat_map(|b| (0..8).rev().map(move |i| b >> i & 1 == 1))
+}
+
+/// The residue of t^(8n) plus the file's bits.
+pub fn fingerprint(key: u64, file: &[u8]) -> u64 {
+    let one = divide(key, 0, std::iter::once(true));
+    divide(key, one, bits_of(file))
+}
+
+/// The residue of a polynomial of up to 128 bits.
+pub fn residue(key: u64, mut a: u128) -> u64 {
+    let k = degree(key);
+    for place in (k..128).rev() {
+        if a >> place & 1 == 1 {
+            a ^= u128::from(key) << (place - k);
+        }
+    }
+    a as u64
+}
+
+pub fn multiply(a: u64, b: u64) -> u128 {
+    (0..64).filter(|i| b >> i & 1 == 1).fold(0, |sum, i| sum ^ u128::from(a) << i)
+}
+
+pub fn multiply_modulo(key: u64, a: u64, b: u64) -> u64 {
+    residue(key, multiply(a, b))
+}
+
+/// t^n modulo the key, squaring from the lowest bit of n.
+pub fn power_of_t(key: u64, mut n: u64) -> u64 {
+    let mut square = residue(key, 2);
+    let mut power = residue(key, 1);
+    while n > 0 {
+        if n & 1 == 1 {
+            power = multiply_modulo(key, power, square);
+        }
+        square = multiply_modulo(key, square, square);
+        n >>= 1;
+    }
+    power
+}
+
+fn gcd(mut a: u64, mut b: u64) -> u64 {
+    while b != 0 {
+        let rest = if b == 1 { 0 } else { residue(b, u128::from(a)) };
+        a = b;
+        b = rest;
+    }
+    a
+}
+
+/// Ben-Or's test: no irreducible polynomial of degree up to k/2 divides p.
+pub fn irreducible(p: u64) -> bool {
+    let mut x = residue(p, 2);
+    for _ in 0..degree(p) / 2 {
+        x = multiply_modulo(p, x, x);
+        if gcd(p, x ^ 2) != 1 {
+            return false;
+        }
+    }
+    true
+}
+
+/// Trial division by every polynomial of degree 1 to k/2.
+pub fn irreducible_by_trial(p: u64) -> bool {
+    (2..1u64 << (degree(p) / 2 + 1)).all(|d| residue(d, u128::from(p)) != 0)
+}
+
+/// The numbers that a call can be refused with, in the order of its tests; the first that applies is given.
+pub type Answer<T> = Result<T, u32>;
+
+fn refuse(tests: &[(u32, bool)]) -> Answer<()> {
+    match tests.iter().find(|(_, applies)| *applies) {
+        Some((number, _)) => Err(*number),
+        None => Ok(()),
+    }
+}
+
+pub fn test_key(key: u64) -> Answer<()> {
+    if key < 256 {
+        return Err(1);
+    }
+    refuse(&[(2, !irreducible(key))])
+}
+
+#[derive(Clone, Copy, Debug, PartialEq, Eq)]
+pub struct Mark {
+    pub fingerprint: u64,
+    pub length: u64,
+}
+
+pub fn begin(key: u64) -> Answer<Mark> {
+    test_key(key)?;
+    Ok(Mark { fingerprint: fingerprint(key, &[]), length: 0 })
+}
+
+fn too_long(lengths: &[u128]) -> bool {
+    lengths.iter().any(|&n| n > u128::from(LIMIT))
+}
+
+fn unreduced(key: u64, fingerprint: u64) -> bool {
+    fingerprint >> degree(key) != 0
+}
+
+fn sum_too_long(a: u64, b: u64) -> bool {
+    too_long(&[a.into(), b.into(), u128::from(a) + u128::from(b)])
+}
+
+fn fed(key: u64, mark: Mark, part: &[u8]) -> Mark {
+    Mark { fingerprint: divide(key, mark.fingerprint, bits_of(part)), length: mark.length + part.len() as u64 }
+}
+
+pub fn feed(key: u64, mark: Mark, part: &[u8]) -> Answer<Mark> {
+    test_key(key)?;
+    refuse(&[(7, sum_too_long(mark.length, part.len() as u64)), (8, unreduced(key, mark.fingerprint))])?;
+    Ok(fed(key, mark, part))
+}
+
+/// Word 256·j + i: the residue of i·t^(k + 8j).
+pub fn table_word(key: u64, n: usize) -> u64 {
+    residue(key, ((n % 256) as u128) << (degree(key) as usize + 8 * (n / 256)))
+}
+
+pub fn table(key: u64) -> Vec<u64> {
+    (0..1024).map(|n| table_word(key, n)).collect()
+}
+
+pub fn make_table(key: u64, words: &[u64]) -> Answer<Vec<u64>> {
+    test_key(key)?;
+    refuse(&[(5, words.len() != 1024)])?;
+    Ok(table(key))
+}
+
+pub fn test_table(key: u64, words: &[u64]) -> Answer<()> {
+    test_key(key)?;
+    refuse(&[(5, words.len() != 1024)])?;
+    refuse(&[(6, words.iter().enumerate().any(|(n, &w)| w != table_word(key, n)))])
+}
+
+pub fn feed_table(key: u64, mark: Mark, words: &[u64], part: &[u8]) -> Answer<Mark> {
+    test_table(key, words)?;
+    feed(key, mark, part)
+}
+
+pub fn feed_house(mark: Mark, part: &[u8]) -> Answer<Mark> {
+    feed(0x2000_0000_0000_0027, mark, part)
+}
+
+// ---- Site: joining, page change, search, page sheets
+
+/// F·t^(8b) + G + t^(8b), length a + b.
+fn joined(key: u64, front: Mark, back: Mark) -> Mark {
+    let power = power_of_t(key, 8 * back.length);
+    let fingerprint = multiply_modulo(key, front.fingerprint, power) ^ back.fingerprint ^ power;
+    Mark { fingerprint, length: front.length + back.length }
+}
+
+fn join_tests(key: u64, mark: Mark, other: Mark) -> Answer<()> {
+    test_key(key)?;
+    refuse(&[
+        (7, sum_too_long(mark.length, other.length)),
+        (8, unreduced(key, mark.fingerprint) || unreduced(key, other.fingerprint)),
+    ])
+}
+
+pub fn join_behind(key: u64, mark: Mark, other: Mark) -> Answer<Mark> {
+    join_tests(key, mark, other)?;
+    Ok(joined(key, mark, other))
+}
+
+pub fn join_in_front(key: u64, mark: Mark, other: Mark) -> Answer<Mark> {
+    join_tests(key, mark, other)?;
+    Ok(joined(key, other, mark))
+}
+
+pub fn replace_page(key: u64, mark: Mark, place: u64, old: &[u8], new: &[u8]) -> Answer<Mark> {
+    test_key(key)?;
+    let end = u128::from(place) + old.len() as u128;
+    refuse(&[
+        (7, too_long(&[mark.length.into(), old.len() as u128, new.len() as u128])),
+        (8, unreduced(key, mark.fingerprint)),
+        (9, old.len() != new.len()),
+        (10, end > u128::from(mark.length)),
+    ])?;
+    let difference = fingerprint(key, old) ^ fingerprint(key, new);
+    let after = power_of_t(key, 8 * (mark.length - end as u64));
+    Ok(Mark { fingerprint: mark.fingerprint ^ multiply_modulo(key, difference, after), length: mark.length })
+}
+
+/// The places, and the number of windows with the pattern's fingerprint and other bytes.
+pub fn search(key: u64, text: &[u8], pattern: &[u8]) -> Answer<(Vec<u32>, u64)> {
+    test_key(key)?;
+    refuse(&[(7, too_long(&[text.len() as u128, pattern.len() as u128])), (11, pattern.is_empty())])?;
+    let wanted = fingerprint(key, pattern);
+    let mut places = Vec::new();
+    let mut alarms = 0;
+    for (at, window) in text.windows(pattern.len()).enumerate() {
+        if window == pattern {
+            places.push(at as u32);
+        } else if fingerprint(key, window) == wanted {
+            alarms += 1;
+        }
+    }
+    Ok((places, alarms))
+}
+
+fn pages(n: u64, s: u64) -> u64 {
+    (u128::from(n) + u128::from(s) - 1).div_euclid(u128::from(s)) as u64
+}
+
+/// Each page, the last one filled up with zero bytes.
+fn filled_pages(file: &[u8], s: usize) -> impl Iterator<Item = Vec<u8>> + '_ {
+    file.chunks(s).map(move |page| {
+        let mut page = page.to_vec();
+        page.resize(s, 0);
+        page
+    })
+}
+
+pub fn sheet(key: u64, s: u64, file: &[u8]) -> Vec<u8> {
+    let mut bytes = b"GFP\x00\x01".to_vec();
+    bytes.extend(key.to_be_bytes());
+    bytes.extend((file.len() as u32).to_be_bytes());
+    bytes.extend((s as u16).to_be_bytes());
+    for page in filled_pages(file, s as usize) {
+        bytes.extend(fingerprint(key, &page).to_be_bytes());
+    }
+    bytes.extend(fingerprint(key, file).to_be_bytes());
+    bytes
+}
+
+/// The lent buffer after the call.
+pub fn write_sheet(key: u64, s: u64, file: &[u8], buffer: &[u8]) -> Answer<Vec<u8>> {
+    test_key(key)?;
+    refuse(&[(7, too_long(&[file.len() as u128])), (12, !(16..=4096).contains(&s))])?;
+    refuse(&[(13, (buffer.len() as u64) < 27 + 8 * pages(file.len() as u64, s))])?;
+    let mut after = sheet(key, s, file);
+    after.extend(&buffer[after.len()..]);
+    Ok(after)
+}
+
+#[derive(Clone, Debug, PartialEq, Eq)]
+pub struct Sheet {
+    pub key: u64,
+    pub length: u64,
+    pub page_size: u64,
+    pub pages: Vec<u64>,
+    pub fingerprint: u64,
+}
+
+fn number(bytes: &[u8]) -> u64 {
+    bytes.iter().fold(0, |n, &b| n << 8 | u64::from(b))
+}
+
+pub fn read_sheet(bytes: &[u8]) -> Answer<Sheet> {
+    if bytes.len() < 27 || bytes[..3] != *b"GFP" || number(&bytes[3..5]) != 1 {
+        return Err(14);
+    }
+    let key = number(&bytes[5..13]);
+    let length = number(&bytes[13..17]);
+    let page_size = number(&bytes[17..19]);
+    test_key(key)?;
+    refuse(&[(12, !(16..=4096).contains(&page_size))])?;
+    let c = pages(length, page_size);
+    refuse(&[(14, bytes.len() as u64 != 27 + 8 * c)])?;
+    let fields: Vec<u64> = bytes[19..].chunks(8).map(number).collect();
+    refuse(&[(14, fields.iter().any(|&f| unreduced(key, f)))])?;
+    let (&fingerprint, page_marks) = fields.split_last().expect("the file's field");
+    // the page marks joined, each of length s: F·t^(8s) + G + t^(8s) from 1
+    let power = power_of_t(key, 8 * page_size);
+    let whole = page_marks.iter().fold(residue(key, 1), |f, g| multiply_modulo(key, f, power) ^ g ^ power);
+    let filled = power_of_t(key, 8 * (c * page_size - length));
+    refuse(&[(14, whole != multiply_modulo(key, fingerprint, filled))])?;
+    Ok(Sheet { key, length, page_size, pages: page_marks.to_vec(), fingerprint })
+}
+
+#[derive(Clone, Copy, Debug, PartialEq, Eq)]
+pub enum Check {
+    Same,
+    Page(u64),
+    OtherLength,
+}
+
+pub fn check_file(bytes: &[u8], file: &[u8]) -> Answer<Check> {
+    let sheet = read_sheet(bytes)?;
+    refuse(&[(7, too_long(&[file.len() as u128]))])?;
+    if file.len() as u64 != sheet.length {
+        return Ok(Check::OtherLength);
+    }
+    let changed = filled_pages(file, sheet.page_size as usize).zip(&sheet.pages).position(|(page, &f)| fingerprint(sheet.key, &page) != f);
+    Ok(changed.map_or(Check::Same, |i| Check::Page(i as u64)))
+}
+
+// ---- Keyholder: drawing
+
+pub const DRAWN_DEGREES: [u32; 14] = [11, 13, 17, 19, 23, 29, 31, 37, 41, 43, 47, 53, 59, 61];
+
+/// The smallest irreducible polynomial of degree k.
+pub fn stock_key(k: u32) -> u64 {
+    (1u64 << k..).find(|&p| irreducible(p)).expect("one of each degree")
+}
+
+/// The product of (x + c) over the conjugates c of the element: its minimal polynomial where the degree is prime.
+pub fn draw(k: u64, element: u64) -> Answer<u64> {
+    refuse(&[(3, !DRAWN_DEGREES.contains(&(k.min(64) as u32)))])?;
+    refuse(&[(4, element < 2 || element >> k != 0)])?;
+    let f = stock_key(k as u32);
+    // coefficients in the field, the lowest first
+    let mut product = vec![1u64];
+    let mut conjugate = element;
+    for _ in 0..k {
+        let mut next = vec![0u64; product.len() + 1];
+        for (i, &c) in product.iter().enumerate() {
+            next[i + 1] ^= c;
+            next[i] ^= multiply_modulo(f, c, conjugate);
+        }
+        product = next;
+        conjugate = multiply_modulo(f, conjugate, conjugate);
+    }
+    Ok(product.iter().enumerate().fold(0, |p, (i, &c)| {
+        assert!(c < 2, "a coefficient outside the field of two elements");
+        p | c << i
+    }))
+}

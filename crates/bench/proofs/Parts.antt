@@ -1,0 +1,72 @@
+-- Feeding file parts one after another gives the mark of the parts joined.
+use mathlib.Core.Path.{_≡_, refl, sym, ap, ap₂, _∙_}
+use mathlib.Core.Bool.{Bool, true, false, not, _||_}
+use mathlib.Core.List.{List, [], _∷_, _++_, append-assoc, append-nil}
+use Prim.Native.Nat.{ℕ, _+_, _≤_}
+use native.Mathlib.Omega.{arith}
+use lib.Dec.{eqb}
+use lib.ListN.{length, length-append}
+use borrow.Author.Tests.{le-ltb}
+use Rattle.refusals.specs.declared.Refusal.the-variants.{TableSize, TableWord}
+use Rattle.refusals.specs.Refusals.{Answer, Done, stateOf, Test, _⇒_, firstOf, longest, passes}
+use Rattle.acceptance.specs.Keys.{accepted, keyTests}
+use Rattle.files.specs.declared.Mark.{Mark}
+use Rattle.files.specs.Files.{markOf}
+use Rattle.marks.specs.Feeding.{sumTest}
+use Rattle.tables.specs.Tables.{word, differs, tableFrom, tableTests}
+use Rattle.book.specs.Runs.{bookStep, run, Honest}
+use Rattle.book.proofs.RunLaws.{run-next}
+use Rattle.bench.specs.Book.{Call, ByBits, ByTable, ByHouse, step, bookTests, written, Brings, bench}
+use Rattle.bench.specs.Parts.{partOf, Usable, AllUsable, partsJoined, zeros, PartsJoined}
+use Rattle.bench.proofs.KeyLaws.{key-passes}
+use Rattle.bench.proofs.TableRule.{length-table, table-follows}
+use Rattle.bench.proofs.Guarantee.{lists}
+
+-- number 7 does not apply
+pub fits : (n c : ℕ) → n + c ≤ longest → passes (n ∷ c ∷ (n + c) ∷ []) ≡ false
+fits n c l = rw (le-ltb longest n (omega arith), le-ltb longest c (omega arith), le-ltb longest (n + c) l)
+
+-- numbers 5 and 6 do not apply
+table-passes : {S A : Type 0} (key : ℕ) (ts : List Test) (kept : S) (value : A)
+    → firstOf (tableTests key (tableFrom (word 8 key) 0 1024) ++ ts) kept value ≡ firstOf ts kept value
+table-passes key ts kept value = rw (length-table (word 8 key) 0 1024, table-follows (word 8 key) 0 1024)
+
+module _ (key : ℕ) (a : accepted key ≡ true) where
+  sum-passes : (file part : List ℕ) → length file + length part ≤ longest
+      → firstOf (sumTest (length file) (length part) ∷ []) file (file ++ part) ≡ Done (file ++ part)
+  sum-passes file part l = rw (fits (length file) (length part) l)
+
+  -- the book takes the part
+  pub taken : (file : List ℕ) (c : Call) → Usable key c → length file + length (partOf c) ≤ longest → bookStep bench key file c ≡ Done (file ++ partOf c)
+  unfolding bookStep bookTests written
+  taken file (ByBits part) u l = key-passes key a (sumTest (length file) (length part) ∷ []) file (file ++ part) ∙ sum-passes file part l
+  taken file (ByTable words part) u l =
+      key-passes key a (tableTests key words ++ sumTest (length file) (length part) ∷ []) file (file ++ part)
+      ∙ ap (λ (ws : List ℕ). firstOf (tableTests key ws ++ sumTest (length file) (length part) ∷ []) file (file ++ part)) u
+      ∙ table-passes key (sumTest (length file) (length part) ∷ []) file (file ++ part)
+      ∙ sum-passes file part l
+  taken file (ByHouse part) u l = sum-passes file part l
+
+  brings : (file : List ℕ) (c : Call) → Usable key c → Brings key file c
+  brings file (ByBits part) u = tt
+  brings file (ByTable words part) u = tt
+  brings file (ByHouse part) u = u
+
+  honest : (file : List ℕ) (cs : List Call) → AllUsable key cs → Honest bench key file cs
+  honest file [] u = tt
+  honest file (c ∷ cs) u = (λ e. brings file c (u .0), honest (stateOf (bookStep bench key file c)) cs (u .1))
+
+  in-book : (file : List ℕ) (cs : List Call) → AllUsable key cs → length file + length (partsJoined cs) ≤ longest
+      → run (bookStep bench key) file cs ≡ (file ++ partsJoined cs, zeros cs)
+  in-book file [] u l = unfold run in (ap {B = List ℕ × List ℕ} (λ (f : List ℕ). (f, [])) (sym (append-nil file)))
+  in-book file (c ∷ cs) u l =
+      run-next (bookStep bench key) file c cs (Done (file ++ partOf c)) (taken file c (u .0) (omega (arith, length-append (partOf c) (partsJoined cs))))
+      ∙ ap {B = List ℕ × List ℕ} (λ (r : List ℕ × List ℕ). (r .0, 0 ∷ r .1))
+      (in-book (file ++ partOf c) cs (u .1) (omega (arith, length-append (partOf c) (partsJoined cs), length-append file (partOf c))))
+      ∙ ap {B = List ℕ × List ℕ} (λ (f : List ℕ). (f, 0 ∷ zeros cs)) (append-assoc file (partOf c) (partsJoined cs))
+
+pub parts : PartsJoined
+parts key file m cs a t u l =
+    let r = lists key file m cs a t (honest key a file cs u) in
+    let b = in-book key a file cs u l in
+    ap₂ {C = Mark × List ℕ} (λ (x : Mark) (ns : List ℕ). (x, ns)) (r .0 ∙ ap (λ (x : List ℕ × List ℕ). markOf key (x .0)) b) (r .1 ∙ ap (λ (x : List ℕ × List ℕ). x .1) b)

@@ -1,0 +1,96 @@
+-- One call of the Bench level beside one step of the book.
+use mathlib.Core.Path.{_≡_, refl, sym, ap, _∙_}
+use mathlib.Core.Bool.{Bool, true, false}
+use mathlib.Core.List.{List, [], _∷_, _++_, append-assoc}
+use Prim.Native.Nat.{ℕ, _+_, _^_, _<_}
+use lib.ListN.{length, length-append}
+use borrow.Author.Tests.{lt-leb}
+use Rattle.gf2.specs.Polynomials.{degree, rem}
+use Rattle.gf2.proofs.Residues.{rem-lt}
+use Rattle.refusals.specs.declared.Refusal.the-variants.{TooLong, MarkNotReduced}
+use Rattle.refusals.specs.Refusals.{Answer, stateOf, numberOf, Test, _⇒_, firstOf, passes}
+use Rattle.refusals.proofs.Laws.{skip, agree}
+use Rattle.acceptance.specs.Keys.{keyTests}
+use Rattle.files.specs.declared.Mark.{Mark}
+use Rattle.files.specs.Files.{value, fingerprint, markOf}
+use Rattle.files.proofs.Marks.{mark-eq, fed}
+use Rattle.marks.specs.Feeding.{unreduced, sumTest, feedTests, fedMark, feedBits}
+use Rattle.tables.specs.Tables.{tableTests, feedTable, houseKey, feedHouse}
+use Rattle.book.specs.Runs.{bookStep}
+use Rattle.book.proofs.RunLaws.{Keeps}
+use Rattle.bench.specs.Book.{Call, ByBits, ByTable, ByHouse, step, bookTests, written, Brings, bench}
+
+-- the mark's side answers as the book does, and the mark is true of the book's file
+abbrev pub Agrees : ℕ → Answer Mark Mark → Answer (List ℕ) (List ℕ) → Type 0
+Agrees key s b = (stateOf s ≡ markOf key (stateOf b)) × (numberOf s ≡ numberOf b)
+
+-- where the mark's side comes down to the book's tests
+pub agrees-by : (key : ℕ) (s : Answer Mark Mark) (ts : List Test) (kept next : List ℕ) (nxt : Mark) → s ≡ firstOf ts (markOf key kept) nxt
+    → (numberOf (firstOf ts kept next) ≡ 0 → nxt ≡ markOf key next) → Agrees key s (firstOf ts kept next)
+agrees-by key s ts kept next nxt e h = rw e (agree (markOf key) ts kept next nxt h)
+
+module _ (key : ℕ) (pos : 0 < key) (file : List ℕ) where
+  -- a true mark is reduced
+  pub reduced : unreduced key (markOf key file) ≡ false
+  unfolding markOf fingerprint
+  reduced = lt-leb (2 ^ degree key) (rem key (value file)) (rem-lt pos (value file))
+
+  -- so number 8 may be left out, wherever it stands
+  pub leave-out-8 : (ts us vs : List Test) (x y : Mark)
+      → firstOf (ts ++ (us ++ unreduced key (markOf key file) ⇒ MarkNotReduced ∷ vs)) x y ≡ firstOf (ts ++ (us ++ vs)) x y
+  leave-out-8 ts us vs x y =
+      ap (λ (l : List Test). firstOf l x y) (sym (append-assoc ts us (unreduced key (markOf key file) ⇒ MarkNotReduced ∷ vs)))
+      ∙ ap (λ (b : Bool). firstOf (ts ++ us ++ b ⇒ MarkNotReduced ∷ vs) x y) reduced
+      ∙ skip (ts ++ us) vs MarkNotReduced x y
+      ∙ ap (λ (l : List Test). firstOf l x y) (append-assoc ts us vs)
+
+  fed-mark : (part : List ℕ) → fedMark key (markOf key file) part ≡ markOf key (file ++ part)
+  unfolding fedMark markOf
+  fed-mark part = mark-eq (fed pos file part) (sym (length-append file part))
+
+  -- feeding, whatever is tested before
+  feed-agrees : (ts : List Test) (part : List ℕ)
+      → Agrees key (firstOf (ts ++ feedTests key (markOf key file) part) (markOf key file) (fedMark key (markOf key file) part))
+      (firstOf (ts ++ sumTest (length file) (length part) ∷ []) file (file ++ part))
+  unfolding markOf
+  feed-agrees ts part =
+      agrees-by key (firstOf (ts ++ feedTests key (markOf key file) part) (markOf key file) (fedMark key (markOf key file) part))
+      (ts ++ sumTest (length file) (length part) ∷ []) file (file ++ part) (fedMark key (markOf key file) part)
+      (leave-out-8 ts (sumTest (length file) (length part) ∷ []) [] (markOf key file) (fedMark key (markOf key file) part))
+      (λ e. fed-mark part)
+
+  bits-agree : (part : List ℕ) → Agrees key (step key (markOf key file) (ByBits part)) (bookStep bench key file (ByBits part))
+  unfolding step feedBits bookStep bookTests written
+  bits-agree part = feed-agrees (keyTests key) part
+
+  table-agree : (words part : List ℕ) → Agrees key (step key (markOf key file) (ByTable words part)) (bookStep bench key file (ByTable words part))
+  unfolding step feedTable bookStep bookTests written
+  table-agree words part = feed-agrees (keyTests key ++ tableTests key words) part
+
+  -- feeding under another key, which is the same where the call is not refused
+  other-agree : (other : ℕ) (part : List ℕ) → (numberOf (firstOf (sumTest (length file) (length part) ∷ []) file (file ++ part)) ≡ 0 → key ≡ other)
+      → Agrees key (firstOf (feedTests other (markOf key file) part) (markOf key file) (fedMark other (markOf key file) part))
+      (firstOf (sumTest (length file) (length part) ∷ []) file (file ++ part))
+  unfolding markOf
+  other-agree other part = go (passes (length file ∷ length part ∷ (length file + length part) ∷ []))
+    where
+      go : (b : Bool) → (numberOf (firstOf (b ⇒ TooLong ∷ []) file (file ++ part)) ≡ 0 → key ≡ other)
+          → Agrees key (firstOf (b ⇒ TooLong ∷ unreduced other (markOf key file) ⇒ MarkNotReduced ∷ []) (markOf key file) (fedMark other (markOf key file) part))
+          (firstOf (b ⇒ TooLong ∷ []) file (file ++ part))
+      go true h = (refl, refl)
+      go false h =
+          rw (← (h refl)) (agrees-by key (firstOf (unreduced key (markOf key file) ⇒ MarkNotReduced ∷ []) (markOf key file) (fedMark key (markOf key file) part)) [] file
+          (file ++ part) (fedMark key (markOf key file) part) (leave-out-8 [] [] [] (markOf key file) (fedMark key (markOf key file) part)) (λ e. fed-mark part))
+
+  house-agrees : (part : List ℕ) → (numberOf (bookStep bench key file (ByHouse part)) ≡ 0 → key ≡ houseKey)
+      → Agrees key (step key (markOf key file) (ByHouse part)) (bookStep bench key file (ByHouse part))
+  unfolding step feedHouse bookStep bookTests written
+  house-agrees part h = other-agree houseKey part h
+
+  pub each : (c : Call) → (numberOf (bookStep bench key file c) ≡ 0 → Brings key file c) → Agrees key (step key (markOf key file) c) (bookStep bench key file c)
+  each (ByBits part) h = bits-agree part
+  each (ByTable words part) h = table-agree words part
+  each (ByHouse part) h = house-agrees part h
+
+pub keeps : (key : ℕ) → 0 < key → Keeps bench key
+keeps key pos file m c t h = rw t (each key pos file c h)

@@ -1,0 +1,112 @@
+-- Keys under which two different files have equal fingerprints: such a key divides the difference of the files' polynomials.
+use mathlib.Core.Path.{_≡_, sym, ap, _∙_}
+use mathlib.Core.Logic.{_≢_, _↔_, _⊎_, inl, inr}
+use mathlib.Core.Bool.{true, _&&_}
+use mathlib.Core.List.{List}
+use Prim.Native.Nat.{ℕ, suc, _+_, _*_, _^_, _≤_, _<_, suc-le-suc}
+use native.Mathlib.Nat.{eq-zero-or-pos, lt-of-lt-of-le, zero-mul}
+use native.Mathlib.Omega.{arith}
+use lib.Dec.{eqb}
+use lib.ListN.{length}
+use lib.Pow.{pow-mono}
+use borrow.Author.Tests.{eqb-true, eq-eqb}
+use Rattle.gf2.specs.Polynomials.{_⊕_, degree, Degree}
+use Rattle.gf2.specs.Lists.{All, Distinct}
+use Rattle.gf2.proofs.Lists.{all-map}
+use Rattle.gf2.proofs.Sums.{⊕-eq, ⊕-lt}
+use Rattle.gf2.proofs.Degrees.{degree-is, degree-eq, deg-lo, deg-hi, deg-le, deg-intro}
+use Rattle.gf2.proofs.Residues.{dvd-of-rem}
+use Rattle.gf2.proofs.Irreducibles.{Factor, count}
+use Rattle.acceptance.specs.Keys.{accepted}
+use Rattle.acceptance.proofs.Laws.{accepted-pos, accepted-iff, and-both}
+use Rattle.files.specs.Files.{value, fingerprint, Bytes}
+use Rattle.files.proofs.Values.{value-degree, value-inj}
+use Rattle.book.specs.Confusions.{confused, countFrom, Burst}
+use Rattle.book.specs.Claims.{ConfusionsCount, BurstsCount}
+use Rattle.book.proofs.CountLaws.{Chosen, chosen, length-chosen, all-chosen, distinct-chosen, none-long}
+use Rattle.book.proofs.BurstLaws.{no-burst, burst-shifted}
+
+-- an accepted key of degree k under which the fingerprints are equal
+pub record Equal (k : ℕ) (a b : List ℕ) (key : ℕ) : Type 0 where
+  pub is-accepted : accepted key ≡ true
+  pub of-degree : degree key ≡ k
+  pub prints : fingerprint key a ≡ fingerprint key b
+
+-- these are the numbers of degree k that pass the test
+pub equal-iff : (k : ℕ) (a b : List ℕ) (key : ℕ) → Equal k a b key ↔ ((2 ^ k ≤ key) × (key < 2 ^ k + 2 ^ k) × (confused a b key ≡ true))
+unfolding confused
+equal-iff k a b key = (there, back)
+  where
+    there : Equal k a b key → (2 ^ k ≤ key) × (key < 2 ^ k + 2 ^ k) × ((accepted key && eqb (fingerprint key a) (fingerprint key b)) ≡ true)
+    there e =
+        let is : Degree key k = rw (e .of-degree) at (degree-is key (accepted-pos key (e .is-accepted))) in
+        (deg-lo key k is, omega (arith, deg-hi key k is), rw (e .is-accepted) (eq-eqb (fingerprint key a) (fingerprint key b) (e .prints)))
+
+    back : (2 ^ k ≤ key) × (key < 2 ^ k + 2 ^ k) × ((accepted key && eqb (fingerprint key a) (fingerprint key b)) ≡ true) → Equal k a b key
+    back h =
+        let t = and-both (accepted key) (eqb (fingerprint key a) (fingerprint key b)) (h .2) in
+        record {
+          is-accepted = t .0;
+          of-degree = degree-eq key k (deg-intro key k (h .0) (omega (arith, h .1)));
+          prints = eqb-true (fingerprint key a) (fingerprint key b) (t .1);
+        }
+
+factor : (k : ℕ) (a b : List ℕ) (key : ℕ) → Equal k a b key → Factor k (value a ⊕ value b) key
+unfolding fingerprint
+factor k a b key e =
+    let pos = accepted-pos key (e .is-accepted) in
+    record {
+      irreducible = accepted-iff key .0 (e .is-accepted) .2;
+      of-degree = rw (e .of-degree) at (degree-is key pos);
+      divides = dvd-of-rem pos (value a) (value b) (e .prints);
+    }
+
+value-below : (n : ℕ) (a : List ℕ) → 8 * length a ≤ n → value a < 2 ^ suc n
+value-below n a l = lt-of-lt-of-le (deg-hi (value a) (8 * length a) (value-degree a)) (pow-mono (suc-le-suc l))
+
+module _ (k : ℕ) (a b : List ℕ) (ha : Bytes a) (hb : Bytes b) (ne : a ≢ b) where
+  different : value a ⊕ value b ≡ 0 → ⊥
+  different e = ne (value-inj a b ha hb (⊕-eq (value a) (value b) e))
+
+  pub equal-keys : (n : ℕ) → 8 * length a ≤ n → 8 * length b ≤ n → (keys : List ℕ) → Distinct keys → All (Equal k a b) keys → length keys * k ≤ n
+  equal-keys n la lb keys d all = go (eq-zero-or-pos (value a ⊕ value b))
+    where
+      go : (value a ⊕ value b ≡ 0) ⊎ (0 < value a ⊕ value b) → length keys * k ≤ n
+      go (inl e) = absurd (different e)
+      go (inr pos) =
+          omega (
+            arith,
+            count k (value a ⊕ value b) keys pos d (all-map (factor k a b) keys all),
+            deg-le (value a ⊕ value b) (degree (value a ⊕ value b)) (suc n) (degree-is (value a ⊕ value b) pos)
+                (⊕-lt (suc n) (value a) (value b) (value-below n a la) (value-below n b lb)),
+          )
+
+  pub no-equal-key : Burst k a b → (key : ℕ) → Equal k a b key → ⊥
+  no-equal-key s key e =
+      let f = factor k a b key e in
+      let x = burst-shifted k a b s in
+      let eight = accepted-iff key .0 (e .is-accepted) .0 in
+      let zero-part = no-burst key k (x .part) (x .shift) (f .irreducible) (f .of-degree) (omega (arith, eight, e .of-degree)) (x .small) (rw (x .is) at (f .divides)) in
+      different (x .is ∙ ap (λ (y : ℕ). y * 2 ^ x .shift) zero-part ∙ zero-mul (2 ^ x .shift))
+
+-- ---- the keys that the test counts, as a list
+
+listed : ℕ → List ℕ → List ℕ → List ℕ
+listed k a b = chosen (confused a b) (2 ^ k) (2 ^ k)
+
+all-listed : (k : ℕ) (a b : List ℕ) → All (Equal k a b) (listed k a b)
+unfolding listed
+all-listed k a b =
+    all-map (λ key (c : Chosen (confused a b) (2 ^ k) (2 ^ k) key). equal-iff k a b key .1 (c .from, c .below, c .passes)) (listed k a b)
+    (all-chosen (confused a b) (2 ^ k) (2 ^ k))
+
+pub confusions-count : ConfusionsCount
+unfolding listed
+confusions-count k a b ha hb ne n la lb =
+    rw (length-chosen (confused a b) (2 ^ k) (2 ^ k)) at
+    (equal-keys k a b ha hb ne n la lb (listed k a b) (distinct-chosen (confused a b) (2 ^ k) (2 ^ k)) (all-listed k a b))
+
+pub bursts-count : BurstsCount
+unfolding listed
+bursts-count k a b ha hb ne s =
+    sym (length-chosen (confused a b) (2 ^ k) (2 ^ k)) ∙ none-long (Equal k a b) (listed k a b) (all-listed k a b) (no-equal-key k a b ha hb ne s)

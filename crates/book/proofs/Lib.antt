@@ -1,0 +1,5 @@
+pub mod RunLaws
+pub mod CountLaws
+pub mod BurstLaws
+pub mod ConfusionLaws
+pub mod Guarantee

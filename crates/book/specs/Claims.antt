@@ -1,0 +1,56 @@
+-- Demand 3 (document 01, "The plain book of demand 3") as it is claimed of a level and of its routes. Each level proves these claims
+-- in its proofs/Guarantee.antt.
+use mathlib.Core.Path.{_≡_}
+use mathlib.Core.Logic.{_≢_, _↔_}
+use mathlib.Core.Bool.{true}
+use mathlib.Core.List.{List}
+use Prim.Native.Nat.{ℕ, _+_, _*_, _^_, _≤_, _<_}
+use lib.ListN.{length}
+use Rattle.gf2.specs.Lists.{All, Distinct}
+use Rattle.refusals.specs.Refusals.{numberOf}
+use Rattle.refusals.proofs.Laws.{applying, lowest}
+use Rattle.acceptance.specs.Keys.{accepted}
+use Rattle.files.specs.declared.Mark.{Mark}
+use Rattle.files.specs.Files.{True, Bytes}
+use Rattle.book.specs.Runs.{Level, bookStep, run, Honest}
+use Rattle.book.specs.Confusions.{Routes, Confuses, confused, countFrom, Burst}
+
+-- "After the list, fingerprint and length are the residue and the length of the book's file, and exactly those calls were refused
+-- that the book's last rule names, each with the lowest number that applies." For every accepted key, every file, every mark true of
+-- it and every list of calls of any length.
+abbrev pub Lists : Level → Type 0
+Lists L =
+    (key : ℕ) (file : List ℕ) (m : Mark) (calls : List (L .Call)) → accepted key ≡ true → True key file m → Honest L key file calls
+    → True key (run (bookStep L key) file calls .0) (run (L .step key) m calls .0) × (run (L .step key) m calls .1 ≡ run (bookStep L key) file calls .1)
+
+-- the number with which the book names a call is "the lowest number that applies"; where none applies it is 0
+abbrev pub Lowest : Level → Type 0
+Lowest L = (key : ℕ) (file : List ℕ) (c : L .Call) → numberOf (bookStep L key file c) ≡ lowest (applying (L .tests key (length file) c))
+
+-- ---- "For two different files, count the accepted keys of degree k under which a list whose book ends with the one file and a list
+-- whose book ends with the other can leave equal fingerprints. That count times k is at most n; n bounds both lengths in bits, the
+-- leading 1 not counted."
+
+-- whatever pairwise different keys of that kind are listed
+abbrev pub Confusions : Routes → Type 0
+Confusions Route =
+    (k : ℕ) (a b : List ℕ) → Bytes a → Bytes b → a ≢ b → (n : ℕ) → 8 * length a ≤ n → 8 * length b ≤ n
+    → (keys : List ℕ) → Distinct keys → All (Confuses Route k a b) keys → length keys * k ≤ n
+
+-- the keys of that kind are the numbers from 2^k to 2^(k + 1) - 1 that pass the test `confused`
+abbrev pub Counted : Routes → Type 0
+Counted Route = (k : ℕ) (a b : List ℕ) (key : ℕ) → Confuses Route k a b key ↔ ((2 ^ k ≤ key) × (key < 2 ^ k + 2 ^ k) × (confused a b key ≡ true))
+
+-- so this is their count
+abbrev pub ConfusionsCount : Type 0
+ConfusionsCount =
+    (k : ℕ) (a b : List ℕ) → Bytes a → Bytes b → a ≢ b → (n : ℕ) → 8 * length a ≤ n → 8 * length b ≤ n
+    → countFrom (confused a b) (2 ^ k) (2 ^ k) * k ≤ n
+
+-- ---- "Where the lengths are equal and the first and last differing bits are at most k - 1 places apart, the count is 0."
+
+abbrev pub Bursts : Routes → Type 0
+Bursts Route = (k : ℕ) (a b : List ℕ) → Bytes a → Bytes b → a ≢ b → Burst k a b → (key : ℕ) → Confuses Route k a b key → ⊥
+
+abbrev pub BurstsCount : Type 0
+BurstsCount = (k : ℕ) (a b : List ℕ) → Bytes a → Bytes b → a ≢ b → Burst k a b → countFrom (confused a b) (2 ^ k) (2 ^ k) ≡ 0

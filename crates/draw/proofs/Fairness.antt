@@ -1,0 +1,194 @@
+-- Drawing is fair and covers every key (Rabin's Lemmas 1 and 2): for a listed degree k each element from 2 to 2^k - 1 draws one
+-- accepted key of degree k, each such key is drawn by exactly k elements, and so their number times k is 2^k - 2. What fails for few
+-- keys therefore fails for few elements.
+use mathlib.Core.Path.{_≡_, refl, sym, ap, ap₂, _∙_}
+use mathlib.Core.Logic.{_≢_}
+use mathlib.Core.Bool.{Bool, true, false, _&&_, _||_, not, true≢false}
+use mathlib.Core.List.{List, [], _∷_}
+use Prim.Native.Nat.{ℕ, zero, suc, _+_, _-_, _*_, _%_, _^_, _≤_, _<_}
+use native.Mathlib.Nat.{le-refl, one-mul, zero-mul, mul-one, two-pow-succ, le-trans}
+use native.Mathlib.Decide.{ℕ-discrete, decLt}
+use native.Mathlib.Omega.{arith}
+use lib.Dec.{T, T-not, leb, leb→le, eqb, eqb-refl}
+use lib.Pow.{pow-mono}
+use borrow.Author.Tests.{eqb-true, eq-eqb}
+use Rattle.gf2.specs.Polynomials.{degree, Degree, Irreducible}
+use Rattle.gf2.proofs.Lists.{and-left, and-right}
+use Rattle.gf2.proofs.Degrees.{degree-is, degree-eq, deg-lo, deg-hi, deg-intro, deg-pos}
+use Rattle.acceptance.specs.Keys.{accepted}
+use Rattle.acceptance.proofs.Laws.{accepted-iff, accepted-pos}
+use Rattle.book.specs.Confusions.{toOne, countFrom}
+use Rattle.fields.specs.Fields.{Prime, Field}
+use Rattle.fields.proofs.Pigeonhole.{Found}
+use Rattle.stock.specs.Stock.{stockKey}
+use Rattle.stock.proofs.Table.{stock-smallest}
+use Rattle.draw.specs.Drawing.{degrees, among, drawn, Draws}
+use Rattle.draw.proofs.Draws.{drawn-is, drawn-draws, drawn-irreducible}
+use Rattle.draw.proofs.Drawers.{Drawers, drawers}
+use Rattle.draw.proofs.Sums.{sumFrom, count-is-sum, sum-same, sum-times, count-same, count-all, count-one, count-none, count-twice, differ}
+
+-- ---- the listed degrees are primes from 11 to 61, by one computed test
+
+-- none of 2, 3, .., n + 1 divides k
+undivided : ℕ → ℕ → Bool
+undivided k zero = true
+undivided k (suc n) = not (eqb (k % suc (suc n)) 0) && undivided k n
+
+none-divides : (k n d : ℕ) → T (undivided k n) → 1 < d → d < suc (suc n) → k % d ≢ 0
+unfolding undivided
+none-divides k zero d t l h e = omega arith
+none-divides k (suc n) d t l h e = go (ℕ-discrete d (suc (suc n))) (λ b. none-divides k n d (and-right (not (eqb (k % suc (suc n)) 0)) (undivided k n) t) l b e)
+  where
+    go : Dec (d ≡ suc (suc n)) → (d < suc (suc n) → ⊥) → ⊥
+    go (yes s) rest =
+        T-not (eqb (k % suc (suc n)) 0) (and-left (not (eqb (k % suc (suc n)) 0)) (undivided k n) t) (rw (rw s at e) (eqb-refl 0))
+    go (no s) rest = rest (omega arith)
+
+-- a number from 11 to 61 that none of 2, .., k - 1 divides
+unfoldable prime-test : ℕ → Bool
+prime-test k = leb 11 k && leb k 61 && undivided k (k - 2)
+
+unfoldable every-listed : List ℕ → Bool
+every-listed [] = true
+every-listed (k ∷ ks) = prime-test k && every-listed ks
+
+at-listed : (ks : List ℕ) (k : ℕ) → T (every-listed ks) → among k ks ≡ true → T (prime-test k)
+unfolding every-listed among
+at-listed [] k t e = absurd (true≢false (sym e))
+at-listed (m ∷ ks) k t e = go (eqb k m) refl e (at-listed ks k (and-right (prime-test m) (every-listed ks) t))
+  where
+    go : (b : Bool) → eqb k m ≡ b → (b || among k ks) ≡ true → (among k ks ≡ true → T (prime-test k)) → T (prime-test k)
+    go true q e rest = rw (eqb-true k m q) (and-left (prime-test m) (every-listed ks) t)
+    go false q e rest = rest e
+
+listed-test : (k : ℕ) → among k degrees ≡ true → T (prime-test k)
+unfolding every-listed prime-test undivided
+listed-test k e = at-listed degrees k tt e
+
+module _ (k : ℕ) (listed : among k degrees ≡ true) where
+  range : (11 ≤ k) × (k ≤ 61)
+  unfolding prime-test
+  range =
+      let both = and-left (leb 11 k && leb k 61) (undivided k (k - 2)) (listed-test k listed) in
+      (leb→le 11 k (and-left (leb 11 k) (leb k 61) both), leb→le k 61 (and-right (leb 11 k) (leb k 61) both))
+
+  prime : Prime k
+  unfolding prime-test
+  prime =
+      record {
+        proper = omega (arith, range .0);
+        no-divisor =
+            λ d l h. none-divides k (k - 2) d (and-right (leb 11 k && leb k 61) (undivided k (k - 2)) (listed-test k listed)) l (omega (arith, range .0));
+      }
+
+  -- the stock key makes a field
+  pub field : Field (stockKey k) k
+  field =
+      let s = stock-smallest k (omega (arith, range .0)) (omega (arith, range .1)) in
+      record {
+        irreducible = accepted-iff (stockKey k) .0 (s .is-accepted) .2;
+        of-degree = rw (s .of-degree) at (degree-is (stockKey k) (accepted-pos (stockKey k) (s .is-accepted)));
+        prime = prime;
+      }
+
+  four : 4 ≤ 2 ^ k
+  four = pow-mono {i = 2} {j = k} (omega (arith, range .0))
+
+  -- ---- what an element draws is an accepted key of degree k
+
+  module _ (e : ℕ) (low : 2 ≤ e) (high : e < 2 ^ k) where
+    pub key-drawn : Draws (stockKey k) k e (drawn (stockKey k) k e)
+    key-drawn = drawn-draws (stockKey k) k field e low high
+
+    pub key-degree : degree (drawn (stockKey k) k e) ≡ k
+    key-degree = degree-eq (drawn (stockKey k) k e) k (key-drawn .of-degree)
+
+    pub key-accepted : accepted (drawn (stockKey k) k e) ≡ true
+    key-accepted =
+        accepted-iff (drawn (stockKey k) k e) .1 (
+          omega (arith, key-degree, range .0),
+          omega (arith, key-degree, range .1),
+          drawn-irreducible (stockKey k) k field e low high (drawn (stockKey k) k e) key-drawn,
+        )
+
+    -- and nothing else has degree k and the root e
+    pub key-only : (p : ℕ) → Draws (stockKey k) k e p → drawn (stockKey k) k e ≡ p
+    key-only p a = drawn-is (stockKey k) k field e low high p a
+
+  -- ---- each accepted key of degree k is drawn by exactly k elements
+
+  module _ (p : ℕ) (is-accepted : accepted p ≡ true) (of-degree : degree p ≡ k) where
+    all-drawers : Drawers (stockKey k) k p
+    all-drawers =
+        drawers (stockKey k) k field p (accepted-iff p .0 is-accepted .2) (rw of-degree at (degree-is p (accepted-pos p is-accepted)))
+
+    element : ℕ → ℕ
+    element = all-drawers .element
+
+    -- of the k elements one is e where e draws p, and none elsewhere
+    one-place : (e : ℕ) → 2 ≤ e → e < 2 + (2 ^ k - 2)
+        → toOne true * countFrom (λ j. eqb (element j) e) 0 k ≡ toOne (eqb (drawn (stockKey k) k e) p)
+    unfolding element
+    one-place e low bound = one-mul (countFrom (λ j. eqb (all-drawers .element j) e) 0 k) ∙ go (ℕ-discrete (drawn (stockKey k) k e) p)
+      where
+        high : e < 2 ^ k
+        high = omega (arith, four)
+
+        no-other : (i j : ℕ) → i < k → j < k → all-drawers .element i ≡ all-drawers .element j → i ≡ j
+        no-other i j a b s = settle (decLt i j) (decLt j i)
+          where
+            settle : Dec (i < j) → Dec (j < i) → i ≡ j
+            settle (yes l) m = absurd (all-drawers .different i j l b s)
+            settle (no l) (yes m) = absurd (all-drawers .different j i m a (sym s))
+            settle (no l) (no m) = omega arith
+
+        go : Dec (drawn (stockKey k) k e ≡ p) → countFrom (λ j. eqb (all-drawers .element j) e) 0 k ≡ toOne (eqb (drawn (stockKey k) k e) p)
+        go (yes s) =
+            rw (eq-eqb (drawn (stockKey k) k e) p s)
+            (count-one (λ j. eqb (all-drawers .element j) e) (found .place) 0 k (omega arith) (omega (arith, found .before)) (eq-eqb (all-drawers .element (found .place)) e (found .is))
+            (λ j a b t. no-other (found .place) j (found .before) (omega arith) (found .is ∙ sym (eqb-true (all-drawers .element j) e t))))
+          where
+            found : Found k e (all-drawers .element)
+            found = all-drawers .all e high (rw s at (key-drawn e low high))
+        go (no s) =
+            rw (differ (drawn (stockKey k) k e) p s)
+            (count-none (λ j. eqb (all-drawers .element j) e) 0 k
+            (λ j a b. differ (all-drawers .element j) e (λ q. s (key-only e low high p (rw q at (all-drawers .draw j))))))
+
+    pub drawers-count : countFrom (λ e. eqb (drawn (stockKey k) k e) p) 2 (2 ^ k - 2) ≡ k
+    unfolding element
+    drawers-count =
+        count-is-sum (λ e. eqb (drawn (stockKey k) k e) p) 2 (2 ^ k - 2)
+        ∙ sym (sum-same (λ e. toOne true * countFrom (λ j. eqb (all-drawers .element j) e) 0 k) (λ e. toOne (eqb (drawn (stockKey k) k e) p)) 2 (2 ^ k - 2) one-place)
+        ∙ sym (count-twice (all-drawers .element) (λ x. true) 0 k 2 (2 ^ k - 2)
+        (λ j a b. (all-drawers .above j, omega (arith, all-drawers .below j, four))))
+        ∙ count-all (λ x. true) 0 k (λ j a b. refl)
+
+  -- ---- what holds of some accepted keys: the elements that draw one of them are k times as many as they
+
+  module _ (t : ℕ → Bool) (of-accepted : (p : ℕ) → t p ≡ true → accepted p ≡ true) where
+    -- a key that passes is drawn by k elements; what does not pass is not counted
+    fibre : (p : ℕ) → 2 ^ k ≤ p → p < 2 ^ k + 2 ^ k → toOne (t p) * countFrom (λ e. eqb (drawn (stockKey k) k e) p) 2 (2 ^ k - 2) ≡ toOne (t p) * k
+    fibre p a b = go (t p) refl
+      where
+        go : (c : Bool) → t p ≡ c → toOne c * countFrom (λ e. eqb (drawn (stockKey k) k e) p) 2 (2 ^ k - 2) ≡ toOne c * k
+        go true q = ap (λ (n : ℕ). 1 * n) (drawers-count p (of-accepted p q) (degree-eq p k (deg-intro p k a (omega (arith, two-pow-succ k)))))
+        go false q = zero-mul (countFrom (λ e. eqb (drawn (stockKey k) k e) p) 2 (2 ^ k - 2)) ∙ sym (zero-mul k)
+
+    pub elements-count : countFrom (λ e. t (drawn (stockKey k) k e)) 2 (2 ^ k - 2) ≡ countFrom t (2 ^ k) (2 ^ k) * k
+    elements-count =
+        count-twice (drawn (stockKey k) k) t 2 (2 ^ k - 2) (2 ^ k) (2 ^ k) into
+        ∙ sum-same (λ p. toOne (t p) * countFrom (λ e. eqb (drawn (stockKey k) k e) p) 2 (2 ^ k - 2)) (λ p. toOne (t p) * k) (2 ^ k) (2 ^ k) fibre
+        ∙ sum-times (λ p. toOne (t p)) k (2 ^ k) (2 ^ k)
+        ∙ ap (λ (n : ℕ). n * k) (sym (count-is-sum t (2 ^ k) (2 ^ k)))
+      where
+        into : (e : ℕ) → 2 ≤ e → e < 2 + (2 ^ k - 2) → (2 ^ k ≤ drawn (stockKey k) k e) × (drawn (stockKey k) k e < 2 ^ k + 2 ^ k)
+        into e a b =
+            let d = key-drawn e a (omega (arith, four)) .of-degree in
+            (deg-lo (drawn (stockKey k) k e) k d, omega (arith, deg-hi (drawn (stockKey k) k e) k d, two-pow-succ k))
+
+  -- Rabin's Lemma 1: (the number of accepted keys of degree k) × k = 2^k - 2
+  pub keys-count : countFrom accepted (2 ^ k) (2 ^ k) * k ≡ 2 ^ k - 2
+  keys-count =
+      sym (elements-count accepted (λ p e. e))
+      ∙ count-all (λ e. accepted (drawn (stockKey k) k e)) 2 (2 ^ k - 2) (λ e a b. key-accepted e a (omega (arith, four)))

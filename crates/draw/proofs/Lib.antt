@@ -1,0 +1,4 @@
+pub mod Draws
+pub mod Drawers
+pub mod Sums
+pub mod Fairness

@@ -1,0 +1,35 @@
+-- Drawing a key by Rabin's method (document 01, "Polynomials and keys"; 000, section 2).
+use mathlib.Core.Path.{_≡_}
+use mathlib.Core.Bool.{Bool, true, false, _||_, not}
+use mathlib.Core.List.{List, [], _∷_}
+use Prim.Native.Nat.{ℕ, _^_}
+use lib.Dec.{leb, ltb, eqb}
+use Rattle.gf2.specs.Polynomials.{Degree}
+use Rattle.fields.specs.Fields.{at}
+use Rattle.refusals.specs.declared.Refusal.the-variants.{DegreeNotListed, ElementOutOfRange}
+use Rattle.refusals.specs.Refusals.{Answer, Test, _⇒_, firstOf}
+use Rattle.stock.specs.Stock.{firstFrom, stockKey}
+
+-- the degrees that keys are drawn of
+abbrev pub degrees : List ℕ
+degrees = 11 ∷ 13 ∷ 17 ∷ 19 ∷ 23 ∷ 29 ∷ 31 ∷ 37 ∷ 41 ∷ 43 ∷ 47 ∷ 53 ∷ 59 ∷ 61 ∷ []
+
+unfoldable pub among : ℕ → List ℕ → Bool
+among n [] = false
+among n (m ∷ ms) = eqb n m || among n ms
+
+-- the first polynomial p of degree k with p(e) = 0 modulo f, in the order of the numbers. It is the only one (`draw-unique`).
+unfoldable pub drawn : ℕ → ℕ → ℕ → ℕ
+drawn f k e = firstFrom (λ p. eqb (at f p e) 0) (2 ^ k) (2 ^ k)
+
+-- number 3, and number 4 of an element handed in
+abbrev pub drawTests : ℕ → ℕ → List Test
+drawTests k e = not (among k degrees) ⇒ DegreeNotListed ∷ (ltb e 2 || leb (2 ^ k) e) ⇒ ElementOutOfRange ∷ []
+
+unfoldable pub draw : ℕ → ℕ → Answer Unit ℕ
+draw k e = firstOf (drawTests k e) tt (drawn (stockKey k) k e)
+
+-- what it is to be drawn by e, without the search: of degree k, with e for a root modulo f
+pub record Draws (f k e p : ℕ) : Type 0 where
+  pub of-degree : Degree p k
+  pub root : at f p e ≡ 0

@@ -1,0 +1,6 @@
+pub mod Values
+pub mod Squaring
+pub mod Roots
+pub mod Pigeonhole
+pub mod Fermat
+pub mod Conjugates

@@ -1,0 +1,2 @@
+pub mod Apart
+pub mod Readings

@@ -1,0 +1,44 @@
+-- Document 01, "Bench readings": those marked P, as one table over the definitions that the code's promises cite. One result,
+-- `readings`, proves it (proofs/Readings.antt).
+use mathlib.Core.Path.{_≡_}
+use mathlib.Core.List.{List, [], _∷_}
+use Prim.Native.Nat.{ℕ}
+use Rattle.refusals.specs.Refusals.{stateOf, numberOf, firstOf}
+use Rattle.acceptance.specs.Keys.{keyTests}
+use Rattle.files.specs.declared.Mark.{Mark}
+use Rattle.files.specs.Files.{fingerprint}
+use Rattle.compose.specs.Composing.{joinBehind}
+use Rattle.book.specs.Confusions.{Burst}
+
+-- the number that a key is refused with; 0 where it is accepted
+abbrev pub keyNumber : ℕ → ℕ
+keyNumber key = numberOf {S = Unit {0}} {A = Unit {0}} (firstOf (keyTests key) tt tt)
+
+abbrev pub mark : ℕ → ℕ → Mark
+mark f n = record { fingerprint = f; length = n }
+
+abbrev pub zeroFile : List ℕ
+zeroFile = 0x00 ∷ 0x00 ∷ []
+
+-- the same residue modulo 0x11B
+abbrev pub keyFile : List ℕ
+keyFile = 0x01 ∷ 0x1B ∷ []
+
+abbrev pub Readings : Type 0
+Readings =
+    -- keys
+    (keyNumber 0x101 ≡ 2)
+    × (keyNumber 0x405 ≡ 2)
+    × (keyNumber 0x11B ≡ 0)
+    -- key 0x11B, file to fingerprint
+    × (fingerprint 0x11B [] ≡ 0x01)
+    × (fingerprint 0x11B (0x00 ∷ []) ≡ 0x1B)
+    × (fingerprint 0x11B (0x1B ∷ []) ≡ 0x00)
+    × (fingerprint 0x11B (0x41 ∷ 0x42 ∷ []) ≡ 0x9D)
+    × (fingerprint 0x11B zeroFile ≡ 0x5E)
+    -- joining 5A and 59, one byte each
+    × (stateOf (joinBehind 0x11B (mark 0x5A 1) (mark 0x59 1)) ≡ mark 0x9D 2)
+    -- the same fingerprint, across 9 bits, one more than k
+    × (fingerprint 0x11B keyFile ≡ 0x5E)
+    × Burst 9 zeroFile keyFile
+    × (Burst 8 zeroFile keyFile → ⊥)

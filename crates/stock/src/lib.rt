@@ -1,0 +1,72 @@
+// The stock list: a fixed table, one key a degree.
+ghost use mathlib.Core.Path.{_≡_};
+ghost use Prim.Native.Nat.{_≤_, _<_};
+ghost use Rattle.stock.specs.Stock.{stockKey};
+
+// The smallest accepted key of each degree, 8 to 63 in rising order.
+const STOCK: [u64; 56] = [
+    0x11b,
+    0x203,
+    0x409,
+    0x805,
+    0x1009,
+    0x201b,
+    0x4021,
+    0x8003,
+    0x1002b,
+    0x20009,
+    0x40009,
+    0x80027,
+    0x100009,
+    0x200005,
+    0x400003,
+    0x800021,
+    0x100001b,
+    0x2000009,
+    0x400001b,
+    0x8000027,
+    0x10000003,
+    0x20000005,
+    0x40000003,
+    0x80000009,
+    0x10000008d,
+    0x20000004b,
+    0x40000001b,
+    0x800000005,
+    0x1000000035,
+    0x200000003f,
+    0x4000000063,
+    0x8000000011,
+    0x10000000039,
+    0x20000000009,
+    0x40000000027,
+    0x80000000059,
+    0x100000000021,
+    0x20000000001b,
+    0x400000000003,
+    0x800000000021,
+    0x100000000002d,
+    0x2000000000071,
+    0x400000000001d,
+    0x800000000004b,
+    0x10000000000009,
+    0x20000000000047,
+    0x4000000000007d,
+    0x80000000000047,
+    0x100000000000095,
+    0x200000000000011,
+    0x400000000000063,
+    0x80000000000007b,
+    0x1000000000000003,
+    0x2000000000000027,
+    0x4000000000000069,
+    0x8000000000000003,
+];
+
+// The stock key of degree k. For our own crates, which ask for no other degree.
+pub fn stock_key(k: u32) -> u64
+    requires { ⌜ (8 ≤ k) × (k < 64) ⌝ }
+    ensures { λ r. ⌜ r ≡ stockKey k ⌝ }
+{
+    STOCK[(k - 8) as usize]
+}

@@ -1,0 +1,3 @@
+pub mod Rule
+pub mod Multiples
+pub mod Cut

@@ -1,0 +1,134 @@
+-- Laws of the rule of a table: row j has the multiples of the residue of t^(k + w·j), and words follow the rule where none differs.
+use mathlib.Core.Path.{_≡_, refl, sym, ap, ap₂, _∙_}
+use mathlib.Core.Bool.{Bool, true, false, not, _||_}
+use mathlib.Core.List.{List, [], _∷_}
+use Prim.Native.Nat.{ℕ, zero, suc, _+_, _-_, _*_, _/_, _%_, _^_, _≤_, _<_, suc-le-suc}
+use native.Mathlib.Nat.{le-refl, add-zero, zero-add, add-suc, suc-add, one-mul, not-suc-le-zero, le-of-suc-le-suc, pow-suc, mul-comm}
+use native.Mathlib.Decide.{decLt}
+use native.Mathlib.Omega.{arith}
+use lib.Arith.{digits-div, digits-mod}
+use lib.Dec.{eqb}
+use lib.ListN.{length, getD}
+use lib.Pow.{pow-add, pow-lt}
+use lib.Seq.{ext-getD}
+use borrow.Author.Tests.{eqb-true, eq-eqb, not-false}
+use Rattle.gf2.specs.Polynomials.{_⊕_, _⊗_, degree, monic, rem}
+use Rattle.gf2.proofs.Sums.{⊕-self}
+use Rattle.gf2.proofs.Products.{⊗-comm, ⊗-pow, ⊗-assoc}
+use Rattle.gf2.proofs.Divisors.{dvd-by, dvd-refl}
+use Rattle.gf2.proofs.Residues.{rem-lt, rem-unique}
+use Rattle.gf2.proofs.Powers.{rem-⊗-right}
+use Rattle.gf2.proofs.Monics.{monic-⊕, monic-degree, monic-pos}
+use Rattle.acceptance.proofs.Laws.{or-neither}
+use Rattle.tables.specs.Tables.{word, differs, tableFrom}
+use Rattle.tables.specs.Rows.{Multiples}
+use Rattle.tables.proofs.Multiples.{multiple-next}
+
+-- ---- the rows
+
+-- the residue of t^e
+abbrev pub power : ℕ → ℕ → ℕ
+power key e = rem key (2 ^ e)
+
+-- a residue modulo the modulus as the code holds it
+pub rem-below : (k low : ℕ) → low < 2 ^ k → (a : ℕ) → rem (monic k low) a < 2 ^ k
+rem-below k low h a = rw (monic-degree k low h) at (rem-lt (monic-pos k low h) a)
+
+-- row 0 has the multiples of t^k, whose residue is the coefficients below t^k
+pub power-low : (k low : ℕ) → low < 2 ^ k → power (monic k low) k ≡ low
+power-low k low h =
+    rem-unique (monic-pos k low h) (2 ^ k) low (rw (monic-degree k low h) h) (dvd-by (dvd-refl (monic k low)) (monic-⊕ k low h))
+
+-- t^b times the residue of t^e
+pub power-shl : {key : ℕ} (pos : 0 < key) (b e : ℕ) → rem key (2 ^ b ⊗ power key e) ≡ power key (e + b)
+power-shl {key} pos b e =
+    rem-⊗-right pos (2 ^ b) (2 ^ e) ∙ ap (rem key) (⊗-comm (2 ^ b) (2 ^ e) ∙ ⊗-pow b (2 ^ e) ∙ sym (pow-add 2 e b))
+
+-- the power of the next row, from the word in the middle of this one
+pub power-next : {key : ℕ} (pos : 0 < key) (v e a : ℕ) (words : List ℕ) → Multiples key (power key e) a (2 ^ suc v) words
+    → rem key (getD words (a + 2 ^ v) 0 * 2 + 0) ≡ power key (e + suc v)
+power-next {key} pos v e a words f =
+    ap (λ (x : ℕ). rem key (x * 2 + 0)) (f (2 ^ v) (pow-lt {i = v} {j = suc v} (le-refl (suc v))))
+    ∙ multiple-next pos (power key e) (2 ^ v)
+    ∙ ap (λ (x : ℕ). rem key (x ⊗ power key e)) (sym (pow-suc 2 v))
+    ∙ power-shl pos (suc v) e
+
+-- the words before place e follow the rule
+abbrev pub Follows : (ℕ → ℕ) → ℕ → List ℕ → Type 0
+Follows rule e words = (n : ℕ) → n < e → getD words n 0 ≡ rule n
+
+module _ (w k : ℕ) {key : ℕ} (pos : 0 < key) (deg : degree key ≡ k) where
+  pub word-row : (j i : ℕ) → i < 2 ^ w → word w key (j * 2 ^ w + i) ≡ rem key (i ⊗ power key (k + w * j))
+  unfolding word
+  word-row j i l =
+      rw (digits-mod j l, digits-div j l, deg) (ap (rem key) (sym (⊗-pow (k + w * j) i)) ∙ sym (rem-⊗-right pos i (2 ^ (k + w * j))))
+
+  -- one row more
+  pub row-follows : (words : List ℕ) (j : ℕ) → Follows (word w key) (j * 2 ^ w) words → Multiples key (power key (k + w * j)) (j * 2 ^ w) (2 ^ w) words
+      → Follows (word w key) ((j + 1) * 2 ^ w) words
+  row-follows words j f r n l = go (decLt n (j * 2 ^ w))
+    where
+      go : Dec (n < j * 2 ^ w) → getD words n 0 ≡ word w key n
+      go (yes h) = f n h
+      go (no h) =
+          let i : n - j * 2 ^ w < 2 ^ w = omega arith in
+          let e : n ≡ j * 2 ^ w + (n - j * 2 ^ w) = omega arith in
+          ap (λ (m : ℕ). getD words m 0) e ∙ r (n - j * 2 ^ w) i ∙ sym (word-row j (n - j * 2 ^ w) i) ∙ ap (word w key) (sym e)
+
+  pub follows-row : (words : List ℕ) (j e : ℕ) → (j + 1) * 2 ^ w ≤ e → Follows (word w key) e words → Multiples key (power key (k + w * j)) (j * 2 ^ w) (2 ^ w) words
+  follows-row words j e l f i h = f (j * 2 ^ w + i) (omega arith) ∙ word-row j i h
+
+-- ---- words that follow a rule
+
+-- every word, the first standing at place m
+follows-from : (rule : ℕ → ℕ) (words : List ℕ) (m : ℕ) → differs rule m words ≡ false → (n : ℕ) → n < length words → getD words n 0 ≡ rule (m + n)
+unfolding differs
+follows-from rule [] m e n l = absurd (not-suc-le-zero l)
+follows-from rule (x ∷ xs) m e zero l =
+    rw add-zero (eqb-true x (rule m) (not-false (eqb x (rule m)) (or-neither (not (eqb x (rule m))) (differs rule (suc m) xs) e .0)))
+follows-from rule (x ∷ xs) m e (suc n) l =
+    follows-from rule xs (suc m) (or-neither (not (eqb x (rule m))) (differs rule (suc m) xs) e .1) n (le-of-suc-le-suc l)
+    ∙ ap rule (suc-add m n ∙ sym (add-suc m n))
+
+pub follows : (rule : ℕ → ℕ) (words : List ℕ) → differs rule 0 words ≡ false → Follows rule (length words) words
+follows rule words e n l = follows-from rule words 0 e n l ∙ ap rule (zero-add n)
+
+none-from : (rule : ℕ → ℕ) (words : List ℕ) (m : ℕ) → ((n : ℕ) → n < length words → getD words n 0 ≡ rule (m + n)) → differs rule m words ≡ false
+unfolding differs
+none-from rule [] m f = refl
+none-from rule (x ∷ xs) m f =
+    let e : x ≡ rule m = f 0 (omega arith) ∙ ap rule (add-zero m) in
+    rw (eq-eqb x (rule m) e) (none-from rule xs (suc m) (λ n l. f (suc n) (suc-le-suc l) ∙ ap rule (add-suc m n ∙ sym (suc-add m n))))
+
+pub none-differs : (rule : ℕ → ℕ) (words : List ℕ) → Follows rule (length words) words → differs rule 0 words ≡ false
+none-differs rule words f = none-from rule words 0 (λ n l. f n l ∙ ap rule (sym (zero-add n)))
+
+pub some-differs : (rule : ℕ → ℕ) (words : List ℕ) → (Follows rule (length words) words → ⊥) → differs rule 0 words ≡ true
+some-differs rule words none = go (differs rule 0 words) refl
+  where
+    go : (b : Bool) → differs rule 0 words ≡ b → b ≡ true
+    go true e = refl
+    go false e = absurd (none (follows rule words e))
+
+-- ---- the table
+
+pub length-table : (rule : ℕ → ℕ) (n c : ℕ) → length (tableFrom rule n c) ≡ c
+unfolding tableFrom
+length-table rule n zero = refl
+length-table rule n (suc c) = ap suc (length-table rule (suc n) c)
+
+-- no word of the table differs, and no other list of its length is so
+pub table-follows : (rule : ℕ → ℕ) (n c : ℕ) → differs rule n (tableFrom rule n c) ≡ false
+unfolding differs tableFrom
+table-follows rule n zero = refl
+table-follows rule n (suc c) = rw (eq-eqb (rule n) (rule n) refl) (table-follows rule (suc n) c)
+
+pub table-only : (rule : ℕ → ℕ) (n : ℕ) (words : List ℕ) → differs rule n words ≡ false → words ≡ tableFrom rule n (length words)
+unfolding differs tableFrom
+table-only rule n [] e = refl
+table-only rule n (x ∷ xs) e =
+    let h = or-neither (not (eqb x (rule n))) (differs rule (suc n) xs) e in
+    ap₂ {C = List ℕ} (λ (y : ℕ) (ys : List ℕ). y ∷ ys) (eqb-true x (rule n) (not-false (eqb x (rule n)) (h .0))) (table-only rule (suc n) xs (h .1))
+
+pub table-is : (rule : ℕ → ℕ) (c : ℕ) (words : List ℕ) → length words ≡ c → Follows rule c words → words ≡ tableFrom rule 0 c
+table-is rule c words l f = table-only rule 0 words (none-differs rule words (λ n h. f n (rw l at h))) ∙ ap (tableFrom rule 0) l

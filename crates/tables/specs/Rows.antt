@@ -1,0 +1,18 @@
+-- What the inner functions promise of a part of the words.
+use mathlib.Core.Path.{_≡_}
+use mathlib.Core.List.{List}
+use Prim.Native.Nat.{ℕ, _+_, _≤_, _<_}
+use lib.ListN.{getD}
+use Rattle.gf2.specs.Polynomials.{_⊕_, _⊗_, rem}
+
+-- a row: word a + i is the residue of i·x, for each i below n
+abbrev pub Multiples : ℕ → ℕ → ℕ → ℕ → List ℕ → Type 0
+Multiples key x a n words = (i : ℕ) → i < n → getD words (a + i) 0 ≡ rem key (i ⊗ x)
+
+-- the n words from place b on are those from place a on with y added, the ones of another list
+abbrev pub Shifted : ℕ → ℕ → ℕ → ℕ → List ℕ → List ℕ → Type 0
+Shifted a b n y from words = (i : ℕ) → i < n → getD words (b + i) 0 ≡ getD from (a + i) 0 ⊕ y
+
+-- the words before place n are those of another list
+abbrev pub SameBefore : ℕ → List ℕ → List ℕ → Type 0
+SameBefore n from words = (i : ℕ) → i < n → getD words i 0 ≡ getD from i 0

@@ -1,0 +1,56 @@
+/* Rabin fingerprints of logger files, proved.
+ *
+ * Every function returns 0, or the number of the refusal (docs/API.md says what each number means and what to mend); the lowest
+ * number that applies is given. On a refusal every place and buffer lent to the call keeps what it held. No function keeps memory,
+ * allocates, or reads or writes anything but what it is lent. A pointer with a length of 0 must still be a valid, aligned pointer
+ * (any address of that type). Lent places and buffers must not overlap.
+ *
+ * A key is a polynomial over the field of two elements: bit i is the coefficient of t^i. A mark is a fingerprint and a length in
+ * bytes. Lengths are at most 4294967295.
+ */
+#ifndef GFP_H
+#define GFP_H
+
+#include <stddef.h>
+#include <stdint.h>
+
+#ifdef __cplusplus
+extern "C" {
+#endif
+
+/* The words of a table buffer. */
+#define GFP_TABLE_WORDS 1024
+
+/* The key of the constant table: the smallest irreducible polynomial of degree 61. */
+#define GFP_HOUSE_KEY UINT64_C(0x2000000000000027)
+
+/* ---- Bench: link libbench.a */
+
+/* Whether a key is accepted: its degree is 8 to 63 and it is irreducible. Refusals: 1, 2. */
+uint32_t gfp_test_key(uint64_t key);
+
+/* The mark of the empty file: fingerprint 1, length 0. Refusals: 1, 2. */
+uint32_t gfp_begin(uint64_t key, uint64_t *fingerprint, uint64_t *length);
+
+/* Feeds the next part of a file to a mark, bit by bit. Refusals: 1, 2, 7, 8. */
+uint32_t gfp_feed(uint64_t key, uint64_t *fingerprint, uint64_t *length, const uint8_t *part, size_t part_length);
+
+/* Fills a lent buffer of 1,024 words with the key's table. Refusals: 1, 2, 5. */
+uint32_t gfp_make_table(uint64_t key, uint64_t *words, size_t words_length);
+
+/* Whether the words are the key's table. Refusals: 1, 2, 5, 6. */
+uint32_t gfp_test_table(uint64_t key, const uint64_t *words, size_t words_length);
+
+/* Feeds the next part by a table: the same mark as gfp_feed, many times faster. All words are tested first.
+ * Refusals: 1, 2, 5, 6, 7, 8. */
+uint32_t gfp_feed_table(uint64_t key, uint64_t *fingerprint, uint64_t *length, const uint64_t *words, size_t words_length,
+                        const uint8_t *part, size_t part_length);
+
+/* Feeds the next part under GFP_HOUSE_KEY, by the table that the library holds. Refusals: 7, 8. */
+uint32_t gfp_feed_house(uint64_t *fingerprint, uint64_t *length, const uint8_t *part, size_t part_length);
+
+#ifdef __cplusplus
+}
+#endif
+
+#endif
