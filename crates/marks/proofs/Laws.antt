@@ -11,14 +11,17 @@ use native.Mathlib.Omega.{arith}
 use lib.ListN.{length, getD, drop}
 use lib.Seq.{drop-cons}
 use lib.Dec.{leb, ltb, eqb}
-use borrow.Author.Tests.{lt-ltb, le-ltb, ltb-false, le-leb, lt-leb, eq-eqb, ne-eqb}
+use borrow.Author.Tests.{lt-ltb, le-ltb, ltb-false, le-leb, lt-leb, eq-eqb, ne-eqb, not-true, not-false}
 use Rattle.gf2.specs.Lists.{All, Some}
-use Rattle.gf2.specs.Polynomials.{rem}
+use Rattle.gf2.specs.Polynomials.{degree, rem}
 use Rattle.gf2.proofs.Degrees.{lt-of-high}
-use Rattle.refusals.specs.Refusals.{longest, passes}
+use Rattle.refusals.specs.declared.Refusal.the-variants.{TooLong, MarkNotReduced}
+use Rattle.refusals.specs.Refusals.{Answer, Done, Refused, firstOf, longest, passes}
 use Rattle.acceptance.proofs.Laws.{or-neither}
+use Rattle.files.specs.declared.Mark.{Mark}
 use Rattle.files.specs.Files.{lowBits, bits, valueFrom}
 use Rattle.files.proofs.Values.{value-low, value-byte, rem-from}
+use Rattle.marks.specs.Feeding.{unreduced, feedTests}
 
 -- ---- number 7: of a list of lengths
 
@@ -61,6 +64,14 @@ module _ (a b : ℕ) where
       go (yes h) = rw (le-leb b (longest - a) h, sum-fits (omega arith))
       go (no h) = rw (lt-leb b (longest - a) (omega arith), sum-passes (omega arith))
 
+  -- what a caller of `fits` knows where it answers no, and where it answers yes
+  module _ (r : Bool) (e : r ≡ not (passes (a ∷ b ∷ (a + b) ∷ []))) where
+    pub not-fits : not r ≡ true → passes (a ∷ b ∷ (a + b) ∷ []) ≡ true
+    not-fits t = not-false (passes (a ∷ b ∷ (a + b) ∷ [])) (sym e ∙ not-true r t)
+
+    pub does-fit : not r ≡ false → passes (a ∷ b ∷ (a + b) ∷ []) ≡ false
+    does-fit t = not-true (passes (a ∷ b ∷ (a + b) ∷ [])) (sym e ∙ not-false r t)
+
 -- ---- number 8
 
 pub below-test : (k f : ℕ) → eqb (f / 2 ^ k) 0 ≡ not (leb (2 ^ k) f)
@@ -71,6 +82,14 @@ below-test k f = go (decLe (2 ^ k) f)
     go (no h) =
         let l = lt-of-not-le h in
         rw (lt-leb (2 ^ k) f l) (eq-eqb (f / 2 ^ k) 0 (div-eq-of-lt l))
+
+-- what a caller of `reduced` knows, k being the degree of its key
+module _ (key k f : ℕ) (d : k ≡ degree key) (r : Bool) (e : r ≡ not (leb (2 ^ k) f)) where
+  pub not-reduced : not r ≡ true → leb (2 ^ degree key) f ≡ true
+  not-reduced t = rw (sym d) (not-false (leb (2 ^ k) f) (sym e ∙ not-true r t))
+
+  pub is-reduced : not r ≡ false → leb (2 ^ degree key) f ≡ false
+  is-reduced t = rw (sym d) (not-true (leb (2 ^ k) f) (sym e ∙ not-false r t))
 
 -- ---- what is left to feed
 
@@ -98,3 +117,17 @@ module _ {p : ℕ} (pos : 0 < p) where
   next-byte x i part h l =
       rem-from pos (x * 256 + getD part i 0) (bits (drop (i + 1) part))
       ∙ ap (rem p) (rw (drop-cons part i 0 h, add-one, value-byte x, mod-eq-of-lt l))
+
+-- ---- how the tests of a feed go on, behind those of the key and the table
+
+module _ {S : Type 0} (key : ℕ) (m : Mark) (part : List ℕ) (s : S) (v : Mark) where
+  pub feed-long : passes (m .length ∷ length part ∷ (m .length + length part) ∷ []) ≡ true → firstOf (feedTests key m part) s v ≡ Refused TooLong s
+  feed-long e = rw e
+
+  pub feed-unreduced : passes (m .length ∷ length part ∷ (m .length + length part) ∷ []) ≡ false → unreduced key m ≡ true
+      → firstOf (feedTests key m part) s v ≡ Refused MarkNotReduced s
+  feed-unreduced e f = rw (e, f)
+
+  pub feed-passed : passes (m .length ∷ length part ∷ (m .length + length part) ∷ []) ≡ false → unreduced key m ≡ false
+      → firstOf (feedTests key m part) s v ≡ Done v
+  feed-passed e f = rw (e, f)

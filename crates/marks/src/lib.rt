@@ -1,4 +1,5 @@
 // Feeding a file to a running mark, bit by bit.
+use keys::Tested;
 use refusals::Refusal;
 ghost use mathlib.Core.Path.{_≡_};
 ghost use mathlib.Core.Bool.{not};
@@ -8,6 +9,7 @@ ghost use lib.Dec.{leb};
 ghost use Rattle.gf2.specs.Polynomials.{rem, monic, Modulus};
 ghost use Rattle.refusals.specs.Refusals.{passes};
 ghost use Rattle.files.specs.Files.{bits, valueFrom};
+ghost use Rattle.marks.specs.Feeding.{begin, feedBits, markIn, begun, begunUnder, fed, fedUnder};
 
 // A running mark (document 01's term): the state of a fingerprint that is taken as the file is read. Numbers only.
 pub struct Running {
@@ -73,4 +75,48 @@ pub fn feed_bytes(k: u32, low: u64, f: u64, part: &[u8]) -> u64
         i += 1;
     }
     x
+}
+
+impl Running {
+    // The mark of the empty file under a key. Numbers 1, 2.
+    pub fn begin(key: u64) -> Begun
+        ensures { λ r. ⌜ begun r ≡ begunUnder key (begin key) ⌝ }
+    {
+        match keys::test(key) {
+            Tested::Refused(r) => Begun::Refused(r),
+            Tested::Accepted => Begun::Started(Running {
+                key: key,
+                fingerprint: 1,
+                length: 0,
+            }),
+        }
+    }
+
+    // The mark of what was fed with the part behind it. Numbers 1, 2, 7, 8.
+    pub fn feed(self, part: &[u8]) -> Fed
+        ensures { λ r. ⌜ fed r ≡ fedUnder (self .key) (feedBits (self .key) (markIn self) (now (part .entry))) ⌝ }
+    {
+        let key = self.key;
+        let f = self.fingerprint;
+        let length = self.length;
+        let n = part.len() as u64;
+        match keys::test(key) {
+            Tested::Refused(r) => {
+                return Fed::Refused(r, self);
+            }
+            Tested::Accepted => {}
+        }
+        if !fits(length, n) {
+            return Fed::Refused(Refusal::TooLong, self);
+        }
+        let k = gf2::degree(key);
+        if !reduced(k, f) {
+            return Fed::Refused(Refusal::MarkNotReduced, self);
+        }
+        Fed::Next(Running {
+            key: key,
+            fingerprint: feed_bytes(k, gf2::low_bits(key, k), f, part),
+            length: length + n,
+        })
+    }
 }
