@@ -91,3 +91,11 @@ fn feed_run(words: &[u64], k: u32, low: u64, f: u64, part: &[u8]) -> u64
     }
     feed_tail(words, k, low, x, part, i)
 }
+
+// A part behind a residue.
+pub fn fed(words: &[u64], k: u32, low: u64, f: u64, part: &[u8]) -> u64
+    requires { ⌜ TableOf k low (now words) × (f < 2 ^ k) ⌝ }
+    ensures { λ r. ⌜ r ≡ rem (monic k low) (valueFrom f (bits (now (part .entry)))) ⌝ }
+{
+    feed_run(words, k, low, f, part)
+}
