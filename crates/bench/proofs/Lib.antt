@@ -4,3 +4,4 @@ pub mod TableRule
 pub mod Guarantee
 pub mod Parts
 pub mod Examples
+pub mod Answers
