@@ -1,7 +1,8 @@
 use mathlib.Core.Path.{_≡_, refl, sym, ap, _∙_}
-use Prim.Native.Nat.{_+_, _-_, _*_, _%_, _^_, _≤_, _<_}
+use Prim.Native.Nat.{ℕ, _+_, _-_, _*_, _%_, _^_, _≤_, _<_}
 use native.Mathlib.Omega.{arith}
 use borrow.Author.Needs.{needs}
+use lib.Bits.{bitXor}
 use lib.ListN.{length, take, getD, length-set}
 use Rattle.gf2.specs.Polynomials.{_⊕_}
 use Rattle.gf2.proofs.Steps.{shifted-one}
@@ -53,12 +54,12 @@ loop-again c =
     let squares = c .before .before .args .t1 in
     let l = c .before .loop in
     let e : l .i + 1 - 1 ≡ l .i - 1 + 1 = omega arith in
-    let place : 1 + (l .i - 1) ≡ l .i = omega arith in
-    let power : 1 * 2 ^ (l .i) % 2 ^ 64 ≡ 2 ^ (l .i) = shifted-one (l .i) (omega arith) in (
+    let place : l .i ≡ 1 + (l .i - 1) = omega arith in
+    let value = ap (bitXor (getD squares (l .i) 0)) (shifted-one (l .i) (omega arith)) ∙ ap (λ (j : ℕ). getD squares j 0 ⊕ 2 ^ j) place in (
       omega arith,
       omega arith,
       simp length-set (l .inv .2),
-      rw e (fill (λ j. getD squares j 0 ⊕ 2 ^ j) 1 (l .i - 1) _ (l .rows) (omega arith) (l .inv .3) (rw (place, power))),
+      rw e (fill (λ j. getD squares j 0 ⊕ 2 ^ j) 1 (l .i - 1) _ (l .rows) (omega arith) (l .inv .3) value),
     )
 
 returns : tie.Need-returns Inv-loop μ-loop
