@@ -1,0 +1,34 @@
+-- `compose::replaced_residue` meets its contract: `replaced-is`.
+use mathlib.Core.Path.{sym}
+use Prim.Native.Nat.{_*_, _^_}
+use borrow.Author.Needs.{needs}
+use Rattle.gf2.specs.Polynomials.{_⊕_}
+use Rattle.gf2.proofs.Sums.{⊕-lt}
+use Rattle.gf2.proofs.Steps.{residue-lt}
+use Rattle.compose.proofs.Laws.{replaced-is}
+use Rattle.compose.proofs.replaced_residue.Statement.{statement}
+use Rattle.compose.proofs.replaced_residue.Tie as tie
+
+mul-power-of-t : tie.Need-mul-power-of-t
+mul-power-of-t c = search needs
+
+power-of-t-requires : tie.Need-power-of-t-requires
+power-of-t-requires c κs = search needs
+
+product-requires : tie.Need-product-requires
+unfolding _⊕_
+product-requires c κs =
+    let s = c .before in
+    let a = s .args in
+    (s .pre .0, ⊕-lt (a .k) (a .old) (a .new) (s .pre .2) (s .pre .3), rw (c .power-of-t .ensures) (residue-lt (a .k) (a .low) (s .pre .0 .2) _))
+
+returns : tie.Need-returns
+unfolding _⊕_
+returns c =
+    let s = c .before .before in
+    let a = s .args in
+    rw (c .product .ensures, c .before .power-of-t .ensures)
+    (sym (replaced-is (a .k) (a .low) (s .pre .0 .2) (a .f) (a .old ⊕ a .new) (8 * a .after) (s .pre .1)))
+
+pub replaced-residue-spec : {M : Type 1} → statement M
+replaced-residue-spec = tie.close (tie.spec mul-power-of-t power-of-t-requires product-requires returns)
