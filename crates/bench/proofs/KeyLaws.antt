@@ -1,17 +1,16 @@
 -- An accepted key passes the tests of keys, and the mark that begins under it is the empty file's.
-use mathlib.Core.Path.{_≡_, ap, _∙_}
-use mathlib.Core.Bool.{true, false}
+use mathlib.Core.Path.{_≡_, ap}
+use mathlib.Core.Bool.{true}
 use mathlib.Core.List.{List, [], _++_}
 use Prim.Native.Nat.{ℕ, suc, _^_, _<_}
 use native.Mathlib.Nat.{lt-of-lt-of-le}
 use native.Mathlib.Omega.{arith}
-use lib.Dec.{ltb}
 use lib.Pow.{pow-mono, pow-lt}
 use Rattle.gf2.specs.Polynomials.{degree}
 use Rattle.gf2.proofs.Degrees.{degree-is, deg-hi}
 use Rattle.gf2.proofs.Residues.{rem-small}
 use Rattle.refusals.specs.Refusals.{Done, Test, firstOf}
-use Rattle.acceptance.specs.Keys.{reducible, accepted, keyTests}
+use Rattle.acceptance.specs.Keys.{accepted, keyTests}
 use Rattle.acceptance.proofs.Laws.{accepted-pos, accepted-iff, key-iff}
 use Rattle.files.specs.declared.Mark.{Mark}
 use Rattle.files.specs.Files.{bits, valueFrom, value, fingerprint, markOf}

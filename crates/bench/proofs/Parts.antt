@@ -1,25 +1,23 @@
 -- Feeding file parts one after another gives the mark of the parts joined.
-use mathlib.Core.Path.{_≡_, refl, sym, ap, ap₂, _∙_}
-use mathlib.Core.Bool.{Bool, true, false, not, _||_}
+use mathlib.Core.Path.{_≡_, sym, ap, ap₂, _∙_}
+use mathlib.Core.Bool.{true, false}
 use mathlib.Core.List.{List, [], _∷_, _++_, append-assoc, append-nil}
 use Prim.Native.Nat.{ℕ, _+_, _≤_}
 use native.Mathlib.Omega.{arith}
-use lib.Dec.{eqb}
 use lib.ListN.{length, length-append}
 use borrow.Author.Tests.{le-ltb}
-use Rattle.refusals.specs.declared.Refusal.the-variants.{TableSize, TableWord}
-use Rattle.refusals.specs.Refusals.{Answer, Done, stateOf, Test, _⇒_, firstOf, longest, passes}
-use Rattle.acceptance.specs.Keys.{accepted, keyTests}
+use Rattle.refusals.specs.Refusals.{Done, stateOf, Test, firstOf, longest, passes}
+use Rattle.acceptance.specs.Keys.{accepted}
 use Rattle.files.specs.declared.Mark.{Mark}
 use Rattle.files.specs.Files.{markOf}
 use Rattle.marks.specs.Feeding.{sumTest}
-use Rattle.tables.specs.Tables.{word, differs, tableFrom, tableTests}
+use Rattle.tables.specs.Tables.{word, tableFrom, tableTests}
+use Rattle.tables.proofs.Rule.{length-table, table-follows}
 use Rattle.book.specs.Runs.{bookStep, run, Honest}
 use Rattle.book.proofs.RunLaws.{run-next}
-use Rattle.bench.specs.Book.{Call, ByBits, ByTable, ByHouse, step, bookTests, written, Brings, bench}
+use Rattle.bench.specs.Book.{Call, ByBits, ByTable, ByHouse, bookTests, written, Brings, bench}
 use Rattle.bench.specs.Parts.{partOf, Usable, AllUsable, partsJoined, zeros, PartsJoined}
 use Rattle.bench.proofs.KeyLaws.{key-passes}
-use Rattle.bench.proofs.TableRule.{length-table, table-follows}
 use Rattle.bench.proofs.Guarantee.{lists}
 
 -- number 7 does not apply
