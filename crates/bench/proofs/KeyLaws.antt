@@ -14,6 +14,7 @@ use Rattle.acceptance.specs.Keys.{accepted, keyTests}
 use Rattle.acceptance.proofs.Laws.{accepted-pos, accepted-iff, key-iff}
 use Rattle.files.specs.declared.Mark.{Mark}
 use Rattle.files.specs.Files.{bits, valueFrom, value, fingerprint, markOf}
+use Rattle.keys.proofs.Laws.{first-passed}
 use Rattle.marks.specs.Feeding.{begin}
 
 module _ (key : ℕ) (a : accepted key ≡ true) where
@@ -24,7 +25,7 @@ module _ (key : ℕ) (a : accepted key ≡ true) where
 
   -- numbers 1 and 2 do not apply
   pub key-passes : {S A : Type 0} (ts : List Test) (kept : S) (value : A) → firstOf (keyTests key ++ ts) kept value ≡ firstOf ts kept value
-  key-passes ts kept value = let k = key-iff key accepted-small .0 a in rw (k .0, k .1)
+  key-passes ts kept value = let k = key-iff key accepted-small .0 a in first-passed key ts kept value (record { low = k .0; irreducible = k .1 })
 
   -- "The empty file has fingerprint 1."
   pub empty-mark : markOf key [] ≡ record { fingerprint = 1; length = 0 }

@@ -1,16 +1,16 @@
 -- Feeding file parts one after another gives the mark of the parts joined.
 use mathlib.Core.Path.{_≡_, sym, ap, ap₂, _∙_}
-use mathlib.Core.Bool.{true, false}
+use mathlib.Core.Bool.{true}
 use mathlib.Core.List.{List, [], _∷_, _++_, append-assoc, append-nil}
 use Prim.Native.Nat.{ℕ, _+_, _≤_}
 use native.Mathlib.Omega.{arith}
 use lib.ListN.{length, length-append}
-use borrow.Author.Tests.{le-ltb}
-use Rattle.refusals.specs.Refusals.{Done, stateOf, Test, firstOf, longest, passes}
+use Rattle.refusals.specs.Refusals.{Done, stateOf, Test, firstOf, longest}
 use Rattle.acceptance.specs.Keys.{accepted}
 use Rattle.files.specs.declared.Mark.{Mark}
 use Rattle.files.specs.Files.{markOf}
 use Rattle.marks.specs.Feeding.{sumTest}
+use Rattle.marks.proofs.Laws.{sum-fits}
 use Rattle.tables.specs.Tables.{word, tableFrom, tableTests}
 use Rattle.tables.proofs.Rule.{length-table, table-follows}
 use Rattle.book.specs.Runs.{bookStep, run, Honest}
@@ -20,19 +20,16 @@ use Rattle.bench.specs.Parts.{partOf, Usable, AllUsable, partsJoined, ze
 use Rattle.bench.proofs.KeyLaws.{key-passes}
 use Rattle.bench.proofs.Guarantee.{lists}
 
--- number 7 does not apply
-pub fits : (n c : ℕ) → n + c ≤ longest → passes (n ∷ c ∷ (n + c) ∷ []) ≡ false
-fits n c l = rw (le-ltb longest n (omega arith), le-ltb longest c (omega arith), le-ltb longest (n + c) l)
-
 -- numbers 5 and 6 do not apply
 table-passes : {S A : Type 0} (key : ℕ) (ts : List Test) (kept : S) (value : A)
     → firstOf (tableTests key (tableFrom (word 8 key) 0 1024) ++ ts) kept value ≡ firstOf ts kept value
 table-passes key ts kept value = rw (length-table (word 8 key) 0 1024, table-follows (word 8 key) 0 1024)
 
 module _ (key : ℕ) (a : accepted key ≡ true) where
+  -- number 7 does not apply
   sum-passes : (file part : List ℕ) → length file + length part ≤ longest
       → firstOf (sumTest (length file) (length part) ∷ []) file (file ++ part) ≡ Done (file ++ part)
-  sum-passes file part l = rw (fits (length file) (length part) l)
+  sum-passes file part l = rw (sum-fits (length file) (length part) l)
 
   -- the book takes the part
   pub taken : (file : List ℕ) (c : Call) → Usable key c → length file + length (partOf c) ≤ longest → bookStep bench key file c ≡ Done (file ++ partOf c)
