@@ -1,3 +1,3 @@
 pub mod Rule
-pub mod Multiples
 pub mod Cut
+pub mod Parts

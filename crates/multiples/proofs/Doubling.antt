@@ -1,0 +1,156 @@
+-- Laws of a row of multiples: the multiples of x from z = 2^b on, below 2·z, are those below z with z·x added. So a row is filled, and
+-- tested, by doubling.
+use mathlib.Core.Path.{_≡_, refl, sym, ap, ap₂, _∙_}
+use mathlib.Core.List.{List}
+use Prim.Native.Nat.{ℕ, zero, suc, _+_, _-_, _*_, _/_, _%_, _^_, _≤_, _<_}
+use native.Mathlib.Nat.{add-zero, one-mul, add-assoc, pow-suc}
+use native.Mathlib.Decide.{decLt, ℕ-discrete}
+use native.Mathlib.Omega.{arith}
+use lib.Arith.{lt-of-le-ne}
+use lib.Bits.{bitOr, or-zero-l, or-add-and, and-le-l, and-le-r}
+use borrow.Author.Count.{below-more}
+use mathlib.Core.Logic.{_↔_}
+use lib.ListN.{length, getD, set}
+use lib.Pow.{pow-mono}
+use lib.Seq.{getD-set-same, getD-set-other}
+use Rattle.gf2.specs.Polynomials.{_⊕_, _⊗_, degree, monic, rem}
+use Rattle.gf2.proofs.Sums.{⊕-append, ⊕-comm, ⊕-assoc, ⊕-self, ⊕-eq}
+use Rattle.gf2.proofs.Products.{zero-⊗, one-⊗, dbl-⊗, ⊕-⊗}
+use Rattle.gf2.proofs.Residues.{rem-zero, rem-lt, rem-small, rem-⊕}
+use Rattle.gf2.proofs.Powers.{rem-shl}
+use Rattle.gf2.proofs.Monics.{monic-degree, monic-pos}
+use Rattle.multiples.specs.Rows.{Multiples, Shifted, SameBefore}
+
+-- a residue modulo the modulus as the code holds it
+pub rem-below : (k low : ℕ) → low < 2 ^ k → (a : ℕ) → rem (monic k low) a < 2 ^ k
+rem-below k low h a = rw (monic-degree k low h) at (rem-lt (monic-pos k low h) a)
+
+-- 2^b + m is a sum without carry
+top-⊕ : (b m : ℕ) → m < 2 ^ b → 2 ^ b + m ≡ 2 ^ b ⊕ m
+top-⊕ b m h = sym (simp one-mul at (⊕-append 1 b m h))
+
+module _ {key : ℕ} (pos : 0 < key) (x : ℕ) where
+  pub multiple-double : (b m : ℕ) → m < 2 ^ b → rem key ((2 ^ b + m) ⊗ x) ≡ rem key (m ⊗ x) ⊕ rem key (2 ^ b ⊗ x)
+  multiple-double b m h =
+      ap (λ (y : ℕ). rem key (y ⊗ x)) (top-⊕ b m h ∙ ⊕-comm (2 ^ b) m) ∙ ap (rem key) (⊕-⊗ m (2 ^ b) x) ∙ rem-⊕ pos (m ⊗ x) (2 ^ b ⊗ x)
+
+  -- the multiple by twice z, from the one by z
+  pub multiple-next : (z : ℕ) → rem key (rem key (z ⊗ x) * 2 + 0) ≡ rem key (z * 2 ⊗ x)
+  multiple-next z = rw add-zero (rem-shl pos (z ⊗ x) 1 ∙ ap (rem key) (sym (dbl-⊗ z x)))
+
+  pub multiple-zero : rem key (0 ⊗ x) ≡ 0
+  multiple-zero = rw zero-⊗ (rem-zero key)
+
+  pub multiple-one : x < 2 ^ degree key → x ≡ rem key (1 ⊗ x)
+  multiple-one l = sym (rw one-⊗ (rem-small pos x l))
+
+  -- a row of z words and its double
+  module _ (a b z y : ℕ) (words : List ℕ) (ez : z ≡ 2 ^ b) (ey : y ≡ rem key (z ⊗ x)) where
+    at-double : (m : ℕ) → m < z → rem key ((z + m) ⊗ x) ≡ rem key (m ⊗ x) ⊕ y
+    at-double m h = rw (ey, ez) (multiple-double b m (rw ez at h))
+
+    pub row-more : Multiples key x a z words → Shifted a (a + z) z y words words → Multiples key x a (z * 2) words
+    row-more f s i l = go (decLt i z)
+      where
+        go : Dec (i < z) → getD words (a + i) 0 ≡ rem key (i ⊗ x)
+        go (yes h) = f i h
+        go (no h) =
+            let m : i - z < z = omega arith in
+            let e : i ≡ z + (i - z) = omega arith in
+            let p : a + i ≡ a + z + (i - z) = omega arith in
+            ap (λ (n : ℕ). getD words n 0) p
+            ∙ s (i - z) m
+            ∙ ap (λ (v : ℕ). v ⊕ y) (f (i - z) m)
+            ∙ sym (at-double (i - z) m)
+            ∙ ap (λ (n : ℕ). rem key (n ⊗ x)) (sym e)
+
+    pub row-half : Multiples key x a (z * 2) words → Multiples key x a z words
+    row-half f i l = f i (omega arith)
+
+    pub row-shifted : Multiples key x a (z * 2) words → Shifted a (a + z) z y words words
+    row-shifted f m l =
+        ap (λ (n : ℕ). getD words n 0) (add-assoc a z m)
+        ∙ f (z + m) (omega arith)
+        ∙ at-double m l
+        ∙ ap (λ (v : ℕ). v ⊕ y) (sym (f m (omega arith)))
+
+-- ---- filling by doubling, one store at a time
+
+module _ (a b y : ℕ) (from words : List ℕ) (i : ℕ) (l : b + i < length words) (h : a + i < b) where
+  abbrev pub stored : List ℕ
+  stored = set words (b + i) (getD words (a + i) 0 ⊕ y)
+
+  pub same-more : SameBefore b from words → SameBefore b from stored
+  same-more s m g = getD-set-other words (b + i) m (getD words (a + i) 0 ⊕ y) 0 (λ e. omega arith) ∙ s m g
+
+  pub shifted-more : SameBefore b from words → Shifted a b i y from words → Shifted a b (i + 1) y from stored
+  shifted-more s f m g = go (ℕ-discrete m i)
+    where
+      go : Dec (m ≡ i) → getD (set words (b + i) (getD words (a + i) 0 ⊕ y)) (b + m) 0 ≡ getD from (a + m) 0 ⊕ y
+      go (yes e) = rw e (getD-set-same words (b + i) (getD words (a + i) 0 ⊕ y) 0 l ∙ ap (λ (v : ℕ). v ⊕ y) (s (a + i) h))
+      go (no e) = getD-set-other words (b + i) (b + m) (getD words (a + i) 0 ⊕ y) 0 (λ q. e (omega arith)) ∙ f m (lt-of-le-ne (omega arith) e)
+
+-- the row of one word, the multiple by 0
+pub row-one : {key : ℕ} (pos : 0 < key) (x a : ℕ) (words : List ℕ) → a < length words → Multiples key x a 1 (set words a 0)
+row-one {key} pos x a words l i h =
+    let e : i ≡ 0 = omega arith in
+    rw (e, add-zero) (getD-set-same words a 0 0 l ∙ sym (multiple-zero pos x))
+
+pub row-before : (a : ℕ) (words : List ℕ) → SameBefore a words (set words a 0)
+row-before a words i l = getD-set-other words a i 0 0 (λ e. omega arith)
+
+-- what a list's double keeps of a row
+pub row-kept : (key x a n : ℕ) (from words : List ℕ) → SameBefore (a + n) from words → Multiples key x a n from → Multiples key x a n words
+row-kept key x a n from words s f i l = s (a + i) (omega arith) ∙ f i l
+
+pub shifted-kept : (a n y : ℕ) (from words : List ℕ) → SameBefore (a + n) from words → Shifted a (a + n) n y from words → Shifted a (a + n) n y words words
+shifted-kept a n y from words s f i l = f i l ∙ ap (λ (v : ℕ). v ⊕ y) (sym (s (a + i) (omega arith)))
+
+-- half of the row that is still to be made
+pub double-le : {b width : ℕ} → b < width → 2 ^ b * 2 ≤ 2 ^ width
+double-le {b} {width} h = rw (← (pow-suc 2 b)) (pow-mono {i = suc b} {j = width} h)
+
+-- ---- testing by doubling: differences added up by or
+
+or-zero : (s d : ℕ) → bitOr s d ≡ 0 → (s ≡ 0) × (d ≡ 0)
+or-zero s d e = omega (arith, or-add-and s d, and-le-l s d, and-le-r s d)
+
+both-zero : (s d : ℕ) → s ≡ 0 → d ≡ 0 → bitOr s d ≡ 0
+both-zero s d e f = rw (e, f) (or-zero-l 0)
+
+-- two tests, as one
+pub or-iff : (s d : ℕ) {P Q : Type 0} → (s ≡ 0) ↔ P → (d ≡ 0) ↔ Q → (bitOr s d ≡ 0) ↔ (P × Q)
+or-iff s d p q = (λ e. (p .0 (or-zero s d e .0), q .0 (or-zero s d e .1)), λ h. both-zero s d (p .1 (h .0)) (q .1 (h .1)))
+
+pub iff-trans : {P Q R : Type 0} → P ↔ Q → Q ↔ R → P ↔ R
+iff-trans f g = (λ p. g .0 (f .0 p), λ r. f .1 (g .1 r))
+
+-- one word is another with y added
+pub difference-iff : (u v y : ℕ) → (u ⊕ v ⊕ y ≡ 0) ↔ (u ≡ v ⊕ y)
+difference-iff u v y = (λ e. ⊕-eq u (v ⊕ y) (sym (⊕-assoc u v y) ∙ e), λ e. ⊕-assoc u v y ∙ rw e (⊕-self (v ⊕ y)))
+
+-- one word more
+pub shifted-iff : (a b i y : ℕ) (words : List ℕ)
+    → (Shifted a b i y words words × (getD words (b + i) 0 ≡ getD words (a + i) 0 ⊕ y)) ↔ Shifted a b (i + 1) y words words
+shifted-iff a b i y words = (there, back)
+  where
+    there : Shifted a b i y words words × (getD words (b + i) 0 ≡ getD words (a + i) 0 ⊕ y) → Shifted a b (i + 1) y words words
+    there h = below-more (λ m. getD words (b + m) 0 ≡ getD words (a + m) 0 ⊕ y) i (h .0) (h .1)
+
+    back : Shifted a b (i + 1) y words words → Shifted a b i y words words × (getD words (b + i) 0 ≡ getD words (a + i) 0 ⊕ y)
+    back f = (λ m l. f m (omega arith), f i (omega arith))
+
+-- the row, and its double
+module _ {key : ℕ} (pos : 0 < key) (x a : ℕ) (words : List ℕ) where
+  pub row-iff-one : (getD words a 0 ≡ 0) ↔ Multiples key x a 1 words
+  row-iff-one = (there, back)
+    where
+      there : getD words a 0 ≡ 0 → Multiples key x a 1 words
+      there h i l = let e : i ≡ 0 = omega arith in rw (e, add-zero) (h ∙ sym (multiple-zero pos x))
+
+      back : Multiples key x a 1 words → getD words a 0 ≡ 0
+      back f = ap (λ (n : ℕ). getD words n 0) (sym (add-zero a)) ∙ f 0 (omega arith) ∙ multiple-zero pos x
+
+  pub row-iff : (b z y : ℕ) → z ≡ 2 ^ b → y ≡ rem key (z ⊗ x) → (Multiples key x a z words × Shifted a (a + z) z y words words) ↔ Multiples key x a (z * 2) words
+  row-iff b z y ez ey =
+      (λ h. row-more pos x a b z y words ez ey (h .0) (h .1), λ f. (row-half pos x a b z y words ez ey f, row-shifted pos x a b z y words ez ey f))
