@@ -100,10 +100,10 @@ fn changes() {
         b"\x41\x42",
         b"\x00\x00",
     );
-    change(b"no byte at the end: ", 0x9D, 2, 2, b"", b"");
 }
 
-fn changes_refused() {
+fn changes_at_the_end() {
+    change(b"no byte at the end: ", 0x9D, 2, 2, b"", b"");
     change(b"no byte past the end: ", 0x9D, 2, 3, b"", b"");
     change(
         b"one byte at place 2^64 - 1: ",
@@ -113,6 +113,9 @@ fn changes_refused() {
         b"\x41",
         b"\x40",
     );
+}
+
+fn changes_refused() {
     change(
         b"pages of different length: ",
         0x9D,
@@ -129,5 +132,6 @@ fn main() {
     joins();
     joins_refused();
     changes();
+    changes_at_the_end();
     changes_refused();
 }
