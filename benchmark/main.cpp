@@ -10,8 +10,9 @@
 #include <functional>
 #include <vector>
 
-extern "C" {
 #include <flint/nmod_poly.h>
+
+extern "C" {
 // inner functions, exported for this program alone (crate gf2_measured)
 uint64_t measured_product(uint64_t a, uint64_t b);
 uint64_t measured_power_of_t(uint64_t n);

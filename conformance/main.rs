@@ -1,5 +1,6 @@
 //! Compares every public C function with the second implementation of reference.rs, refusals and buffers included.
 //! Usage: conformance [rounds]. The last line counts the comparisons: "N passed, 0 failed".
+mod compose;
 mod generator;
 #[path = "../bindings/rust/gfp.rs"]
 mod gfp;
@@ -29,7 +30,8 @@ impl Tally {
 fn main() {
     let rounds = std::env::args().nth(1).map_or(1, |n| n.parse().expect("a number of rounds"));
     let mut tally = Tally { passed: 0, failed: 0 };
-    let suites: [(&str, fn(&mut Tally, u64)); 2] = [("keys", keys::run), ("marks and tables", marks::run)];
+    let suites: [(&str, fn(&mut Tally, u64)); 3] =
+        [("keys", keys::run), ("marks and tables", marks::run), ("joining, page change, lists of calls", compose::run)];
     for (name, suite) in suites {
         let before = tally.passed + tally.failed;
         suite(&mut tally, rounds);

@@ -49,6 +49,19 @@ uint32_t gfp_feed_table(uint64_t key, uint64_t *fingerprint, uint64_t *length, c
 /* Feeds the next part under GFP_HOUSE_KEY, by the table that the library holds. Refusals: 7, 8. */
 uint32_t gfp_feed_house(uint64_t *fingerprint, uint64_t *length, const uint8_t *part, size_t part_length);
 
+/* ---- Site: link libsite.a and libbench.a */
+
+/* Joins marks: the file of the mark (other, size) goes behind the file of the mark in the two places. Refusals: 1, 2, 7, 8. */
+uint32_t gfp_join_behind(uint64_t key, uint64_t *fingerprint, uint64_t *length, uint64_t other, uint64_t size);
+
+/* Joins marks: the file of the mark (other, size) goes in front. Refusals: 1, 2, 7, 8. */
+uint32_t gfp_join_in_front(uint64_t key, uint64_t *fingerprint, uint64_t *length, uint64_t other, uint64_t size);
+
+/* Changes a page in a file's mark: the new bytes stand where the old ones stood, from the byte at the given place on. The mark is
+ * right where the old bytes are what stood there. Refusals: 1, 2, 7, 8, 9, 10. */
+uint32_t gfp_replace_page(uint64_t key, uint64_t *fingerprint, uint64_t *length, uint64_t place, const uint8_t *old_page,
+                          size_t old_length, const uint8_t *new_page, size_t new_length);
+
 #ifdef __cplusplus
 }
 #endif

@@ -10,6 +10,9 @@ mod raw {
         pub fn gfp_test_table(key: u64, words: *const u64, words_length: usize) -> u32;
         pub fn gfp_feed_table(key: u64, fingerprint: *mut u64, length: *mut u64, words: *const u64, words_length: usize, part: *const u8, part_length: usize) -> u32;
         pub fn gfp_feed_house(fingerprint: *mut u64, length: *mut u64, part: *const u8, part_length: usize) -> u32;
+        pub fn gfp_join_behind(key: u64, fingerprint: *mut u64, length: *mut u64, other: u64, size: u64) -> u32;
+        pub fn gfp_join_in_front(key: u64, fingerprint: *mut u64, length: *mut u64, other: u64, size: u64) -> u32;
+        pub fn gfp_replace_page(key: u64, fingerprint: *mut u64, length: *mut u64, place: u64, old: *const u8, old_length: usize, new: *const u8, new_length: usize) -> u32;
     }
 }
 
@@ -58,6 +61,24 @@ impl Mark {
     /// Feeds the next part under `HOUSE_KEY`.
     pub fn feed_house(&mut self, part: &[u8]) -> Result<(), Refusal> {
         answer(unsafe { raw::gfp_feed_house(&mut self.fingerprint, &mut self.length, part.as_ptr(), part.len()) }, ())
+    }
+
+    /// The other mark's file goes behind this one's.
+    pub fn join_behind(&mut self, key: u64, other: Mark) -> Result<(), Refusal> {
+        answer(unsafe { raw::gfp_join_behind(key, &mut self.fingerprint, &mut self.length, other.fingerprint, other.length) }, ())
+    }
+
+    /// The other mark's file goes in front of this one's.
+    pub fn join_in_front(&mut self, key: u64, other: Mark) -> Result<(), Refusal> {
+        answer(unsafe { raw::gfp_join_in_front(key, &mut self.fingerprint, &mut self.length, other.fingerprint, other.length) }, ())
+    }
+
+    /// The new page stands where the old one stood, from the byte at `place` on.
+    pub fn replace_page(&mut self, key: u64, place: u64, old: &[u8], new: &[u8]) -> Result<(), Refusal> {
+        let number = unsafe {
+            raw::gfp_replace_page(key, &mut self.fingerprint, &mut self.length, place, old.as_ptr(), old.len(), new.as_ptr(), new.len())
+        };
+        answer(number, ())
     }
 }
 
