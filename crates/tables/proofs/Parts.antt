@@ -1,16 +1,19 @@
 -- Laws of feeding a part by pieces: some bytes at a time, and in runs that are joined.
 use mathlib.Core.Path.{_≡_, refl, sym, ap, ap₂, _∙_}
 use mathlib.Core.List.{List, [], _∷_, _++_}
-use Prim.Native.Nat.{ℕ, zero, suc, _+_, _*_, _/_, _%_, _^_, _≤_, _<_}
-use native.Mathlib.Nat.{mod-eq-of-lt, mul-comm}
+use Prim.Native.Nat.{ℕ, zero, suc, _+_, _-_, _*_, _/_, _%_, _^_, _≤_, _<_}
+use native.Mathlib.Nat.{le-refl, mod-eq-of-lt}
 use native.Mathlib.Numerals.{add-one}
 use native.Mathlib.Omega.{arith}
 use lib.ListN.{length, getD, take, drop, take-append-drop, length-drop, drop-of-length-le}
-use lib.Seq.{drop-cons, drop-drop, length-take-le}
-use Rattle.gf2.specs.Polynomials.{_⊕_, _⊗_, degree, rem}
+use lib.Seq.{drop-cons, drop-drop, length-take-le, take-add, take-all}
+use Rattle.gf2.specs.Polynomials.{_⊕_, _⊗_, degree, monic, rem}
+use Rattle.gf2.proofs.Sums.{⊕-lt}
 use Rattle.gf2.proofs.Products.{⊗-pow}
 use Rattle.gf2.proofs.Residues.{rem-⊕, rem-small}
 use Rattle.gf2.proofs.Powers.{rem-rem, rem-shl, rem-⊗-right}
+use Rattle.gf2.proofs.Monics.{monic-pos, monic-degree}
+use Rattle.multiples.proofs.Doubling.{rem-below}
 use Rattle.files.specs.Files.{bits, valueFrom}
 use Rattle.files.proofs.Values.{value-append, value-split, value-lt, value-⊕, length-bits, bits-append, value-byte, rem-from}
 
@@ -88,9 +91,27 @@ four-lt p i v l e = rw e (value-piece-lt p i 4 l)
 pub fed-all : {key : ℕ} (pos : 0 < key) (p : List ℕ) (i x : ℕ) → length p ≤ i → x < 2 ^ degree key → rem key (valueFrom x (bits (drop i p))) ≡ x
 fed-all {key} pos p i x l h = rw (drop-of-length-le p {i = i} l) (unfold valueFrom bits in (rem-small pos x h))
 
--- ---- two runs, fed each for itself, the second from 0
+-- ---- a loop over a part: x stands for f and the bytes before place i
 
-pub runs-join : {key : ℕ} (pos : 0 < key) (f : ℕ) (p q : List ℕ)
+abbrev pub Going : ℕ → ℕ → ℕ → List ℕ → ℕ → ℕ → Type 0
+Going k low f p i x = (x < 2 ^ k) × (rem (monic k low) (valueFrom x (bits (drop i p))) ≡ rem (monic k low) (valueFrom f (bits p)))
+
+module _ (k low : ℕ) (m : low < 2 ^ k) (f : ℕ) (p : List ℕ) (i x : ℕ) (g : Going k low f p i x) where
+  pub going-four : (v y : ℕ) → i + 4 ≤ length p → v ≡ valueFrom 0 (bits (take 4 (drop i p))) → y ≡ rem (monic k low) (x * 2 ^ 32 + v) → Going k low f p (i + 4) y
+  going-four v y l ev ey = (rw ey (rem-below k low m (x * 2 ^ 32 + v)), fed-four (monic-pos k low m) p i x v y l ev ey ∙ g .1)
+
+  pub going-all : length p ≤ i → x ≡ rem (monic k low) (valueFrom f (bits p))
+  going-all l = sym (fed-all (monic-pos k low m) p i x l (rw (monic-degree k low m) (g .0))) ∙ g .1
+
+-- the length of a run
+pub run-length : (p : List ℕ) (a b n : ℕ) → b ≡ a + n → b ≤ length p → length (take (b - a) (drop a p)) ≡ n
+run-length p a b n e l =
+    let d : b - a ≡ n = omega arith in
+    length-take-le (b - a) (drop a p) (rw length-drop (omega arith)) ∙ d
+
+-- ---- runs, each fed for itself, all but the first from 0
+
+runs-join : {key : ℕ} (pos : 0 < key) (f : ℕ) (p q : List ℕ)
     → rem key (rem key (valueFrom f (bits p)) ⊗ rem key (2 ^ (8 * length q))) ⊕ rem key (valueFrom 0 (bits q)) ≡ rem key (valueFrom f (bits (p ++ q)))
 runs-join {key} pos f p q =
     ap (λ (x : ℕ). x ⊕ rem key (valueFrom 0 (bits q)))
@@ -103,3 +124,34 @@ runs-join {key} pos f p q =
     ∙ sym (value-⊕ (valueFrom f (bits p)) (bits q))
     ∙ sym (value-append f (bits p) (bits q))
     ∙ ap (valueFrom f) (sym (bits-append p q)))
+
+pub joined-lt : (k low : ℕ) → low < 2 ^ k → (x t y z r : ℕ) → r ≡ rem (monic k low) (x ⊗ t) ⊕ y → y ≡ rem (monic k low) z → r < 2 ^ k
+joined-lt k low m x t y z r er ey = rw (er, ey) (⊕-lt k (rem (monic k low) (x ⊗ t)) (rem (monic k low) z) (rem-below k low m (x ⊗ t)) (rem-below k low m z))
+
+module _ {key : ℕ} (pos : 0 < key) (f : ℕ) (p : List ℕ) where
+  -- the run of n bytes from place a to place b joined
+  pub run-joined : (a b n x y t r : ℕ) → b ≡ a + n → b ≤ length p
+      → x ≡ rem key (valueFrom f (bits (take a p)))
+      → y ≡ rem key (valueFrom 0 (bits (take (b - a) (drop a p))))
+      → t ≡ rem key (2 ^ (8 * n))
+      → r ≡ rem key (x ⊗ t) ⊕ y
+      → r ≡ rem key (valueFrom f (bits (take b p)))
+  run-joined a b n x y t r e l ex ey et er =
+      let q = run-length p a b n e l in
+      let w : a + (b - a) ≡ b = omega arith in
+      er
+      ∙ ap₂ (λ (u v : ℕ). u ⊕ v) (ap₂ (λ (u v : ℕ). rem key (u ⊗ v)) ex (et ∙ ap (λ (u : ℕ). rem key (2 ^ (8 * u))) (sym q))) ey
+      ∙ runs-join pos f (take a p) (take (b - a) (drop a p))
+      ∙ ap (λ (w : List ℕ). rem key (valueFrom f (bits w))) (sym (take-add a (b - a) p) ∙ ap (λ (u : ℕ). take u p) w)
+
+  -- and what is left behind them
+  pub run-rest : (b x r : ℕ) → x ≡ rem key (valueFrom f (bits (take b p))) → r ≡ rem key (valueFrom x (bits (take (length p - b) (drop b p))))
+      → r ≡ rem key (valueFrom f (bits p))
+  run-rest b x r ex er =
+      er
+      ∙ ap₂ (λ (u : ℕ) (q : List ℕ). rem key (valueFrom u (bits q))) ex (take-all (length p - b) (drop b p) (rw length-drop (le-refl (length p - b))))
+      ∙ rem-from pos (valueFrom f (bits (take b p))) (bits (drop b p))
+      ∙ ap (rem key)
+      (sym (value-append f (bits (take b p)) (bits (drop b p)))
+      ∙ ap (valueFrom f) (sym (bits-append (take b p) (drop b p)))
+      ∙ ap (λ (q : List ℕ). valueFrom f (bits q)) (take-append-drop b p))

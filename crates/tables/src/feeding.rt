@@ -1,9 +1,9 @@
 // Feeding by a table: four bytes at a time, and a long part in four runs side by side. These functions are for the project's own crates:
 // what they require, every caller proves.
 ghost use mathlib.Core.Path.{_≡_};
-ghost use Prim.Native.Nat.{_+_, _*_, _^_, _≤_, _<_};
+ghost use Prim.Native.Nat.{_+_, _*_, _%_, _^_, _≤_, _<_};
 ghost use lib.ListN.{length, take, drop};
-ghost use Rattle.gf2.specs.Polynomials.{_⊕_, monic, rem};
+ghost use Rattle.gf2.specs.Polynomials.{_⊕_, _⊗_, monic, rem, Modulus};
 ghost use Rattle.files.specs.Files.{bits, valueFrom};
 ghost use Rattle.tables.specs.Tables.{TableOf};
 ghost use Rattle.tables.specs.Groups.{looked};
@@ -92,10 +92,83 @@ fn feed_run(words: &[u64], k: u32, low: u64, f: u64, part: &[u8]) -> u64
     feed_tail(words, k, low, x, part, i)
 }
 
-// A part behind a residue.
+// Four runs of equal length side by side, the first behind f and the others behind 0: four chains of look-ups that do not wait for each other.
+struct Runs {
+    a: u64,
+    b: u64,
+    c: u64,
+    d: u64,
+}
+
+fn feed_runs(
+    words: &[u64],
+    k: u32,
+    low: u64,
+    f: u64,
+    p: &[u8],
+    q: &[u8],
+    r: &[u8],
+    s: &[u8],
+) -> Runs
+    requires { ⌜ TableOf k low (now words) × (f < 2 ^ k) × (length (now p) % 4 ≡ 0) × (length (now q) ≡ length (now p)) × (length (now r) ≡ length (now p)) × (length (now s) ≡ length (now p)) ⌝ }
+    ensures { λ x. ⌜ (x .a ≡ rem (monic k low) (valueFrom f (bits (now (p .entry))))) × (x .b ≡ rem (monic k low) (valueFrom 0 (bits (now (q .entry))))) × (x .c ≡ rem (monic k low) (valueFrom 0 (bits (now (r .entry))))) × (x .d ≡ rem (monic k low) (valueFrom 0 (bits (now (s .entry))))) ⌝ }
+{
+    let mut a = f;
+    let mut b: u64 = 0;
+    let mut c: u64 = 0;
+    let mut d: u64 = 0;
+    let mut i: usize = 0;
+    while i < p.len() {
+        a = feed_four(words, k, low, a, four_at(p, i));
+        b = feed_four(words, k, low, b, four_at(q, i));
+        c = feed_four(words, k, low, c, four_at(r, i));
+        d = feed_four(words, k, low, d, four_at(s, i));
+        i += 4;
+    }
+    Runs { a, b, c, d }
+}
+
+// A run with the residue y behind what has the residue x: t is the power of t by the bits of the run.
+fn joined(k: u32, low: u64, x: u64, t: u64, y: u64) -> u64
+    requires { ⌜ Modulus k low × (x < 2 ^ k) × (t < 2 ^ k) ⌝ }
+    ensures { λ r. ⌜ r ≡ rem (monic k low) (x ⊗ t) ⊕ y ⌝ }
+{
+    gf2::product(k, low, x, t) ^ y
+}
+
+// A long part: four runs of n bytes, joined by t^(8n), and what is left behind them.
+fn feed_long(words: &[u64], k: u32, low: u64, f: u64, part: &[u8]) -> u64
+    requires { ⌜ TableOf k low (now words) × (f < 2 ^ k) ⌝ }
+    ensures { λ r. ⌜ r ≡ rem (monic k low) (valueFrom f (bits (now (part .entry)))) ⌝ }
+{
+    let one = part.len() / 16 * 4;
+    let two = 2 * one;
+    let three = 3 * one;
+    let four = 4 * one;
+    let x = feed_runs(
+        words,
+        k,
+        low,
+        f,
+        &part[..one],
+        &part[one..two],
+        &part[two..three],
+        &part[three..four],
+    );
+    let t = gf2::power_of_t(k, low, 8 * (one as u64));
+    let ab = joined(k, low, x.a, t, x.b);
+    let abc = joined(k, low, ab, t, x.c);
+    let abcd = joined(k, low, abc, t, x.d);
+    feed_run(words, k, low, abcd, &part[four..])
+}
+
+// A part behind a residue. Four runs pay off from about 4,096 bytes on: they cost the power of t and three products.
 pub fn fed(words: &[u64], k: u32, low: u64, f: u64, part: &[u8]) -> u64
     requires { ⌜ TableOf k low (now words) × (f < 2 ^ k) ⌝ }
     ensures { λ r. ⌜ r ≡ rem (monic k low) (valueFrom f (bits (now (part .entry)))) ⌝ }
 {
-    feed_run(words, k, low, f, part)
+    if part.len() < 4096 {
+        return feed_run(words, k, low, f, part);
+    }
+    feed_long(words, k, low, f, part)
 }
