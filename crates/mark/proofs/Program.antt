@@ -23,12 +23,15 @@ use Rattle.files.proofs.Marks.{mark-eq}
 use Rattle.files.proofs.Marks as files
 use Rattle.keys.proofs.Laws.{Passed, first-passed, passed-pos}
 use Rattle.marks.specs.declared.Running.{Running}
-use Rattle.marks.specs.Feeding.{begin, fedMark, feedTests, feedBits, begunUnder, fedUnder, unreduced}
+use Rattle.marks.specs.Feeding.{begin, fedMark, feedTests, begunUnder, fedUnder, unreduced}
 use Rattle.marks.proofs.Laws.{sum-passes, sum-fits, feed-long, feed-passed}
+use Rattle.tables.specs.Tables.{word, tableFrom, makeTable, feedTable}
+use Rattle.tables.proofs.Rule.{length-table, table-follows}
+use Rattle.tables.proofs.Calls.{make-done, feed-tested}
 use Rattle.printing.specs.declared.KeyLine.{KeyLine}
 use Rattle.printing.specs.declared.KeyLine.the-variants.{NoKey, Key}
-use Rattle.printing.specs.Printing.{keyBefore, keyLine, noKey, answerText, markFile, printedAfter, printed}
+use Rattle.printing.specs.Printing.{keyBefore, keyLine, noKey, refused, answerText, markFile, printedAfter, printed}
 use Rattle.printing.proofs.Laws.{long-line, key-within}
 
 -- ---- the first 17 bytes decide the key's line
 
@@ -77,21 +80,26 @@ abbrev pub joined : List (List ℕ) → List ℕ
 joined [] = []
 joined (part ∷ parts) = part ++ joined parts
 
--- feeds one after another, until one is refused
-abbrev pub feeds : ℕ → Answer Mark Mark → List (List ℕ) → Answer Mark Mark
-feeds key a [] = a
-feeds key (Done m) (part ∷ parts) = feeds key (feedBits key m part) parts
-feeds key (Refused r m) (part ∷ parts) = Refused r m
+-- feeds by the words of a table, one after another, until one is refused
+abbrev pub feeds : ℕ → List ℕ → Answer Mark Mark → List (List ℕ) → Answer Mark Mark
+feeds key words a [] = a
+feeds key words (Done m) (part ∷ parts) = feeds key words (feedTable key m words part) parts
+feeds key words (Refused r m) (part ∷ parts) = Refused r m
 
--- beginning a mark, and feeding it
-abbrev pub marked : ℕ → Answer Unit Mark → List (List ℕ) → Answer Running Running
-marked key (Done m) parts = fedUnder key (feeds key (Done m) parts)
-marked key (Refused r s) parts = fedUnder key (Refused r (record { fingerprint = 0; length = 0 }))
+-- with the table that was made
+abbrev pub feedsBy : ℕ → Answer (List ℕ) (List ℕ) → Mark → List (List ℕ) → Answer Mark Mark
+feedsBy key (Done words) m parts = feeds key words (Done m) parts
+feedsBy key (Refused r words) m parts = Refused r m
 
--- what is printed after the calls: the bytes of head behind the key's line are the first part
-abbrev pub called : KeyLine → List ℕ → List (List ℕ) → List ℕ
-called NoKey head parts = noKey
-called (Key key at) head parts = answerText (marked key (begin key) (drop at head ∷ parts))
+-- beginning a mark, making a table in the words `blank`, and feeding the parts: what is printed then
+abbrev pub calls : ℕ → Answer Unit Mark → List ℕ → List (List ℕ) → List ℕ
+calls key (Done m) blank parts = answerText (fedUnder key (feedsBy key (makeTable key blank) m parts))
+calls key (Refused r s) blank parts = refused r
+
+-- the same from the key's line on: the bytes of head behind it are the first part
+abbrev pub called : KeyLine → List ℕ → List ℕ → List (List ℕ) → List ℕ
+called NoKey head blank parts = noKey
+called (Key key at) head blank parts = calls key (begin key) blank (drop at head ∷ parts)
 
 -- ---- feeding the parts is marking the file
 
@@ -104,9 +112,9 @@ text-told : (key : ℕ) (a : Answer Mark Mark) → answerText (fedUnder key a) �
 text-told key (Done m) = refl
 text-told key (Refused r m) = refl
 
-stopped : (key : ℕ) (r : Refusal) (m : Mark) (parts : List (List ℕ)) → feeds key (Refused r m) parts ≡ Refused r m
-stopped key r m [] = refl
-stopped key r m (part ∷ parts) = refl
+stopped : (key : ℕ) (words : List ℕ) (r : Refusal) (m : Mark) (parts : List (List ℕ)) → feeds key words (Refused r m) parts ≡ Refused r m
+stopped key words r m [] = refl
+stopped key words r m (part ∷ parts) = refl
 
 module _ (key : ℕ) (h : Passed key) where
   fed-is : (file part : List ℕ) → fedMark key (markOf key file) part ≡ markOf key (file ++ part)
@@ -117,17 +125,25 @@ module _ (key : ℕ) (h : Passed key) where
   unfolding markOf fingerprint
   below file = lt-leb (2 ^ degree key) (fingerprint key file) (rem-lt (passed-pos h) (value file))
 
-  feed-goes : (file part : List ℕ) → length file + length part ≤ longest → feedBits key (markOf key file) part ≡ Done (markOf key (file ++ part))
-  unfolding feedBits markOf
+  -- the table that was made passes its tests
+  table : List ℕ
+  table = tableFrom (word 8 key) 0 1024
+
+  tested : (m : Mark) (part : List ℕ) → feedTable key m table part ≡ firstOf (feedTests key m part) m (fedMark key m part)
+  unfolding table
+  tested m part = feed-tested key m (tableFrom (word 8 key) 0 1024) part h (length-table (word 8 key) 0 1024) (table-follows (word 8 key) 0 1024)
+
+  feed-goes : (file part : List ℕ) → length file + length part ≤ longest → feedTable key (markOf key file) table part ≡ Done (markOf key (file ++ part))
+  unfolding markOf
   feed-goes file part l =
-      first-passed key (feedTests key (markOf key file) part) (markOf key file) (fedMark key (markOf key file) part) h
+      tested (markOf key file) part
       ∙ feed-passed key (markOf key file) part (markOf key file) (fedMark key (markOf key file) part) (sum-fits (length file) (length part) l) (below file)
       ∙ ap Done (fed-is file part)
 
-  feed-stops : (file part : List ℕ) → longest < length file + length part → feedBits key (markOf key file) part ≡ Refused TooLong (markOf key file)
-  unfolding feedBits markOf
+  feed-stops : (file part : List ℕ) → longest < length file + length part → feedTable key (markOf key file) table part ≡ Refused TooLong (markOf key file)
+  unfolding markOf
   feed-stops file part l =
-      first-passed key (feedTests key (markOf key file) part) (markOf key file) (fedMark key (markOf key file) part) h
+      tested (markOf key file) part
       ∙ feed-long key (markOf key file) part (markOf key file) (fedMark key (markOf key file) part) (sum-passes (length file) (length part) l)
 
   -- number 7 of a whole file
@@ -141,45 +157,53 @@ module _ (key : ℕ) (h : Passed key) where
   long file l = rw (lt-ltb longest (length file) l)
 
   feed-one : (file part : List ℕ) (parts : List (List ℕ)) → Dec (length file + length part ≤ longest)
-      → (length (file ++ part) ≤ longest → tell (feeds key (Done (markOf key (file ++ part))) parts) ≡ judged (file ++ part ++ joined parts))
-      → tell (feeds key (feedBits key (markOf key file) part) parts) ≡ judged (file ++ (part ++ joined parts))
+      → (length (file ++ part) ≤ longest → tell (feeds key table (Done (markOf key (file ++ part))) parts) ≡ judged (file ++ part ++ joined parts))
+      → tell (feeds key table (feedTable key (markOf key file) table part) parts) ≡ judged (file ++ (part ++ joined parts))
   feed-one file part parts (yes l) ih =
-      ap (λ (a : Answer Mark Mark). tell (feeds key a parts)) (feed-goes file part l)
+      ap (λ (a : Answer Mark Mark). tell (feeds key table a parts)) (feed-goes file part l)
       ∙ ih (omega (arith, length-append file part))
       ∙ ap judged (append-assoc file part (joined parts))
   feed-one file part parts (no l) ih =
-      ap (λ (a : Answer Mark Mark). tell (feeds key a parts)) (feed-stops file part (omega arith))
-      ∙ ap tell (stopped key TooLong (markOf key file) parts)
+      ap (λ (a : Answer Mark Mark). tell (feeds key table a parts)) (feed-stops file part (omega arith))
+      ∙ ap tell (stopped key table TooLong (markOf key file) parts)
       ∙ sym (long (file ++ (part ++ joined parts)) (omega (arith, length-append file (part ++ joined parts), length-append part (joined parts))))
 
   feeds-told : (file : List ℕ) (parts : List (List ℕ)) → length file ≤ longest
-      → tell (feeds key (Done (markOf key file)) parts) ≡ judged (file ++ joined parts)
+      → tell (feeds key table (Done (markOf key file)) parts) ≡ judged (file ++ joined parts)
   feeds-told file [] l = sym (ap judged (append-nil file) ∙ short file l)
   feeds-told file (part ∷ parts) l =
       feed-one file part parts (decLe (length file + length part) longest) (λ m. feeds-told (file ++ part) parts m)
 
-key-marked : (key : ℕ) (parts : List (List ℕ)) → answerText (marked key (begin key) parts) ≡ answerText (markFile key (joined parts))
+  accepted-marked : (blank : List ℕ) (parts : List (List ℕ)) → length blank ≡ 1024
+      → calls key (Done (markOf key [])) blank parts ≡ answerText (begunUnder key (judged (joined parts)))
+  unfolding table
+  accepted-marked blank parts e =
+      ap (λ (t : Answer (List ℕ) (List ℕ)). answerText (fedUnder key (feedsBy key t (markOf key []) parts))) (make-done key blank h e)
+      ∙ text-told key (feeds key table (Done (markOf key [])) parts)
+      ∙ ap (λ (a : Answer Unit Mark). answerText (begunUnder key a)) (feeds-told [] parts (omega arith))
+
+key-marked : (key : ℕ) (blank : List ℕ) (parts : List (List ℕ)) → length blank ≡ 1024
+    → calls key (begin key) blank parts ≡ answerText (markFile key (joined parts))
 unfolding begin markFile
-key-marked key parts = go (ltb key 256) (reducible key) refl refl
+key-marked key blank parts e = go (ltb key 256) (reducible key) refl refl
   where
     go : (x y : Bool) → ltb key 256 ≡ x → reducible key ≡ y
-        → answerText (marked key (firstOf (x ⇒ KeyBelow256 ∷ y ⇒ KeyReducible ∷ []) tt (markOf key [])) parts)
+        → calls key (firstOf (x ⇒ KeyBelow256 ∷ y ⇒ KeyReducible ∷ []) tt (markOf key [])) blank parts
         ≡ answerText (begunUnder key (firstOf (x ⇒ KeyBelow256 ∷ y ⇒ KeyReducible ∷ passes (length (joined parts) ∷ []) ⇒ TooLong ∷ []) tt (markOf key (joined parts))))
     go true y t u = refl
     go false true t u = refl
-    go false false t u =
-        text-told key (feeds key (Done (markOf key [])) parts)
-        ∙ ap (λ (a : Answer Unit Mark). answerText (begunUnder key a)) (feeds-told key (record { low = t; irreducible = u }) [] parts (omega arith))
+    go false false t u = accepted-marked key (record { low = t; irreducible = u }) blank parts e
 
 -- the program's text, of an input that is read in any parts behind its first 17 bytes
-pub program : (input : List ℕ) (parts : List (List ℕ)) → joined parts ≡ drop 17 input → called (keyLine (take 17 input)) (take 17 input) parts ≡ printed input
+pub program : (input blank : List ℕ) (parts : List (List ℕ)) → length blank ≡ 1024 → joined parts ≡ drop 17 input
+    → called (keyLine (take 17 input)) (take 17 input) blank parts ≡ printed input
 unfolding printed
-program input parts e = go (keyLine (take 17 input)) refl ∙ ap (λ (l : KeyLine). printedAfter l input) (head-decides input)
+program input blank parts n e = go (keyLine (take 17 input)) refl ∙ ap (λ (l : KeyLine). printedAfter l input) (head-decides input)
   where
-    go : (l : KeyLine) → keyLine (take 17 input) ≡ l → called l (take 17 input) parts ≡ printedAfter l input
+    go : (l : KeyLine) → keyLine (take 17 input) ≡ l → called l (take 17 input) blank parts ≡ printedAfter l input
     go NoKey t = refl
     go (Key key at) t =
-        key-marked key (drop at (take 17 input) ∷ parts)
+        key-marked key blank (drop at (take 17 input) ∷ parts) n
         ∙ ap (λ (file : List ℕ). answerText (markFile key file)) (rest at (key-within (take 17 input) key at t))
       where
         rest : (at : ℕ) → at ≤ length (take 17 input) → drop at (take 17 input) ++ joined parts ≡ drop at input
