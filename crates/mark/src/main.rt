@@ -7,6 +7,7 @@ use marks::Fed;
 use marks::Running;
 use printing::KeyLine;
 use refusals::Refusal;
+use tables::Made;
 ghost use Rattle.io.specs.Counts.{Counts};
 
 enum Step {
@@ -15,14 +16,14 @@ enum Step {
     Stopped(Refusal),
 }
 
-// One read, fed to the running mark. A read that fails ends the input.
-fn feed_some(m: Running, buffer: &mut [u8]) -> Step {
+// One read, fed to the running mark by its key's table. A read that fails ends the input.
+fn feed_some(m: Running, words: &[u64], buffer: &mut [u8]) -> Step {
     let got = libc::read(STDIN_FILENO, buffer);
     if got <= 0 {
         return Step::End;
     }
     let n = io::count(got, buffer);
-    match m.feed(&buffer[..n]) {
+    match tables::feed(m, words, &buffer[..n]) {
         Fed::Next(next) => Step::More(next),
         Fed::Refused(r, _) => Step::Stopped(r),
     }
@@ -30,12 +31,12 @@ fn feed_some(m: Running, buffer: &mut [u8]) -> Step {
 
 // Feeds the rest of the input. A proved loop has to end, and nothing says that the input does: it counts its turns down from a number that no
 // run uses up.
-fn feed_rest(start: Running) -> Fed {
-    let mut space = io::large_buffer();
+fn feed_rest(start: Running, words: &[u64]) -> Fed {
+    let mut buffer = [0u8; 262144];
     let mut m = start;
     let mut turns = u64::MAX;
     while turns > 0 {
-        match feed_some(m, &mut space) {
+        match feed_some(m, words, &mut buffer) {
             Step::More(next) => {
                 m = next;
             }
@@ -51,10 +52,14 @@ fn feed_rest(start: Running) -> Fed {
     Fed::Next(m)
 }
 
-// Feeds the bytes that were read behind the key's line, and then the rest of the input.
+// Makes the key's table, and feeds the bytes that were read behind the key's line and then the rest of the input.
 fn feed_file(m: Running, first: &[u8]) -> Fed {
-    match m.feed(first) {
-        Fed::Next(next) => feed_rest(next),
+    let mut words = [0u64; 1024];
+    if let Made::Refused(r) = tables::make(m.key, &mut words) {
+        return Fed::Refused(r, m);
+    }
+    match tables::feed(m, &words, first) {
+        Fed::Next(next) => feed_rest(next, &words),
         Fed::Refused(r, kept) => Fed::Refused(r, kept),
     }
 }

@@ -6,13 +6,10 @@ use Rattle.mark.proofs.feed_rest.Statement.{statement}
 use Rattle.mark.proofs.feed_rest.Tie as tie
 
 abbrev Inv-loop : tie.InvT-loop
-Inv-loop space₀ m₀ turns₀ space m turns = 65536 ≡ length space
+Inv-loop words buffer₀ m₀ turns₀ buffer m turns = 262144 ≡ length buffer
 
 abbrev μ-loop : tie.MeasureT-loop
-μ-loop space₀ m₀ turns₀ space m turns = turns
-
-large-buffer-requires : tie.Need-large-buffer-requires Inv-loop μ-loop
-large-buffer-requires c κs = search needs
+μ-loop words buffer₀ m₀ turns₀ buffer m turns = turns
 
 loop-holds : tie.Need-loop-holds Inv-loop μ-loop
 loop-holds c = search needs
@@ -56,7 +53,6 @@ feed-rest-spec =
     (tie.spec
     Inv-loop
     μ-loop
-    large-buffer-requires
     loop-holds
     slice-aggregate-feed-some
     feed-some-requires
