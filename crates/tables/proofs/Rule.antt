@@ -20,7 +20,8 @@ use Rattle.gf2.proofs.Residues.{rem-lt, rem-unique}
 use Rattle.gf2.proofs.Powers.{rem-⊗-right}
 use Rattle.gf2.proofs.Monics.{monic-⊕, monic-degree, monic-pos}
 use Rattle.acceptance.proofs.Laws.{or-neither}
-use Rattle.tables.specs.Tables.{word, differs, tableFrom}
+use Rattle.lookups.specs.Groups.{Rows}
+use Rattle.tables.specs.Tables.{word, differs, tableFrom, Table}
 use Rattle.multiples.specs.Rows.{Multiples}
 use Rattle.multiples.proofs.Doubling.{multiple-next}
 
@@ -135,3 +136,7 @@ table-length rule c words e = ap length e ∙ length-table rule 0 c
 
 pub table-rule : (rule : ℕ → ℕ) (c : ℕ) (words : List ℕ) → words ≡ tableFrom rule 0 c → Follows rule (length words) words
 table-rule rule c words e = follows rule words (rw e (table-follows rule 0 c))
+
+pub table-rows : {key : ℕ} (pos : 0 < key) (words : List ℕ) → Table key words → Rows 8 key 4 words
+table-rows {key} pos words e j l =
+    follows-row 8 (degree key) pos refl words j (length words) (rw (table-length (word 8 key) 1024 words e) (omega arith)) (table-rule (word 8 key) 1024 words e)

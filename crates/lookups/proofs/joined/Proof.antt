@@ -3,10 +3,10 @@ use Prim.Native.Nat.{ℕ, zero, suc, _+_, _-_, _*_, _/_, _%_, _^_, _≤_, _<_}
 use native.Mathlib.Omega.{arith}
 use Rattle.gf2.specs.Polynomials.{_⊕_}
 use borrow.Author.Needs.{needs}
-use Rattle.tables.proofs.feeding.joined.Statement.{statement}
-use Rattle.tables.proofs.feeding.joined.Tie as tie
-use Rattle.tables.proofs.feeding.joined.Reads as reads
-use Rattle.tables.proofs.feeding.joined.Lts as lts
+use Rattle.lookups.proofs.joined.Statement.{statement}
+use Rattle.lookups.proofs.joined.Tie as tie
+use Rattle.lookups.proofs.joined.Reads as reads
+use Rattle.lookups.proofs.joined.Lts as lts
 use Rattle.gf2.proofs.product.Reads as product-reads
 
 -- src/feeding.rt:127:5

@@ -7,14 +7,14 @@ use Rattle.gf2.specs.Polynomials.{monic, rem}
 use Rattle.gf2.proofs.Monics.{monic-pos}
 use Rattle.files.specs.Files.{bits, valueFrom}
 use Rattle.multiples.proofs.Doubling.{rem-below}
-use Rattle.tables.proofs.Parts.{four-lt, Going, going-four}
-use Rattle.tables.proofs.feeding.feed_run.Statement.{statement}
-use Rattle.tables.proofs.feeding.feed_run.Tie as tie
-use Rattle.tables.proofs.feeding.feed_run.Reads as reads
-use Rattle.tables.proofs.feeding.feed_run.Lts as lts
-use Rattle.tables.proofs.feeding.feed_four.Reads as feed-four-reads
-use Rattle.tables.proofs.feeding.feed_tail.Reads as feed-tail-reads
-use Rattle.tables.proofs.feeding.four_at.Reads as four-at-reads
+use Rattle.lookups.proofs.Parts.{four-lt, Going, going-four}
+use Rattle.lookups.proofs.feed_run.Statement.{statement}
+use Rattle.lookups.proofs.feed_run.Tie as tie
+use Rattle.lookups.proofs.feed_run.Reads as reads
+use Rattle.lookups.proofs.feed_run.Lts as lts
+use Rattle.lookups.proofs.feed_four.Reads as feed-four-reads
+use Rattle.lookups.proofs.feed_tail.Reads as feed-tail-reads
+use Rattle.lookups.proofs.four_at.Reads as four-at-reads
 
 abbrev Inv-loop : tie.InvT-loop
 Inv-loop words k low f part x₀ i₀ x i =

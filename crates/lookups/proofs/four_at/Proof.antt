@@ -2,12 +2,12 @@ use mathlib.Core.Path.{_≡_, refl, sym, ap, ap₂, _∙_}
 use Prim.Native.Nat.{ℕ, zero, suc, _+_, _-_, _*_, _/_, _%_, _^_, _≤_, _<_}
 use native.Mathlib.Omega.{arith}
 use borrow.Author.Needs.{needs}
-use Rattle.tables.proofs.Parts.{value-four}
-use Rattle.tables.proofs.feeding.four_at.Statement.{statement}
-use Rattle.tables.proofs.feeding.four_at.Tie as tie
-use Rattle.tables.proofs.feeding.four_at.Reads as reads
-use Rattle.tables.proofs.feeding.four_at.Lts as lts
-use Rattle.tables.proofs.feeding.wide.Reads as wide-reads
+use Rattle.lookups.proofs.Parts.{value-four}
+use Rattle.lookups.proofs.four_at.Statement.{statement}
+use Rattle.lookups.proofs.four_at.Tie as tie
+use Rattle.lookups.proofs.four_at.Reads as reads
+use Rattle.lookups.proofs.four_at.Lts as lts
+use Rattle.lookups.proofs.wide.Reads as wide-reads
 
 -- src/feeding.rt:22:18
 shared-slice-read-wide : tie.Need-shared-slice-read-wide

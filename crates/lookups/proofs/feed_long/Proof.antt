@@ -7,16 +7,16 @@ use Rattle.gf2.specs.Polynomials.{_⊕_, _⊗_, monic, rem}
 use Rattle.gf2.proofs.Monics.{monic-pos}
 use Rattle.files.specs.Files.{bits, valueFrom}
 use Rattle.multiples.proofs.Doubling.{rem-below}
-use Rattle.tables.proofs.Parts.{run-length, run-joined, run-rest, joined-lt}
+use Rattle.lookups.proofs.Parts.{run-length, run-joined, run-rest, joined-lt}
 use borrow.Author.Needs.{needs}
-use Rattle.tables.proofs.feeding.feed_long.Statement.{statement}
-use Rattle.tables.proofs.feeding.feed_long.Tie as tie
-use Rattle.tables.proofs.feeding.feed_long.Reads as reads
-use Rattle.tables.proofs.feeding.feed_long.Lts as lts
+use Rattle.lookups.proofs.feed_long.Statement.{statement}
+use Rattle.lookups.proofs.feed_long.Tie as tie
+use Rattle.lookups.proofs.feed_long.Reads as reads
+use Rattle.lookups.proofs.feed_long.Lts as lts
 use Rattle.gf2.proofs.power_of_t.Reads as power-of-t-reads
-use Rattle.tables.proofs.feeding.feed_run.Reads as feed-run-reads
-use Rattle.tables.proofs.feeding.feed_runs.Reads as feed-runs-reads
-use Rattle.tables.proofs.feeding.joined.Reads as joined-reads
+use Rattle.lookups.proofs.feed_run.Reads as feed-run-reads
+use Rattle.lookups.proofs.feed_runs.Reads as feed-runs-reads
+use Rattle.lookups.proofs.joined.Reads as joined-reads
 
 -- src/feeding.rt:135:15
 mul-one : tie.Need-mul-one

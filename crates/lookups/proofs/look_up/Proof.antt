@@ -3,11 +3,11 @@ use Prim.Native.Nat.{ℕ, zero, suc, _+_, _-_, _*_, _/_, _%_, _^_, _≤_, _<_}
 use native.Mathlib.Omega.{arith}
 use borrow.Author.Needs.{needs}
 use Rattle.gf2.specs.Polynomials.{_⊕_}
-use Rattle.tables.proofs.Cut.{look-four}
-use Rattle.tables.proofs.feeding.look_up.Statement.{statement}
-use Rattle.tables.proofs.feeding.look_up.Tie as tie
-use Rattle.tables.proofs.feeding.look_up.Reads as reads
-use Rattle.tables.proofs.feeding.look_up.Lts as lts
+use Rattle.lookups.proofs.Cut.{look-four}
+use Rattle.lookups.proofs.look_up.Statement.{statement}
+use Rattle.lookups.proofs.look_up.Tie as tie
+use Rattle.lookups.proofs.look_up.Reads as reads
+use Rattle.lookups.proofs.look_up.Lts as lts
 
 -- src/feeding.rt:38:13
 mul-result : tie.Need-mul-result

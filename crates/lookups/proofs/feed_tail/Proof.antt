@@ -7,12 +7,12 @@ use Rattle.gf2.specs.Polynomials.{monic, rem}
 use Rattle.gf2.proofs.Monics.{monic-pos, monic-degree}
 use Rattle.files.specs.Files.{bits, valueFrom}
 use Rattle.multiples.proofs.Doubling.{rem-below}
-use Rattle.tables.proofs.Parts.{fed-byte, fed-all}
-use Rattle.tables.proofs.feeding.feed_tail.Statement.{statement}
-use Rattle.tables.proofs.feeding.feed_tail.Tie as tie
-use Rattle.tables.proofs.feeding.feed_tail.Reads as reads
-use Rattle.tables.proofs.feeding.feed_tail.Lts as lts
-use Rattle.tables.proofs.feeding.feed_one.Reads as feed-one-reads
+use Rattle.lookups.proofs.Parts.{fed-byte, fed-all}
+use Rattle.lookups.proofs.feed_tail.Statement.{statement}
+use Rattle.lookups.proofs.feed_tail.Tie as tie
+use Rattle.lookups.proofs.feed_tail.Reads as reads
+use Rattle.lookups.proofs.feed_tail.Lts as lts
+use Rattle.lookups.proofs.feed_one.Reads as feed-one-reads
 
 abbrev Inv-loop : tie.InvT-loop
 Inv-loop words k low f part from x₀ i₀ x i =

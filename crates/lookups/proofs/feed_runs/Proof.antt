@@ -4,13 +4,13 @@ use native.Mathlib.Omega.{arith}
 use borrow.Author.Needs.{needs}
 use lib.ListN.{length}
 use lib.Pow.{pow-pos}
-use Rattle.tables.proofs.Parts.{four-lt, Going, going-four, going-all}
-use Rattle.tables.proofs.feeding.feed_runs.Statement.{statement}
-use Rattle.tables.proofs.feeding.feed_runs.Tie as tie
-use Rattle.tables.proofs.feeding.feed_runs.Reads as reads
-use Rattle.tables.proofs.feeding.feed_runs.Lts as lts
-use Rattle.tables.proofs.feeding.feed_four.Reads as feed-four-reads
-use Rattle.tables.proofs.feeding.four_at.Reads as four-at-reads
+use Rattle.lookups.proofs.Parts.{four-lt, Going, going-four, going-all}
+use Rattle.lookups.proofs.feed_runs.Statement.{statement}
+use Rattle.lookups.proofs.feed_runs.Tie as tie
+use Rattle.lookups.proofs.feed_runs.Reads as reads
+use Rattle.lookups.proofs.feed_runs.Lts as lts
+use Rattle.lookups.proofs.feed_four.Reads as feed-four-reads
+use Rattle.lookups.proofs.four_at.Reads as four-at-reads
 
 abbrev Inv-loop : tie.InvT-loop
 Inv-loop words k low f p q r s a₀ b₀ c₀ d₀ i₀ a b c d i =

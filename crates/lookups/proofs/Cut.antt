@@ -10,10 +10,10 @@ use lib.ListN.{length, getD}
 use lib.Pow.{pow-pos, pow-mono, pow-add, shr-lt, shr-shr, split, high, low, mod-pow-add}
 use Rattle.gf2.specs.Polynomials.{_⊕_, degree, rem}
 use Rattle.gf2.proofs.Sums.{⊕-append, ⊕-shl, ⊕-comm, ⊕-assoc, ⊕-zero}
+use Rattle.gf2.proofs.Products.{⊗-pow}
+use Rattle.gf2.proofs.Powers.{rem-⊗-right}
 use Rattle.gf2.proofs.Residues.{rem-zero, rem-small, rem-⊕}
-use Rattle.tables.specs.Tables.{word}
-use Rattle.tables.specs.Groups.{looked}
-use Rattle.tables.proofs.Rule.{Follows}
+use Rattle.lookups.specs.Groups.{looked, Rows}
 
 -- what stands at t^(n + j) and above in a number with n new low digits, and what stands below
 module _ (f v n j : ℕ) (h : v < 2 ^ n) where
@@ -33,10 +33,9 @@ below-fits f v n j h l = lt-of-lt-of-le (rw (← (pow-add 2 j n)) at (digits-lt 
 pub all-fits : (f v n k : ℕ) → f < 2 ^ k → v < 2 ^ n → k + n ≤ 64 → f * 2 ^ n + v < 2 ^ 64
 all-fits f v n k hf h l = lt-of-lt-of-le (rw (← (pow-add 2 k n)) at (digits-lt hf h)) (pow-mono {i = k + n} {j = 64} l)
 
-module _ (w k : ℕ) {key : ℕ} (pos : 0 < key) (deg : degree key ≡ k) (words : List ℕ) (follows : Follows (word w key) (length words) words) where
-  at-place : (j i : ℕ) → i < 2 ^ w → j * 2 ^ w + i < length words → getD words (j * 2 ^ w + i) 0 ≡ rem key (i * 2 ^ (k + w * j))
-  unfolding word
-  at-place j i l h = follows (j * 2 ^ w + i) h ∙ rw (digits-mod j l, digits-div j l, deg)
+module _ (w k : ℕ) {key : ℕ} (pos : 0 < key) (deg : degree key ≡ k) (words : List ℕ) (c : ℕ) (rows : Rows w key c words) where
+  at-place : (j i : ℕ) → i < 2 ^ w → j < c → getD words (j * 2 ^ w + i) 0 ≡ rem key (i * 2 ^ (k + w * j))
+  at-place j i l h = rows j h i l ∙ rw deg (rem-⊗-right pos i (2 ^ (k + w * j)) ∙ ap (rem key) (⊗-pow (k + w * j) i))
 
   shift : (q e : ℕ) → q * 2 ^ (e + w) ≡ q * 2 ^ w * 2 ^ e
   shift q e = rw pow-add (omega arith)
@@ -52,19 +51,19 @@ module _ (w k : ℕ) {key : ℕ} (pos : 0 < key) (deg : degree key ≡ k) (words
   exponent j = omega arith
 
   -- n groups, the lowest being that of t^(k + w·j)
-  pub groups : (n j h : ℕ) → (j + n) * 2 ^ w ≤ length words → h < 2 ^ (w * n) → looked w words n j h ≡ rem key (h * 2 ^ (k + w * j))
+  pub groups : (n j h : ℕ) → j + n ≤ c → h < 2 ^ (w * n) → looked w words n j h ≡ rem key (h * 2 ^ (k + w * j))
   unfolding looked
   groups zero j h l b = rw (lt-one (rw mul-zero at b), zero-mul) (sym (rem-zero key))
   groups (suc n) j h l b =
       ap₂ (λ (x y : ℕ). x ⊕ y)
-      (at-place j (h % 2 ^ w) (mod-lt h (pow-pos w)) (omega (arith, mod-lt h (pow-pos w))))
+      (at-place j (h % 2 ^ w) (mod-lt h (pow-pos w)) (omega arith))
       (groups n (suc j) (h / 2 ^ w) (omega arith) (shr-lt {n = h} (w * n) w (rw mul-suc at b)))
       ∙ sym (rem-⊕ pos (h % 2 ^ w * 2 ^ (k + w * j)) (h / 2 ^ w * 2 ^ (k + w * suc j)))
       ∙ ap (λ (x : ℕ). rem key (h % 2 ^ w * 2 ^ (k + w * j) ⊕ h / 2 ^ w * 2 ^ x)) (exponent j)
       ∙ ap (rem key) (sum h (k + w * j))
 
   -- n groups of w bits at t^k and above, and what stands below
-  pub cut : (n v : ℕ) → n * 2 ^ w ≤ length words → v < 2 ^ (w * n + k)
+  pub cut : (n v : ℕ) → n ≤ c → v < 2 ^ (w * n + k)
       → v % 2 ^ k ⊕ looked w words n 0 (v / 2 ^ k) ≡ rem key v
   cut n v l b =
       ap₂ (λ (x y : ℕ). x ⊕ y) (sym (rem-small pos (v % 2 ^ k) (rw deg (mod-lt v (pow-pos k)))))
@@ -77,7 +76,7 @@ module _ (w k : ℕ) {key : ℕ} (pos : 0 < key) (deg : degree key ≡ k) (words
       ∙ split v k)
 
   -- the same of v behind f, n groups of w bits
-  module _ (n f v : ℕ) (l : n * 2 ^ w ≤ length words) (hf : f < 2 ^ k) (hv : v < 2 ^ (w * n)) where
+  module _ (n f v : ℕ) (l : n ≤ c) (hf : f < 2 ^ k) (hv : v < 2 ^ (w * n)) where
     behind-lt : f * 2 ^ (w * n) + v < 2 ^ (w * n + k)
     behind-lt = rw (pow-add 2 (w * n) k, mul-comm (2 ^ (w * n)) (2 ^ k)) (digits-lt hf hv)
 
