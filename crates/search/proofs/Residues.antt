@@ -21,7 +21,8 @@ use Rattle.gf2.proofs.Steps.{residue-lt, residue-split}
 use Rattle.files.specs.Files.{bits, valueFrom, value, fingerprint}
 use Rattle.files.proofs.Values.{value-append, value-⊕, value-byte, length-bits, bits-append, rem-from}
 use Rattle.search.specs.Searching.{window}
-use Rattle.search.specs.Rolling.{residue, Filled, Multiples}
+use Rattle.search.specs.declared.rolling.Setup.{Setup}
+use Rattle.search.specs.Rolling.{residue, Filled, Multiples, keyOf, hit}
 use Rattle.search.proofs.Windows.{window-length, window-more, window-front, window-none}
 
 one-byte : (s b : ℕ) → b < 256 → valueFrom s (bits (b ∷ [])) ≡ s * 256 + b
@@ -118,6 +119,13 @@ module _ {p : ℕ} (pos : 0 < p) where
 pub residue-below : (k c : ℕ) → c < 2 ^ k → (bytes : List ℕ) → residue (monic k c) bytes < 2 ^ k
 unfolding residue
 residue-below k c h bytes = residue-lt k c h (valueFrom 0 (bits bytes))
+
+pub same-place : (p m : ℕ) (text : List ℕ) (i j : ℕ) → i ≡ j → residue p (window m text i) ≡ residue p (window m text j)
+same-place p m text i j e = ap (λ (n : ℕ). residue p (window m text n)) e
+
+pub hit-is : (s : Setup) (text : List ℕ) (from j x : ℕ) → x ≡ residue (keyOf s) (window (s .m) text (from + j)) → eqb x (s .wanted) ≡ hit s text from j
+unfolding hit
+hit-is s text from j x e = ap (λ (y : ℕ). eqb y (s .wanted)) e
 
 -- ---- the tables
 

@@ -1,6 +1,6 @@
 -- Laws of windows, and of comparing two lists byte by byte.
 use mathlib.Core.Path.{_≡_, refl, sym, ap, ap₂, subst, _∙_}
-use mathlib.Core.Bool.{Bool, true, false, _&&_, false≢true}
+use mathlib.Core.Bool.{Bool, true, false, _&&_, not, false≢true}
 use mathlib.Core.List.{List, [], _∷_, _++_}
 use Prim.Native.Nat.{ℕ, zero, suc, _+_, _-_, _≤_, _<_, min}
 use native.Mathlib.Nat.{zero-add}
@@ -11,7 +11,8 @@ use lib.Dec.{eqb}
 use lib.ListN.{length, take, drop, getD, length-take, length-drop, drop-of-length-le}
 use lib.Seq.{take-suc, take-length, drop-cons, getD-drop, getD-take}
 use Rattle.acceptance.proofs.Laws.{and-both}
-use Rattle.search.specs.Searching.{window, same}
+use Rattle.search.specs.Searching.{window, same, isPlace}
+use Rattle.search.specs.Rolling.{flaggedPlace, flaggedAlarm}
 
 module _ (m : ℕ) (text : List ℕ) (i : ℕ) where
   pub window-length : i + m ≤ length text → length (window m text i) ≡ m
@@ -71,3 +72,26 @@ module _ (a b : List ℕ) where
   pub same-end : (j : ℕ) → length a ≤ j → length b ≤ j → same (drop j a) (drop j b) ≡ true
   unfolding same
   same-end j h g = rw (drop-of-length-le a {i = j} h, drop-of-length-le b {i = j} g)
+
+-- ---- flagged windows
+
+module _ (flags : List Bool) (text pattern : List ℕ) (from i : ℕ) where
+  behind : from + i - from ≡ i
+  behind = omega arith
+
+  pub unflagged-place : getD flags i false ≡ false → flaggedPlace flags text pattern from (from + i) ≡ false
+  unfolding flaggedPlace
+  unflagged-place e = rw (behind, e)
+
+  pub unflagged-alarm : getD flags i false ≡ false → flaggedAlarm flags text pattern from (from + i) ≡ false
+  unfolding flaggedAlarm
+  unflagged-alarm e = rw (behind, e)
+
+  module _ (b : Bool) (e : getD flags i false ≡ true) (p : isPlace text pattern (from + i) ≡ b) where
+    pub flagged-place : flaggedPlace flags text pattern from (from + i) ≡ b
+    unfolding flaggedPlace
+    flagged-place = rw (behind, e) p
+
+    pub flagged-alarm : flaggedAlarm flags text pattern from (from + i) ≡ not b
+    unfolding flaggedAlarm
+    flagged-alarm = rw (behind, e) (ap not p)

@@ -61,11 +61,10 @@ fn by_lanes(s: Setup, red: &[u64; 256], out: &[u64; 256], text: &[u8], from: usi
         flags[j + 512] = c == s.wanted;
         flags[j + 768] = d == s.wanted;
         let i = from + j;
-        let e = i + s.m;
-        a = rolling::roll(s, red, out, a, text[i], text[e]);
-        b = rolling::roll(s, red, out, b, text[i + 256], text[e + 256]);
-        c = rolling::roll(s, red, out, c, text[i + 512], text[e + 512]);
-        d = rolling::roll(s, red, out, d, text[i + 768], text[e + 768]);
+        a = rolling::roll(s, red, out, text, i, a);
+        b = rolling::roll(s, red, out, text, i + 256, b);
+        c = rolling::roll(s, red, out, text, i + 512, c);
+        d = rolling::roll(s, red, out, text, i + 768, d);
         j += 1;
     }
     d
@@ -81,9 +80,8 @@ fn one_by_one(s: Setup, red: &[u64; 256], out: &[u64; 256], text: &[u8], from: u
     while j < size {
         flags[j] = a == s.wanted;
         let i = from + j;
-        let e = i + s.m;
-        if e < text.len() {
-            a = rolling::roll(s, red, out, a, text[i], text[e]);
+        if i + s.m < text.len() {
+            a = rolling::roll(s, red, out, text, i, a);
         }
         j += 1;
     }

@@ -1,10 +1,10 @@
 // Residues of windows, by two tables: the bytes without the leading 1, which windows and pattern, being equally long, have in common.
 ghost use mathlib.Core.Path.{_≡_};
 ghost use Prim.Native.Nat.{_+_, _*_, _^_, _≤_, _<_};
-ghost use lib.ListN.{length, getD};
-ghost use Rattle.gf2.specs.Polynomials.{_⊕_, monic, rem, Modulus};
+ghost use lib.ListN.{length};
+ghost use Rattle.gf2.specs.Polynomials.{monic, rem, Modulus};
 ghost use Rattle.search.specs.Searching.{window};
-ghost use Rattle.search.specs.Rolling.{residue, Multiples};
+ghost use Rattle.search.specs.Rolling.{residue, keyOf, Multiples, Ready};
 
 // What stays the same from window to window: the key's degree and low word, the pattern's length and its residue.
 pub struct Setup {
@@ -55,14 +55,17 @@ pub fn append(k: u32, low: u64, red: &[u64; 256], f: u64, b: u8) -> u64
     (rest * 256 + wide(b)) ^ red[top]
 }
 
-// The next window: a byte comes in behind, and the first one, times t^(8m), goes out.
-pub fn roll(s: Setup, red: &[u64; 256], out: &[u64; 256], f: u64, first: u8, next: u8) -> u64
-    requires { ⌜ Modulus (s .k) (s .low) × (8 ≤ s .k) × (f < 2 ^ s .k) × Multiples (monic (s .k) (s .low)) (2 ^ s .k) (now red) ⌝ }
-    ensures { λ r. ⌜ r ≡ rem (monic (s .k) (s .low)) (f * 256 + next) ⊕ getD (now (out .entry)) first 0 ⌝ }
+// The residue of the window at i + 1 from that of the window at i: a byte comes in behind, and the first one, times t^(8m), goes out.
+pub fn roll(s: Setup, red: &[u64; 256], out: &[u64; 256], text: &[u8], i: usize, g: u64) -> u64
+    requires { ⌜ Ready s (now red) (now out) × (i + s .m < length (now text)) × (g ≡ residue (keyOf s) (window (s .m) (now text) i)) ⌝ }
+    ensures { λ r. ⌜ r ≡ residue (keyOf s) (window (s .m) (now (text .entry)) (i + 1)) ⌝ }
 {
-    append(s.k, s.low, red, f, next) ^ out[first as usize]
+    let longer = append(s.k, s.low, red, g, text[i + s.m]);
+    let first = text[i] as usize;
+    longer ^ out[first]
 }
 
+// The residues of the first window and of the pattern, and the table's t^(8m).
 pub fn read_first(k: u32, low: u64, red: &[u64; 256], text: &[u8], pattern: &[u8]) -> Start
     requires { ⌜ Modulus k low × (8 ≤ k) × Multiples (monic k low) (2 ^ k) (now red) × (length (now pattern) ≤ length (now text)) ⌝ }
     ensures { λ r. ⌜ (r .first ≡ residue (monic k low) (window (length (now (pattern .entry))) (now (text .entry)) 0)) × (r .wanted ≡ residue (monic k low) (now (pattern .entry))) × (r .shift ≡ rem (monic k low) (2 ^ (8 * length (now (pattern .entry))))) ⌝ }
