@@ -62,9 +62,9 @@ pub all-found : (p : ℕ) (text pattern words₀ words : List ℕ) (found : Coun
 unfolding counts places alarms
 all-found p text pattern words₀ words found n e (ep, ea, ew) = (
   ap₂ {C = Counts} (λ (x y : ℕ). record { places = x; alarms = y })
-  (ep ∙ zero-add (length (passing (isPlace text pattern) 0 n)) ∙ ap (λ (m : ℕ). length (passing (isPlace text pattern) 0 m)) e)
-  (ea ∙ zero-add (length (passing (isAlarm p text pattern) 0 n)) ∙ ap (λ (m : ℕ). length (passing (isAlarm p text pattern) 0 m)) e),
+      (ep ∙ zero-add (length (passing (isPlace text pattern) 0 n)) ∙ ap (λ (m : ℕ). length (passing (isPlace text pattern) 0 m)) e)
+      (ea ∙ zero-add (length (passing (isAlarm p text pattern) 0 n)) ∙ ap (λ (m : ℕ). length (passing (isAlarm p text pattern) 0 m)) e),
   ew
-  ∙ ap (λ (m : ℕ). sets words₀ 0 (passing (isPlace text pattern) 0 m)) e
-  ∙ sym (overlay-sets (passing (isPlace text pattern) 0 (windows text pattern)) words₀),
+      ∙ ap (λ (m : ℕ). sets words₀ 0 (passing (isPlace text pattern) 0 m)) e
+      ∙ sym (overlay-sets (passing (isPlace text pattern) 0 (windows text pattern)) words₀),
 )

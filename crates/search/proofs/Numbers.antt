@@ -68,28 +68,28 @@ module _ {A : Type 0} (d : A) (rule : ℕ → A) where
       let long : length l3 ≡ 1024 = simp length-set n in (
         simp length-set n,
         filled-other 0 (j + 1) (j + 768) l3 x
-        (filled-other 0 (j + 1) (j + 512) l2 w
-        (filled-other 0 (j + 1) (j + 256) l1 v (filled-more 0 j l u p (omega arith) eu) (inr (omega arith)))
-        (inr (omega arith)))
-        (inr (omega arith)),
+            (filled-other 0 (j + 1) (j + 512) l2 w
+            (filled-other 0 (j + 1) (j + 256) l1 v (filled-more 0 j l u p (omega arith) eu) (inr (omega arith)))
+            (inr (omega arith)))
+            (inr (omega arith)),
         rw e2 at
-        (filled-other 256 (j + 256 + 1) (j + 768) l3 x
-        (filled-other 256 (j + 256 + 1) (j + 512) l2 w
-        (filled-more 256 (j + 256) l1 v (filled-other 256 (j + 256) j l u q (inl (omega arith))) (simp length-set (omega arith)) ev)
-        (inr (omega arith)))
-        (inr (omega arith))),
+            (filled-other 256 (j + 256 + 1) (j + 768) l3 x
+            (filled-other 256 (j + 256 + 1) (j + 512) l2 w
+            (filled-more 256 (j + 256) l1 v (filled-other 256 (j + 256) j l u q (inl (omega arith))) (simp length-set (omega arith)) ev)
+            (inr (omega arith)))
+            (inr (omega arith))),
         rw e3 at
-        (filled-other 512 (j + 512 + 1) (j + 768) l3 x
-        (filled-more 512 (j + 512) l2 w
-        (filled-other 512 (j + 512) (j + 256) l1 v (filled-other 512 (j + 512) j l u r (inl (omega arith))) (inl (omega arith)))
-        (simp length-set (omega arith)) ew)
-        (inr (omega arith))),
+            (filled-other 512 (j + 512 + 1) (j + 768) l3 x
+            (filled-more 512 (j + 512) l2 w
+            (filled-other 512 (j + 512) (j + 256) l1 v (filled-other 512 (j + 512) j l u r (inl (omega arith))) (inl (omega arith)))
+            (simp length-set (omega arith)) ew)
+            (inr (omega arith))),
         rw e4 at
-        (filled-more 768 (j + 768) l3 x
-        (filled-other 768 (j + 768) (j + 512) l2 w
-        (filled-other 768 (j + 768) (j + 256) l1 v (filled-other 768 (j + 768) j l u s (inl (omega arith))) (inl (omega arith)))
-        (inl (omega arith)))
-        (omega arith) ex),
+            (filled-more 768 (j + 768) l3 x
+            (filled-other 768 (j + 768) (j + 512) l2 w
+            (filled-other 768 (j + 768) (j + 256) l1 v (filled-other 768 (j + 768) j l u s (inl (omega arith))) (inl (omega arith)))
+            (inl (omega arith)))
+            (omega arith) ex),
       )
 
   pub runs-end : (l : List A) → Runs 256 l → Filled d rule 0 1024 l

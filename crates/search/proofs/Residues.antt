@@ -17,7 +17,8 @@ use Rattle.gf2.proofs.Sums.{⊕-cancel, ⊕-comm, ⊕-move, ⊕-bit}
 use Rattle.gf2.proofs.Products.{⊗-pow, zero-⊗, one-⊗, dbl-⊗, ⊕-⊗}
 use Rattle.gf2.proofs.Residues.{rem-zero, rem-⊕}
 use Rattle.gf2.proofs.Powers.{rem-⊗-right, rem-shl}
-use Rattle.gf2.proofs.Steps.{residue-lt, residue-split}
+use Rattle.gf2.proofs.Monics.{monic-pos}
+use Rattle.gf2.proofs.Steps.{residue-lt, residue-split, residue-top}
 use Rattle.files.specs.Files.{bits, valueFrom, value, fingerprint}
 use Rattle.files.proofs.Values.{value-append, value-⊕, value-byte, length-bits, bits-append, rem-from}
 use Rattle.search.specs.Searching.{window}
@@ -196,3 +197,7 @@ module _ {p : ℕ} (pos : 0 < p) (c : ℕ) where
   -- the multiples of a residue are those of what it is the residue of
   pub multiples-of : (table : List ℕ) → Multiples p (rem p c) table → Multiples p c table
   multiples-of table t = record { words = record { entry = λ i n h. t .words .entry i n h ∙ rem-⊗-right pos i c } }
+
+-- t^k is the low word
+pub multiples-top : (k c : ℕ) → c < 2 ^ k → (table : List ℕ) → Multiples (monic k c) c table → Multiples (monic k c) (2 ^ k) table
+multiples-top k c h table t = multiples-of (monic-pos k c h) (2 ^ k) table (rw (residue-top k c h) t)

@@ -8,7 +8,15 @@ ghost use Rattle.search.specs.Searching.{passing};
 ghost use Rattle.search.specs.Rolling.{flaggedPlace, flaggedAlarm};
 
 // The windows of a block, added to what was found before: a place is written behind the earlier ones, as far as the words reach.
-pub fn compare(text: &[u8], pattern: &[u8], flags: &[bool; 1024], from: usize, size: usize, found: Counts, words: &mut [u32]) -> Counts
+pub fn compare(
+    text: &[u8],
+    pattern: &[u8],
+    flags: &[bool; 1024],
+    from: usize,
+    size: usize,
+    found: Counts,
+    words: &mut [u32],
+) -> Counts
     requires { ⌜ (size ≤ 1024) × (from + size + length (now pattern) ≤ length (now text) + 1) × (0 < length (now pattern)) × (length (now text) ≤ 4294967295) × (found .places ≤ from) × (found .alarms ≤ from) ⌝ }
     ensures { λ r. ⌜ (r .places ≡ found .places + length (passing (flaggedPlace (now (flags .entry)) (now (text .entry)) (now (pattern .entry)) from) from size)) × (r .alarms ≡ found .alarms + length (passing (flaggedAlarm (now (flags .entry)) (now (text .entry)) (now (pattern .entry)) from) from size)) × (now (words .exit) ≡ sets (now (words .entry)) (found .places) (passing (flaggedPlace (now (flags .entry)) (now (text .entry)) (now (pattern .entry)) from) from size)) ⌝ }
 {

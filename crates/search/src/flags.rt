@@ -37,15 +37,19 @@ fn three_windows(s: Setup, red: &[u64; 256], out: &[u64; 256], text: &[u8], from
         d = rolling::append(s.k, s.low, red, d, text[i + 768]);
         j += 1;
     }
-    Three {
-        b,
-        c,
-        d,
-    }
+    Three { b, c, d }
 }
 
 // 1,024 windows: four runs of 256, rolled side by side, as one step waits for the last one of its run alone.
-fn by_lanes(s: Setup, red: &[u64; 256], out: &[u64; 256], text: &[u8], from: usize, g: u64, flags: &mut [bool; 1024]) -> u64
+fn by_lanes(
+    s: Setup,
+    red: &[u64; 256],
+    out: &[u64; 256],
+    text: &[u8],
+    from: usize,
+    g: u64,
+    flags: &mut [bool; 1024],
+) -> u64
     requires { ⌜ Ready s (now red) (now out) × (length (now flags) ≡ 1024) × (from + 1024 + s .m ≤ length (now text)) × (g ≡ residue (keyOf s) (window (s .m) (now text) from)) ⌝ }
     ensures { λ r. ⌜ (r ≡ residue (keyOf s) (window (s .m) (now (text .entry)) (from + 1024))) × Filled false (hit s (now (text .entry)) from) 0 1024 (now (flags .exit)) × (length (now (flags .exit)) ≡ 1024) ⌝ }
 {
@@ -71,7 +75,16 @@ fn by_lanes(s: Setup, red: &[u64; 256], out: &[u64; 256], text: &[u8], from: usi
 }
 
 // `size` windows, one after the other. There is no next residue behind the text's last window.
-fn one_by_one(s: Setup, red: &[u64; 256], out: &[u64; 256], text: &[u8], from: usize, size: usize, g: u64, flags: &mut [bool; 1024]) -> u64
+fn one_by_one(
+    s: Setup,
+    red: &[u64; 256],
+    out: &[u64; 256],
+    text: &[u8],
+    from: usize,
+    size: usize,
+    g: u64,
+    flags: &mut [bool; 1024],
+) -> u64
     requires { ⌜ Ready s (now red) (now out) × (length (now flags) ≡ 1024) × (from + size + s .m ≤ length (now text) + 1) × (size ≤ 1024) × (g ≡ residue (keyOf s) (window (s .m) (now text) from)) ⌝ }
     ensures { λ r. ⌜ Marked s (now (text .entry)) from size r (now (flags .exit)) × (length (now (flags .exit)) ≡ 1024) ⌝ }
 {
@@ -95,7 +108,15 @@ fn least(a: usize, b: usize) -> usize
 }
 
 // The next windows, at most 1,024. Four runs pay where their three new starts take less time than they save.
-pub fn mark_block(s: Setup, red: &[u64; 256], out: &[u64; 256], text: &[u8], from: usize, g: u64, flags: &mut [bool; 1024]) -> Block
+pub fn mark_block(
+    s: Setup,
+    red: &[u64; 256],
+    out: &[u64; 256],
+    text: &[u8],
+    from: usize,
+    g: u64,
+    flags: &mut [bool; 1024],
+) -> Block
     requires { ⌜ Ready s (now red) (now out) × (length (now flags) ≡ 1024) × (from + s .m ≤ length (now text)) × (g ≡ residue (keyOf s) (window (s .m) (now text) from)) ⌝ }
     ensures { λ r. ⌜ (0 < r .size) × (r .size ≤ 1024) × (from + r .size + s .m ≤ length (now (text .entry)) + 1) × Marked s (now (text .entry)) from (r .size) (r .next) (now (flags .exit)) × (length (now (flags .exit)) ≡ 1024) ⌝ }
 {
@@ -103,16 +124,10 @@ pub fn mark_block(s: Setup, red: &[u64; 256], out: &[u64; 256], text: &[u8], fro
     if s.m <= 512 {
         if 1024 < left {
             let next = by_lanes(s, red, out, text, from, g, flags);
-            return Block {
-                size: 1024,
-                next,
-            };
+            return Block { size: 1024, next };
         }
     }
     let size = least(left, 1024);
     let next = one_by_one(s, red, out, text, from, size, g, flags);
-    Block {
-        size,
-        next,
-    }
+    Block { size, next }
 }

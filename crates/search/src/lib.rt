@@ -1,9 +1,11 @@
 // The search for a pattern in a text by a rolling fingerprint.
 use refusals::Refusal;
 use rolling::Setup;
+
 mod rolling; // residues of windows, by tables
 mod flags; // which windows have the pattern's residue
 mod compare; // the bytes of those windows against the pattern's
+
 ghost use mathlib.Core.Path.{_≡_};
 ghost use Prim.Native.Nat.{_+_, _-_, _*_, _%_, _^_, _≤_, _<_};
 ghost use lib.ListN.{length};
@@ -24,13 +26,24 @@ pub enum Searched {
 }
 
 // Block by block: which windows have the pattern's residue, and then which of these have its bytes.
-fn search_blocks(s: Setup, red: &[u64; 256], out: &[u64; 256], text: &[u8], pattern: &[u8], first: u64, words: &mut [u32]) -> Counts
+fn search_blocks(
+    s: Setup,
+    red: &[u64; 256],
+    out: &[u64; 256],
+    text: &[u8],
+    pattern: &[u8],
+    first: u64,
+    words: &mut [u32],
+) -> Counts
     requires { ⌜ Ready s (now red) (now out) × (s .m ≡ length (now pattern)) × (s .wanted ≡ residue (keyOf s) (now pattern)) × (first ≡ residue (keyOf s) (window (s .m) (now text) 0)) × (length (now pattern) ≤ length (now text)) × (length (now text) ≤ 4294967295) ⌝ }
     ensures { λ r. ⌜ (r ≡ counts (keyOf s) (now (text .entry)) (now (pattern .entry))) × (now (words .exit) ≡ overlay (places (now (text .entry)) (now (pattern .entry))) (now (words .entry))) ⌝ }
 {
     let mut flags: [bool; 1024] = [false; 1024];
     let windows = text.len() - pattern.len() + 1;
-    let mut found = Counts { places: 0, alarms: 0 };
+    let mut found = Counts {
+        places: 0,
+        alarms: 0,
+    };
     let mut g = first;
     let mut from: usize = 0;
     while from < windows {

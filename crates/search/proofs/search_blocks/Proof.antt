@@ -107,8 +107,8 @@ loop-again c =
       omega (arith, np, passing-length (isPlace t q) (0 + l .from) size, l .inv .2),
       omega (arith, na, passing-length (isAlarm (keyOf (a .s)) t q) (0 + l .from) size, l .inv .3),
       (λ h. b .3 .next (omega (arith, h, e))),
-      tally-block (isPlace t q) (isAlarm (keyOf (a .s)) t q) 0 n (a .words .now) 0 0 (l .words) _ (l .found .places) (l .found .alarms) (l .from) size _ _ (omega (arith, fits)) (l .inv .5) 
-      (found .2 ∙ ap (sets (l .words) (l .found .places)) ps) np na,
+      tally-block (isPlace t q) (isAlarm (keyOf (a .s)) t q) 0 n (a .words .now) 0 0 (l .words) _ (l .found .places) (l .found .alarms) (l .from) size _ _ (omega (arith, fits)) (l .inv .5)
+          (found .2 ∙ ap (sets (l .words) (l .found .places)) ps) np na,
     )
 
 -- src/lib.rt:27:1

@@ -151,10 +151,10 @@ loop-again c =
       c .before .roll3 .ensures ∙ place (a .from + l .j + 512 + 1) (a .from + (l .j + 1 + 512)) (omega arith),
       c .roll4 .ensures ∙ place (a .from + l .j + 768 + 1) (a .from + (l .j + 1 + 768)) (omega arith),
       runs-more false (hit (a .s) (a .text .now) (a .from)) (l .j) (l .flags) _ _ _ _ (omega arith) (l .inv .5)
-      (flag (l .j) (l .a) (l .inv .1))
-      (flag (l .j + 256) (l .b) (l .inv .2))
-      (flag (l .j + 512) (l .c) (l .inv .3))
-      (flag (l .j + 768) (l .d) (l .inv .4)),
+          (flag (l .j) (l .a) (l .inv .1))
+          (flag (l .j + 256) (l .b) (l .inv .2))
+          (flag (l .j + 512) (l .c) (l .inv .3))
+          (flag (l .j + 768) (l .d) (l .inv .4)),
     )
 
 -- src/flags.rt:48:1

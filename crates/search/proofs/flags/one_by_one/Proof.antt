@@ -73,8 +73,8 @@ loop-again c =
       omega arith,
       simp length-set (l .inv .1),
       (λ h. ⊎-elim (λ w. w .2 ∙ w .1 .ensures ∙ same-place (keyOf (a .s)) (a .s .m) t (a .from + l .j + 1) (a .from + (l .j + 1)) (omega arith))
-      (λ w. absurd (omega (arith, w .0 .left)))
-      (c .if1 .came)),
+          (λ w. absurd (omega (arith, w .0 .left)))
+          (c .if1 .came)),
       filled-more 0 (l .j) (l .flags) _ (l .inv .3) (omega arith) (hit-is (a .s) t (a .from) (l .j) (l .a) (l .inv .2 (omega arith))),
     )
 

@@ -104,11 +104,11 @@ loop-again c =
     let pos = monic-pos (a .s .k) (a .s .low) (s .pre .0 .modulus .2) in (
       omega arith,
       read-on pos (l .j) t (a .from + 256) (a .from + l .j + 256) (l .b) _ (omega arith) (omega arith) (omega (arith, c .before .before .before .before .before .shared-slice-known2 .given (a .from + l .j + 256))) (l .inv .1)
-      (c .before .before .before .before .append .ensures),
+          (c .before .before .before .before .append .ensures),
       read-on pos (l .j) t (a .from + 512) (a .from + l .j + 512) (l .c) _ (omega arith) (omega arith) (omega (arith, c .before .before .before .shared-slice-known3 .given (a .from + l .j + 512))) (l .inv .2)
-      (c .before .before .append2 .ensures),
+          (c .before .before .append2 .ensures),
       read-on pos (l .j) t (a .from + 768) (a .from + l .j + 768) (l .d) _ (omega arith) (omega arith) (omega (arith, c .before .shared-slice-known4 .given (a .from + l .j + 768))) (l .inv .3)
-      (c .append3 .ensures),
+          (c .append3 .ensures),
     )
 
 -- src/flags.rt:25:1

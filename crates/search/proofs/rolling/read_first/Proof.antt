@@ -89,9 +89,9 @@ loop-again c =
     let z = zero-add (l .i) in (
       omega arith,
       read-on pos (l .i) (a .text .now) 0 (l .i) (l .first) _ z (omega arith) (omega (arith, c .before .before .before .before .shared-slice-known3 .given (l .i))) (l .inv .1)
-      (c .before .before .before .append .ensures),
+          (c .before .before .before .append .ensures),
       read-on pos (l .i) (a .pattern .now) 0 (l .i) (l .wanted) _ z (omega arith) (omega (arith, c .before .before .shared-slice-known4 .given (l .i))) (l .inv .2)
-      (c .before .append2 .ensures),
+          (c .before .append2 .ensures),
       c .append3 .ensures ∙ rw (l .inv .3) (shift-next pos (l .i)),
     )
 
