@@ -1,0 +1,4 @@
+pub mod Windows
+pub mod Residues
+pub mod Numbers
+pub mod Blocks

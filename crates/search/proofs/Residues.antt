@@ -1,0 +1,203 @@
+-- Laws of the residue without the leading 1: of bytes appended and of the next window; and of the tables.
+use mathlib.Core.Path.{_≡_, refl, sym, ap, ap₂, subst, _∙_}
+use mathlib.Core.Bool.{Bool, true, false}
+use mathlib.Core.List.{List, [], _∷_, _++_}
+use Prim.Native.Nat.{ℕ, zero, suc, _+_, _-_, _*_, _/_, _%_, _^_, _≤_, _<_}
+use native.Mathlib.Nat.{add-comm, add-zero, mul-comm, one-mul, zero-mul, zero-add, mod-lt, mod-eq-of-lt}
+use native.Mathlib.Decide.{ℕ-discrete}
+use native.Mathlib.Numerals.{add-one}
+use native.Mathlib.Omega.{arith}
+use borrow.Author.Tests.{eq-eqb, ne-eqb}
+use lib.Dec.{eqb}
+use lib.Arith.{digits-lt}
+use lib.ListN.{length, getD}
+use lib.Pow.{pow-pos, pow-add, shr-shr, shr-lt, high, low, mod-pow-add}
+use Rattle.gf2.specs.Polynomials.{_⊕_, _⊗_, monic, rem}
+use Rattle.gf2.proofs.Sums.{⊕-cancel, ⊕-comm, ⊕-move, ⊕-bit}
+use Rattle.gf2.proofs.Products.{⊗-pow, zero-⊗, one-⊗, dbl-⊗, ⊕-⊗}
+use Rattle.gf2.proofs.Residues.{rem-zero, rem-⊕}
+use Rattle.gf2.proofs.Powers.{rem-⊗-right, rem-shl}
+use Rattle.gf2.proofs.Monics.{monic-pos}
+use Rattle.gf2.proofs.Steps.{residue-lt, residue-split, residue-top}
+use Rattle.files.specs.Files.{bits, valueFrom, value, fingerprint}
+use Rattle.files.proofs.Values.{value-append, value-⊕, value-byte, length-bits, bits-append, rem-from}
+use Rattle.search.specs.Searching.{window}
+use Rattle.search.specs.declared.rolling.Setup.{Setup}
+use Rattle.search.specs.Rolling.{residue, Filled, Multiples, keyOf, hit}
+use Rattle.search.proofs.Windows.{window-length, window-more, window-front, window-none}
+
+one-byte : (s b : ℕ) → b < 256 → valueFrom s (bits (b ∷ [])) ≡ s * 256 + b
+unfolding valueFrom bits
+one-byte s b h = value-byte s b [] ∙ ap (λ (x : ℕ). s * 256 + x) (mod-eq-of-lt h)
+
+module _ {p : ℕ} (pos : 0 < p) where
+  -- the leading 1 adds the same to all bytes of one length
+  fingerprint-residue : (a : List ℕ) → fingerprint p a ≡ rem p (2 ^ (8 * length a)) ⊕ residue p a
+  unfolding fingerprint value residue
+  fingerprint-residue a =
+      ap (rem p) (value-⊕ 1 (bits a) ∙ rw (one-mul, length-bits a))
+      ∙ rem-⊕ pos (2 ^ (8 * length a)) (valueFrom 0 (bits a))
+
+  -- so among them it plays no part
+  pub without-one : (a b : List ℕ) → length a ≡ length b → eqb (fingerprint p a) (fingerprint p b) ≡ eqb (residue p a) (residue p b)
+  without-one a b e = go (ℕ-discrete (residue p a) (residue p b))
+    where
+      u : ℕ
+      u = rem p (2 ^ (8 * length b))
+
+      left : fingerprint p a ≡ u ⊕ residue p a
+      left = fingerprint-residue a ∙ ap (λ (n : ℕ). rem p (2 ^ (8 * n)) ⊕ residue p a) e
+
+      go : Dec (residue p a ≡ residue p b) → eqb (fingerprint p a) (fingerprint p b) ≡ eqb (residue p a) (residue p b)
+      go (yes q) =
+          eq-eqb (fingerprint p a) (fingerprint p b) (left ∙ ap (λ (x : ℕ). u ⊕ x) q ∙ sym (fingerprint-residue b))
+          ∙ sym (eq-eqb (residue p a) (residue p b) q)
+      go (no q) =
+          ne-eqb (fingerprint p a) (fingerprint p b) (λ f. q (⊕-cancel u (residue p a) (residue p b) (sym left ∙ f ∙ fingerprint-residue b)))
+          ∙ sym (ne-eqb (residue p a) (residue p b) q)
+
+  -- ---- bytes appended, and the next window
+
+  pub residue-none : residue p [] ≡ 0
+  unfolding residue bits valueFrom
+  residue-none = rem-zero p
+
+  pub residue-append : (a : List ℕ) (b : ℕ) → b < 256 → residue p (a ++ b ∷ []) ≡ rem p (residue p a * 256 + b)
+  unfolding residue
+  residue-append a b h =
+      ap (rem p) (ap (valueFrom 0) (bits-append a (b ∷ [])) ∙ value-append 0 (bits a) (bits (b ∷ [])))
+      ∙ sym (rem-from pos (valueFrom 0 (bits a)) (bits (b ∷ [])))
+      ∙ ap (rem p) (one-byte (rem p (valueFrom 0 (bits a))) b h)
+
+  -- a power of t, eight places up
+  pub shift-next : (i : ℕ) → rem p (rem p (2 ^ (8 * i)) * 256 + 0) ≡ rem p (2 ^ (8 * (i + 1)))
+  shift-next i =
+      rw add-zero
+      (rem-shl pos (2 ^ (8 * i)) 8 ∙ ap (rem p) (sym (pow-add 2 (8 * i) 8) ∙ ap (λ (n : ℕ). 2 ^ n) e))
+    where
+      e : 8 * i + 8 ≡ 8 * (i + 1)
+      e = omega arith
+
+  residue-front : (x : ℕ) (a : List ℕ) → x < 256 → residue p (x ∷ a) ≡ rem p (x ⊗ 2 ^ (8 * length a)) ⊕ residue p a
+  unfolding residue
+  residue-front x a h =
+      ap (rem p) (value-byte 0 x a ∙ rw (zero-mul, zero-add, mod-eq-of-lt h) (value-⊕ x (bits a)))
+      ∙ rem-⊕ pos (x * 2 ^ length (bits a)) (valueFrom 0 (bits a))
+      ∙ rw (length-bits a, ⊗-pow (8 * length a) x)
+
+  pub residue-more : (m : ℕ) (text : List ℕ) (i : ℕ) → i + m < length text → getD text (i + m) 0 < 256
+      → residue p (window (m + 1) text i) ≡ rem p (residue p (window m text i) * 256 + getD text (i + m) 0)
+  residue-more m text i h l =
+      rw (add-one m, window-more m text i h) (residue-append (window m text i) (getD text (i + m) 0) l)
+
+  -- a byte comes in behind, and the first one, times t^(8m), goes out
+  pub residue-next : (m : ℕ) (text : List ℕ) (i : ℕ) → i + m < length text → getD text i 0 < 256 → getD text (i + m) 0 < 256
+      → residue p (window m text (i + 1)) ≡ rem p (residue p (window m text i) * 256 + getD text (i + m) 0) ⊕ rem p (getD text i 0 ⊗ 2 ^ (8 * m))
+  residue-next m text i h lx ly =
+      ⊕-move (rem p (getD text i 0 ⊗ 2 ^ (8 * m))) (residue p (window m text (i + 1))) (residue p (window (m + 1) text i)) (sym front)
+      ∙ ap (λ (x : ℕ). rem p (getD text i 0 ⊗ 2 ^ (8 * m)) ⊕ x) (residue-more m text i h ly)
+      ∙ ⊕-comm (rem p (getD text i 0 ⊗ 2 ^ (8 * m))) (rem p (residue p (window m text i) * 256 + getD text (i + m) 0))
+    where
+      front : residue p (window (m + 1) text i) ≡ rem p (getD text i 0 ⊗ 2 ^ (8 * m)) ⊕ residue p (window m text (i + 1))
+      front =
+          rw (add-one m, add-one i, window-front m text i (omega arith))
+          (residue-front (getD text i 0) (window m text (suc i)) lx
+          ∙ rw (window-length m text (suc i) (omega arith)))
+
+  -- the same as the code goes: x is the residue of a window, and r is made of it, the byte at e, and the table's entry for the first byte
+  pub read-on : (m : ℕ) (text : List ℕ) (i e x r : ℕ) → i + m ≡ e → e < length text → getD text e 0 < 256
+      → x ≡ residue p (window m text i) → r ≡ rem p (x * 256 + getD text e 0) → r ≡ residue p (window (m + 1) text i)
+  read-on m text i e x r q h l ex er = er ∙ rw (ex, ← q) (sym (residue-more m text i (rw q h) (rw q l)))
+
+  pub rolled : (m : ℕ) (text out : List ℕ) (i e x r : ℕ) → i + m ≡ e → e < length text → getD text i 0 < 256 → getD text e 0 < 256
+      → Multiples p (2 ^ (8 * m)) out → x ≡ residue p (window m text i)
+      → r ≡ rem p (x * 256 + getD text e 0) ⊕ getD out (getD text i 0) 0 → r ≡ residue p (window m text (i + 1))
+  rolled m text out i e x r q h lx ly t ex er =
+      er
+      ∙ rw (ex, ← q, t .words .entry (getD text i 0) (omega arith) lx)
+      (sym (residue-next m text i (rw q h) lx (rw q ly)))
+
+pub residue-below : (k c : ℕ) → c < 2 ^ k → (bytes : List ℕ) → residue (monic k c) bytes < 2 ^ k
+unfolding residue
+residue-below k c h bytes = residue-lt k c h (valueFrom 0 (bits bytes))
+
+pub same-place : (p m : ℕ) (text : List ℕ) (i j : ℕ) → i ≡ j → residue p (window m text i) ≡ residue p (window m text j)
+same-place p m text i j e = ap (λ (n : ℕ). residue p (window m text n)) e
+
+pub hit-is : (s : Setup) (text : List ℕ) (from j x : ℕ) → x ≡ residue (keyOf s) (window (s .m) text (from + j)) → eqb x (s .wanted) ≡ hit s text from j
+unfolding hit
+hit-is s text from j x e = ap (λ (y : ℕ). eqb y (s .wanted)) e
+
+-- ---- the tables
+
+-- what stands at t^(n + j) and above of a number with n new low bits, and what stands below
+module _ (f w n j : ℕ) (h : w < 2 ^ n) where
+  above : (f * 2 ^ n + w) / 2 ^ (n + j) ≡ f / 2 ^ j
+  above = sym (shr-shr (f * 2 ^ n + w) n j) ∙ ap (λ (x : ℕ). x / 2 ^ j) (high f n h)
+
+  below : (f * 2 ^ n + w) % 2 ^ (n + j) ≡ f % 2 ^ j * 2 ^ n + w
+  below =
+      ap (λ (m : ℕ). (f * 2 ^ n + w) % 2 ^ m) (add-comm n j)
+      ∙ mod-pow-add (f * 2 ^ n + w) j n ∙ ap₂ (λ (x y : ℕ). x % 2 ^ j * 2 ^ n + y) (high f n h) (low f n h)
+
+module _ (k c : ℕ) (h : c < 2 ^ k) (f b : ℕ) (wide : 8 ≤ k) (lb : b < 256) where
+  -- a byte behind a residue: eight coefficients reach t^k and fall out
+  pub append-is : rem (monic k c) (f * 256 + b) ≡ (f % 2 ^ (k - 8) * 256 + b) ⊕ rem (monic k c) (f / 2 ^ (k - 8) ⊗ 2 ^ k)
+  append-is =
+      residue-split k c h (f * 256 + b)
+      ∙ ap₂ (λ (x y : ℕ). rem (monic k c) (x * 2 ^ k) ⊕ y) up down
+      ∙ ⊕-comm (rem (monic k c) (f / 2 ^ (k - 8) * 2 ^ k)) (f % 2 ^ (k - 8) * 256 + b)
+      ∙ ap (λ (x : ℕ). (f % 2 ^ (k - 8) * 256 + b) ⊕ rem (monic k c) x) (sym (⊗-pow k (f / 2 ^ (k - 8))))
+    where
+      e : k ≡ 8 + (k - 8)
+      e = omega arith
+
+      up : (f * 256 + b) / 2 ^ k ≡ f / 2 ^ (k - 8)
+      up = ap (λ (n : ℕ). (f * 256 + b) / 2 ^ n) e ∙ above f b 8 (k - 8) lb
+
+      down : (f * 256 + b) % 2 ^ k ≡ f % 2 ^ (k - 8) * 256 + b
+      down = ap (λ (n : ℕ). (f * 256 + b) % 2 ^ n) e ∙ below f b 8 (k - 8) lb
+
+  -- they are below 2^8, and the rest has room for the byte
+  pub append-top : f < 2 ^ k → f / 2 ^ (k - 8) < 256
+  append-top l = shr-lt 8 (k - 8) (subst (λ (n : ℕ). f < 2 ^ n) e l)
+    where
+      e : k ≡ 8 + (k - 8)
+      e = omega arith
+
+  pub append-rest : f % 2 ^ (k - 8) * 256 + b < 2 ^ k
+  append-rest =
+      subst (λ (n : ℕ). f % 2 ^ (k - 8) * 256 + b < 2 ^ n) e
+      (rw (pow-add 2 (k - 8) 8) (digits-lt {q = f % 2 ^ (k - 8)} {m = 2 ^ (k - 8)} (mod-lt f (pow-pos (k - 8))) lb))
+    where
+      e : k - 8 + 8 ≡ k
+      e = omega arith
+
+module _ {p : ℕ} (pos : 0 < p) (c : ℕ) where
+  -- twice a polynomial, and one more
+  pub multiple-even : (i : ℕ) → rem p (rem p (i ⊗ c) * 2 + 0) ≡ rem p (2 * i ⊗ c)
+  multiple-even i = rw add-zero (rem-shl pos (i ⊗ c) 1 ∙ ap (rem p) (sym (dbl-⊗ i c)) ∙ ap (λ (x : ℕ). rem p (x ⊗ c)) (mul-comm i 2))
+
+  pub multiple-odd : (i : ℕ) → rem p (2 * i ⊗ c) ⊕ rem p c ≡ rem p ((2 * i + 1) ⊗ c)
+  multiple-odd i =
+      sym (rem-⊕ pos (2 * i ⊗ c) c)
+      ∙ ap (rem p) (ap (λ (x : ℕ). 2 * i ⊗ c ⊕ x) (sym (one-⊗ c)) ∙ sym (⊕-⊗ (2 * i) 1 c) ∙ ap (λ (x : ℕ). x ⊗ c) odd)
+    where
+      odd : 2 * i ⊕ 1 ≡ 2 * i + 1
+      odd = rw (mul-comm 2 i) (⊕-bit i 1 (omega arith))
+
+  pub multiples-begin : (rest : List ℕ) → rem p c ≡ c → Filled 0 (λ i. rem p (i ⊗ c)) 0 2 (0 ∷ c ∷ rest)
+  multiples-begin rest e = record { entry = go }
+    where
+      go : (i : ℕ) → 0 ≤ i → i < 2 → getD (0 ∷ c ∷ rest) i 0 ≡ rem p (i ⊗ c)
+      go zero a b = sym (ap (rem p) (zero-⊗ c) ∙ rem-zero p)
+      go (suc zero) a b = sym (ap (rem p) (one-⊗ c) ∙ e)
+      go (suc (suc i)) a b = absurd (omega arith)
+
+  -- the multiples of a residue are those of what it is the residue of
+  pub multiples-of : (table : List ℕ) → Multiples p (rem p c) table → Multiples p c table
+  multiples-of table t = record { words = record { entry = λ i n h. t .words .entry i n h ∙ rem-⊗-right pos i c } }
+
+-- t^k is the low word
+pub multiples-top : (k c : ℕ) → c < 2 ^ k → (table : List ℕ) → Multiples (monic k c) c table → Multiples (monic k c) (2 ^ k) table
+multiples-top k c h table t = multiples-of (monic-pos k c h) (2 ^ k) table (rw (residue-top k c h) t)
