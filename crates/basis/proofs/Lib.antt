@@ -1,3 +1,4 @@
 pub mod Elimination
 pub mod Mapping
 pub mod Parts
+pub mod Echelon
