@@ -20,7 +20,7 @@ use Rattle.basis.specs.Rows.{sumOf, Independent, clear}
 bit-zero : (c : ℕ) → 0 / 2 ^ c % 2 ≡ 0
 bit-zero c = ap (λ (x : ℕ). x % 2) (zero-div (2 ^ c))
 
-low-⊕ : (a b c : ℕ) → (a ⊕ b) % 2 * c ≡ a % 2 * c ⊕ b % 2 * c
+pub low-⊕ : (a b c : ℕ) → (a ⊕ b) % 2 * c ≡ a % 2 * c ⊕ b % 2 * c
 low-⊕ a b c = rw (low-is (a ⊕ b) c, low-is a c, low-is b c) (simp (⊕-half, ⊕-⊗, ⊕-dbl, xor))
   where
     low-is : (x y : ℕ) → x % 2 * y ≡ x / 2 ⊗ y * 2 ⊕ x ⊗ y

@@ -2,3 +2,4 @@ pub mod Elimination
 pub mod Mapping
 pub mod Parts
 pub mod Echelon
+pub mod Insertion
