@@ -3,7 +3,7 @@ use mathlib.Core.Path.{_≡_, refl, sym, ap, ap₂, subst, _∙_}
 use mathlib.Core.Bool.{Bool, true, false}
 use mathlib.Core.List.{List, [], _∷_, _++_}
 use Prim.Native.Nat.{ℕ, zero, suc, _+_, _-_, _*_, _/_, _%_, _^_, _≤_, _<_}
-use native.Mathlib.Nat.{add-comm, add-zero, mul-comm, one-mul, zero-mul, zero-add, mod-lt, mod-eq-of-lt}
+use native.Mathlib.Nat.{add-comm, add-zero, one-mul, zero-mul, zero-add, mod-lt, mod-eq-of-lt}
 use native.Mathlib.Decide.{ℕ-discrete}
 use native.Mathlib.Numerals.{add-one}
 use native.Mathlib.Omega.{arith}
@@ -13,17 +13,18 @@ use lib.Arith.{digits-lt}
 use lib.ListN.{length, getD}
 use lib.Pow.{pow-pos, pow-add, shr-shr, shr-lt, high, low, mod-pow-add}
 use Rattle.gf2.specs.Polynomials.{_⊕_, _⊗_, monic, rem}
-use Rattle.gf2.proofs.Sums.{⊕-cancel, ⊕-comm, ⊕-move, ⊕-bit}
-use Rattle.gf2.proofs.Products.{⊗-pow, zero-⊗, one-⊗, dbl-⊗, ⊕-⊗}
+use Rattle.gf2.proofs.Sums.{⊕-cancel, ⊕-comm, ⊕-move}
+use Rattle.gf2.proofs.Products.{⊗-pow}
 use Rattle.gf2.proofs.Residues.{rem-zero, rem-⊕}
 use Rattle.gf2.proofs.Powers.{rem-⊗-right, rem-shl}
 use Rattle.gf2.proofs.Monics.{monic-pos}
 use Rattle.gf2.proofs.Steps.{residue-lt, residue-split, residue-top}
+use Rattle.multiples.specs.Rows.{Multiples}
 use Rattle.files.specs.Files.{bits, valueFrom, value, fingerprint}
 use Rattle.files.proofs.Values.{value-append, value-⊕, value-byte, length-bits, bits-append, rem-from}
 use Rattle.search.specs.Searching.{window}
 use Rattle.search.specs.declared.rolling.Setup.{Setup}
-use Rattle.search.specs.Rolling.{residue, Filled, Multiples, keyOf, hit}
+use Rattle.search.specs.Rolling.{residue, keyOf, hit}
 use Rattle.search.proofs.Windows.{window-length, window-more, window-front, window-none}
 
 one-byte : (s b : ℕ) → b < 256 → valueFrom s (bits (b ∷ [])) ≡ s * 256 + b
@@ -110,11 +111,11 @@ module _ {p : ℕ} (pos : 0 < p) where
   read-on m text i e x r q h l ex er = er ∙ rw (ex, ← q) (sym (residue-more m text i (rw q h) (rw q l)))
 
   pub rolled : (m : ℕ) (text out : List ℕ) (i e x r : ℕ) → i + m ≡ e → e < length text → getD text i 0 < 256 → getD text e 0 < 256
-      → Multiples p (2 ^ (8 * m)) out → x ≡ residue p (window m text i)
+      → Multiples p (2 ^ (8 * m)) 0 256 out → x ≡ residue p (window m text i)
       → r ≡ rem p (x * 256 + getD text e 0) ⊕ getD out (getD text i 0) 0 → r ≡ residue p (window m text (i + 1))
   rolled m text out i e x r q h lx ly t ex er =
       er
-      ∙ rw (ex, ← q, t .words .entry (getD text i 0) (omega arith) lx)
+      ∙ rw (ex, ← q, rw zero-add at (t (getD text i 0) lx))
       (sym (residue-next m text i (rw q h) lx (rw q ly)))
 
 pub residue-below : (k c : ℕ) → c < 2 ^ k → (bytes : List ℕ) → residue (monic k c) bytes < 2 ^ k
@@ -174,30 +175,10 @@ module _ (k c : ℕ) (h : c < 2 ^ k) (f b : ℕ) (wide : 8 ≤ k) (lb : b < 256)
       e = omega arith
 
 module _ {p : ℕ} (pos : 0 < p) (c : ℕ) where
-  -- twice a polynomial, and one more
-  pub multiple-even : (i : ℕ) → rem p (rem p (i ⊗ c) * 2 + 0) ≡ rem p (2 * i ⊗ c)
-  multiple-even i = rw add-zero (rem-shl pos (i ⊗ c) 1 ∙ ap (rem p) (sym (dbl-⊗ i c)) ∙ ap (λ (x : ℕ). rem p (x ⊗ c)) (mul-comm i 2))
-
-  pub multiple-odd : (i : ℕ) → rem p (2 * i ⊗ c) ⊕ rem p c ≡ rem p ((2 * i + 1) ⊗ c)
-  multiple-odd i =
-      sym (rem-⊕ pos (2 * i ⊗ c) c)
-      ∙ ap (rem p) (ap (λ (x : ℕ). 2 * i ⊗ c ⊕ x) (sym (one-⊗ c)) ∙ sym (⊕-⊗ (2 * i) 1 c) ∙ ap (λ (x : ℕ). x ⊗ c) odd)
-    where
-      odd : 2 * i ⊕ 1 ≡ 2 * i + 1
-      odd = rw (mul-comm 2 i) (⊕-bit i 1 (omega arith))
-
-  pub multiples-begin : (rest : List ℕ) → rem p c ≡ c → Filled 0 (λ i. rem p (i ⊗ c)) 0 2 (0 ∷ c ∷ rest)
-  multiples-begin rest e = record { entry = go }
-    where
-      go : (i : ℕ) → 0 ≤ i → i < 2 → getD (0 ∷ c ∷ rest) i 0 ≡ rem p (i ⊗ c)
-      go zero a b = sym (ap (rem p) (zero-⊗ c) ∙ rem-zero p)
-      go (suc zero) a b = sym (ap (rem p) (one-⊗ c) ∙ e)
-      go (suc (suc i)) a b = absurd (omega arith)
-
   -- the multiples of a residue are those of what it is the residue of
-  pub multiples-of : (table : List ℕ) → Multiples p (rem p c) table → Multiples p c table
-  multiples-of table t = record { words = record { entry = λ i n h. t .words .entry i n h ∙ rem-⊗-right pos i c } }
+  pub multiples-of : (table : List ℕ) → Multiples p (rem p c) 0 256 table → Multiples p c 0 256 table
+  multiples-of table t i h = t i h ∙ rem-⊗-right pos i c
 
 -- t^k is the low word
-pub multiples-top : (k c : ℕ) → c < 2 ^ k → (table : List ℕ) → Multiples (monic k c) c table → Multiples (monic k c) (2 ^ k) table
+pub multiples-top : (k c : ℕ) → c < 2 ^ k → (table : List ℕ) → Multiples (monic k c) c 0 256 table → Multiples (monic k c) (2 ^ k) 0 256 table
 multiples-top k c h table t = multiples-of (monic-pos k c h) (2 ^ k) table (rw (residue-top k c h) t)

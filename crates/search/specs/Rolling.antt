@@ -5,7 +5,8 @@ use mathlib.Core.List.{List}
 use Prim.Native.Nat.{ℕ, _+_, _-_, _*_, _^_, _≤_, _<_}
 use lib.Dec.{eqb}
 use lib.ListN.{length, getD}
-use Rattle.gf2.specs.Polynomials.{_⊗_, monic, rem, Modulus}
+use Rattle.gf2.specs.Polynomials.{monic, rem, Modulus}
+use Rattle.multiples.specs.Rows.{Multiples}
 use Rattle.files.specs.Files.{bits, valueFrom}
 use Rattle.search.specs.Searching.{window, isPlace}
 use Rattle.search.specs.declared.rolling.Setup.{Setup}
@@ -18,20 +19,16 @@ residue p bytes = rem p (valueFrom 0 (bits bytes))
 pub record Filled {A : Type 0} (default : A) (rule : ℕ → A) (n c : ℕ) (list : List A) : Type 0 where
   pub entry : (i : ℕ) → n ≤ i → i < c → getD list i default ≡ rule i
 
--- a table of 256 words: the residues of the polynomials of degree below 8, times c
-pub record Multiples (p c : ℕ) (table : List ℕ) : Type 0 where
-  pub words : Filled 0 (λ i. rem p (i ⊗ c)) 0 256 table
-
 abbrev pub keyOf : Setup → ℕ
 keyOf s = monic (s .k) (s .low)
 
--- the two tables: for the byte that comes in, and for the one that goes out
+-- the two tables of 256 words: the multiples of t^k, for the byte that comes in, and of t^(8m), for the one that goes out
 pub record Ready (s : Setup) (redTable outTable : List ℕ) : Type 0 where
   pub modulus : Modulus (s .k) (s .low)
   pub wide : 8 ≤ s .k
   pub some : 0 < s .m
-  pub red : Multiples (keyOf s) (2 ^ s .k) redTable
-  pub out : Multiples (keyOf s) (2 ^ (8 * s .m)) outTable
+  pub red : Multiples (keyOf s) (2 ^ s .k) 0 256 redTable
+  pub out : Multiples (keyOf s) (2 ^ (8 * s .m)) 0 256 outTable
 
 -- of the window j places behind `from`: it has the wanted residue
 unfoldable pub hit : Setup → List ℕ → ℕ → ℕ → Bool

@@ -1,4 +1,5 @@
 // The search for a pattern in a text by a rolling fingerprint.
+use keys::Tested;
 use refusals::Refusal;
 use rolling::Setup;
 
@@ -10,7 +11,7 @@ ghost use mathlib.Core.Path.{_≡_};
 ghost use Prim.Native.Nat.{_+_, _-_, _*_, _%_, _^_, _≤_, _<_};
 ghost use lib.ListN.{length};
 ghost use Rattle.gf2.specs.Polynomials.{monic, rem, Modulus};
-ghost use Rattle.search.specs.Searching.{window, places, counts, overlay};
+ghost use Rattle.search.specs.Searching.{window, places, counts, overlay, search, wordsAfter, searched};
 ghost use Rattle.search.specs.Rolling.{residue, keyOf, Ready};
 
 // The number of places, and the number of false alarms.
@@ -60,9 +61,11 @@ fn search_under(k: u32, low: u64, text: &[u8], pattern: &[u8], words: &mut [u32]
     requires { ⌜ Modulus k low × (8 ≤ k) × (0 < length (now pattern)) × (length (now pattern) ≤ length (now text)) × (length (now text) ≤ 4294967295) ⌝ }
     ensures { λ r. ⌜ (r ≡ counts (monic k low) (now (text .entry)) (now (pattern .entry))) × (now (words .exit) ≡ overlay (places (now (text .entry)) (now (pattern .entry))) (now (words .entry))) ⌝ }
 {
-    let red = rolling::table_of(k, low, low);
+    let mut red: [u64; 256] = [0; 256];
+    multiples::fill_row(&mut red, 0, 8, k, low, low);
     let begin = rolling::read_first(k, low, &red, text, pattern);
-    let out = rolling::table_of(k, low, begin.shift);
+    let mut out: [u64; 256] = [0; 256];
+    multiples::fill_row(&mut out, 0, 8, k, low, begin.shift);
     let s = Setup {
         k,
         low,
@@ -70,4 +73,35 @@ fn search_under(k: u32, low: u64, text: &[u8], pattern: &[u8], words: &mut [u32]
         wanted: begin.wanted,
     };
     search_blocks(s, &red, &out, text, pattern, begin.first, words)
+}
+
+// All places of the pattern in the text, rising, overlaps included: the first ones into the lent words, as far as they reach.
+// Numbers 1, 2, 7, 11.
+pub fn search(key: u64, text: &[u8], pattern: &[u8], words: &mut [u32]) -> Searched
+    ensures { λ r. ⌜ (searched r ≡ search key (now (text .entry)) (now (pattern .entry))) × (now (words .exit) ≡ wordsAfter key (now (text .entry)) (now (pattern .entry)) (now (words .entry))) ⌝ }
+{
+    match keys::test(key) {
+        Tested::Refused(r) => {
+            return Searched::Refused(r);
+        }
+        Tested::Accepted => {}
+    }
+    if 4294967295 < text.len() {
+        return Searched::Refused(Refusal::TooLong);
+    }
+    if 4294967295 < pattern.len() {
+        return Searched::Refused(Refusal::TooLong);
+    }
+    if pattern.len() == 0 {
+        return Searched::Refused(Refusal::EmptyPattern);
+    }
+    if text.len() < pattern.len() {
+        return Searched::Found(Counts {
+            places: 0,
+            alarms: 0,
+        });
+    }
+    let k = gf2::degree(key);
+    let low = gf2::low_bits(key, k);
+    Searched::Found(search_under(k, low, text, pattern, words))
 }

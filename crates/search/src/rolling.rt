@@ -3,8 +3,9 @@ ghost use mathlib.Core.Path.{_≡_};
 ghost use Prim.Native.Nat.{_+_, _*_, _^_, _≤_, _<_};
 ghost use lib.ListN.{length};
 ghost use Rattle.gf2.specs.Polynomials.{monic, rem, Modulus};
+ghost use Rattle.multiples.specs.Rows.{Multiples};
 ghost use Rattle.search.specs.Searching.{window};
-ghost use Rattle.search.specs.Rolling.{residue, keyOf, Multiples, Ready};
+ghost use Rattle.search.specs.Rolling.{residue, keyOf, Ready};
 
 // What stays the same from window to window: the key's degree and low word, the pattern's length and its residue.
 pub struct Setup {
@@ -27,26 +28,9 @@ fn wide(x: u8) -> u64
     x as u64
 }
 
-// The table of the multiples of c: word 2i is one bit behind word i, and word 2i + 1 is c more.
-pub fn table_of(k: u32, low: u64, c: u64) -> [u64; 256]
-    requires { ⌜ Modulus k low × (c < 2 ^ k) ⌝ }
-    ensures { λ r. ⌜ Multiples (monic k low) c r ⌝ }
-{
-    let mut table: [u64; 256] = [0; 256];
-    table[1] = c;
-    let mut i: usize = 1;
-    while i < 128 {
-        let even = gf2::step(k, low, table[i], 0);
-        table[2 * i] = even;
-        table[2 * i + 1] = even ^ c;
-        i += 1;
-    }
-    table
-}
-
 // A byte behind a residue, by the table of the multiples of t^k.
 pub fn append(k: u32, low: u64, red: &[u64; 256], f: u64, b: u8) -> u64
-    requires { ⌜ Modulus k low × (8 ≤ k) × (f < 2 ^ k) × Multiples (monic k low) (2 ^ k) (now red) ⌝ }
+    requires { ⌜ Modulus k low × (8 ≤ k) × (f < 2 ^ k) × Multiples (monic k low) (2 ^ k) 0 256 (now red) ⌝ }
     ensures { λ r. ⌜ r ≡ rem (monic k low) (f * 256 + b) ⌝ }
 {
     let cut = k - 8;
@@ -67,7 +51,7 @@ pub fn roll(s: Setup, red: &[u64; 256], out: &[u64; 256], text: &[u8], i: usize,
 
 // The residues of the first window and of the pattern, and the table's t^(8m).
 pub fn read_first(k: u32, low: u64, red: &[u64; 256], text: &[u8], pattern: &[u8]) -> Start
-    requires { ⌜ Modulus k low × (8 ≤ k) × Multiples (monic k low) (2 ^ k) (now red) × (length (now pattern) ≤ length (now text)) ⌝ }
+    requires { ⌜ Modulus k low × (8 ≤ k) × Multiples (monic k low) (2 ^ k) 0 256 (now red) × (length (now pattern) ≤ length (now text)) ⌝ }
     ensures { λ r. ⌜ (r .first ≡ residue (monic k low) (window (length (now (pattern .entry))) (now (text .entry)) 0)) × (r .wanted ≡ residue (monic k low) (now (pattern .entry))) × (r .shift ≡ rem (monic k low) (2 ^ (8 * length (now (pattern .entry))))) ⌝ }
 {
     let mut first: u64 = 0;

@@ -1,7 +1,7 @@
 -- `search::rolling::append` meets its contract: `append-is`.
 use mathlib.Core.Path.{_≡_, sym, ap, _∙_}
 use Prim.Native.Nat.{ℕ, _+_, _-_, _*_, _/_, _%_, _^_, _≤_, _<_}
-use native.Mathlib.Nat.{lt-of-lt-of-le}
+use native.Mathlib.Nat.{lt-of-lt-of-le, zero-add}
 use native.Mathlib.Omega.{arith}
 use borrow.Author.Needs.{needs}
 use lib.Pow.{pow-mono}
@@ -61,7 +61,7 @@ returns c =
     let a = c .before .before .before .args in
     let p = c .before .before .before .pre in
     rw (c .before .before .low-bits .ensures, c .before .wide .ensures .0)
-    (ap (λ (x : ℕ). (a .f % 2 ^ (a .k - 8) * 256 + a .b) ⊕ x) (p .3 .words .entry (a .f / 2 ^ (a .k - 8)) (omega arith) (top (c .before)))
+    (ap (λ (x : ℕ). (a .f % 2 ^ (a .k - 8) * 256 + a .b) ⊕ x) (rw zero-add at (p .3 (a .f / 2 ^ (a .k - 8)) (top (c .before))))
     ∙ sym (append-is (a .k) (a .low) (p .0 .2) (a .f) (a .b) (p .1) (omega arith)))
 
 pub append-spec : {M : Type 1} → statement M
