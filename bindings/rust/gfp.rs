@@ -13,6 +13,8 @@ mod raw {
         pub fn gfp_join_behind(key: u64, fingerprint: *mut u64, length: *mut u64, other: u64, size: u64) -> u32;
         pub fn gfp_join_in_front(key: u64, fingerprint: *mut u64, length: *mut u64, other: u64, size: u64) -> u32;
         pub fn gfp_replace_page(key: u64, fingerprint: *mut u64, length: *mut u64, place: u64, old: *const u8, old_length: usize, new: *const u8, new_length: usize) -> u32;
+        pub fn gfp_search(key: u64, text: *const u8, text_length: usize, pattern: *const u8, pattern_length: usize, words: *mut u32, words_length: usize, places: *mut u32, alarms: *mut u32) -> u32;
+        pub fn gfp_draw(degree: u64, element: u64, key: *mut u64) -> u32;
     }
 }
 
@@ -88,4 +90,27 @@ pub fn make_table(key: u64, words: &mut [u64]) -> Result<(), Refusal> {
 
 pub fn test_table(key: u64, words: &[u64]) -> Result<(), Refusal> {
     answer(unsafe { raw::gfp_test_table(key, words.as_ptr(), words.len()) }, ())
+}
+
+/// The number of places and of false alarms.
+#[derive(Clone, Copy, Debug, PartialEq, Eq)]
+pub struct Counts {
+    pub places: u32,
+    pub alarms: u32,
+}
+
+/// The places of the pattern in the text, the first ones into `words`.
+pub fn search(key: u64, text: &[u8], pattern: &[u8], words: &mut [u32]) -> Result<Counts, Refusal> {
+    let mut counts = Counts { places: 0, alarms: 0 };
+    let number = unsafe {
+        raw::gfp_search(key, text.as_ptr(), text.len(), pattern.as_ptr(), pattern.len(), words.as_mut_ptr(), words.len(), &mut counts.places, &mut counts.alarms)
+    };
+    answer(number, counts)
+}
+
+/// The key of a degree that an element draws.
+pub fn draw(degree: u64, element: u64) -> Result<u64, Refusal> {
+    let mut key = 0;
+    let number = unsafe { raw::gfp_draw(degree, element, &mut key) };
+    answer(number, key)
 }
