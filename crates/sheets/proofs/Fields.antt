@@ -1,0 +1,133 @@
+-- Laws of numbers as bytes: what is written in w bytes reads back, and bytes that are read are what the number is written as.
+use mathlib.Core.Path.{_≡_, refl, sym, ap, ap₂, _∙_}
+use mathlib.Core.List.{List, [], _∷_, _++_, append-assoc, append-nil}
+use Prim.Native.Nat.{ℕ, zero, suc, _+_, _-_, _*_, _/_, _%_, _^_, _≤_, _<_}
+use native.Mathlib.Nat.{mul-one, zero-mul, mul-zero, mul-assoc, zero-add, mul-add-div-right, mul-add-mod-self-right, add-zero, mod-one, mod-mod, mod-eq-of-lt, mul-suc, add-comm, mul-comm}
+use native.Mathlib.Omega.{arith}
+use lib.Arith.{digits-div, digits-mod}
+use lib.ListN.{length, take, drop, length-append, length-take, length-drop}
+use lib.Pow.{pow-pos, mod-pow-add, pow-add}
+use lib.Seq.{take-at, drop-at, take-add, drop-drop, drop-append-add, length-take-le}
+use Rattle.gf2.specs.Lists.{All}
+use Rattle.files.specs.Files.{bits, valueFrom, Bytes}
+use Rattle.files.proofs.Values.{value-byte, value-split, value-lt, length-bits}
+use Rattle.sheets.specs.Layout.{bytesOf, fieldsOf, numberAt, numbersAt}
+
+-- ---- lengths
+
+pub length-bytesOf : (w x : ℕ) → length (bytesOf w x) ≡ w
+unfolding bytesOf
+length-bytesOf zero x = refl
+length-bytesOf (suc w) x = ap suc (length-bytesOf w x)
+
+pub length-fieldsOf : (w : ℕ) (xs : List ℕ) → length (fieldsOf w xs) ≡ w * length xs
+unfolding fieldsOf
+length-fieldsOf w [] = sym (mul-zero w)
+length-fieldsOf w (x ∷ xs) =
+    length-append (bytesOf w x) (fieldsOf w xs) ∙ rw (length-bytesOf w x, length-fieldsOf w xs, mul-suc) (add-comm w (w * length xs))
+
+pub length-numbersAt : (place w c : ℕ) (l : List ℕ) → length (numbersAt place w c l) ≡ c
+unfolding numbersAt
+length-numbersAt place w zero l = refl
+length-numbersAt place w (suc c) l = ap suc (length-numbersAt (place + w) w c l)
+
+-- ---- written, then read
+
+low-next : (w x : ℕ) → x % 2 ^ (8 * suc w) ≡ x / 2 ^ (8 * w) % 256 * 2 ^ (8 * w) + x % 2 ^ (8 * w)
+low-next w x = ap (λ (n : ℕ). x % 2 ^ n) (mul-suc 8 w ∙ add-comm (8 * w) 8) ∙ mod-pow-add x 8 (8 * w)
+
+pow-next : (w : ℕ) → 2 ^ (8 * suc w) ≡ 256 * 2 ^ (8 * w)
+pow-next w = ap (λ (n : ℕ). 2 ^ n) (mul-suc 8 w ∙ add-comm (8 * w) 8) ∙ pow-add 2 8 (8 * w)
+
+-- w bytes of a number come in as its low bits
+pub value-bytesOf : (w s x : ℕ) → valueFrom s (bits (bytesOf w x)) ≡ s * 2 ^ (8 * w) + x % 2 ^ (8 * w)
+unfolding bytesOf bits valueFrom
+value-bytesOf zero s x = simp (mul-one, mod-one, add-zero)
+value-bytesOf (suc w) s x =
+    value-byte s (x / 2 ^ (8 * w) % 256) (bytesOf w x)
+    ∙ value-bytesOf w (s * 256 + x / 2 ^ (8 * w) % 256 % 256) x
+    ∙ rw (mod-mod (x / 2 ^ (8 * w)) 256, low-next w x, pow-next w) (omega arith)
+
+pub number-seam : (p q : List ℕ) (place w x : ℕ) → length p ≡ place → x < 2 ^ (8 * w) → numberAt place w (p ++ (bytesOf w x ++ q)) ≡ x
+unfolding numberAt
+number-seam p q place w x e h =
+    ap (λ (l : List ℕ). valueFrom 0 (bits (take w l))) (drop-at p (bytesOf w x ++ q) place e)
+    ∙ ap (λ (l : List ℕ). valueFrom 0 (bits l)) (take-at (bytesOf w x) q w (length-bytesOf w x))
+    ∙ value-bytesOf w 0 x
+    ∙ simp (zero-mul, zero-add) (mod-eq-of-lt h)
+
+pub numbers-seam : (xs p q : List ℕ) (place w : ℕ) → length p ≡ place → All (λ x. x < 2 ^ (8 * w)) xs → numbersAt place w (length xs) (p ++ (fieldsOf w xs ++ q)) ≡ xs
+unfolding numbersAt fieldsOf
+numbers-seam [] p q place w e h = refl
+numbers-seam (x ∷ xs) p q place w e h =
+    ap₂ {C = List ℕ} (λ (y : ℕ) (ys : List ℕ). y ∷ ys)
+    (ap (λ (l : List ℕ). numberAt place w (p ++ l)) (append-assoc (bytesOf w x) (fieldsOf w xs) q)
+    ∙ number-seam p (fieldsOf w xs ++ q) place w x e (h .0))
+    (ap (λ (l : List ℕ). numbersAt (place + w) w (length xs) l) regroup
+    ∙ numbers-seam xs (p ++ bytesOf w x) q (place + w) w (length-append p (bytesOf w x) ∙ rw (e, length-bytesOf w x)) (h .1))
+  where
+    regroup : p ++ (bytesOf w x ++ fieldsOf w xs ++ q) ≡ p ++ bytesOf w x ++ (fieldsOf w xs ++ q)
+    regroup = simp append-assoc
+
+-- ---- read, then written
+
+pub bytes-take : (n : ℕ) (l : List ℕ) → Bytes l → Bytes (take n l)
+bytes-take zero l h = tt
+bytes-take (suc n) [] h = tt
+bytes-take (suc n) (b ∷ l) h = (h .0, bytes-take n l (h .1))
+
+pub bytes-drop : (n : ℕ) (l : List ℕ) → Bytes l → Bytes (drop n l)
+bytes-drop zero l h = h
+bytes-drop (suc n) [] h = tt
+bytes-drop (suc n) (b ∷ l) h = bytes-drop n l (h .1)
+
+-- the number in bytes is below 2^(8 × their number)
+pub value-bound : (l : List ℕ) → valueFrom 0 (bits l) < 2 ^ (8 * length l)
+value-bound l = rw (← (length-bits l)) (value-lt (bits l))
+
+pub number-lt : (place w : ℕ) (l : List ℕ) → place + w ≤ length l → numberAt place w l < 2 ^ (8 * w)
+unfolding numberAt
+number-lt place w l h =
+    let e : length (take w (drop place l)) ≡ w = length-take-le w (drop place l) (rw (length-drop place l) (omega arith)) in
+    rw e at (value-bound (take w (drop place l)))
+
+-- what stands above changes no low byte
+bytes-above : (w s x : ℕ) → bytesOf w (s * 2 ^ (8 * w) + x) ≡ bytesOf w x
+unfolding bytesOf
+bytes-above zero s x = refl
+bytes-above (suc w) s x =
+    ap₂ {C = List ℕ} (λ (b : ℕ) (l : List ℕ). b ∷ l)
+    (ap (λ (y : ℕ). y / 2 ^ (8 * w) % 256) shift ∙ rw (mul-add-div-right (pow-pos (8 * w)) (s * 256) x) (mul-add-mod-self-right s 256 (x / 2 ^ (8 * w))))
+    (ap (bytesOf w) shift ∙ bytes-above w (s * 256) x)
+  where
+    shift : s * 2 ^ (8 * suc w) + x ≡ s * 256 * 2 ^ (8 * w) + x
+    shift = rw (pow-next w, mul-assoc s 256 (2 ^ (8 * w)))
+
+pub bytes-value : (l : List ℕ) → Bytes l → bytesOf (length l) (valueFrom 0 (bits l)) ≡ l
+unfolding bytesOf
+bytes-value [] h = refl
+bytes-value (b ∷ l) h = rw number (ap₂ {C = List ℕ} (λ (b : ℕ) (l : List ℕ). b ∷ l) first (bytes-above (length l) b (valueFrom 0 (bits l)) ∙ bytes-value l (h .1)))
+  where
+    number : valueFrom 0 (bits (b ∷ l)) ≡ b * 2 ^ (8 * length l) + valueFrom 0 (bits l)
+    number =
+        value-byte 0 b l
+        ∙ ap (λ (x : ℕ). valueFrom x (bits l)) (zero-add (b % 256) ∙ mod-eq-of-lt (h .0))
+        ∙ rw (← (length-bits l)) (value-split b (bits l))
+
+    first : (b * 2 ^ (8 * length l) + valueFrom 0 (bits l)) / 2 ^ (8 * length l) % 256 ≡ b
+    first = ap (λ (x : ℕ). x % 256) (digits-div b (value-bound l)) ∙ mod-eq-of-lt (h .0)
+
+-- a field that is read is written as the bytes that stand there
+module _ (sheet : List ℕ) (h : Bytes sheet) where
+  pub bytes-number : (place w : ℕ) → place + w ≤ length sheet → bytesOf w (numberAt place w sheet) ≡ take w (drop place sheet)
+  unfolding numberAt
+  bytes-number place w l =
+      let e : length (take w (drop place sheet)) ≡ w = length-take-le w (drop place sheet) (rw (length-drop place sheet) (omega arith)) in
+      rw e at (bytes-value (take w (drop place sheet)) (bytes-take w (drop place sheet) (bytes-drop place sheet h)))
+
+  pub fields-numbers : (c place w : ℕ) → place + w * c ≤ length sheet → fieldsOf w (numbersAt place w c sheet) ≡ take (w * c) (drop place sheet)
+  unfolding fieldsOf numbersAt
+  fields-numbers zero place w l = rw (mul-zero w)
+  fields-numbers (suc c) place w l =
+      rw (bytes-number place w (omega (arith, mul-suc w c)), fields-numbers c (place + w) w (omega (arith, mul-suc w c)), mul-suc w c, add-comm (w * c) w)
+      (sym (take-add w (w * c) (drop place sheet) ∙ ap (λ (l : List ℕ). take w (drop place sheet) ++ take (w * c) l) (drop-drop w place sheet)))

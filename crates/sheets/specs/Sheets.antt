@@ -1,0 +1,130 @@
+-- Writing, reading and checking a page sheet (document 01, "Page sheets"): each call is its tests, in document 01's order, and its value.
+use mathlib.Core.Path.{_≡_}
+use mathlib.Core.Bool.{Bool, true, false, _||_, not}
+use mathlib.Core.List.{List, [], _∷_, _++_}
+use Prim.Native.Nat.{ℕ, zero, suc, _+_, _-_, _*_, _^_, _≤_, _<_}
+use lib.Dec.{ltb, leb, eqb}
+use lib.ListN.{length, take, drop, replicate}
+use Rattle.gf2.specs.Lists.{All}
+use Rattle.gf2.specs.Polynomials.{degree, rem}
+use Rattle.refusals.specs.declared.Refusal.the-variants.{TooLong, PageSize, BufferShort, SheetMalformed}
+use Rattle.refusals.specs.Refusals.{Answer, Done, Refused, Test, _⇒_, firstOf, passes, longest}
+use Rattle.acceptance.specs.Keys.{accepted, keyTests}
+use Rattle.files.specs.declared.Mark.{Mark}
+use Rattle.files.specs.Files.{fingerprint, markOf}
+use Rattle.compose.specs.Composing.{joined}
+use Rattle.sheets.specs.Layout.{Layout, version1, versionPlace, pagePlace, sheetSize, pageCount, numberAt, Contents, sheetBytes, contentsIn}
+
+-- ---- the pages of a file
+
+-- a last page shorter than s is filled up with zero bytes
+unfoldable pub filled : ℕ → List ℕ → List ℕ
+filled s page = page ++ replicate (s - length page) 0
+
+-- the fingerprints of the first c pages, of s bytes each
+unfoldable pub pageFingerprints : ℕ → ℕ → ℕ → List ℕ → List ℕ
+pageFingerprints key s zero file = []
+pageFingerprints key s (suc c) file = fingerprint key (filled s (take s file)) ∷ pageFingerprints key s c (drop s file)
+
+unfoldable pub contentsOf : ℕ → ℕ → List ℕ → Contents
+contentsOf key s file =
+    record {
+      key = key;
+      length = length file;
+      pageSize = s;
+      pages = pageFingerprints key s (pageCount s (length file)) file;
+      fingerprint = fingerprint key file;
+    }
+
+-- ---- writing: numbers 1, 2, 7, 12, 13
+
+-- number 12
+abbrev pub sizeTest : ℕ → Test
+sizeTest s = (ltb s 16 || ltb 4096 s) ⇒ PageSize
+
+-- what the lent buffer holds after the call: its further bytes keep their value
+unfoldable pub writeSheet : ℕ → ℕ → List ℕ → List ℕ → Answer (List ℕ) (List ℕ)
+writeSheet key s file buffer =
+    let size = sheetSize version1 (pageCount s (length file)) in
+    firstOf (keyTests key ++ passes (length file ∷ []) ⇒ TooLong ∷ sizeTest s ∷ ltb (length buffer) size ⇒ BufferShort ∷ []) buffer
+    (sheetBytes version1 (contentsOf key s file) ++ drop size buffer)
+
+-- ---- reading: number 14 for size, letters and version; 1, 2, 12; then the rest of 14
+
+-- the marks of pages of s bytes joined behind a mark, without the limit of number 7
+unfoldable pub joinedPages : ℕ → ℕ → Mark → List ℕ → Mark
+joinedPages key s m [] = m
+joinedPages key s m (f ∷ fs) = joinedPages key s (joined key m (record { fingerprint = f; length = s })) fs
+
+-- a fingerprint is not below 2^k
+unfoldable pub someUnreduced : ℕ → List ℕ → Bool
+someUnreduced key [] = false
+someUnreduced key (f ∷ fs) = leb (2 ^ degree key) f || someUnreduced key fs
+
+-- the pages joined; and the file's fingerprint times t^(8 × (c × s − n)), which is that of the file filled up
+abbrev pub pagesJoined : Contents → ℕ
+pagesJoined x = joinedPages (x .key) (x .pageSize) (markOf (x .key) []) (x .pages) .fingerprint
+
+abbrev pub fileFilled : Contents → ℕ
+fileFilled x = rem (x .key) (x .fingerprint * 2 ^ (8 * (length (x .pages) * x .pageSize - x .length)))
+
+abbrev pub headTests : Layout → List ℕ → List Test
+headTests v sheet =
+    ltb (length sheet) (sheetSize v 0) ⇒ SheetMalformed
+    ∷ not (eqb (numberAt 0 (v .lettersWidth) sheet) (v .letters)) ⇒ SheetMalformed
+    ∷ not (eqb (numberAt (versionPlace v) (v .versionWidth) sheet) (v .version)) ⇒ SheetMalformed
+    ∷ []
+
+abbrev pub bodyTests : Layout → ℕ → Contents → List Test
+bodyTests v size x =
+    not (eqb size (sheetSize v (length (x .pages)))) ⇒ SheetMalformed
+    ∷ someUnreduced (x .key) (x .pages ++ x .fingerprint ∷ []) ⇒ SheetMalformed
+    ∷ not (eqb (pagesJoined x) (fileFilled x)) ⇒ SheetMalformed
+    ∷ []
+
+abbrev pub readTests : Layout → List ℕ → List Test
+readTests v sheet =
+    let x = contentsIn v sheet in headTests v sheet ++ keyTests (x .key) ++ sizeTest (x .pageSize) ∷ bodyTests v (length sheet) x
+
+unfoldable pub readSheet : List ℕ → Answer Unit Contents
+readSheet sheet = firstOf (readTests version1 sheet) tt (contentsIn version1 sheet)
+
+-- the same as a description: the bytes are a sheet's, with fields of which number 14 says nothing
+pub record Sound (x : Contents) : Type 0 where
+  pub key : accepted (x .key) ≡ true
+  pub length : x .length ≤ longest
+  pub pageSize : (16 ≤ x .pageSize) × (x .pageSize ≤ 4096)
+  pub count : lib.ListN.length (x .pages) ≡ pageCount (x .pageSize) (x .length)
+  pub pages : All (λ f. f < 2 ^ degree (x .key)) (x .pages)
+  pub fingerprint : x .fingerprint < 2 ^ degree (x .key)
+  pub joined : pagesJoined x ≡ fileFilled x
+
+pub record WellFormed (sheet : List ℕ) : Type 0 where
+  pub contents : Contents
+  pub sound : Sound contents
+  pub bytes : sheet ≡ sheetBytes version1 contents
+
+-- ---- checking a file: all of reading, then 7
+
+pub data Outcome : Type 0 where
+  Same : Outcome
+  Page : ℕ → Outcome
+  OtherLength : Outcome
+
+abbrev pub choose : Bool → Outcome → Outcome → Outcome
+choose true a b = a
+choose false a b = b
+
+-- the first place where two lists of fingerprints differ, counted from i
+unfoldable pub firstChange : ℕ → List ℕ → List ℕ → Outcome
+firstChange i [] gs = Same
+firstChange i (f ∷ fs) [] = Same
+firstChange i (f ∷ fs) (g ∷ gs) = choose (eqb f g) (firstChange (suc i) fs gs) (Page i)
+
+unfoldable pub compared : Contents → List ℕ → Outcome
+compared x file =
+    choose (eqb (length file) (x .length)) (firstChange 0 (x .pages) (contentsOf (x .key) (x .pageSize) file .pages)) OtherLength
+
+unfoldable pub checkSheet : List ℕ → List ℕ → Answer Unit Outcome
+checkSheet sheet file =
+    firstOf (readTests version1 sheet ++ passes (length file ∷ []) ⇒ TooLong ∷ []) tt (compared (contentsIn version1 sheet) file)

@@ -1,0 +1,1 @@
+// Page sheets: writing, reading, checking a file.
