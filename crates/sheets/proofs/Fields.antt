@@ -36,7 +36,7 @@ length-numbersAt place w (suc c) l = ap suc (length-numbersAt (place + w) w c l)
 low-next : (w x : ℕ) → x % 2 ^ (8 * suc w) ≡ x / 2 ^ (8 * w) % 256 * 2 ^ (8 * w) + x % 2 ^ (8 * w)
 low-next w x = ap (λ (n : ℕ). x % 2 ^ n) (mul-suc 8 w ∙ add-comm (8 * w) 8) ∙ mod-pow-add x 8 (8 * w)
 
-pow-next : (w : ℕ) → 2 ^ (8 * suc w) ≡ 256 * 2 ^ (8 * w)
+pub pow-next : (w : ℕ) → 2 ^ (8 * suc w) ≡ 256 * 2 ^ (8 * w)
 pow-next w = ap (λ (n : ℕ). 2 ^ n) (mul-suc 8 w ∙ add-comm (8 * w) 8) ∙ pow-add 2 8 (8 * w)
 
 -- w bytes of a number come in as its low bits

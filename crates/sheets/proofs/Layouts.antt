@@ -144,7 +144,7 @@ module _ (v : Layout) (x : Contents) where
         rw split5
         (numbers-seam (x .pages) front5 back6 (pagePlace v 0) (v .fingerprintWidth) (long5 ∙ rw (mul-zero (v .fingerprintWidth), add-zero)) (fits .pages))
 
-    fingerprint-back : numberAt (pagePlace v (length (x .pages))) (v .fingerprintWidth) (sheetBytes v x) ≡ x .fingerprint
+    pub fingerprint-back : numberAt (pagePlace v (length (x .pages))) (v .fingerprintWidth) (sheetBytes v x) ≡ x .fingerprint
     unfolding sheetBytes front1 front2 front3 front4 front5 front6
     fingerprint-back =
         ap (λ (l : List ℕ). numberAt (pagePlace v (length (x .pages))) (v .fingerprintWidth) (front6 ++ l)) (sym (append-nil (bytesOf (v .fingerprintWidth) (x .fingerprint))))

@@ -1,2 +1,6 @@
 pub mod Fields
 pub mod Layouts
+pub mod Pages
+pub mod Sound
+pub mod Changes
+pub mod Guarantee

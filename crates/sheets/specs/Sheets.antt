@@ -42,12 +42,19 @@ contentsOf key s file =
 abbrev pub sizeTest : ℕ → Test
 sizeTest s = (ltb s 16 || ltb 4096 s) ⇒ PageSize
 
+abbrev pub writeTests : ℕ → ℕ → List ℕ → List ℕ → List Test
+writeTests key s file buffer =
+    keyTests key
+    ++ passes (length file ∷ []) ⇒ TooLong
+    ∷ sizeTest s
+    ∷ ltb (length buffer) (sheetSize version1 (pageCount s (length file))) ⇒ BufferShort
+    ∷ []
+
 -- what the lent buffer holds after the call: its further bytes keep their value
 unfoldable pub writeSheet : ℕ → ℕ → List ℕ → List ℕ → Answer (List ℕ) (List ℕ)
 writeSheet key s file buffer =
-    let size = sheetSize version1 (pageCount s (length file)) in
-    firstOf (keyTests key ++ passes (length file ∷ []) ⇒ TooLong ∷ sizeTest s ∷ ltb (length buffer) size ⇒ BufferShort ∷ []) buffer
-    (sheetBytes version1 (contentsOf key s file) ++ drop size buffer)
+    firstOf (writeTests key s file buffer) buffer
+    (sheetBytes version1 (contentsOf key s file) ++ drop (sheetSize version1 (pageCount s (length file))) buffer)
 
 -- ---- reading: number 14 for size, letters and version; 1, 2, 12; then the rest of 14
 
@@ -121,9 +128,12 @@ firstChange i [] gs = Same
 firstChange i (f ∷ fs) [] = Same
 firstChange i (f ∷ fs) (g ∷ gs) = choose (eqb f g) (firstChange (suc i) fs gs) (Page i)
 
+-- the fingerprints of a file's pages, by the sheet's key and page size
+abbrev pub pagesNow : Contents → List ℕ → List ℕ
+pagesNow x file = contentsOf (x .key) (x .pageSize) file .pages
+
 unfoldable pub compared : Contents → List ℕ → Outcome
-compared x file =
-    choose (eqb (length file) (x .length)) (firstChange 0 (x .pages) (contentsOf (x .key) (x .pageSize) file .pages)) OtherLength
+compared x file = choose (eqb (length file) (x .length)) (firstChange 0 (x .pages) (pagesNow x file)) OtherLength
 
 unfoldable pub checkSheet : List ℕ → List ℕ → Answer Unit Outcome
 checkSheet sheet file =
