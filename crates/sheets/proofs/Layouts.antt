@@ -9,7 +9,7 @@ use lib.Seq.{take-add, take-all}
 use Rattle.gf2.specs.Lists.{All}
 use Rattle.files.specs.Files.{Bytes}
 use Rattle.sheets.specs.Layout.{bytesOf, fieldsOf, numberAt, numbersAt, Layout, versionPlace, keyPlace, lengthPlace, sizePlace, pagePlace, sheetSize, pageCount, Contents, sheetBytes, lengthIn, sizeIn, pagesIn, contentsIn}
-use Rattle.sheets.proofs.Fields.{length-bytesOf, length-fieldsOf, number-seam, numbers-seam, bytes-number, fields-numbers}
+use Rattle.sheets.proofs.Numbers.{length-bytesOf, length-fieldsOf, number-seam, numbers-seam, bytes-number, fields-numbers}
 
 pub contents-eq : {k k' n n' s s' f f' : ℕ} {g g' : List ℕ} → k ≡ k' → n ≡ n' → s ≡ s' → g ≡ g' → f ≡ f'
     → _≡_ {A = Contents} (record { key = k; length = n; pageSize = s; pages = g; fingerprint = f })

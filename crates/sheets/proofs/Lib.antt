@@ -1,4 +1,4 @@
-pub mod Fields
+pub mod Numbers
 pub mod Layouts
 pub mod Pages
 pub mod Sound

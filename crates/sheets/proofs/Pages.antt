@@ -17,7 +17,7 @@ use Rattle.files.proofs.Values.{value-byte}
 use Rattle.files.proofs.Marks.{mark-eq, fed, join}
 use Rattle.compose.specs.Composing.{joined}
 use Rattle.sheets.specs.Layout.{pageCount}
-use Rattle.sheets.proofs.Fields.{pow-next}
+use Rattle.sheets.proofs.Numbers.{pow-next}
 use Rattle.sheets.specs.Sheets.{filled, pageFingerprints, joinedPages}
 
 -- ---- the number of pages

@@ -19,7 +19,7 @@ use Rattle.acceptance.proofs.Laws.{or-neither, accepted-iff, accepted-pos, key-
 use Rattle.files.specs.Files.{Bytes, fingerprint, markOf}
 use Rattle.sheets.specs.Layout.{Layout, version1, numberAt, sheetSize, versionPlace, pageCount, lengthIn, sizeIn, pagesIn, Contents, sheetBytes, contentsIn}
 use Rattle.sheets.specs.Sheets.{contentsOf, pageFingerprints, someUnreduced, joinedPages, pagesJoined, fileFilled, sizeTest, headTests, bodyTests, readTests, readSheet, Sound, WellFormed}
-use Rattle.sheets.proofs.Fields.{number-lt, length-numbersAt}
+use Rattle.sheets.proofs.Numbers.{number-lt, length-numbersAt}
 use Rattle.sheets.proofs.Layouts.{Fits, length-sheet, letters-back, version-back, read-back, write-back}
 use Rattle.sheets.proofs.Pages.{fingerprint-lt, fingerprints-lt, length-pages, pages-joined}
 

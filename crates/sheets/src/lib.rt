@@ -1,1 +1,2 @@
-// Page sheets: writing, reading, checking a file.
+// Page sheets: writing the sheet of a file, reading one, and checking a file against one.
+pub mod fields;

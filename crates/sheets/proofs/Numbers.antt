@@ -3,11 +3,12 @@ use mathlib.Core.Path.{_≡_, refl, sym, ap, ap₂, _∙_}
 use mathlib.Core.List.{List, [], _∷_, _++_, append-assoc, append-nil}
 use Prim.Native.Nat.{ℕ, zero, suc, _+_, _-_, _*_, _/_, _%_, _^_, _≤_, _<_}
 use native.Mathlib.Nat.{mul-one, zero-mul, mul-zero, mul-assoc, zero-add, mul-add-div-right, mul-add-mod-self-right, add-zero, mod-one, mod-mod, mod-eq-of-lt, mul-suc, add-comm, mul-comm}
+use native.Mathlib.Numerals.{add-one}
 use native.Mathlib.Omega.{arith}
-use lib.Arith.{digits-div, digits-mod}
-use lib.ListN.{length, take, drop, length-append, length-take, length-drop}
+use lib.Arith.{digits-lt, digits-div}
+use lib.ListN.{length, getD, set, take, drop, length-append, length-take, length-drop}
 use lib.Pow.{pow-pos, mod-pow-add, pow-add}
-use lib.Seq.{take-at, drop-at, take-add, drop-drop, drop-append-add, length-take-le}
+use lib.Seq.{sets, drop-cons, take-at, drop-at, take-add, drop-drop, drop-append-add, length-take-le}
 use Rattle.gf2.specs.Lists.{All}
 use Rattle.files.specs.Files.{bits, valueFrom, Bytes}
 use Rattle.files.proofs.Values.{value-byte, value-split, value-lt, length-bits}
@@ -131,3 +132,31 @@ module _ (sheet : List ℕ) (h : Bytes sheet) where
   fields-numbers (suc c) place w l =
       rw (bytes-number place w (omega (arith, mul-suc w c)), fields-numbers c (place + w) w (omega (arith, mul-suc w c)), mul-suc w c, add-comm (w * c) w)
       (sym (take-add w (w * c) (drop place sheet) ∙ ap (λ (l : List ℕ). take w (drop place sheet) ++ take (w * c) l) (drop-drop w place sheet)))
+
+-- ---- as the code goes: one byte a turn
+
+pub store-next : (l : List ℕ) (i x w : ℕ) → 0 < w → sets l i (bytesOf w x) ≡ sets (set l i (x / 2 ^ (8 * (w - 1)) % 256)) (i + 1) (bytesOf (w - 1) x)
+unfolding bytesOf
+store-next l i x zero h = absurd (omega arith)
+store-next l i x (suc w) h = let e : suc w - 1 ≡ w = omega arith in rw (e, add-one i)
+
+pub store-done : (l : List ℕ) (i x w : ℕ) → w ≡ 0 → sets l i (bytesOf w x) ≡ l
+unfolding bytesOf
+store-done l i x w e = rw e
+
+-- m bytes are left, the next at place i
+pub load-next : (l : List ℕ) (i x m : ℕ) → 0 < m → i < length l → getD l i 0 < 256
+    → valueFrom x (bits (take m (drop i l))) ≡ valueFrom (x * 256 + getD l i 0) (bits (take (m - 1) (drop (i + 1) l)))
+load-next l i x zero p h b = absurd (omega arith)
+load-next l i x (suc m) p h b =
+    let e : suc m - 1 ≡ m = omega arith in
+    rw (drop-cons l i 0 h, e, add-one i)
+    (value-byte x (getD l i 0) (take m (drop (suc i) l)) ∙ ap (λ (y : ℕ). valueFrom (x * 256 + y) (bits (take m (drop (suc i) l)))) (mod-eq-of-lt b))
+
+pub load-done : (l : List ℕ) (i x m : ℕ) → m ≡ 0 → valueFrom x (bits (take m (drop i l))) ≡ x
+unfolding valueFrom bits
+load-done l i x m e = rw e
+
+-- one byte more is below 256 times the bound
+pub load-lt : (n x b : ℕ) → x < 2 ^ (8 * n) → b < 256 → x * 256 + b < 2 ^ (8 * (n + 1))
+load-lt n x b h l = rw (add-one n, pow-next n) (rw (mul-comm 256 (2 ^ (8 * n))) (digits-lt {m = 2 ^ (8 * n)} h l))
