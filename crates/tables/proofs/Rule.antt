@@ -21,18 +21,14 @@ use Rattle.gf2.proofs.Powers.{rem-⊗-right}
 use Rattle.gf2.proofs.Monics.{monic-⊕, monic-degree, monic-pos}
 use Rattle.acceptance.proofs.Laws.{or-neither}
 use Rattle.tables.specs.Tables.{word, differs, tableFrom}
-use Rattle.tables.specs.Rows.{Multiples}
-use Rattle.tables.proofs.Multiples.{multiple-next}
+use Rattle.multiples.specs.Rows.{Multiples}
+use Rattle.multiples.proofs.Doubling.{multiple-next}
 
 -- ---- the rows
 
 -- the residue of t^e
 abbrev pub power : ℕ → ℕ → ℕ
 power key e = rem key (2 ^ e)
-
--- a residue modulo the modulus as the code holds it
-pub rem-below : (k low : ℕ) → low < 2 ^ k → (a : ℕ) → rem (monic k low) a < 2 ^ k
-rem-below k low h a = rw (monic-degree k low h) at (rem-lt (monic-pos k low h) a)
 
 -- row 0 has the multiples of t^k, whose residue is the coefficients below t^k
 pub power-low : (k low : ℕ) → low < 2 ^ k → power (monic k low) k ≡ low

@@ -4,16 +4,17 @@ use native.Mathlib.Omega.{arith}
 use borrow.Author.Needs.{needs}
 use Rattle.gf2.specs.Polynomials.{_⊗_, monic, rem}
 use Rattle.gf2.proofs.Monics.{monic-pos, monic-degree}
+use Rattle.multiples.proofs.Doubling.{rem-below}
 use Rattle.tables.specs.Tables.{word}
-use Rattle.tables.specs.Rows.{Multiples, SameBefore}
-use Rattle.tables.proofs.Rule.{power, power-low, power-next, rem-below, Follows, row-follows, table-is}
+use Rattle.multiples.specs.Rows.{Multiples, SameBefore}
+use Rattle.tables.proofs.Rule.{power, power-low, power-next, Follows, row-follows, table-is}
 use lib.ListN.{length, getD, take, drop, set}
 use Rattle.tables.proofs.rows.fill.Statement.{statement}
 use Rattle.tables.proofs.rows.fill.Tie as tie
 use Rattle.tables.proofs.rows.fill.Reads as reads
 use Rattle.tables.proofs.rows.fill.Lts as lts
 use Rattle.gf2.proofs.step.Reads as step-reads
-use Rattle.tables.proofs.rows.fill_row.Reads as fill-row-reads
+use Rattle.multiples.proofs.fill_row.Reads as fill-row-reads
 
 abbrev Inv-loop : tie.InvT-loop
 Inv-loop words₀ k low x₀ j₀ words x j =

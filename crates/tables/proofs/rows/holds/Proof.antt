@@ -6,16 +6,17 @@ use mathlib.Core.Bool.{Bool, true, false, not, true≢false}
 use borrow.Author.Tests.{not-true, not-false}
 use Rattle.gf2.specs.Polynomials.{_⊗_, monic, rem}
 use Rattle.gf2.proofs.Monics.{monic-pos, monic-degree}
+use Rattle.multiples.proofs.Doubling.{rem-below}
 use Rattle.tables.specs.Tables.{word, differs}
-use Rattle.tables.specs.Rows.{Multiples}
-use Rattle.tables.proofs.Rule.{power, power-low, power-next, rem-below, Follows, row-follows, follows-row, some-differs, none-differs}
+use Rattle.multiples.specs.Rows.{Multiples}
+use Rattle.tables.proofs.Rule.{power, power-low, power-next, Follows, row-follows, follows-row, some-differs, none-differs}
 use lib.ListN.{length, getD, take, drop, set}
 use Rattle.tables.proofs.rows.holds.Statement.{statement}
 use Rattle.tables.proofs.rows.holds.Tie as tie
 use Rattle.tables.proofs.rows.holds.Reads as reads
 use Rattle.tables.proofs.rows.holds.Lts as lts
 use Rattle.gf2.proofs.step.Reads as step-reads
-use Rattle.tables.proofs.rows.row_holds.Reads as row-holds-reads
+use Rattle.multiples.proofs.row_holds.Reads as row-holds-reads
 
 abbrev Inv-loop : tie.InvT-loop
 Inv-loop words k low x₀ j₀ x j = (j ≤ 4) × (x ≡ power (monic k low) (k + 8 * j)) × Follows (word 8 (monic k low)) (j * 256) words

@@ -9,15 +9,15 @@ use lib.ListN.{length, getD}
 use lib.Pow.{pow-pos}
 use Rattle.gf2.specs.Polynomials.{_⊗_, monic, rem}
 use Rattle.gf2.proofs.Monics.{monic-pos, monic-degree}
-use Rattle.tables.specs.Rows.{Multiples, Shifted}
-use Rattle.tables.proofs.Multiples.{or-iff, iff-trans, row-iff-one, row-iff, double-le, multiple-one, multiple-next}
-use Rattle.tables.proofs.Rule.{rem-below}
-use Rattle.tables.proofs.rows.row_holds.Statement.{statement}
-use Rattle.tables.proofs.rows.row_holds.Tie as tie
-use Rattle.tables.proofs.rows.row_holds.Reads as reads
-use Rattle.tables.proofs.rows.row_holds.Lts as lts
+use Rattle.multiples.specs.Rows.{Multiples, Shifted}
+use Rattle.multiples.proofs.Doubling.{or-iff, iff-trans, row-iff-one, row-iff, double-le, multiple-one, multiple-next}
+use Rattle.multiples.proofs.Doubling.{rem-below}
+use Rattle.multiples.proofs.row_holds.Statement.{statement}
+use Rattle.multiples.proofs.row_holds.Tie as tie
+use Rattle.multiples.proofs.row_holds.Reads as reads
+use Rattle.multiples.proofs.row_holds.Lts as lts
 use Rattle.gf2.proofs.step.Reads as step-reads
-use Rattle.tables.proofs.rows.differences.Reads as differences-reads
+use Rattle.multiples.proofs.differences.Reads as differences-reads
 
 abbrev Inv-loop : tie.InvT-loop
 Inv-loop words at width k low x sum₀ n₀ y₀ b₀ sum n y b =

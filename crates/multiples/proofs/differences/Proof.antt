@@ -4,13 +4,13 @@ use native.Mathlib.Omega.{arith}
 use borrow.Author.Needs.{needs}
 use mathlib.Core.Logic.{_↔_}
 use Rattle.gf2.specs.Polynomials.{_⊕_}
-use Rattle.tables.specs.Rows.{Shifted}
-use Rattle.tables.proofs.Multiples.{or-iff, iff-trans, difference-iff, shifted-iff}
+use Rattle.multiples.specs.Rows.{Shifted}
+use Rattle.multiples.proofs.Doubling.{or-iff, iff-trans, difference-iff, shifted-iff}
 use lib.ListN.{length, getD}
-use Rattle.tables.proofs.rows.differences.Statement.{statement}
-use Rattle.tables.proofs.rows.differences.Tie as tie
-use Rattle.tables.proofs.rows.differences.Reads as reads
-use Rattle.tables.proofs.rows.differences.Lts as lts
+use Rattle.multiples.proofs.differences.Statement.{statement}
+use Rattle.multiples.proofs.differences.Tie as tie
+use Rattle.multiples.proofs.differences.Reads as reads
+use Rattle.multiples.proofs.differences.Lts as lts
 
 abbrev Inv-loop : tie.InvT-loop
 Inv-loop words at n y next sum₀ i₀ sum i = (i ≤ n) × ((sum ≡ 0) ↔ Shifted at next i y words words)

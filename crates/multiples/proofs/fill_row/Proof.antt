@@ -3,20 +3,20 @@ use Prim.Native.Nat.{ℕ, zero, suc, _+_, _-_, _*_, _/_, _%_, _^_, _≤_, _<_}
 use native.Mathlib.Omega.{arith}
 use borrow.Author.Needs.{needs}
 use Rattle.gf2.specs.Polynomials.{_⊕_, _⊗_, monic, rem, Modulus}
-use Rattle.tables.specs.Rows.{Multiples, Shifted, SameBefore}
-use Rattle.tables.proofs.Multiples.{row-more, row-one, row-before, row-kept, shifted-kept, double-le, multiple-one, multiple-next}
+use Rattle.multiples.specs.Rows.{Multiples, Shifted, SameBefore}
+use Rattle.multiples.proofs.Doubling.{row-more, row-one, row-before, row-kept, shifted-kept, double-le, multiple-one, multiple-next}
 use lib.ListN.{length, length-set}
 use lib.Pow.{pow-pos}
 use native.Mathlib.Nat.{pow-suc}
 use native.Mathlib.Numerals.{add-one}
 use Rattle.gf2.proofs.Monics.{monic-pos, monic-degree}
-use Rattle.tables.proofs.Rule.{rem-below}
-use Rattle.tables.proofs.rows.fill_row.Statement.{statement}
-use Rattle.tables.proofs.rows.fill_row.Tie as tie
-use Rattle.tables.proofs.rows.fill_row.Reads as reads
-use Rattle.tables.proofs.rows.fill_row.Lts as lts
+use Rattle.multiples.proofs.Doubling.{rem-below}
+use Rattle.multiples.proofs.fill_row.Statement.{statement}
+use Rattle.multiples.proofs.fill_row.Tie as tie
+use Rattle.multiples.proofs.fill_row.Reads as reads
+use Rattle.multiples.proofs.fill_row.Lts as lts
 use Rattle.gf2.proofs.step.Reads as step-reads
-use Rattle.tables.proofs.rows.double.Reads as double-reads
+use Rattle.multiples.proofs.double.Reads as double-reads
 
 abbrev Inv-loop : tie.InvT-loop
 Inv-loop words₀ at width k low x n₀ y₀ b₀ words n y b =

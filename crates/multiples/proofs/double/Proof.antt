@@ -3,13 +3,13 @@ use Prim.Native.Nat.{ℕ, zero, suc, _+_, _-_, _*_, _/_, _%_, _^_, _≤_, _<_}
 use native.Mathlib.Omega.{arith}
 use borrow.Author.Needs.{needs}
 use Rattle.gf2.specs.Polynomials.{_⊕_}
-use Rattle.tables.specs.Rows.{Shifted, SameBefore}
-use Rattle.tables.proofs.Multiples.{same-more, shifted-more}
+use Rattle.multiples.specs.Rows.{Shifted, SameBefore}
+use Rattle.multiples.proofs.Doubling.{same-more, shifted-more}
 use lib.ListN.{length, length-set}
-use Rattle.tables.proofs.rows.double.Statement.{statement}
-use Rattle.tables.proofs.rows.double.Tie as tie
-use Rattle.tables.proofs.rows.double.Reads as reads
-use Rattle.tables.proofs.rows.double.Lts as lts
+use Rattle.multiples.proofs.double.Statement.{statement}
+use Rattle.multiples.proofs.double.Tie as tie
+use Rattle.multiples.proofs.double.Reads as reads
+use Rattle.multiples.proofs.double.Lts as lts
 
 abbrev Inv-loop : tie.InvT-loop
 Inv-loop words₀ at n y next i₀ words i =

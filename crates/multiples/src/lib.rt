@@ -1,0 +1,72 @@
+// Rows of multiples: the residues of i·x modulo a polynomial, for i from 0 to 2^width - 1, in consecutive words. A row is filled, and tested,
+// by doubling. These functions are for the project's own crates: what they require, every caller proves.
+ghost use mathlib.Core.Path.{_≡_};
+ghost use mathlib.Core.Bool.{true};
+ghost use mathlib.Core.Logic.{_↔_};
+ghost use Prim.Native.Nat.{_+_, _^_, _≤_, _<_};
+ghost use lib.ListN.{length};
+ghost use Rattle.gf2.specs.Polynomials.{monic, Modulus};
+ghost use Rattle.multiples.specs.Rows.{Multiples, Shifted, SameBefore};
+
+// The n words from place `at` on, each with y added, go behind them.
+fn double(words: &mut [u64], at: usize, n: usize, y: u64)
+    requires { ⌜ at + n + n ≤ length (now words) ⌝ }
+    ensures { λ r. ⌜ Shifted at (at + n) n y (now (words .entry)) (now (words .exit)) × SameBefore (at + n) (now (words .entry)) (now (words .exit)) ⌝ }
+{
+    let next = at + n;
+    let mut i: usize = 0;
+    while i < n {
+        words[next + i] = words[at + i] ^ y;
+        i += 1;
+    }
+}
+
+// A row: word at + i becomes the residue of i times x, for each i below 2^width.
+pub fn fill_row(words: &mut [u64], at: usize, width: u32, k: u32, low: u64, x: u64)
+    requires { ⌜ Modulus k low × (x < 2 ^ k) × (at + 2 ^ width ≤ length (now words)) ⌝ }
+    ensures { λ r. ⌜ Multiples (monic k low) x at (2 ^ width) (now (words .exit)) × SameBefore at (now (words .entry)) (now (words .exit)) ⌝ }
+{
+    words[at] = 0;
+    let mut n: usize = 1;
+    let mut y = x;
+    let mut b: u32 = 0;
+    while b < width {
+        double(words, at, n, y);
+        y = gf2::step(k, low, y, 0);
+        n = n * 2;
+        b += 1;
+    }
+}
+
+// Zero where the n words behind the n words from place `at` on are those with y added.
+fn differences(words: &[u64], at: usize, n: usize, y: u64) -> u64
+    requires { ⌜ at + n + n ≤ length (now words) ⌝ }
+    ensures { λ r. ⌜ (r ≡ 0) ↔ Shifted at (at + n) n y (now (words .entry)) (now (words .entry)) ⌝ }
+{
+    let next = at + n;
+    let mut sum: u64 = 0;
+    let mut i: usize = 0;
+    while i < n {
+        sum = sum | (words[next + i] ^ words[at + i] ^ y);
+        i += 1;
+    }
+    sum
+}
+
+// Whether word at + i is the residue of i times x, for each i below 2^width.
+pub fn row_holds(words: &[u64], at: usize, width: u32, k: u32, low: u64, x: u64) -> bool
+    requires { ⌜ Modulus k low × (x < 2 ^ k) × (at + 2 ^ width ≤ length (now words)) ⌝ }
+    ensures { λ r. ⌜ (r ≡ true) ↔ Multiples (monic k low) x at (2 ^ width) (now (words .entry)) ⌝ }
+{
+    let mut sum = words[at];
+    let mut n: usize = 1;
+    let mut y = x;
+    let mut b: u32 = 0;
+    while b < width {
+        sum = sum | differences(words, at, n, y);
+        y = gf2::step(k, low, y, 0);
+        n = n * 2;
+        b += 1;
+    }
+    sum == 0
+}
