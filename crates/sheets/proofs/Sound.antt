@@ -18,7 +18,7 @@ use Rattle.acceptance.specs.Keys.{accepted, reducible, keyTests}
 use Rattle.acceptance.proofs.Laws.{or-neither, accepted-iff, accepted-pos, key-iff}
 use Rattle.files.specs.Files.{Bytes, fingerprint, markOf}
 use Rattle.sheets.specs.Layout.{Layout, version1, numberAt, sheetSize, versionPlace, pageCount, lengthIn, sizeIn, pagesIn, Contents, sheetBytes, contentsIn}
-use Rattle.sheets.specs.Sheets.{contentsOf, pageFingerprints, someUnreduced, joinedPages, pagesJoined, fileFilled, sizeTest, headTests, bodyTests, readTests, readSheet, Sound, WellFormed}
+use Rattle.sheets.specs.Sheets.{contentsOf, pageFingerprints, someUnreduced, joinedPages, pagesJoined, fileFilled, readTests, readSheet, Sound, WellFormed}
 use Rattle.sheets.proofs.Numbers.{number-lt, length-numbersAt}
 use Rattle.sheets.proofs.Layouts.{Fits, length-sheet, letters-back, version-back, read-back, write-back}
 use Rattle.sheets.proofs.Pages.{fingerprint-lt, fingerprints-lt, length-pages, pages-joined}
@@ -86,65 +86,63 @@ sound-fits x h =
 size-clear : (s : ℕ) → 16 ≤ s → s ≤ 4096 → (ltb s 16 || ltb 4096 s) ≡ false
 size-clear s a b = rw (le-ltb s 16 a, le-ltb 4096 s b)
 
+or-clear : {a b c : Bool} → a ≡ false → b ≡ false → c ≡ false → (a || b || c) ≡ false
+or-clear x y z = rw (x, y, z)
+
 pub sound-clear : (x : Contents) → Sound x → Clear (readTests version1 (sheetBytes version1 x))
 sound-clear x h =
     let f = sound-fits x h in
     let k = key-iff (x .key) (key-lt (x .key) (h .key)) .0 (h .key) in
     rw (read-back version1 x f, length-sheet version1 x, letters-back version1 x f, version-back version1 x f) (
-      le-ltb (sheetSize version1 (length (x .pages))) 27 (omega arith),
+      or-clear (le-ltb (sheetSize version1 (length (x .pages))) 27 (omega arith)) refl refl,
       (
-        refl,
+        k .0,
         (
-          refl,
+          k .1,
           (
-            k .0,
+            size-clear (x .pageSize) (h .pageSize .0) (h .pageSize .1),
             (
-              k .1,
-              (
-                size-clear (x .pageSize) (h .pageSize .0) (h .pageSize .1),
-                (
-                  rw (eq-eqb (sheetSize version1 (length (x .pages))) (sheetSize version1 (length (x .pages))) refl),
-                  (
-                    all-reduced (x .key) (x .pages) (x .fingerprint) (h .pages) (h .fingerprint),
-                    (
-                      rw (eq-eqb (pagesJoined x) (fileFilled x) (h .joined)),
-                      tt,
-                    ),
-                  ),
-                ),
-              ),
+              or-clear (ap not (eq-eqb (sheetSize version1 (length (x .pages))) (sheetSize version1 (length (x .pages))) refl))
+                  (all-reduced (x .key) (x .pages) (x .fingerprint) (h .pages) (h .fingerprint)) (ap not (eq-eqb (pagesJoined x) (fileFilled x) (h .joined))),
+              tt,
             ),
           ),
         ),
       ),
     )
 
+-- none of three tests holds
+pub neither : (a b c : Bool) → (a || b || c) ≡ false → (a ≡ false) × (b ≡ false) × (c ≡ false)
+neither a b c e = let x = or-neither (a || b) c e in let y = or-neither a b (x .0) in (y .0, y .1, x .1)
+
 pub clear-sound : (sheet : List ℕ) → Bytes sheet → Clear (readTests version1 sheet) → WellFormed sheet
 unfolding contentsIn
 clear-sound sheet b c =
     let x = contentsIn version1 sheet in
-    let long = ltb-false (length sheet) 27 (c .0) in
+    let h = neither (ltb (length sheet) 27) (not (eqb (numberAt 0 3 sheet) 0x474650)) (not (eqb (numberAt 3 2 sheet) 1)) (c .0) in
+    let t = neither (not (eqb (length sheet) (sheetSize version1 (length (x .pages))))) (someUnreduced (x .key) (x .pages ++ x .fingerprint ∷ [])) (not (eqb (pagesJoined x) (fileFilled x))) (c .1 .1 .1 .1 .0) in
+    let long = ltb-false (length sheet) 27 (h .0) in
     let small = number-lt 5 8 sheet (omega arith) in
     let n = number-lt 13 4 sheet (omega arith) in
-    let s = or-neither (ltb (x .pageSize) 16) (ltb 4096 (x .pageSize)) (c .1 .1 .1 .1 .1 .0) in
+    let s = or-neither (ltb (x .pageSize) 16) (ltb 4096 (x .pageSize)) (c .1 .1 .1 .0) in
     let count = length-numbersAt 19 8 (pagesIn version1 sheet) sheet in
-    let fs = none-unreduced (x .key) (x .pages) (x .fingerprint) (c .1 .1 .1 .1 .1 .1 .1 .0) in
-    let total = eqb-true (length sheet) (sheetSize version1 (length (x .pages))) (not-false _ (c .1 .1 .1 .1 .1 .1 .0)) in
+    let fs = none-unreduced (x .key) (x .pages) (x .fingerprint) (t .1) in
+    let total = eqb-true (length sheet) (sheetSize version1 (length (x .pages))) (not-false _ (t .0)) in
     record {
       contents = x;
       sound =
           record {
-            key = key-iff (x .key) small .1 (c .1 .1 .1 .0, c .1 .1 .1 .1 .0);
+            key = key-iff (x .key) small .1 (c .1 .0, c .1 .1 .0);
             length = omega arith;
             pageSize = (ltb-false (x .pageSize) 16 (s .0), ltb-false 4096 (x .pageSize) (s .1));
             count = count;
             pages = fs .0;
             fingerprint = fs .1;
-            joined = eqb-true (pagesJoined x) (fileFilled x) (not-false _ (c .1 .1 .1 .1 .1 .1 .1 .1 .0));
+            joined = eqb-true (pagesJoined x) (fileFilled x) (not-false _ (t .2));
           };
       bytes =
-          sym (write-back version1 sheet b (total ∙ ap (sheetSize version1) count) (eqb-true (numberAt 0 3 sheet) 0x474650 (not-false _ (c .1 .0)))
-          (eqb-true (numberAt 3 2 sheet) 1 (not-false _ (c .1 .1 .0))));
+          sym (write-back version1 sheet b (total ∙ ap (sheetSize version1) count) (eqb-true (numberAt 0 3 sheet) 0x474650 (not-false _ (h .1)))
+          (eqb-true (numberAt 3 2 sheet) 1 (not-false _ (h .2))));
     }
 
 -- ---- the numbers of a file's sheet are sound

@@ -2,7 +2,7 @@
 use mathlib.Core.Path.{_≡_}
 use mathlib.Core.Bool.{Bool, true, false, _||_, not}
 use mathlib.Core.List.{List, [], _∷_, _++_}
-use Prim.Native.Nat.{ℕ, zero, suc, _+_, _-_, _*_, _^_, _≤_, _<_}
+use Prim.Native.Nat.{ℕ, zero, suc, _+_, _-_, _*_, _^_, _≤_, _<_, min}
 use lib.Dec.{ltb, leb, eqb}
 use lib.ListN.{length, take, drop, replicate}
 use Rattle.gf2.specs.Lists.{All}
@@ -14,6 +14,15 @@ use Rattle.files.specs.declared.Mark.{Mark}
 use Rattle.files.specs.Files.{fingerprint, markOf}
 use Rattle.compose.specs.Composing.{joined}
 use Rattle.sheets.specs.Layout.{Layout, version1, versionPlace, pagePlace, sheetSize, pageCount, numberAt, Contents, sheetBytes, contentsIn}
+use Rattle.sheets.specs.declared.Written.{Written}
+use Rattle.sheets.specs.declared.Written.the-variants as written-cases
+use Rattle.sheets.specs.declared.Sheet.{Sheet}
+use Rattle.sheets.specs.declared.Reading.{Reading}
+use Rattle.sheets.specs.declared.Reading.the-variants as reading-cases
+use Rattle.sheets.specs.declared.Checked.{Checked}
+use Rattle.sheets.specs.declared.Checked.the-variants as checked-cases
+use Rattle.sheets.specs.declared.Changed.{Changed}
+use Rattle.sheets.specs.declared.Changed.the-variants as changed-cases
 
 -- ---- the pages of a file
 
@@ -75,23 +84,28 @@ pagesJoined x = joinedPages (x .key) (x .pageSize) (markOf (x .key) []) (x .page
 abbrev pub fileFilled : Contents → ℕ
 fileFilled x = rem (x .key) (x .fingerprint * 2 ^ (8 * (length (x .pages) * x .pageSize - x .length)))
 
-abbrev pub headTests : Layout → List ℕ → List Test
-headTests v sheet =
-    ltb (length sheet) (sheetSize v 0) ⇒ SheetMalformed
-    ∷ not (eqb (numberAt 0 (v .lettersWidth) sheet) (v .letters)) ⇒ SheetMalformed
-    ∷ not (eqb (numberAt (versionPlace v) (v .versionWidth) sheet) (v .version)) ⇒ SheetMalformed
-    ∷ []
+-- number 14, first: size, letters, version
+abbrev pub headWrong : Layout → List ℕ → Bool
+headWrong v sheet =
+    ltb (length sheet) (sheetSize v 0)
+    || not (eqb (numberAt 0 (v .lettersWidth) sheet) (v .letters))
+    || not (eqb (numberAt (versionPlace v) (v .versionWidth) sheet) (v .version))
 
-abbrev pub bodyTests : Layout → ℕ → Contents → List Test
-bodyTests v size x =
-    not (eqb size (sheetSize v (length (x .pages)))) ⇒ SheetMalformed
-    ∷ someUnreduced (x .key) (x .pages ++ x .fingerprint ∷ []) ⇒ SheetMalformed
-    ∷ not (eqb (pagesJoined x) (fileFilled x)) ⇒ SheetMalformed
-    ∷ []
+-- number 14, last: total, fields, joining
+abbrev pub bodyWrong : Layout → ℕ → Contents → Bool
+bodyWrong v size x =
+    not (eqb size (sheetSize v (length (x .pages))))
+    || someUnreduced (x .key) (x .pages ++ x .fingerprint ∷ [])
+    || not (eqb (pagesJoined x) (fileFilled x))
 
 abbrev pub readTests : Layout → List ℕ → List Test
 readTests v sheet =
-    let x = contentsIn v sheet in headTests v sheet ++ keyTests (x .key) ++ sizeTest (x .pageSize) ∷ bodyTests v (length sheet) x
+    let x = contentsIn v sheet in
+    headWrong v sheet ⇒ SheetMalformed
+    ∷ keyTests (x .key)
+    ++ sizeTest (x .pageSize)
+    ∷ bodyWrong v (length sheet) x ⇒ SheetMalformed
+    ∷ []
 
 unfoldable pub readSheet : List ℕ → Answer Unit Contents
 readSheet sheet = firstOf (readTests version1 sheet) tt (contentsIn version1 sheet)
@@ -138,3 +152,45 @@ compared x file = choose (eqb (length file) (x .length)) (firstChange 0 (x .page
 unfoldable pub checkSheet : List ℕ → List ℕ → Answer Unit Outcome
 checkSheet sheet file =
     firstOf (readTests version1 sheet ++ passes (length file ∷ []) ⇒ TooLong ∷ []) tt (compared (contentsIn version1 sheet) file)
+
+-- the bytes of the page that a check names, from the first to before the last: with the sheet's length and page size
+pub data Range : Type 0 where
+  FromTo : ℕ → ℕ → Range
+  NoRange : Range
+
+abbrev pub pageRange : Contents → Outcome → Range
+pageRange x (Page i) = FromTo (i * x .pageSize) (min (i * x .pageSize + x .pageSize) (x .length))
+pageRange x Same = NoRange
+pageRange x OtherLength = NoRange
+
+abbrev pub rangeOf : Contents → Answer Unit Outcome → Range
+rangeOf x (Done o) = pageRange x o
+rangeOf x (Refused r s) = NoRange
+
+-- ---- the answers in code: their numbers and values
+
+abbrev pub written : Written → List ℕ → Answer (List ℕ) (List ℕ)
+written written-cases.Done buffer = Done buffer
+written (written-cases.Refused r) buffer = Refused r buffer
+
+-- the numbers that a reader is given at once; each page's fingerprint is asked for by its place
+abbrev pub numbersOf : Contents → Sheet
+numbersOf x = record { key = x .key; length = x .length; size = x .pageSize; pages = length (x .pages); fingerprint = x .fingerprint }
+
+abbrev pub sheetRead : Answer Unit Contents → Answer Unit Sheet
+sheetRead (Done x) = Done (numbersOf x)
+sheetRead (Refused r s) = Refused r s
+
+abbrev pub reading : Reading → Answer Unit Sheet
+reading (reading-cases.Sheet x) = Done x
+reading (reading-cases.Refused r) = Refused r tt
+
+abbrev pub checked : Checked → Answer Unit Outcome
+checked checked-cases.Same = Done Same
+checked (checked-cases.Page i) = Done (Page i)
+checked checked-cases.OtherLength = Done OtherLength
+checked (checked-cases.Refused r) = Refused r tt
+
+abbrev pub changed : Changed → Range
+changed (changed-cases.Bytes a b) = FromTo a b
+changed changed-cases.None = NoRange
