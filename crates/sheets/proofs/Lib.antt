@@ -5,3 +5,4 @@ pub mod Sound
 pub mod Changes
 pub mod Guarantee
 pub mod Products
+pub mod Joining

@@ -160,3 +160,23 @@ load-done l i x m e = rw e
 -- one byte more is below 256 times the bound
 pub load-lt : (n x b : ℕ) → x < 2 ^ (8 * n) → b < 256 → x * 256 + b < 2 ^ (8 * (n + 1))
 load-lt n x b h l = rw (add-one n, pow-next n) (rw (mul-comm 256 (2 ^ (8 * n))) (digits-lt {m = 2 ^ (8 * n)} h l))
+
+pub numbers-next : (place w n : ℕ) (l : List ℕ) → 0 < n → numbersAt place w n l ≡ numberAt place w l ∷ numbersAt (place + w) w (n - 1) l
+unfolding numbersAt
+numbers-next place w zero l h = absurd (omega arith)
+numbers-next place w (suc n) l h = let e : suc n - 1 ≡ n = omega arith in rw e
+
+pub numbers-done : (place w n : ℕ) (l : List ℕ) → n ≡ 0 → numbersAt place w n l ≡ []
+unfolding numbersAt
+numbers-done place w n l e = rw e
+
+-- the last of c + 1 fields
+last-of : (c place w : ℕ) (l : List ℕ) → numbersAt place w (suc c) l ≡ numbersAt place w c l ++ numberAt (place + w * c) w l ∷ []
+unfolding numbersAt
+last-of zero place w l = ap (λ (n : ℕ). numberAt n w l ∷ []) (sym (rw (mul-zero w) (add-zero place)))
+last-of (suc c) place w l =
+    let e : place + w + w * c ≡ place + w * suc c = omega (arith, mul-suc w c) in
+    ap (λ (r : List ℕ). numberAt place w l ∷ r) (last-of c (place + w) w l ∙ ap (λ (n : ℕ). numbersAt (place + w) w c l ++ numberAt n w l ∷ []) e)
+
+pub numbers-last : (place w c : ℕ) (l : List ℕ) → numbersAt place w (c + 1) l ≡ numbersAt place w c l ++ numberAt (place + w * c) w l ∷ []
+numbers-last place w c l = ap (λ (n : ℕ). numbersAt place w n l) (add-one c) ∙ last-of c place w l

@@ -45,18 +45,18 @@ clear-append (b ⇒ r ∷ ts) us h k = (h .0, clear-append ts us (h .1) k)
 
 -- ---- reduced fingerprints
 
-pub all-reduced : (key : ℕ) (fs : List ℕ) (f : ℕ) → All (λ g. g < 2 ^ degree key) fs → f < 2 ^ degree key → someUnreduced key (fs ++ f ∷ []) ≡ false
+pub all-reduced : (k : ℕ) (fs : List ℕ) (f : ℕ) → All (λ g. g < 2 ^ k) fs → f < 2 ^ k → someUnreduced k (fs ++ f ∷ []) ≡ false
 unfolding someUnreduced
-all-reduced key [] f h l = rw (lt-leb (2 ^ degree key) f l)
-all-reduced key (g ∷ fs) f h l = rw (lt-leb (2 ^ degree key) g (h .0)) (all-reduced key fs f (h .1) l)
+all-reduced k [] f h l = rw (lt-leb (2 ^ k) f l)
+all-reduced k (g ∷ fs) f h l = rw (lt-leb (2 ^ k) g (h .0)) (all-reduced k fs f (h .1) l)
 
-pub none-unreduced : (key : ℕ) (fs : List ℕ) (f : ℕ) → someUnreduced key (fs ++ f ∷ []) ≡ false → All (λ g. g < 2 ^ degree key) fs × (f < 2 ^ degree key)
+pub none-unreduced : (k : ℕ) (fs : List ℕ) (f : ℕ) → someUnreduced k (fs ++ f ∷ []) ≡ false → All (λ g. g < 2 ^ k) fs × (f < 2 ^ k)
 unfolding someUnreduced
-none-unreduced key [] f e = (tt, leb-false (2 ^ degree key) f (or-neither (leb (2 ^ degree key) f) false e .0))
-none-unreduced key (g ∷ fs) f e =
-    let o = or-neither (leb (2 ^ degree key) g) (someUnreduced key (fs ++ f ∷ [])) e in
-    let i = none-unreduced key fs f (o .1) in
-    ((leb-false (2 ^ degree key) g (o .0), i .0), i .1)
+none-unreduced k [] f e = (tt, leb-false (2 ^ k) f (or-neither (leb (2 ^ k) f) false e .0))
+none-unreduced k (g ∷ fs) f e =
+    let o = or-neither (leb (2 ^ k) g) (someUnreduced k (fs ++ f ∷ [])) e in
+    let i = none-unreduced k fs f (o .1) in
+    ((leb-false (2 ^ k) g (o .0), i .0), i .1)
 
 -- ---- sound fields fit the layout
 
@@ -103,7 +103,7 @@ sound-clear x h =
             size-clear (x .pageSize) (h .pageSize .0) (h .pageSize .1),
             (
               or-clear (ap not (eq-eqb (sheetSize version1 (length (x .pages))) (sheetSize version1 (length (x .pages))) refl))
-                  (all-reduced (x .key) (x .pages) (x .fingerprint) (h .pages) (h .fingerprint)) (ap not (eq-eqb (pagesJoined x) (fileFilled x) (h .joined))),
+                  (all-reduced (degree (x .key)) (x .pages) (x .fingerprint) (h .pages) (h .fingerprint)) (ap not (eq-eqb (pagesJoined x) (fileFilled x) (h .joined))),
               tt,
             ),
           ),
@@ -120,13 +120,13 @@ unfolding contentsIn
 clear-sound sheet b c =
     let x = contentsIn version1 sheet in
     let h = neither (ltb (length sheet) 27) (not (eqb (numberAt 0 3 sheet) 0x474650)) (not (eqb (numberAt 3 2 sheet) 1)) (c .0) in
-    let t = neither (not (eqb (length sheet) (sheetSize version1 (length (x .pages))))) (someUnreduced (x .key) (x .pages ++ x .fingerprint ∷ [])) (not (eqb (pagesJoined x) (fileFilled x))) (c .1 .1 .1 .1 .0) in
+    let t = neither (not (eqb (length sheet) (sheetSize version1 (length (x .pages))))) (someUnreduced (degree (x .key)) (x .pages ++ x .fingerprint ∷ [])) (not (eqb (pagesJoined x) (fileFilled x))) (c .1 .1 .1 .1 .0) in
     let long = ltb-false (length sheet) 27 (h .0) in
     let small = number-lt 5 8 sheet (omega arith) in
     let n = number-lt 13 4 sheet (omega arith) in
     let s = or-neither (ltb (x .pageSize) 16) (ltb 4096 (x .pageSize)) (c .1 .1 .1 .0) in
     let count = length-numbersAt 19 8 (pagesIn version1 sheet) sheet in
-    let fs = none-unreduced (x .key) (x .pages) (x .fingerprint) (t .1) in
+    let fs = none-unreduced (degree (x .key)) (x .pages) (x .fingerprint) (t .1) in
     let total = eqb-true (length sheet) (sheetSize version1 (length (x .pages))) (not-false _ (t .0)) in
     record {
       contents = x;

@@ -74,8 +74,8 @@ joinedPages key s m (f ∷ fs) = joinedPages key s (joined key m (record { finge
 
 -- a fingerprint is not below 2^k
 unfoldable pub someUnreduced : ℕ → List ℕ → Bool
-someUnreduced key [] = false
-someUnreduced key (f ∷ fs) = leb (2 ^ degree key) f || someUnreduced key fs
+someUnreduced k [] = false
+someUnreduced k (f ∷ fs) = leb (2 ^ k) f || someUnreduced k fs
 
 -- the pages joined; and the file's fingerprint times t^(8 × (c × s − n)), which is that of the file filled up
 abbrev pub pagesJoined : Contents → ℕ
@@ -95,7 +95,7 @@ headWrong v sheet =
 abbrev pub bodyWrong : Layout → ℕ → Contents → Bool
 bodyWrong v size x =
     not (eqb size (sheetSize v (length (x .pages))))
-    || someUnreduced (x .key) (x .pages ++ x .fingerprint ∷ [])
+    || someUnreduced (degree (x .key)) (x .pages ++ x .fingerprint ∷ [])
     || not (eqb (pagesJoined x) (fileFilled x))
 
 abbrev pub readTests : Layout → List ℕ → List Test

@@ -2,8 +2,8 @@
 // caller proves.
 ghost use mathlib.Core.Path.{_≡_};
 ghost use Prim.Native.Nat.{_*_, _≤_, _<_};
-ghost use lib.ListN.{length};
-ghost use Rattle.gf2.specs.Polynomials.{monic, rem, Modulus};
+ghost use lib.ListN.{length, getD};
+ghost use Rattle.gf2.specs.Polynomials.{_⊕_, monic, Modulus};
 ghost use Rattle.tables.specs.Groups.{looked};
 ghost use Rattle.sheets.specs.Shifts.{Shifts};
 
@@ -36,4 +36,12 @@ pub fn times(words: &[u64], f: u64) -> u64
         j += 1;
     }
     sum
+}
+
+// A page mark joined behind a mark: F·t^(8n) + G + t^(8n), which is word 1.
+pub fn join(words: &[u64], f: u64, g: u64) -> u64
+    requires { ⌜ length (now words) ≡ 2048 ⌝ }
+    ensures { λ r. ⌜ r ≡ looked 8 (now (words .entry)) 8 0 f ⊕ g ⊕ getD (now (words .entry)) 1 0 ⌝ }
+{
+    times(words, f) ^ g ^ words[1]
 }

@@ -1,0 +1,83 @@
+-- Laws of reading's loops: reduced fields, and page marks joined, one field a turn.
+use mathlib.Core.Path.{_≡_, refl, sym, ap, ap₂, _∙_}
+use mathlib.Core.Bool.{Bool, true, false, _||_, not}
+use mathlib.Core.List.{List, [], _∷_, _++_}
+use Prim.Native.Nat.{ℕ, zero, suc, _+_, _-_, _*_, _/_, _%_, _^_, _≤_, _<_}
+use native.Mathlib.Nat.{add-zero, div-eq-of-lt, lt-of-lt-of-le}
+use native.Mathlib.Decide.{decLt}
+use native.Mathlib.Omega.{arith}
+use lib.Dec.{leb}
+use lib.ListN.{length, getD}
+use lib.Pow.{pow-mono, pow-lt}
+use borrow.Author.Tests.{le-leb, lt-leb, leb-false}
+use Rattle.gf2.specs.Polynomials.{_⊕_, _⊗_, rem, monic, degree}
+use Rattle.gf2.proofs.Degrees.{lt-of-high}
+use Rattle.gf2.proofs.Products.{one-⊗}
+use Rattle.gf2.proofs.Residues.{rem-lt, rem-small, rem-⊕}
+use Rattle.gf2.proofs.Powers.{rem-rem}
+use Rattle.gf2.proofs.Monics.{monic-pos, monic-degree}
+use Rattle.acceptance.proofs.Laws.{or-neither}
+use Rattle.files.specs.declared.Mark.{Mark}
+use Rattle.files.specs.Files.{bits, valueFrom, value, fingerprint, markOf}
+use Rattle.compose.specs.Composing.{joined}
+use Rattle.tables.specs.Groups.{looked}
+use Rattle.sheets.specs.Layout.{numberAt, numbersAt}
+use Rattle.sheets.specs.Sheets.{someUnreduced, joinedPages}
+use Rattle.sheets.specs.Shifts.{Shifts}
+use Rattle.sheets.proofs.Products.{shifted}
+
+-- ---- reduced fields
+
+pub unreduced-here : (k f : ℕ) (fs : List ℕ) → (f / 2 ^ k ≡ 0 → ⊥) → someUnreduced k (f ∷ fs) ≡ true
+unfolding someUnreduced
+unreduced-here k f fs n = go (decLt f (2 ^ k))
+  where
+    go : Dec (f < 2 ^ k) → (leb (2 ^ k) f || someUnreduced k fs) ≡ true
+    go (yes h) = absurd (n (div-eq-of-lt h))
+    go (no h) = rw (le-leb (2 ^ k) f (omega arith))
+
+pub unreduced-later : (k f : ℕ) (fs : List ℕ) → f / 2 ^ k ≡ 0 → someUnreduced k (f ∷ fs) ≡ someUnreduced k fs
+unfolding someUnreduced
+unreduced-later k f fs e = rw (lt-leb (2 ^ k) f (lt-of-high f k e))
+
+pub unreduced-none : (k : ℕ) (fs : List ℕ) → fs ≡ [] → someUnreduced k fs ≡ false
+unfolding someUnreduced
+unreduced-none k fs e = rw e
+
+pub reduced-first : (k f : ℕ) (fs : List ℕ) → someUnreduced k (f ∷ fs) ≡ false → (f < 2 ^ k) × (someUnreduced k fs ≡ false)
+unfolding someUnreduced
+reduced-first k f fs e = let o = or-neither (leb (2 ^ k) f) (someUnreduced k fs) e in (leb-false (2 ^ k) f (o .0), o .1)
+
+-- ---- marks joined
+
+module _ {key : ℕ} (pos : 0 < key) (e : ℕ) (words : List ℕ) (s : Shifts key e words) where
+  word-one : getD words 1 0 ≡ rem key (2 ^ e)
+  word-one =
+      s .rows 0 (omega arith) 1 (omega arith)
+      ∙ ap (rem key) (one-⊗ (rem key (2 ^ (e + 8 * 0))))
+      ∙ rem-rem pos (2 ^ (e + 8 * 0))
+      ∙ ap (λ (n : ℕ). rem key (2 ^ n)) (add-zero e)
+
+  pub joined-by-table : (f g : ℕ) → f < 2 ^ 64 → g < 2 ^ degree key → looked 8 words 8 0 f ⊕ g ⊕ getD words 1 0 ≡ rem key (f * 2 ^ e ⊕ g ⊕ 2 ^ e)
+  joined-by-table f g hf hg =
+      rw (shifted pos e words f s hf, word-one)
+      (sym (rem-⊕ pos (f * 2 ^ e ⊕ g) (2 ^ e) ∙ ap (λ (x : ℕ). x ⊕ rem key (2 ^ e)) (rem-⊕ pos (f * 2 ^ e) g ∙ ap (λ (x : ℕ). rem key (f * 2 ^ e) ⊕ x) (rem-small pos g hg))))
+
+pub joined-next : (key s f n g : ℕ) (gs fs : List ℕ) → fs ≡ g ∷ gs
+    → joinedPages key s (record { fingerprint = f; length = n }) fs .fingerprint
+    ≡ joinedPages key s (record { fingerprint = rem key (f * 2 ^ (8 * s) ⊕ g ⊕ 2 ^ (8 * s)); length = n + s }) gs .fingerprint
+unfolding joinedPages joined
+joined-next key s f n g gs fs e = rw e
+
+pub joined-done : (key s f n : ℕ) (fs : List ℕ) → fs ≡ [] → joinedPages key s (record { fingerprint = f; length = n }) fs .fingerprint ≡ f
+unfolding joinedPages
+joined-done key s f n fs e = rw e
+
+pub empty-mark : (k low : ℕ) → 0 < k → low < 2 ^ k → markOf (monic k low) [] ≡ record { fingerprint = 1; length = 0 }
+unfolding markOf fingerprint value valueFrom bits
+empty-mark k low p h =
+    ap (λ (f : ℕ). record { fingerprint = f; length = 0 }) (rem-small (monic-pos k low h) 1 (rw (monic-degree k low h) (pow-lt {i = 0} {j = k} p)))
+
+pub twice : (b : Bool) → not (not b) ≡ b
+twice true = refl
+twice false = refl
