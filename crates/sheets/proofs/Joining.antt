@@ -3,12 +3,12 @@ use mathlib.Core.Path.{_≡_, refl, sym, ap, ap₂, _∙_}
 use mathlib.Core.Bool.{Bool, true, false, _||_, not}
 use mathlib.Core.List.{List, [], _∷_, _++_}
 use Prim.Native.Nat.{ℕ, zero, suc, _+_, _-_, _*_, _/_, _%_, _^_, _≤_, _<_}
-use native.Mathlib.Nat.{add-zero, div-eq-of-lt, lt-of-lt-of-le}
+use native.Mathlib.Nat.{add-zero, div-eq-of-lt, mul-le-mul-left}
 use native.Mathlib.Decide.{decLt}
 use native.Mathlib.Omega.{arith}
-use lib.Dec.{leb}
+use lib.Dec.{leb, eqb}
 use lib.ListN.{length, getD}
-use lib.Pow.{pow-mono, pow-lt}
+use lib.Pow.{pow-lt}
 use borrow.Author.Tests.{le-leb, lt-leb, leb-false}
 use Rattle.gf2.specs.Polynomials.{_⊕_, _⊗_, rem, monic, degree}
 use Rattle.gf2.proofs.Degrees.{lt-of-high}
@@ -21,9 +21,11 @@ use Rattle.files.specs.declared.Mark.{Mark}
 use Rattle.files.specs.Files.{bits, valueFrom, value, fingerprint, markOf}
 use Rattle.compose.specs.Composing.{joined}
 use Rattle.tables.specs.Groups.{looked}
-use Rattle.sheets.specs.Layout.{numberAt, numbersAt}
-use Rattle.sheets.specs.Sheets.{someUnreduced, joinedPages}
+use Rattle.sheets.specs.Layout.{version1, numberAt, numbersAt, pageCount, lengthIn, sizeIn, contentsIn}
+use Rattle.sheets.specs.Sheets.{bodyWrong, someUnreduced, joinedPages}
 use Rattle.sheets.specs.Shifts.{Shifts}
+use Rattle.sheets.proofs.Numbers.{length-numbersAt, numbers-last}
+use Rattle.sheets.proofs.Pages.{count-tight}
 use Rattle.sheets.proofs.Products.{shifted}
 
 -- ---- reduced fields
@@ -81,3 +83,20 @@ empty-mark k low p h =
 pub twice : (b : Bool) → not (not b) ≡ b
 twice true = refl
 twice false = refl
+
+-- ---- the rest of number 14, by the numbers that the code has at hand
+
+module _ (sheet : List ℕ) (key n size count : ℕ) (ek : key ≡ numberAt 5 8 sheet) (en : n ≡ lengthIn version1 sheet) (es : size ≡ sizeIn version1 sheet)
+    (ec : count ≡ pageCount size n) where
+  pub body-is : bodyWrong version1 (length sheet) (contentsIn version1 sheet)
+      ≡ (not (eqb (length sheet) (27 + 8 * count)) || someUnreduced (degree key) (numbersAt 19 8 (count + 1) sheet)
+      || not (eqb (joinedPages key size (markOf key []) (numbersAt 19 8 count sheet) .fingerprint) (rem key (numberAt (19 + 8 * count) 8 sheet * 2 ^ (8 * (count * size - n))))))
+  unfolding contentsIn
+  body-is =
+      let total : 19 + 8 * count + 8 ≡ 27 + 8 * count = omega arith in
+      rw (← ek, ← en, ← es, ← ec, length-numbersAt 19 8 count sheet, total, numbers-last 19 8 count sheet)
+
+  pub count-small : 16 ≤ size → size ≤ 4096 → n < 2 ^ 32 → count < 2 ^ 29
+  count-small lo hi b =
+      let t : count * size < n + size = rw ec (count-tight size n (omega arith)) in
+      omega (arith, mul-le-mul-left count lo)
