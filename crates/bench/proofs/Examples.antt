@@ -1,29 +1,26 @@
 -- Lists of calls with the book beside them, each kind of call refused and not: the claims of Guarantee.antt are not empty.
 use mathlib.Core.Path.{_≡_, refl, sym, ap, ap₂, _∙_}
-use mathlib.Core.Bool.{true, false}
+use mathlib.Core.Bool.{true}
 use mathlib.Core.List.{List, [], _∷_, _++_, append-nil}
-use Prim.Native.Nat.{ℕ, zero, suc, _+_, _≤_, _<_}
-use native.Mathlib.Nat.{zero-lt-suc}
+use Prim.Native.Nat.{ℕ}
 use native.Mathlib.Omega.{arith}
-use lib.Dec.{ltb}
 use lib.ListN.{length}
-use borrow.Author.Tests.{lt-ltb}
 use Rattle.gf2.specs.Polynomials.{_⊕_, halvings, degree, reduce, longDivision, rem}
 use Rattle.refusals.specs.declared.Refusal.the-variants.{TableSize, TableWord, TooLong}
-use Rattle.refusals.specs.Refusals.{Answer, Done, Refused, numberOf, longest}
+use Rattle.refusals.specs.Refusals.{Done, Refused, longest}
 use Rattle.acceptance.specs.Keys.{anyBelow, reducible, accepted}
 use Rattle.files.specs.declared.Mark.{Mark}
-use Rattle.files.specs.Files.{lowBits, bits, valueFrom, value, fingerprint, markOf, True}
-use Rattle.marks.specs.Feeding.{sumTest, fedMark}
-use Rattle.tables.specs.Tables.{word, differs, tableFrom, houseKey, feedHouse}
+use Rattle.files.specs.Files.{lowBits, bits, valueFrom, value, fingerprint, markOf}
+use Rattle.marks.specs.Feeding.{sumTest}
+use Rattle.tables.specs.Tables.{word, differs, tableFrom, houseKey}
 use Rattle.book.specs.Runs.{bookStep, run, Honest}
 use Rattle.book.specs.Confusions.{Confuses}
-use Rattle.book.proofs.RunLaws.{run-next}
-use Rattle.book.proofs.Guarantee as any-level
 use Rattle.bench.specs.Book.{Call, ByBits, ByTable, ByHouse, step, bookTests, written, bench, Route}
+use Rattle.bench.specs.Parts.{AllUsable}
 use Rattle.bench.proofs.KeyLaws.{key-passes, empty-mark}
 use Rattle.bench.proofs.Guarantee.{lists, reaches}
-use Rattle.bench.proofs.Parts.{taken}
+use Rattle.bench.proofs.House.{house-accepted}
+use Rattle.bench.proofs.Parts.{taken, parts}
 
 pub accepted-11B : accepted 0x11B ≡ true
 unfolding accepted reducible anyBelow rem longDivision reduce degree halvings _⊕_
@@ -75,23 +72,25 @@ the-list =
     let r = lists 0x11B [] (record { fingerprint = 0x01; length = 0 }) calls accepted-11B (sym (empty-mark 0x11B accepted-11B)) the-list-is-honest in
     ap₂ {C = Mark × List ℕ} (λ (x : Mark) (ns : List ℕ). (x, ns)) (r .0 ∙ ap (λ (x : List ℕ × List ℕ). markOf 0x11B (x .0)) the-book ∙ mark-41-42) (r .1 ∙ ap (λ (x : List ℕ × List ℕ). x .1) the-book)
 
--- ---- under the house key
+-- ---- under the house key, from the empty file
 
 pub house-calls : List Call
-house-calls = ByHouse (0x41 ∷ []) ∷ ByHouse (0x42 ∷ []) ∷ []
+house-calls = ByHouse (0x41 ∷ []) ∷ ByBits (0x42 ∷ []) ∷ ByHouse [] ∷ []
 
-pub the-house-book : run (bookStep bench houseKey) [] house-calls ≡ (0x41 ∷ 0x42 ∷ [], 0 ∷ 0 ∷ [])
-unfolding house-calls run bookStep bookTests written
-the-house-book = refl
-
-pub the-house-list-is-honest : Honest bench houseKey [] house-calls
+pub house-usable : AllUsable houseKey house-calls
 unfolding house-calls
-the-house-list-is-honest = (λ e. refl, (λ e. refl, tt))
+house-usable = (refl, (tt, (refl, tt)))
 
 -- two bytes fit below t^61, so that the fingerprint is t^16 and the bits themselves
-pub the-house-list : run (step houseKey) (record { fingerprint = 0x1; length = 0 }) house-calls ≡ (record { fingerprint = 0x14142; length = 2 }, 0 ∷ 0 ∷ [])
-unfolding house-calls run step feedHouse fedMark valueFrom bits lowBits rem longDivision reduce degree halvings _⊕_
-the-house-list = refl
+mark-below-61 : markOf houseKey (0x41 ∷ 0x42 ∷ []) ≡ record { fingerprint = 0x14142; length = 2 }
+unfolding markOf fingerprint value valueFrom bits lowBits rem longDivision reduce degree halvings _⊕_
+mark-below-61 = refl
+
+pub the-house-list : run (step houseKey) (record { fingerprint = 0x1; length = 0 }) house-calls ≡ (record { fingerprint = 0x14142; length = 2 }, 0 ∷ 0 ∷ 0 ∷ [])
+unfolding house-calls
+the-house-list =
+    parts houseKey [] (record { fingerprint = 0x1; length = 0 }) house-calls house-accepted (sym (empty-mark houseKey house-accepted)) house-usable (omega arith)
+    ∙ ap {B = Mark × List ℕ} (λ (x : Mark). (x, 0 ∷ 0 ∷ 0 ∷ [])) mark-below-61
 
 -- ---- "Length 4,294,967,295 plus one byte gives 7; plus none is accepted."
 

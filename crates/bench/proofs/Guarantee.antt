@@ -1,6 +1,6 @@
 -- Demand 3 at the Bench level: the claims of crate book (specs/Claims.antt), proved.
 use mathlib.Core.Path.{_≡_, sym, ap, _∙_}
-use mathlib.Core.List.{List, []}
+use mathlib.Core.List.{[]}
 use Prim.Native.Nat.{ℕ}
 use lib.Dec.{T}
 use Rattle.gf2.proofs.Lists.{rising}

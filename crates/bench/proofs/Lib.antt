@@ -1,6 +1,7 @@
 pub mod StepLaws
 pub mod KeyLaws
-pub mod TableRule
+pub mod House
 pub mod Guarantee
 pub mod Parts
 pub mod Examples
+pub mod Answers

@@ -1,30 +1,24 @@
 -- Feeding file parts one after another gives the mark of the parts joined.
-use mathlib.Core.Path.{_≡_, refl, sym, ap, ap₂, _∙_}
-use mathlib.Core.Bool.{Bool, true, false, not, _||_}
+use mathlib.Core.Path.{_≡_, sym, ap, ap₂, _∙_}
+use mathlib.Core.Bool.{true}
 use mathlib.Core.List.{List, [], _∷_, _++_, append-assoc, append-nil}
 use Prim.Native.Nat.{ℕ, _+_, _≤_}
 use native.Mathlib.Omega.{arith}
-use lib.Dec.{eqb}
 use lib.ListN.{length, length-append}
-use borrow.Author.Tests.{le-ltb}
-use Rattle.refusals.specs.declared.Refusal.the-variants.{TableSize, TableWord}
-use Rattle.refusals.specs.Refusals.{Answer, Done, stateOf, Test, _⇒_, firstOf, longest, passes}
-use Rattle.acceptance.specs.Keys.{accepted, keyTests}
+use Rattle.refusals.specs.Refusals.{Done, stateOf, Test, firstOf, longest}
+use Rattle.acceptance.specs.Keys.{accepted}
 use Rattle.files.specs.declared.Mark.{Mark}
 use Rattle.files.specs.Files.{markOf}
 use Rattle.marks.specs.Feeding.{sumTest}
-use Rattle.tables.specs.Tables.{word, differs, tableFrom, tableTests}
+use Rattle.marks.proofs.Laws.{sum-fits}
+use Rattle.tables.specs.Tables.{word, tableFrom, tableTests}
+use Rattle.tables.proofs.Rule.{length-table, table-follows}
 use Rattle.book.specs.Runs.{bookStep, run, Honest}
 use Rattle.book.proofs.RunLaws.{run-next}
-use Rattle.bench.specs.Book.{Call, ByBits, ByTable, ByHouse, step, bookTests, written, Brings, bench}
+use Rattle.bench.specs.Book.{Call, ByBits, ByTable, ByHouse, bookTests, written, Brings, bench}
 use Rattle.bench.specs.Parts.{partOf, Usable, AllUsable, partsJoined, zeros, PartsJoined}
 use Rattle.bench.proofs.KeyLaws.{key-passes}
-use Rattle.bench.proofs.TableRule.{length-table, table-follows}
 use Rattle.bench.proofs.Guarantee.{lists}
-
--- number 7 does not apply
-pub fits : (n c : ℕ) → n + c ≤ longest → passes (n ∷ c ∷ (n + c) ∷ []) ≡ false
-fits n c l = rw (le-ltb longest n (omega arith), le-ltb longest c (omega arith), le-ltb longest (n + c) l)
 
 -- numbers 5 and 6 do not apply
 table-passes : {S A : Type 0} (key : ℕ) (ts : List Test) (kept : S) (value : A)
@@ -32,9 +26,10 @@ table-passes : {S A : Type 0} (key : ℕ) (ts : List Test) (kept : S) (value : A
 table-passes key ts kept value = rw (length-table (word 8 key) 0 1024, table-follows (word 8 key) 0 1024)
 
 module _ (key : ℕ) (a : accepted key ≡ true) where
+  -- number 7 does not apply
   sum-passes : (file part : List ℕ) → length file + length part ≤ longest
       → firstOf (sumTest (length file) (length part) ∷ []) file (file ++ part) ≡ Done (file ++ part)
-  sum-passes file part l = rw (fits (length file) (length part) l)
+  sum-passes file part l = rw (sum-fits (length file) (length part) l)
 
   -- the book takes the part
   pub taken : (file : List ℕ) (c : Call) → Usable key c → length file + length (partOf c) ≤ longest → bookStep bench key file c ≡ Done (file ++ partOf c)

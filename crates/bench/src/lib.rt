@@ -1,11 +1,34 @@
 // The Bench level: the functions that it sells, for C. Each answers 0 or the refusal's number; on refusal every lent place and buffer
 // keeps what it held. The guarantee over lists of these calls stands in specs/ and proofs/.
 ghost use mathlib.Core.Path.{_≡_};
-ghost use Rattle.refusals.specs.Refusals.{numberOf};
+ghost use Rattle.refusals.specs.Refusals.{numberOf, stateOf, valueOr};
 ghost use Rattle.keys.specs.Testing.{testKey};
+ghost use Rattle.marks.specs.Feeding.{begin, feedBits, fed, markIn};
+ghost use Rattle.bench.specs.Places.{markAt};
 use keys::Tested;
+use marks::Begun;
+use marks::Fed;
+use marks::Running;
 
-// Is the key accepted?
+// The mark of an answer to the two places, and its number. On refusal the mark is the one that was handed in.
+pub fn store(answer: Fed, fingerprint: &mut u64, length: &mut u64) -> u32
+    ensures { λ r. ⌜ (r ≡ numberOf (fed answer)) × (markAt (now (fingerprint .exit)) (now (length .exit)) ≡ markIn (stateOf (fed answer))) ⌝ }
+{
+    match answer {
+        Fed::Next(m) => {
+            *fingerprint = m.fingerprint;
+            *length = m.length;
+            0
+        }
+        Fed::Refused(r, m) => {
+            *fingerprint = m.fingerprint;
+            *length = m.length;
+            refusals::number(r)
+        }
+    }
+}
+
+// Is the key accepted? Numbers 1, 2.
 #[no_mangle]
 pub extern "C" fn gfp_test_key(key: u64) -> u32
     ensures { λ r. ⌜ r ≡ numberOf (testKey key) ⌝ }
@@ -14,4 +37,38 @@ pub extern "C" fn gfp_test_key(key: u64) -> u32
         Tested::Accepted => 0,
         Tested::Refused(r) => refusals::number(r),
     }
+}
+
+// The mark of the empty file. Numbers 1, 2.
+#[no_mangle]
+pub extern "C" fn gfp_begin(key: u64, fingerprint: &mut u64, length: &mut u64) -> u32
+    ensures { λ r. ⌜
+        (r ≡ numberOf (begin key))
+        × (markAt (now (fingerprint .exit)) (now (length .exit)) ≡ valueOr (markAt (now (fingerprint .entry)) (now (length .entry))) (begin key))
+        ⌝ }
+{
+    match Running::begin(key) {
+        Begun::Started(m) => {
+            *fingerprint = m.fingerprint;
+            *length = m.length;
+            0
+        }
+        Begun::Refused(r) => refusals::number(r),
+    }
+}
+
+// The next part of a file, bit by bit. Numbers 1, 2, 7, 8.
+#[no_mangle]
+pub extern "C" fn gfp_feed(key: u64, fingerprint: &mut u64, length: &mut u64, part: &[u8]) -> u32
+    ensures { λ r. ⌜
+        (r ≡ numberOf (feedBits key (markAt (now (fingerprint .entry)) (now (length .entry))) (now (part .entry))))
+        × (markAt (now (fingerprint .exit)) (now (length .exit)) ≡ stateOf (feedBits key (markAt (now (fingerprint .entry)) (now (length .entry))) (now (part .entry))))
+        ⌝ }
+{
+    let m = Running {
+        key: key,
+        fingerprint: *fingerprint,
+        length: *length,
+    };
+    store(m.feed(part), fingerprint, length)
 }

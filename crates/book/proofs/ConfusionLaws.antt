@@ -21,7 +21,7 @@ use Rattle.acceptance.specs.Keys.{accepted}
 use Rattle.acceptance.proofs.Laws.{accepted-pos, accepted-iff, and-both}
 use Rattle.files.specs.Files.{value, fingerprint, Bytes}
 use Rattle.files.proofs.Values.{value-degree, value-inj}
-use Rattle.book.specs.Confusions.{confused, countFrom, Burst}
+use Rattle.book.specs.Confusions.{confused, Burst}
 use Rattle.book.specs.Claims.{ConfusionsCount, BurstsCount}
 use Rattle.book.proofs.CountLaws.{Chosen, chosen, length-chosen, all-chosen, distinct-chosen, none-long}
 use Rattle.book.proofs.BurstLaws.{no-burst, burst-shifted}

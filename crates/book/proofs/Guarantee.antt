@@ -1,9 +1,8 @@
 -- Demand 3 for every level whose calls keep the book, and for every type of routes that leave a file's fingerprint.
 use mathlib.Core.Path.{_≡_, refl, sym, ap, _∙_}
-use mathlib.Core.Logic.{_↔_}
 use mathlib.Core.Bool.{true}
 use mathlib.Core.List.{List, []}
-use Prim.Native.Nat.{ℕ, _+_, _^_, _≤_, _<_}
+use Prim.Native.Nat.{ℕ, _<_}
 use lib.Dec.{T}
 use lib.ListN.{length}
 use Rattle.gf2.proofs.Lists.{rising, all-map}
@@ -13,7 +12,7 @@ use Rattle.acceptance.proofs.Laws.{accepted-pos}
 use Rattle.files.specs.declared.Mark.{Mark}
 use Rattle.files.specs.Files.{fingerprint, markOf}
 use Rattle.book.specs.Runs.{Level, bookStep, run, Leaves}
-use Rattle.book.specs.Confusions.{Routes, Confuses, confused}
+use Rattle.book.specs.Confusions.{Routes, Confuses}
 use Rattle.book.specs.Claims.{Lists, Lowest, Confusions, Counted, Bursts}
 use Rattle.book.proofs.RunLaws.{Keeps, in-step}
 use Rattle.book.proofs.ConfusionLaws.{Equal, equal-iff, equal-keys, no-equal-key}

@@ -18,8 +18,12 @@ unfoldable pub joined : ℕ → Mark → Mark → Mark
 joined key x y =
     record { fingerprint = rem key (x .fingerprint * 2 ^ (8 * y .length) ⊕ y .fingerprint ⊕ 2 ^ (8 * y .length)); length = x .length + y .length }
 
+-- numbers 7 and 8 of two marks
+abbrev pub marksTests : ℕ → Mark → Mark → List Test
+marksTests key m other = sumTest (m .length) (other .length) ∷ (unreduced key m || unreduced key other) ⇒ MarkNotReduced ∷ []
+
 abbrev pub joinTests : ℕ → Mark → Mark → List Test
-joinTests key m other = keyTests key ++ sumTest (m .length) (other .length) ∷ (unreduced key m || unreduced key other) ⇒ MarkNotReduced ∷ []
+joinTests key m other = keyTests key ++ marksTests key m other
 
 -- the mark m is the state; the other mark's file goes behind it, or in front of it
 unfoldable pub joinBehind : ℕ → Mark → Mark → Answer Mark Mark
@@ -36,13 +40,14 @@ replaced key m place old new =
       length = m .length;
     }
 
-unfoldable pub replacePage : ℕ → Mark → ℕ → List ℕ → List ℕ → Answer Mark Mark
-replacePage key m place old new =
-    firstOf
-    (keyTests key
-    ++ passes (m .length ∷ length old ∷ length new ∷ []) ⇒ TooLong
+-- numbers 7 to 10
+abbrev pub pageTests : ℕ → Mark → ℕ → List ℕ → List ℕ → List Test
+pageTests key m place old new =
+    passes (m .length ∷ length old ∷ length new ∷ []) ⇒ TooLong
     ∷ unreduced key m ⇒ MarkNotReduced
     ∷ not (eqb (length old) (length new)) ⇒ PageLengthsDiffer
     ∷ ltb (m .length) (place + length old) ⇒ PagePastEnd
-    ∷ [])
-    m (replaced key m place old new)
+    ∷ []
+
+unfoldable pub replacePage : ℕ → Mark → ℕ → List ℕ → List ℕ → Answer Mark Mark
+replacePage key m place old new = firstOf (keyTests key ++ pageTests key m place old new) m (replaced key m place old new)

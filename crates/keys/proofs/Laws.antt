@@ -1,16 +1,93 @@
--- What the callers of the test rely on.
+-- What the callers of the test rely on. A caller that takes the answer t apart has `tested t ≡ testKey key` and, of its arm, t ≡ Accepted or
+-- t ≡ Refused q.
 use mathlib.Core.Path.{_≡_, refl, sym, ap, _∙_}
-use Prim.Native.Nat.{ℕ, suc, _^_, _≤_, _<_}
-use native.Mathlib.Nat.{lt-of-le-of-lt, le-of-suc-le-suc}
-use Rattle.gf2.specs.Polynomials.{degree}
+use mathlib.Core.Bool.{Bool, true, false}
+use mathlib.Core.List.{List, [], _∷_, _++_}
+use Prim.Native.Nat.{ℕ, suc, _%_, _^_, _≤_, _<_}
+use native.Mathlib.Nat.{lt-of-le-of-lt, le-of-suc-le-suc, mod-lt}
 use native.Mathlib.Omega.{arith}
+use lib.Dec.{ltb}
 use lib.Pow.{pow-pos}
+use borrow.Author.Tests.{ltb-false}
+use Rattle.gf2.specs.Polynomials.{degree, monic, Modulus}
 use Rattle.gf2.proofs.Degrees.{degree-is, deg-hi, deg-le, lt-of-pow-lt}
+use Rattle.gf2.proofs.Monics.{monic-of}
+use Rattle.refusals.specs.declared.Refusal.{Refusal}
+use Rattle.refusals.specs.declared.Refusal.the-variants.{KeyBelow256, KeyReducible}
+use Rattle.refusals.specs.Refusals.{Answer, Done, Refused, numberOf, Test, _⇒_, firstOf}
+use Rattle.refusals.proofs.Laws as refusals
+use Rattle.acceptance.specs.Keys.{reducible, accepted, keyTests}
+use Rattle.acceptance.proofs.Laws.{key-iff}
+use Rattle.keys.specs.declared.Tested.{Tested}
+use Rattle.keys.specs.declared.Tested.the-variants as cases
+use Rattle.keys.specs.Testing.{testKey, tested}
 
--- ---- the degree of a key: from d where it is at least 2 ^ d, at most 63 where it is a word
+-- ---- the degree of a key: d or more where it is at least 2 ^ d, at most 63 where it is a word
 
 pub degree-from : (d key : ℕ) → 2 ^ d ≤ key → d ≤ degree key
 degree-from d key l = le-of-suc-le-suc (lt-of-pow-lt d (suc (degree key)) (lt-of-le-of-lt l (deg-hi key (degree key) (degree-is key (omega (arith, pow-pos d))))))
 
 pub degree-word : (key : ℕ) → 0 < key → key < 2 ^ 64 → degree key < 64
 degree-word key p l = deg-le key (degree key) 64 (degree-is key p) l
+
+-- ---- what a caller knows in each arm
+
+-- neither 1 nor 2 applies
+pub record Passed (key : ℕ) : Type 0 where
+  pub low : ltb key 256 ≡ false
+  pub irreducible : reducible key ≡ false
+
+pub passed : (t : Tested) (key : ℕ) → tested t ≡ testKey key → t ≡ cases.Accepted → Passed key
+unfolding testKey
+passed t key e a =
+    record {
+      low = refusals.passed [] (reducible key ⇒ KeyReducible ∷ []) (ltb key 256) KeyBelow256 tt tt none;
+      irreducible = refusals.passed (ltb key 256 ⇒ KeyBelow256 ∷ []) [] (reducible key) KeyReducible tt tt none;
+    }
+  where
+    none : numberOf (testKey key) ≡ 0
+    none = ap numberOf (sym e ∙ ap tested a)
+
+pub refused : (t : Tested) (key : ℕ) (q : Refusal) → tested t ≡ testKey key → t ≡ cases.Refused q → testKey key ≡ Refused q tt
+refused t key q e a = sym e ∙ ap tested a
+
+-- ---- how the tests of a call that begin with those of the key go on
+
+module _ {S A : Type 0} (key : ℕ) (ts : List Test) (s : S) (v : A) where
+  pub first-passed : Passed key → firstOf (keyTests key ++ ts) s v ≡ firstOf ts s v
+  first-passed h = rw (h .low, h .irreducible)
+
+  pub first-refused : (q : Refusal) → testKey key ≡ Refused q tt → firstOf (keyTests key ++ ts) s v ≡ Refused q s
+  unfolding testKey
+  first-refused q e = go (ltb key 256) (reducible key) e
+    where
+      go : (x y : Bool) → firstOf (x ⇒ KeyBelow256 ∷ y ⇒ KeyReducible ∷ []) (tt {0}) (tt {0}) ≡ Refused q tt
+          → firstOf (x ⇒ KeyBelow256 ∷ y ⇒ KeyReducible ∷ ts) s v ≡ Refused q s
+      go true y f = cc
+      go false true f = cc
+      go false false f = let z : _≡_ {A = ℕ} 0 1 = cc in absurd (omega arith)
+
+-- ---- a key that passed
+
+module _ {key : ℕ} (h : Passed key) where
+  pub passed-low : 256 ≤ key
+  passed-low = ltb-false key 256 (h .low)
+
+  pub passed-pos : 0 < key
+  passed-pos = omega (arith, passed-low)
+
+  pub passed-monic : monic (degree key) (key % 2 ^ degree key) ≡ key
+  passed-monic = monic-of (degree key) key (degree-is key passed-pos)
+
+  pub passed-from : 8 ≤ degree key
+  passed-from = degree-from 8 key passed-low
+
+  pub passed-word : key < 2 ^ 64 → degree key < 64
+  passed-word l = degree-word key passed-pos l
+
+  -- the modulus as the code holds it
+  pub passed-modulus : key < 2 ^ 64 → Modulus (degree key) (key % 2 ^ degree key)
+  passed-modulus l = (omega (arith, passed-from), omega (arith, passed-word l), mod-lt key (pow-pos (degree key)))
+
+  pub passed-accepted : key < 2 ^ 64 → accepted key ≡ true
+  passed-accepted l = key-iff key l .1 (h .low, h .irreducible)

@@ -1,2 +1,3 @@
 pub mod Apart
+pub mod Drawing
 pub mod Readings

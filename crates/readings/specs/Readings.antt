@@ -3,16 +3,13 @@
 use mathlib.Core.Path.{_≡_}
 use mathlib.Core.List.{List, [], _∷_}
 use Prim.Native.Nat.{ℕ}
-use Rattle.refusals.specs.Refusals.{stateOf, numberOf, firstOf}
-use Rattle.acceptance.specs.Keys.{keyTests}
+use Rattle.refusals.specs.Refusals.{Done, stateOf, numberOf}
 use Rattle.files.specs.declared.Mark.{Mark}
 use Rattle.files.specs.Files.{fingerprint}
+use Rattle.keys.specs.Testing.{testKey}
 use Rattle.compose.specs.Composing.{joinBehind}
+use Rattle.draw.specs.Drawing.{draw}
 use Rattle.book.specs.Confusions.{Burst}
-
--- the number that a key is refused with; 0 where it is accepted
-abbrev pub keyNumber : ℕ → ℕ
-keyNumber key = numberOf {S = Unit {0}} {A = Unit {0}} (firstOf (keyTests key) tt tt)
 
 abbrev pub mark : ℕ → ℕ → Mark
 mark f n = record { fingerprint = f; length = n }
@@ -27,9 +24,11 @@ keyFile = 0x01 ∷ 0x1B ∷ []
 abbrev pub Readings : Type 0
 Readings =
     -- keys
-    (keyNumber 0x101 ≡ 2)
-    × (keyNumber 0x405 ≡ 2)
-    × (keyNumber 0x11B ≡ 0)
+    (numberOf (testKey 0x101) ≡ 2)
+    × (numberOf (testKey 0x405) ≡ 2)
+    × (testKey 0x11B ≡ Done tt)
+    -- drawing, degree 11, element 3
+    × (draw 11 3 ≡ Done 0xF0B)
     -- key 0x11B, file to fingerprint
     × (fingerprint 0x11B [] ≡ 0x01)
     × (fingerprint 0x11B (0x00 ∷ []) ≡ 0x1B)

@@ -128,3 +128,10 @@ table-only rule n (x ∷ xs) e =
 
 pub table-is : (rule : ℕ → ℕ) (c : ℕ) (words : List ℕ) → length words ≡ c → Follows rule c words → words ≡ tableFrom rule 0 c
 table-is rule c words l f = table-only rule 0 words (none-differs rule words (λ n h. f n (rw l at h))) ∙ ap (tableFrom rule 0) l
+
+-- what is known of the words where they are the table
+pub table-length : (rule : ℕ → ℕ) (c : ℕ) (words : List ℕ) → words ≡ tableFrom rule 0 c → length words ≡ c
+table-length rule c words e = ap length e ∙ length-table rule 0 c
+
+pub table-rule : (rule : ℕ → ℕ) (c : ℕ) (words : List ℕ) → words ≡ tableFrom rule 0 c → Follows rule (length words) words
+table-rule rule c words e = follows rule words (rw e (table-follows rule 0 c))

@@ -1,10 +1,11 @@
 -- Tables (document 01, "Tables"; 003, section 4, for every degree), for groups of w bits: document 01 has w = 8 and four groups.
+use mathlib.Core.Path.{_≡_}
 use mathlib.Core.Bool.{Bool, false, _||_, not}
 use mathlib.Core.List.{List, [], _∷_, _++_}
-use Prim.Native.Nat.{ℕ, zero, suc, _+_, _*_, _/_, _%_, _^_}
+use Prim.Native.Nat.{ℕ, zero, suc, _+_, _*_, _/_, _%_, _^_, _≤_}
 use lib.Dec.{eqb}
 use lib.ListN.{length}
-use Rattle.gf2.specs.Polynomials.{degree, rem}
+use Rattle.gf2.specs.Polynomials.{degree, monic, rem, Modulus}
 use Rattle.refusals.specs.declared.Refusal.the-variants.{TableSize, TableWord}
 use Rattle.refusals.specs.Refusals.{Answer, Test, _⇒_, firstOf}
 use Rattle.acceptance.specs.Keys.{keyTests}
@@ -24,6 +25,14 @@ differs rule n (x ∷ xs) = not (eqb x (rule n)) || differs rule (suc n) xs
 unfoldable pub tableFrom : (ℕ → ℕ) → ℕ → ℕ → List ℕ
 tableFrom rule n zero = []
 tableFrom rule n (suc c) = rule n ∷ tableFrom rule (suc n) c
+
+-- the words are the key's table
+abbrev pub Table : ℕ → List ℕ → Type 0
+Table key words = words ≡ tableFrom (word 8 key) 0 1024
+
+-- the same of a modulus as the code holds it: its degree, at least 8, and the coefficients below
+abbrev pub TableOf : ℕ → ℕ → List ℕ → Type 0
+TableOf k low words = Modulus k low × (8 ≤ k) × Table (monic k low) words
 
 -- number 5
 abbrev pub sizeTest : List ℕ → Test

@@ -1,5 +1,5 @@
 use mathlib.Core.Path.{_≡_, refl, sym, ap, _∙_}
-use Prim.Native.Nat.{_+_, _-_, _*_, _%_, _^_, _≤_, _<_}
+use Prim.Native.Nat.{ℕ, _+_, _-_, _*_, _%_, _^_, _≤_, _<_}
 use native.Mathlib.Omega.{arith}
 use borrow.Author.Needs.{needs}
 use lib.Bits.{bitXor}
@@ -53,13 +53,13 @@ unfolding _⊕_
 loop-again c =
     let squares = c .before .before .args .t1 in
     let l = c .before .loop in
-    let v = bitXor (getD squares (l .i) 0) (1 * 2 ^ (l .i) % 2 ^ 64) in
     let e : l .i + 1 - 1 ≡ l .i - 1 + 1 = omega arith in
-    let place : 1 + (l .i - 1) ≡ l .i = omega arith in (
+    let place : l .i ≡ 1 + (l .i - 1) = omega arith in
+    let value = ap (bitXor (getD squares (l .i) 0)) (shifted-one (l .i) (omega arith)) ∙ ap (λ (j : ℕ). getD squares j 0 ⊕ 2 ^ j) place in (
       omega arith,
       omega arith,
-      length-set (l .rows) (l .i - 1) v ∙ l .inv .2,
-      rw e (fill (λ j. getD squares j 0 ⊕ 2 ^ j) 1 (l .i - 1) v (l .rows) (omega arith) (l .inv .3) (rw (place, shifted-one (l .i) (omega arith)))),
+      simp length-set (l .inv .2),
+      rw e (fill (λ j. getD squares j 0 ⊕ 2 ^ j) 1 (l .i - 1) _ (l .rows) (omega arith) (l .inv .3) value),
     )
 
 returns : tie.Need-returns Inv-loop μ-loop

@@ -1,0 +1,32 @@
+-- Both fields of the answer's mark are stored.
+use mathlib.Core.Path.{_≡_, sym, ap, _∙_}
+use Rattle.refusals.specs.Refusals.{numberOf, stateOf}
+use Rattle.files.specs.declared.Mark.{Mark}
+use Rattle.marks.specs.declared.Fed.{Fed}
+use Rattle.marks.specs.Feeding.{fed, markIn}
+use borrow.Author.Needs.{needs}
+use Rattle.bench.proofs.store.Statement.{statement}
+use Rattle.bench.proofs.store.Tie as tie
+
+enum-known-answer : tie.Need-enum-known-answer
+enum-known-answer c = search needs
+
+enum-known-answer-2 : tie.Need-enum-known-answer-2
+enum-known-answer-2 c = search needs
+
+number-requires : tie.Need-number-requires
+number-requires c κs = search needs
+
+returns : tie.Need-returns
+returns c =
+    let e = sym (c .before .answer .given .1) in
+    (ap (λ (x : Fed). numberOf (fed x)) e, ap (λ (x : Fed). markIn (stateOf (fed x))) e)
+
+returns-2 : tie.Need-returns-2
+returns-2 c =
+    let e = sym (c .before .before .answer2 .given .1) in
+    (c .number .ensures ∙ ap (λ (x : Fed). numberOf (fed x)) e, ap (λ (x : Fed). markIn (stateOf (fed x))) e)
+
+pub store-spec : {M : Type 1} → statement M
+store-spec =
+    tie.close (tie.spec enum-known-answer enum-known-answer-2 number-requires returns returns-2)

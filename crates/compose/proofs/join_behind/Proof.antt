@@ -1,0 +1,41 @@
+-- `compose::join_behind` meets its contract: the tests of the key, and then those of `join`.
+use mathlib.Core.Path.{_∙_}
+use borrow.Author.Needs.{needs}
+use Rattle.keys.proofs.Laws.{passed, passed-low}
+use Rattle.marks.specs.Feeding.{markIn}
+use Rattle.compose.specs.Composing.{marksTests, joined, joinBehind}
+use Rattle.compose.proofs.Laws.{key-refused, key-passed}
+use Rattle.compose.proofs.join_behind.Statement.{statement}
+use Rattle.compose.proofs.join_behind.Tie as tie
+
+test-requires : tie.Need-test-requires
+test-requires c κs = search needs
+
+enum-known-r : tie.Need-enum-known-r
+enum-known-r c = search needs
+
+enum-told : tie.Need-enum-told
+enum-told c = search needs
+
+join-requires : tie.Need-join-requires
+join-requires c κs = let t = c .before .before in passed-low (passed (t .test .result) _ (t .test .ensures) (c .enum-told .given .1))
+
+returns : tie.Need-returns
+unfolding joinBehind
+returns c =
+    let t = c .before .before .before in
+    let a = t .before .args in
+    let m = markIn (a .m) in
+    key-refused (t .test .result) (a .m .key) (t .test .ensures) (marksTests (a .m .key) m (a .other)) m (joined (a .m .key) m (a .other)) _ (c .before .r .given .1)
+
+returns-2 : tie.Need-returns-2
+unfolding joinBehind
+returns-2 c =
+    let t = c .before .before .before in
+    let a = t .before .args in
+    let m = markIn (a .m) in
+    c .join .ensures
+    ∙ key-passed (t .test .result) (a .m .key) (t .test .ensures) (marksTests (a .m .key) m (a .other)) m (joined (a .m .key) m (a .other)) (c .before .enum-told .given .1)
+
+pub join-behind-spec : {M : Type 1} → statement M
+join-behind-spec = tie.close (tie.spec test-requires enum-known-r enum-told join-requires returns returns-2)

@@ -1,0 +1,44 @@
+-- `compose::join_in_front` meets its contract: the tests of the key, and then those of `join`.
+use mathlib.Core.Path.{ap, _∙_}
+use mathlib.Core.List.{List}
+use borrow.Author.Needs.{needs}
+use Rattle.refusals.specs.Refusals.{Test, firstOf}
+use Rattle.keys.proofs.Laws.{passed, passed-low}
+use Rattle.marks.specs.Feeding.{markIn, fedUnder}
+use Rattle.compose.specs.Composing.{marksTests, joined, joinInFront}
+use Rattle.compose.proofs.Laws.{key-refused, key-passed, marks-swap}
+use Rattle.compose.proofs.join_in_front.Statement.{statement}
+use Rattle.compose.proofs.join_in_front.Tie as tie
+
+test-requires : tie.Need-test-requires
+test-requires c κs = search needs
+
+enum-known-r : tie.Need-enum-known-r
+enum-known-r c = search needs
+
+enum-told : tie.Need-enum-told
+enum-told c = search needs
+
+join-requires : tie.Need-join-requires
+join-requires c κs = let t = c .before .before in passed-low (passed (t .test .result) _ (t .test .ensures) (c .enum-told .given .1))
+
+returns : tie.Need-returns
+unfolding joinInFront
+returns c =
+    let t = c .before .before .before in
+    let a = t .before .args in
+    let m = markIn (a .m) in
+    key-refused (t .test .result) (a .m .key) (t .test .ensures) (marksTests (a .m .key) m (a .other)) m (joined (a .m .key) (a .other) m) _ (c .before .r .given .1)
+
+returns-2 : tie.Need-returns-2
+unfolding joinInFront
+returns-2 c =
+    let t = c .before .before .before in
+    let a = t .before .args in
+    let m = markIn (a .m) in
+    c .join .ensures
+    ∙ ap (λ (ts : List Test). fedUnder (a .m .key) (firstOf ts m (joined (a .m .key) (a .other) m))) (marks-swap (a .m .key) (a .other) m)
+    ∙ key-passed (t .test .result) (a .m .key) (t .test .ensures) (marksTests (a .m .key) m (a .other)) m (joined (a .m .key) (a .other) m) (c .before .enum-told .given .1)
+
+pub join-in-front-spec : {M : Type 1} → statement M
+join-in-front-spec = tie.close (tie.spec test-requires enum-known-r enum-told join-requires returns returns-2)

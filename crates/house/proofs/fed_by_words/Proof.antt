@@ -1,0 +1,26 @@
+-- The constant is the table that `tables::feeding::fed` requires: the checker computes the rows and compares.
+use mathlib.Core.Path.{ap, _∙_}
+use Prim.Native.Nat.{ℕ}
+use native.Mathlib.Omega.{arith}
+use borrow.Author.Needs.{needs}
+use Rattle.gf2.specs.Polynomials.{monic, rem}
+use Rattle.files.specs.Files.{bits, valueFrom}
+use Rattle.house.proofs.Rows.{same, rows}
+use Rattle.house.proofs.House.{house-monic, house-table}
+use Rattle.house.proofs.fed_by_words.Statement.{statement}
+use Rattle.house.proofs.fed_by_words.Tie as tie
+
+slice-aggregate-fed : tie.Need-slice-aggregate-fed
+slice-aggregate-fed c = search needs
+
+fed-requires : tie.Need-fed-requires
+unfolding monic same rows
+fed-requires c κs = (((omega arith, omega arith, omega arith), omega arith, house-table _ tt), c .before .before .pre)
+
+returns : tie.Need-returns
+returns c =
+    let a = c .before .before .before .args in
+    c .fed .ensures ∙ ap (λ (p : ℕ). rem p (valueFrom (a .f) (bits (a .part .now)))) house-monic
+
+pub fed-by-words-spec : {M : Type 1} → statement M
+fed-by-words-spec = tie.close (tie.spec slice-aggregate-fed fed-requires returns)

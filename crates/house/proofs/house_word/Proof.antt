@@ -1,0 +1,35 @@
+-- The constant is the table: the checker computes the rows and compares. The law carries it to each entry.
+use mathlib.Core.Path.{ap, sym}
+use mathlib.Core.List.{List}
+use Prim.Native.Nat.{ℕ}
+use lib.ListN.{getD, List·getD-eq-default}
+use borrow.Author.Needs.{needs}
+use borrow.Table.Row as Row
+use Rattle.tables.specs.Tables.{word, tableFrom, houseKey}
+use Rattle.tables.proofs.Rule.{length-table}
+use Rattle.house.proofs.Rows.{same, rows}
+use Rattle.house.proofs.House.{house-table}
+use Rattle.house.proofs.house_word.Statement.{statement}
+use Rattle.house.proofs.house_word.Tie as tie
+use Rattle.house.proofs.house_word.Reads as reads
+use Rattle.house.proofs.house_word.Lts as lts
+
+-- the words of the constant, as they lie in the function's memory
+abbrev constant : tie.Start → List ℕ
+constant s = Row.get 4 (lts.T5 .locals) (lts.m3 reads.Pre reads.Post s)
+
+mul-result : tie.Need-mul-result
+mul-result c = search needs
+
+array-read-result : tie.Need-array-read-result
+array-read-result c = search needs
+
+returns : tie.Need-returns
+unfolding same rows
+returns c = ap (λ (ws : List ℕ). getD ws (c .before .args .n) 0) (house-table (constant (c .before)) tt)
+
+returns-2 : tie.Need-returns-2
+returns-2 c = sym (List·getD-eq-default (tableFrom (word 8 houseKey) 0 1024) 0 (rw (length-table (word 8 houseKey) 0 1024) (c .if1 .left)))
+
+pub house-word-spec : {M : Type 1} → statement M
+house-word-spec = tie.close (tie.spec mul-result array-read-result returns returns-2)

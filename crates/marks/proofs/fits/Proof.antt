@@ -1,0 +1,15 @@
+use native.Mathlib.Omega.{arith}
+use mathlib.Core.Path.{_≡_}
+use Prim.Native.Nat.{_+_, _≤_, _<_}
+use Rattle.marks.proofs.Laws.{sum-passes, room}
+use Rattle.marks.proofs.fits.Statement.{statement}
+use Rattle.marks.proofs.fits.Tie as tie
+
+returns : tie.Need-returns
+returns c = let a = c .before .args in rw (sum-passes (a .a) (a .b) (omega arith))
+
+returns-2 : tie.Need-returns-2
+returns-2 c = room (c .before .args .a) (c .before .args .b) (omega arith)
+
+pub fits-spec : {M : Type 1} → statement M
+fits-spec = tie.close (tie.spec returns returns-2)

@@ -1,0 +1,67 @@
+-- Laws of the key's line: one digit more, and which tests make it a key.
+use mathlib.Core.Path.{_≡_, refl, sym, ap, _∙_}
+use mathlib.Core.Bool.{Bool, true, false, cond, _&&_}
+use mathlib.Core.List.{List, [], _∷_, _++_}
+use Prim.Native.Nat.{ℕ, zero, suc, _+_, _-_, _*_, _/_, _%_, _^_, _≤_, _<_}
+use lib.Pow.{pow-add}
+use native.Mathlib.Nat.{zero-add}
+use native.Mathlib.Numerals.{add-one}
+use native.Mathlib.Omega.{arith}
+use lib.Dec.{leb, ltb}
+use lib.ListN.{length, getD, take, drop}
+use lib.Seq.{drop-cons, take-length}
+use borrow.Author.Tests.{ltb-true, lt-ltb, le-ltb, le-leb, lt-leb}
+use Rattle.bytes.specs.Bytes.{indexOf, slice}
+use Rattle.acceptance.proofs.Laws.{and-both}
+use Rattle.printing.specs.Printing.{digit, allDigits, hexFrom, keyBefore, keyLine}
+use Rattle.printing.specs.declared.KeyLine.{KeyLine}
+use Rattle.printing.specs.declared.KeyLine.the-variants.{NoKey, Key}
+
+module _ (line : List ℕ) (i : ℕ) (h : i < length line) where
+  pub digits-next : allDigits (drop i line) ≡ (ltb (digit (getD line i 0)) 16 && allDigits (drop (i + 1) line))
+  unfolding allDigits
+  digits-next = rw (add-one, drop-cons line i 0 h)
+
+  pub hex-next : (s : ℕ) → hexFrom s (drop i line) ≡ hexFrom (s * 16 + digit (getD line i 0)) (drop (i + 1) line)
+  unfolding hexFrom
+  hex-next s = rw (add-one, drop-cons line i 0 h)
+
+  pub digit-here : allDigits (drop i line) ≡ true → (digit (getD line i 0) < 16) × (allDigits (drop (i + 1) line) ≡ true)
+  digit-here e =
+      let both = and-both (ltb (digit (getD line i 0)) 16) (allDigits (drop (i + 1) line)) (sym digits-next ∙ e) in
+      (ltb-true (digit (getD line i 0)) 16 (both .0), both .1)
+
+-- room for a digit more
+pub hex-lt : (s d i : ℕ) → s < 2 ^ (4 * i) → d < 16 → s * 16 + d < 2 ^ (4 * (i + 1))
+hex-lt s d i h l = let e : 4 * (i + 1) ≡ 4 * i + 4 = omega arith in rw (e, pow-add) (omega arith)
+
+-- ---- the tests
+
+and-false : (a b : Bool) → b ≡ false → (a && b) ≡ false
+and-false true b e = e
+and-false false b e = refl
+
+pub line-at : (input : List ℕ) (r : ℕ) → r ≡ 0 + indexOf 10 (slice 0 (length input) input) → keyLine input ≡ keyBefore r input
+unfolding keyLine slice
+line-at input r e = ap (λ (n : ℕ). keyBefore n input) (sym (e ∙ zero-add (indexOf 10 (take (length input) input)) ∙ ap (indexOf 10) (take-length input)))
+
+module _ (n : ℕ) (input : List ℕ) where
+  pub no-newline : length input ≤ n → keyBefore n input ≡ NoKey
+  unfolding keyBefore
+  no-newline h = rw (le-ltb n (length input) h)
+
+  pub empty-line : n < 1 → keyBefore n input ≡ NoKey
+  unfolding keyBefore
+  empty-line h = rw (lt-leb 1 n h, and-false (ltb n (length input)) false refl)
+
+  pub long-line : 16 < n → keyBefore n input ≡ NoKey
+  unfolding keyBefore
+  long-line h = rw (lt-leb n 16 h, and-false (leb 1 n) false refl, and-false (ltb n (length input)) false refl)
+
+  pub other-bytes : allDigits (take n input) ≡ false → keyBefore n input ≡ NoKey
+  unfolding keyBefore
+  other-bytes e = rw (and-false (ltb n (length input) && (leb 1 n && leb n 16)) (allDigits (take n input)) e)
+
+  pub key-digits : n < length input → 1 ≤ n → n ≤ 16 → allDigits (take n input) ≡ true → keyBefore n input ≡ Key (hexFrom 0 (take n input)) (n + 1)
+  unfolding keyBefore
+  key-digits h lo hi e = rw (lt-ltb n (length input) h, le-leb 1 n lo, le-leb n 16 hi, e)

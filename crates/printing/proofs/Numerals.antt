@@ -1,0 +1,79 @@
+-- The fewest digits that hold a number are its numeral.
+use mathlib.Core.Path.{_≡_, refl, sym, ap, ap₂, _∙_}
+use mathlib.Core.Bool.{Bool, true, false, cond}
+use mathlib.Core.List.{List, [], _∷_, _++_}
+use Prim.Native.Nat.{ℕ, zero, suc, _+_, _-_, _*_, _/_, _%_, _^_, _≤_, _<_}
+use native.Mathlib.Nat.{le-refl, one-mul, mul-le-mul-right, mod-eq-of-lt, pow-zero, pow-suc, one-le-pow, pow-le-pow-right, div-lt-iff-lt-mul, le-div-iff-mul-le, div-lt-self}
+use native.Mathlib.Decide.{decLt}
+use native.Mathlib.Omega.{arith}
+use lib.Dec.{ltb}
+use borrow.Author.Tests.{lt-ltb, le-ltb}
+use Rattle.io.specs.Digits.{glyph, digits, Fewest}
+use Rattle.printing.specs.Printing.{digitsOf, numeral}
+
+module _ (b : ℕ) (two : 1 < b) where
+  -- a power above the first is no smaller than the base
+  base-le : (j : ℕ) → b ≤ b ^ suc j
+  base-le j = let p : 1 ≤ b ^ j = one-le-pow j b (omega arith) in rw pow-suc (rw one-mul at (mul-le-mul-right b p))
+
+  pos-base : 0 < b
+  pos-base = omega arith
+
+  less-one : (j : ℕ) → suc j - 1 ≡ j
+  less-one j = omega arith
+
+  -- a number below the base has one digit, any other has more
+  single : (n j : ℕ) → n < b → Fewest b 1 n (suc j) → j ≡ 0
+  single n zero l h = refl
+  single n (suc j) l h =
+      let q : b ^ suc j ≤ n = rw (less-one (suc j)) at (h .2 (omega arith)) in
+      absurd (omega (arith, base-le j))
+
+  several : (n j : ℕ) → b ≤ n → Fewest b 1 n (suc j) → 0 < j
+  several n zero l h = let e : b ^ 1 ≡ b = pow-suc b 0 ∙ simp (pow-zero, one-mul) in absurd (omega (arith, h .1))
+  several n (suc j) l h = omega arith
+
+  -- the digits above the last
+  above : (n j : ℕ) → b ≤ n → Fewest b 1 n (suc j) → Fewest b 1 (n / b) j
+  above n j l h = (pos, div-lt-iff-lt-mul pos-base .1 (rw pow-suc at (h .1)), low j h)
+    where
+      pos : 0 < j
+      pos = several n j l h
+
+      low : (j : ℕ) → Fewest b 1 n (suc j) → 1 < j → b ^ (j - 1) ≤ n / b
+      low zero h m = absurd (omega arith)
+      low (suc j) h m =
+          let q : b ^ suc j ≤ n = rw (less-one (suc j)) at (h .2 (omega arith)) in
+          rw less-one (le-div-iff-mul-le pos-base .1 (rw pow-suc at q))
+
+  step : (s n j : ℕ) → n ≤ suc s → Fewest b 1 n (suc j) → Dec (n < b)
+      → (n / b ≤ s → Fewest b 1 (n / b) j → digits b j (n / b) ≡ digitsOf s b (n / b))
+      → digits b (suc j) n ≡ digitsOf (suc s) b n
+  unfolding digitsOf
+  step s n j l h (yes q) ih = rw (lt-ltb n b q, single n j q h, mod-eq-of-lt q)
+  step s n j l h (no q) ih =
+      let m : b ≤ n = omega arith in
+      let d : n / b < n = div-lt-self (omega arith) two in
+      rw (le-ltb n b m, ih (omega arith) (above n j m h))
+
+  fewest : (s n k : ℕ) → n ≤ s → Fewest b 1 n k → digits b k n ≡ digitsOf s b n
+  unfolding digitsOf
+  fewest s n zero l h = absurd (omega (arith, h .0))
+  fewest zero n (suc j) l h = rw (single n j (omega arith) h)
+  fewest (suc s) n (suc j) l h = step s n j l h (decLt n b) (λ m f. fewest s (n / b) j m f)
+
+  -- no more digits than any count that holds the number
+  pub fewest-le : (s n k : ℕ) → 0 < s → n < b ^ s → Fewest b 1 n k → k ≤ s
+  fewest-le s n k p l h = go (decLt s k)
+    where
+      go : Dec (s < k) → k ≤ s
+      go (yes q) =
+          let m : s ≤ k - 1 = omega arith in
+          let w : b ^ s ≤ b ^ (k - 1) = pow-le-pow-right pos-base m in
+          let v : b ^ (k - 1) ≤ n = h .2 (omega arith) in
+          absurd (omega arith)
+      go (no q) = omega arith
+
+  pub numeral-is : (n k : ℕ) → Fewest b 1 n k → digits b k n ≡ numeral b n
+  unfolding numeral
+  numeral-is n k h = fewest n n k (le-refl n) h

@@ -1,0 +1,127 @@
+// The text of the printing program: the key's line that it reads, and the lines that it prints.
+use marks::Running;
+use refusals::Refusal;
+ghost use mathlib.Core.Path.{_≡_};
+ghost use mathlib.Core.Bool.{true};
+ghost use Prim.Native.Nat.{_+_, _≤_};
+ghost use mathlib.Core.List.{_++_};
+ghost use lib.ListN.{length};
+ghost use Rattle.printing.specs.Printing.{digit, allDigits, hexFrom, keyLine, numeral, putAt};
+
+// What the first line of an input says: the key, and the place where the file begins.
+pub enum KeyLine {
+    NoKey,
+    Key(u64, usize),
+}
+
+// The value of a lowercase hexadecimal digit; 16 of a byte that is none.
+fn digit(b: u8) -> u64
+    ensures { λ r. ⌜ r ≡ digit b ⌝ }
+{
+    let byte = b as u64;
+    if byte < 48 {
+        return 16;
+    }
+    if byte <= 57 {
+        return byte - 48;
+    }
+    if byte < 97 {
+        return 16;
+    }
+    if byte <= 102 {
+        return byte - 87;
+    }
+    16
+}
+
+fn all_digits(line: &[u8]) -> bool
+    ensures { λ r. ⌜ r ≡ allDigits (now (line .entry)) ⌝ }
+{
+    let mut i = 0;
+    while i < line.len() {
+        if 16 <= digit(line[i]) {
+            return false;
+        }
+        i += 1;
+    }
+    true
+}
+
+// The number that the digits write.
+fn hex_value(line: &[u8]) -> u64
+    requires { ⌜ (length (now line) ≤ 16) × (allDigits (now line) ≡ true) ⌝ }
+    ensures { λ r. ⌜ r ≡ hexFrom 0 (now (line .entry)) ⌝ }
+{
+    let mut value = 0;
+    let mut i = 0;
+    while i < line.len() {
+        value = value * 16 + digit(line[i]);
+        i += 1;
+    }
+    value
+}
+
+// The key that the first line of an input gives.
+pub fn key_line(input: &[u8]) -> KeyLine
+    ensures { λ r. ⌜ r ≡ keyLine (now (input .entry)) ⌝ }
+{
+    let n = bytes::scan::find(input, 0, input.len(), 10);
+    if n == input.len() {
+        return KeyLine::NoKey;
+    }
+    if n < 1 {
+        return KeyLine::NoKey;
+    }
+    if 16 < n {
+        return KeyLine::NoKey;
+    }
+    let line = &input[..n];
+    if !all_digits(line) {
+        return KeyLine::NoKey;
+    }
+    KeyLine::Key(hex_value(line), n + 1)
+}
+
+// Puts a text at a place of a buffer, and answers the place behind it.
+fn put(out: &mut [u8], at: usize, text: &[u8]) -> usize
+    requires { ⌜ at + length (now text) ≤ length (now out) ⌝ }
+    ensures { λ r. ⌜ r ≡ at + length (now (text .entry)) ⌝ }
+    ensures { λ _. ⌜ now (out .exit) ≡ putAt (now (out .entry)) at (now (text .entry)) ⌝ }
+{
+    let n = bytes::copy(text, &mut out[at..]);
+    at + n
+}
+
+// The same of two texts, one behind the other.
+fn put_both(out: &mut [u8], at: usize, first: &[u8], second: &[u8]) -> usize
+    requires { ⌜ at + length (now first) + length (now second) ≤ length (now out) ⌝ }
+    ensures { λ r. ⌜ r ≡ at + length (now (first .entry) ++ now (second .entry)) ⌝ }
+    ensures { λ _. ⌜ now (out .exit) ≡ putAt (now (out .entry)) at (now (first .entry) ++ now (second .entry)) ⌝ }
+{
+    let next = put(out, at, first);
+    put(out, next, second)
+}
+
+// The same of a label and a number in decimal.
+fn put_decimal(out: &mut [u8], at: usize, label: &[u8], n: u64) -> usize
+    requires { ⌜ at + length (now label) + 20 ≤ length (now out) ⌝ }
+    ensures { λ r. ⌜ r ≡ at + length (now (label .entry) ++ numeral 10 n) ⌝ }
+    ensures { λ r. ⌜ r ≤ at + length (now (label .entry)) + 20 ⌝ }
+    ensures { λ _. ⌜ now (out .exit) ≡ putAt (now (out .entry)) at (now (label .entry) ++ numeral 10 n) ⌝ }
+{
+    let mut digits = [0u8; 20];
+    let k = io::decimal(n, &mut digits);
+    put_both(out, at, label, &digits[..k])
+}
+
+// The same of a label and a number in hexadecimal.
+fn put_hex(out: &mut [u8], at: usize, label: &[u8], n: u64) -> usize
+    requires { ⌜ at + length (now label) + 16 ≤ length (now out) ⌝ }
+    ensures { λ r. ⌜ r ≡ at + length (now (label .entry) ++ numeral 16 n) ⌝ }
+    ensures { λ r. ⌜ r ≤ at + length (now (label .entry)) + 16 ⌝ }
+    ensures { λ _. ⌜ now (out .exit) ≡ putAt (now (out .entry)) at (now (label .entry) ++ numeral 16 n) ⌝ }
+{
+    let mut digits = [0u8; 16];
+    let k = io::hex(n, 1, &mut digits);
+    put_both(out, at, label, &digits[..k])
+}
