@@ -3,20 +3,21 @@ use mathlib.Core.Path.{_≡_, refl, sym, ap, ap₂, _∙_}
 use mathlib.Core.Bool.{Bool, true, false, _||_, not}
 use mathlib.Core.List.{List, [], _∷_, _++_}
 use Prim.Native.Nat.{ℕ, zero, suc, _+_, _-_, _*_, _/_, _%_, _^_, _≤_, _<_}
-use native.Mathlib.Nat.{add-zero, div-eq-of-lt, mul-le-mul-left}
+use native.Mathlib.Nat.{add-zero, div-eq-of-lt, mul-le-mul-left, mod-lt}
 use native.Mathlib.Decide.{decLt}
 use native.Mathlib.Omega.{arith}
 use lib.Dec.{leb, eqb}
 use lib.ListN.{length, getD}
-use lib.Pow.{pow-lt}
+use lib.Pow.{pow-lt, pow-pos}
 use borrow.Author.Tests.{le-leb, lt-leb, leb-false}
-use Rattle.gf2.specs.Polynomials.{_⊕_, _⊗_, rem, monic, degree}
-use Rattle.gf2.proofs.Degrees.{lt-of-high}
+use Rattle.gf2.specs.Polynomials.{_⊕_, _⊗_, rem, monic, degree, Modulus}
+use Rattle.gf2.proofs.Degrees.{lt-of-high, degree-is}
 use Rattle.gf2.proofs.Products.{one-⊗}
 use Rattle.gf2.proofs.Residues.{rem-lt, rem-small, rem-⊕}
 use Rattle.gf2.proofs.Powers.{rem-rem}
-use Rattle.gf2.proofs.Monics.{monic-pos, monic-degree}
+use Rattle.gf2.proofs.Monics.{monic-pos, monic-degree, monic-of}
 use Rattle.acceptance.proofs.Laws.{or-neither}
+use Rattle.keys.proofs.Laws.{degree-from, degree-word}
 use Rattle.files.specs.declared.Mark.{Mark}
 use Rattle.files.specs.Files.{bits, valueFrom, value, fingerprint, markOf}
 use Rattle.compose.specs.Composing.{joined}
@@ -49,6 +50,14 @@ unreduced-none k fs e = rw e
 pub reduced-first : (k f : ℕ) (fs : List ℕ) → someUnreduced k (f ∷ fs) ≡ false → (f < 2 ^ k) × (someUnreduced k fs ≡ false)
 unfolding someUnreduced
 reduced-first k f fs e = let o = or-neither (leb (2 ^ k) f) (someUnreduced k fs) e in (leb-false (2 ^ k) f (o .0), o .1)
+
+pub reduced-last : (k : ℕ) (fs : List ℕ) (f : ℕ) → someUnreduced k (fs ++ f ∷ []) ≡ false → (someUnreduced k fs ≡ false) × (f < 2 ^ k)
+unfolding someUnreduced
+reduced-last k [] f e = (refl, leb-false (2 ^ k) f (or-neither (leb (2 ^ k) f) false e .0))
+reduced-last k (g ∷ fs) f e =
+    let o = or-neither (leb (2 ^ k) g) (someUnreduced k (fs ++ f ∷ [])) e in
+    let i = reduced-last k fs f (o .1) in
+    (rw (o .0) (i .0), i .1)
 
 -- ---- marks joined
 
@@ -100,3 +109,21 @@ module _ (sheet : List ℕ) (key n size count : ℕ) (ek : key ≡ numberAt 5 8 
   count-small lo hi b =
       let t : count * size < n + size = rw ec (count-tight size n (omega arith)) in
       omega (arith, mul-le-mul-left count lo)
+
+-- the key as the code holds it
+pub record Held (key k low : ℕ) : Type 0 where
+  pub modulus : Modulus k low
+  pub eight : 8 ≤ k
+  pub word : k < 64
+  pub whole : monic k low ≡ key
+
+pub held : (key k low : ℕ) → 256 ≤ key → key < 2 ^ 64 → k ≡ degree key → low ≡ key % 2 ^ k → Held key k low
+held key k low l b ek el =
+    let from : 8 ≤ k = rw ek (degree-from 8 key l) in
+    let word : k < 64 = rw ek (degree-word key (omega arith) b) in
+    record {
+      modulus = (omega arith, omega arith, rw el (mod-lt key (pow-pos k)));
+      eight = from;
+      word = word;
+      whole = rw (el, ek) (monic-of (degree key) key (degree-is key (omega arith)));
+    }

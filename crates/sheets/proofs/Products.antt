@@ -18,13 +18,17 @@ use Rattle.multiples.specs.Rows.{Multiples, SameBefore}
 use Rattle.tables.specs.Groups.{looked}
 use Rattle.sheets.specs.Shifts.{Shifts}
 
+-- times the residue of a power of t
+pub product-shift : {key : ℕ} (pos : 0 < key) (a e : ℕ) → rem key (a ⊗ rem key (2 ^ e)) ≡ rem key (a * 2 ^ e)
+product-shift {key} pos a e = rem-⊗-right pos a (2 ^ e) ∙ ap (rem key) (⊗-pow e a)
+
 -- row j of the words has the multiples of t^(e + w·j), for each j below m
 abbrev pub Rows : ℕ → ℕ → ℕ → ℕ → List ℕ → Type 0
 Rows w e key m words = (j : ℕ) → j < m → Multiples key (rem key (2 ^ (e + w * j))) (j * 2 ^ w) (2 ^ w) words
 
 module _ (w e m : ℕ) {key : ℕ} (pos : 0 < key) (words : List ℕ) (rows : Rows w e key m words) where
   entry : (j i : ℕ) → j < m → i < 2 ^ w → getD words (j * 2 ^ w + i) 0 ≡ rem key (i * 2 ^ (e + w * j))
-  entry j i l h = rows j l i h ∙ rem-⊗-right pos i (2 ^ (e + w * j)) ∙ ap (rem key) (⊗-pow (e + w * j) i)
+  entry j i l h = rows j l i h ∙ product-shift pos i (e + w * j)
 
   sum : (h d : ℕ) → h % 2 ^ w * 2 ^ d ⊕ h / 2 ^ w * 2 ^ (d + w) ≡ h * 2 ^ d
   sum h d =
