@@ -6,3 +6,4 @@ pub mod Changes
 pub mod Guarantee
 pub mod Products
 pub mod Joining
+pub mod Answers

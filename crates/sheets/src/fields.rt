@@ -1,6 +1,8 @@
 // Numbers as bytes, the high byte first, and the number of pages.
 ghost use mathlib.Core.Path.{_≡_};
+ghost use mathlib.Core.Bool.{_||_, not};
 ghost use Prim.Native.Nat.{_+_, _*_, _≤_, _<_, _^_};
+ghost use lib.Dec.{ltb};
 ghost use lib.ListN.{length};
 ghost use lib.Seq.{sets};
 ghost use Rattle.sheets.specs.Layout.{bytesOf, numberAt, pageCount};
@@ -47,4 +49,17 @@ pub fn page_count(s: u64, n: u64) -> u64
     ensures { λ r. ⌜ r ≡ pageCount s n ⌝ }
 {
     (n + s - 1) / s
+}
+
+// Is the page size within 16 to 4,096?
+pub fn size_right(s: u64) -> bool
+    ensures { λ r. ⌜ r ≡ not (ltb s 16 || ltb 4096 s) ⌝ }
+{
+    if s < 16 {
+        return false;
+    }
+    if 4096 < s {
+        return false;
+    }
+    true
 }

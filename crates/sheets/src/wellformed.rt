@@ -43,12 +43,8 @@ fn fields_reduced(sheet: &[u8], k: u32, n: u64) -> bool
 
 // The first n page marks joined.
 fn pages_joined(sheet: &[u8], k: u32, low: u64, size: u64, n: u64) -> u64
-    requires {
-        ⌜ Modulus k low × (size ≤ 4096) × (19 + 8 * n ≤ length (now sheet)) × (someUnreduced k (numbersAt 19 8 n (now sheet)) ≡ false) ⌝
-    }
-    ensures {
-        λ r. ⌜ r ≡ joinedPages (monic k low) size (markOf (monic k low) []) (numbersAt 19 8 n (now (sheet .entry))) .fingerprint ⌝
-    }
+    requires { ⌜ Modulus k low × (size ≤ 4096) × (19 + 8 * n ≤ length (now sheet)) × (someUnreduced k (numbersAt 19 8 n (now sheet)) ≡ false) ⌝ }
+    ensures { λ r. ⌜ r ≡ joinedPages (monic k low) size (markOf (monic k low) []) (numbersAt 19 8 n (now (sheet .entry))) .fingerprint ⌝ }
 {
     let mut words = [0u64; 2048];
     shifts::fill(&mut words, k, low, size);
@@ -65,10 +61,8 @@ fn pages_joined(sheet: &[u8], k: u32, low: u64, size: u64, n: u64) -> u64
 
 // Are total, fingerprints and joining right?
 pub fn body_right(sheet: &[u8], key: u64, n: u64, size: u64) -> bool
-    requires {
-        ⌜ (27 ≤ length (now sheet)) × (256 ≤ key) × (16 ≤ size) × (size ≤ 4096) × (n < 2 ^ 32)
-        × (key ≡ numberAt 5 8 (now sheet)) × (n ≡ lengthIn version1 (now sheet)) × (size ≡ sizeIn version1 (now sheet)) ⌝
-    }
+    requires { ⌜ (27 ≤ length (now sheet)) × (256 ≤ key) × (16 ≤ size) × (size ≤ 4096) × (n < 2 ^ 32)
+        × (key ≡ numberAt 5 8 (now sheet)) × (n ≡ lengthIn version1 (now sheet)) × (size ≡ sizeIn version1 (now sheet)) ⌝ }
     ensures { λ r. ⌜ r ≡ not (bodyWrong version1 (length (now (sheet .entry))) (contentsIn version1 (now (sheet .entry)))) ⌝ }
 {
     let count = fields::page_count(size, n);

@@ -102,7 +102,7 @@ returns-2 c =
     let n = c .before .before .before .before .before .page-count .result in
     let l = s .args .sheet .now in
     let t : someUnreduced (degree (s .args .key)) (numbersAt 19 8 (n + 1) l) ≡ true =
-        rw (← (c .before .before .before .degree .ensures)) (not-false _ (sym (c .before .fields-reduced .ensures) ∙ not-true _ (c .if2 .taken))) in
+    rw (← (c .before .before .before .degree .ensures)) (not-false _ (sym (c .before .fields-reduced .ensures) ∙ not-true _ (c .if2 .taken))) in
     rw (body-is l (s .args .key) (s .args .n) (s .args .size) n (q .5) (q .6) (q .7) (c .before .before .before .before .before .page-count .ensures), eq-eqb (length l) (27 + 8 * n) (c .before .before .before .before .if1 .left), t)
 
 -- src/wellformed.rt:83:9
@@ -159,16 +159,16 @@ returns-3 c =
     let k = c .before .before .before .before .before .before .before .degree .result in
     let low = c .before .before .before .before .before .before .low-bits .result in
     let t : someUnreduced (degree key) (numbersAt 19 8 (n + 1) l) ≡ false =
-        rw (← (c .before .before .before .before .before .before .before .degree .ensures))
-        (not-true _ (sym (c .before .before .before .before .before .fields-reduced .ensures) ∙ not-false _ (c .before .before .before .before .if2 .left))) in
+    rw (← (c .before .before .before .before .before .before .before .degree .ensures))
+    (not-true _ (sym (c .before .before .before .before .before .fields-reduced .ensures) ∙ not-false _ (c .before .before .before .before .if2 .left))) in
     let size = s .args .size in
     let joined : c .before .before .before .pages-joined .result ≡ joinedPages key size (markOf key []) (numbersAt 19 8 n l) .fingerprint =
-        c .before .before .before .pages-joined .ensures ∙ ap (λ (m : ℕ). joinedPages m size (markOf m []) (numbersAt 19 8 n l) .fingerprint) (h .whole) in
+    c .before .before .before .pages-joined .ensures ∙ ap (λ (m : ℕ). joinedPages m size (markOf m []) (numbersAt 19 8 n l) .fingerprint) (h .whole) in
     let product : c .product .result ≡ rem key (numberAt (19 + 8 * n) 8 l * 2 ^ (8 * (n * size - s .args .n))) =
-        c .product .ensures
-        ∙ ap₂ (λ (x y : ℕ). rem (monic k low) (x ⊗ y)) (c .before .before .number-at .ensures .0) (c .before .power-of-t .ensures)
-        ∙ ap (λ (m : ℕ). rem m (numberAt (19 + 8 * n) 8 l ⊗ rem m (2 ^ (8 * (n * size - s .args .n))))) (h .whole)
-        ∙ product-shift pos (numberAt (19 + 8 * n) 8 l) (8 * (n * size - s .args .n)) in
+    c .product .ensures
+    ∙ ap₂ (λ (x y : ℕ). rem (monic k low) (x ⊗ y)) (c .before .before .number-at .ensures .0) (c .before .power-of-t .ensures)
+    ∙ ap (λ (m : ℕ). rem m (numberAt (19 + 8 * n) 8 l ⊗ rem m (2 ^ (8 * (n * size - s .args .n))))) (h .whole)
+    ∙ product-shift pos (numberAt (19 + 8 * n) 8 l) (8 * (n * size - s .args .n)) in
     rw (body-is l key (s .args .n) size n (q .5) (q .6) (q .7) (c .before .before .before .before .before .before .before .before .before .page-count .ensures), eq-eqb (length l) (27 + 8 * n) (c .before .before .before .before .before .before .before .before .if1 .left), t, joined, product)
     (sym (twice _))
 

@@ -38,8 +38,8 @@ returns c =
     let l = c .before .before .before .loop in
     let next = numbers-next (l .place) 8 (l .left) (a .sheet .now) (omega arith) in
     let here =
-        unreduced-here (a .k) (numberAt (l .place) 8 (a .sheet .now)) (numbersAt (l .place + 8) 8 (l .left - 1) (a .sheet .now))
-        (rw (c .before .number-at .ensures .0) at (c .if1 .taken)) in
+    unreduced-here (a .k) (numberAt (l .place) 8 (a .sheet .now)) (numbersAt (l .place + 8) 8 (l .left - 1) (a .sheet .now))
+    (rw (c .before .number-at .ensures .0) at (c .if1 .taken)) in
     sym (ap not (sym (l .inv .1) ∙ ap (someUnreduced (a .k)) next ∙ here))
 
 -- src/wellformed.rt:38:9
@@ -61,8 +61,8 @@ loop-again c =
     let l = c .before .before .before .loop in
     let next = numbers-next (l .place) 8 (l .left) (a .sheet .now) (omega arith) in
     let later =
-        unreduced-later (a .k) (numberAt (l .place) 8 (a .sheet .now)) (numbersAt (l .place + 8) 8 (l .left - 1) (a .sheet .now))
-        (rw (c .before .number-at .ensures .0) at (c .if1 .left)) in
+    unreduced-later (a .k) (numberAt (l .place) 8 (a .sheet .now)) (numbersAt (l .place + 8) 8 (l .left - 1) (a .sheet .now))
+    (rw (c .before .number-at .ensures .0) at (c .if1 .left)) in
     (omega arith, sym later ∙ ap (someUnreduced (a .k)) (sym next) ∙ l .inv .1)
 
 -- src/wellformed.rt:28:1

@@ -25,7 +25,7 @@ use Rattle.sheets.proofs.shifts.fill.Reads as fill-reads
 use Rattle.sheets.proofs.shifts.join.Reads as join-reads
 
 abbrev Inv-loop : tie.InvT-loop
-Inv-loop sheet k low size n words f₀ place₀ left₀ f place left = 
+Inv-loop sheet k low size n words f₀ place₀ left₀ f place left =
     (left ≤ n) × (place + 8 * left ≤ length sheet) × (f < 2 ^ k) × (someUnreduced k (numbersAt place 8 left sheet) ≡ false)
     × (joinedPages (monic k low) size (record { fingerprint = f; length = (n - left) * size }) (numbersAt place 8 left sheet) .fingerprint
     ≡ joinedPages (monic k low) size (markOf (monic k low) []) (numbersAt 19 8 n sheet) .fingerprint)
@@ -43,7 +43,7 @@ fill-requires c κs = let p = c .before .before .pre in (p .0, p .1, refl)
 
 -- src/wellformed.rt:58:5
 loop-holds : tie.Need-loop-holds Inv-loop μ-loop
-loop-holds c = 
+loop-holds c =
     let s = c .before .before .before .before in
     let a = s .args in
     let p = s .pre in
@@ -53,7 +53,7 @@ loop-holds c =
       pow-lt {i = 0} {j = a .k} (p .0 .0),
       p .3,
       ap (λ (m : Mark). joinedPages (monic (a .k) (a .low)) (a .size) m (numbersAt 19 8 (a .n) (a .sheet .now)) .fingerprint)
-      (ap (λ (n : ℕ). record { fingerprint = 1; length = n }) z ∙ sym (empty-mark (a .k) (a .low) (p .0 .0) (p .0 .2))),
+          (ap (λ (n : ℕ). record { fingerprint = 1; length = n }) z ∙ sym (empty-mark (a .k) (a .low) (p .0 .0) (p .0 .2))),
     )
 
 -- src/wellformed.rt:59:26
@@ -82,7 +82,7 @@ loop-less c = omega arith
 
 -- src/wellformed.rt:58:5
 loop-again : tie.Need-loop-again Inv-loop μ-loop
-loop-again c = 
+loop-again c =
     let s = c .before .before .before .before .before .before .before .before .before in
     let a = s .args in
     let l = c .before .before .before .before .loop in
@@ -93,23 +93,23 @@ loop-again c =
     let r = reduced-first (a .k) (numberAt (l .place) 8 (a .sheet .now)) (numbersAt (l .place + 8) 8 (l .left - 1) (a .sheet .now)) (rw next at (l .inv .3)) in
     let g = c .before .number-at .ensures .0 in
     let value =
-        c .join .ensures
-        ∙ ap (λ (x : ℕ). looked 8 (c .before .before .before .before .before .before .fill .last .0) 8 0 (l .f) ⊕ x ⊕ getD (c .before .before .before .before .before .before .fill .last .0) 1 0) g
-        ∙ joined-by-table pos (8 * a .size) _ (c .before .before .before .before .before .before .fill .ensures) (l .f) (numberAt (l .place) 8 (a .sheet .now))
-        (lt-of-lt-of-le (l .inv .2) (pow-mono {i = a .k} {j = 64} (s .pre .0 .1))) (rw (monic-degree (a .k) (a .low) low) (r .0)) in
+    c .join .ensures
+    ∙ ap (λ (x : ℕ). looked 8 (c .before .before .before .before .before .before .fill .last .0) 8 0 (l .f) ⊕ x ⊕ getD (c .before .before .before .before .before .before .fill .last .0) 1 0) g
+    ∙ joined-by-table pos (8 * a .size) _ (c .before .before .before .before .before .before .fill .ensures) (l .f) (numberAt (l .place) 8 (a .sheet .now))
+    (lt-of-lt-of-le (l .inv .2) (pow-mono {i = a .k} {j = 64} (s .pre .0 .1))) (rw (monic-degree (a .k) (a .low) low) (r .0)) in
     let e : (a .n - l .left) * a .size + a .size ≡ (a .n - (l .left - 1)) * a .size = let d : a .n - (l .left - 1) ≡ a .n - l .left + 1 = omega arith in rw d (omega arith) in (
       omega arith,
       omega arith,
       rw value (rw (monic-degree (a .k) (a .low) low) at (rem-lt pos (l .f * 2 ^ (8 * a .size) ⊕ numberAt (l .place) 8 (a .sheet .now) ⊕ 2 ^ (8 * a .size)))),
       r .1,
       rw (value, ← e)
-      (sym (joined-next key (a .size) (l .f) ((a .n - l .left) * a .size) (numberAt (l .place) 8 (a .sheet .now)) (numbersAt (l .place + 8) 8 (l .left - 1) (a .sheet .now)) (numbersAt (l .place) 8 (l .left) (a .sheet .now)) next)
-      ∙ l .inv .4),
+          (sym (joined-next key (a .size) (l .f) ((a .n - l .left) * a .size) (numberAt (l .place) 8 (a .sheet .now)) (numbersAt (l .place + 8) 8 (l .left - 1) (a .sheet .now)) (numbersAt (l .place) 8 (l .left) (a .sheet .now)) next)
+          ∙ l .inv .4),
     )
 
 -- src/wellformed.rt:45:1
 returns : tie.Need-returns Inv-loop μ-loop
-returns c = 
+returns c =
     let a = c .before .before .before .before .before .before .args in
     let l = c .before .loop in
     sym (joined-done (monic (a .k) (a .low)) (a .size) (l .f) ((a .n - l .left) * a .size) (numbersAt (l .place) 8 (l .left) (a .sheet .now)) (numbers-done (l .place) 8 (l .left) (a .sheet .now) (omega arith)))
