@@ -6,6 +6,7 @@ use mathlib.Core.List.{List, [], _∷_}
 use Prim.Native.Nat.{ℕ, zero, suc, _+_, _≤_, _<_}
 use native.Mathlib.Nat.{add-zero, add-suc, suc-add, not-suc-le-zero, le-of-suc-le-suc}
 use native.Mathlib.Decide.{ℕ-discrete}
+use native.Mathlib.Numerals.{add-one}
 use native.Mathlib.Omega.{arith}
 use lib.Dec.{eqb}
 use lib.ListN.{length, getD}
@@ -103,3 +104,18 @@ first-page n (f ∷ fs) (g ∷ gs) (suc i) l h = go (compare-heads n f g fs gs) 
     go : Compared n f g fs gs → firstChange (suc n) fs gs ≡ Page (suc n + i) → firstChange n (f ∷ fs) (g ∷ gs) ≡ Page (n + suc i)
     go (alike e d) rest = d ∙ rest ∙ ap Page (omega arith)
     go (unlike e d) rest = absurd (e (h .equal 0 (omega arith)))
+
+-- ---- as the code goes: one page a turn
+
+module _ (i f g : ℕ) (fs gs xs ys : List ℕ) (ex : xs ≡ f ∷ fs) (ey : ys ≡ g ∷ gs) where
+  pub changed-here : f ≢ g → firstChange i xs ys ≡ Page i
+  unfolding firstChange
+  changed-here n = rw (ex, ey, ne-eqb f g n)
+
+  pub changed-later : f ≡ g → firstChange i xs ys ≡ firstChange (i + 1) fs gs
+  unfolding firstChange
+  changed-later e = rw (ex, ey, eq-eqb f g e, add-one i)
+
+pub changed-none : (i : ℕ) (xs ys : List ℕ) → xs ≡ [] → firstChange i xs ys ≡ Same
+unfolding firstChange
+changed-none i xs ys e = rw e

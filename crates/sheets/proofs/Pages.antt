@@ -1,13 +1,14 @@
 -- Laws of the pages of a file: their count, and that their marks joined are the mark of the file filled up with zero bytes.
 use mathlib.Core.Path.{_≡_, refl, sym, ap, ap₂, _∙_}
 use mathlib.Core.List.{List, [], _∷_, _++_, append-assoc, append-nil}
-use Prim.Native.Nat.{ℕ, zero, suc, _+_, _-_, _*_, _/_, _%_, _^_, _≤_, _<_}
-use native.Mathlib.Nat.{sub-zero, mul-zero, zero-mul, mul-one, mul-suc, suc-mul, add-zero, zero-add, mul-assoc, div-add-mod', mod-lt, add-comm}
+use Prim.Native.Nat.{ℕ, zero, suc, _+_, _-_, _*_, _/_, _%_, _^_, _≤_, _<_, min}
+use native.Mathlib.Nat.{add-div-right, div-eq-of-lt, sub-zero, mul-zero, zero-mul, mul-one, mul-suc, suc-mul, add-zero, zero-add, mul-assoc, div-add-mod', mod-lt, add-comm}
 use native.Mathlib.Decide.{decLe}
+use native.Mathlib.Numerals.{add-one}
 use native.Mathlib.Omega.{arith}
 use lib.ListN.{length, take, drop, replicate, length-append, length-replicate, length-drop, length-take, drop-of-length-le, take-append-drop, replicate-append-replicate}
 use lib.Pow.{pow-add}
-use lib.Seq.{take-all, length-take-le, take-nil}
+use lib.Seq.{drop-drop, take-all, length-take-le, take-nil}
 use Rattle.gf2.specs.Polynomials.{_⊕_, rem, degree}
 use Rattle.gf2.specs.Lists.{All}
 use Rattle.gf2.proofs.Residues.{rem-lt}
@@ -16,9 +17,10 @@ use Rattle.files.specs.Files.{bits, valueFrom, value, fingerprint, markOf}
 use Rattle.files.proofs.Values.{value-byte}
 use Rattle.files.proofs.Marks.{mark-eq, fed, join}
 use Rattle.compose.specs.Composing.{joined}
-use Rattle.sheets.specs.Layout.{pageCount}
+use Rattle.sheets.specs.Layout.{pageCount, numberAt, numbersAt}
 use Rattle.sheets.proofs.Numbers.{pow-next}
 use Rattle.sheets.specs.Sheets.{filled, pageFingerprints, joinedPages}
+use Rattle.sheets.specs.Parts.{pagesLeft, fingerprintsFrom}
 
 -- ---- the number of pages
 
@@ -116,3 +118,57 @@ module _ {p : ℕ} (pos : 0 < p) where
       ap (λ (m : Mark). m .fingerprint) (joined-pages (pageCount s (length file)) s [] file)
       ∙ ap (fingerprint p) (pages-are (pageCount s (length file)) s file (count-covers s (length file) h))
       ∙ sym (with-zeros pos (pageCount s (length file) * s - length file) file)
+
+-- ---- as the code goes: one page a turn
+
+pub count-none : (s : ℕ) → 0 < s → pageCount s 0 ≡ 0
+count-none s h = div-eq-of-lt (omega arith)
+
+pub count-next : (s n : ℕ) → 0 < s → 0 < n → pageCount s n ≡ suc (pageCount s (n - s))
+count-next s n h p = go (decLe s n)
+  where
+    go : Dec (s ≤ n) → pageCount s n ≡ suc (pageCount s (n - s))
+    go (yes l) =
+        let e : n + s - 1 ≡ n - s + s - 1 + s = omega arith in
+        ap (λ (m : ℕ). m / s) e ∙ add-div-right (n - s + s - 1) h ∙ add-one (pageCount s (n - s))
+    go (no l) =
+        let e : n + s - 1 ≡ n - 1 + s = omega arith in
+        let z : n - s ≡ 0 = omega arith in
+        ap (λ (m : ℕ). m / s) e
+        ∙ add-div-right (n - 1) h
+        ∙ rw (z, count-none s h, div-eq-of-lt {n = n - 1} {m = s} (omega arith))
+
+module _ (s : ℕ) (file : List ℕ) (at : ℕ) (h : 0 < s) where
+  pub left-next : at < length file → pagesLeft s file at ≡ suc (pagesLeft s file (at + s))
+  left-next l = let e : length file - at - s ≡ length file - (at + s) = omega arith in count-next s (length file - at) h (omega arith) ∙ ap (λ (n : ℕ). suc (pageCount s n)) e
+
+  pub left-none : length file ≤ at → pagesLeft s file at ≡ 0
+  left-none l = let e : length file - at ≡ 0 = omega arith in rw e (count-none s h)
+
+  pub from-next : (p : ℕ) → at < length file → fingerprintsFrom p s file at ≡ fingerprint p (filled s (take s (drop at file))) ∷ fingerprintsFrom p s file (at + s)
+  unfolding pageFingerprints
+  from-next p l = rw (left-next l, drop-drop s at file)
+
+  pub from-none : (p : ℕ) → length file ≤ at → fingerprintsFrom p s file at ≡ []
+  unfolding pageFingerprints
+  from-none p l = rw (left-none l)
+
+  -- the same of the sheet's fields
+  pub fields-next : (place w : ℕ) (sheet : List ℕ) → at < length file
+      → numbersAt place w (pagesLeft s file at) sheet ≡ numberAt place w sheet ∷ numbersAt (place + w) w (pagesLeft s file (at + s)) sheet
+  unfolding numbersAt
+  fields-next place w sheet l = rw (left-next l)
+
+  pub fields-none : (place w : ℕ) (sheet : List ℕ) → length file ≤ at → numbersAt place w (pagesLeft s file at) sheet ≡ []
+  unfolding numbersAt
+  fields-none place w sheet l = rw (left-none l)
+
+-- the page that the code cuts out
+pub page-cut : (s : ℕ) (file : List ℕ) (at : ℕ) → take (min (at + s) (length file) - at) (drop at file) ≡ take s (drop at file)
+page-cut s file at = go (decLe (at + s) (length file))
+  where
+    go : Dec (at + s ≤ length file) → take (min (at + s) (length file) - at) (drop at file) ≡ take s (drop at file)
+    go (yes l) = let e : min (at + s) (length file) - at ≡ s = omega arith in rw e
+    go (no l) =
+        let e : min (at + s) (length file) - at ≡ length file - at = omega arith in
+        rw e (take-all (length file - at) (drop at file) (rw (length-drop at file) (omega arith)) ∙ sym (take-all s (drop at file) (rw (length-drop at file) (omega arith))))

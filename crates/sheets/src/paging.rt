@@ -6,8 +6,9 @@ ghost use Rattle.gf2.specs.Polynomials.{monic};
 ghost use Rattle.refusals.specs.Refusals.{Answer};
 ghost use Rattle.files.specs.Files.{fingerprint};
 ghost use Rattle.tables.specs.Tables.{TableOf};
-ghost use Rattle.sheets.specs.Layout.{pageCount, numbersAt};
-ghost use Rattle.sheets.specs.Sheets.{filled, pageFingerprints, firstChange, checked};
+ghost use Rattle.sheets.specs.Layout.{numbersAt};
+ghost use Rattle.sheets.specs.Sheets.{filled, firstChange, checked};
+ghost use Rattle.sheets.specs.Parts.{pagesLeft, fingerprintsFrom};
 use crate::Checked;
 use crate::fields;
 
@@ -36,23 +37,25 @@ fn page_end(n: usize, at: usize, size: usize) -> usize
     end
 }
 
-// The first page whose fingerprint differs from the sheet's.
-pub fn first_change(
+// The first page whose fingerprint differs from the sheet's, of those from a place on, where page `first` begins.
+fn change_from(
     sheet: &[u8],
     words: &[u64],
     k: u32,
     low: u64,
     size: usize,
     file: &[u8],
+    from: usize,
+    first: u32,
 ) -> Checked
-    requires { ⌜ TableOf k low (now words) × (16 ≤ size) × (size ≤ 4096) × (length (now file) < 2 ^ 32)
-        × (19 + 8 * pageCount size (length (now file)) ≤ length (now sheet)) ⌝ }
-    ensures { λ r. ⌜ checked r ≡ Answer.Done (firstChange 0 (numbersAt 19 8 (pageCount size (length (now (file .entry)))) (now (sheet .entry)))
-        (pageFingerprints (monic k low) size (pageCount size (length (now (file .entry)))) (now (file .entry)))) ⌝ }
+    requires { ⌜ TableOf k low (now words) × (16 ≤ size) × (size ≤ 4096) × (length (now file) < 2 ^ 32) × (first * 16 ≤ from) × (from ≤ length (now file) + 4096)
+        × (19 + 8 * first + 8 * pagesLeft size (now file) from ≤ length (now sheet)) ⌝ }
+    ensures { λ r. ⌜ checked r ≡ Answer.Done (firstChange first (numbersAt (19 + 8 * first) 8 (pagesLeft size (now (file .entry)) from) (now (sheet .entry)))
+        (fingerprintsFrom (monic k low) size (now (file .entry)) from)) ⌝ }
 {
-    let mut at: usize = 0;
-    let mut place: usize = 19;
-    let mut i: u32 = 0;
+    let mut at = from;
+    let mut i = first;
+    let mut place = 19 + 8 * first as usize;
     while at < file.len() {
         let end = page_end(file.len(), at, size);
         let f = page_mark(words, k, low, size, &file[at..end]);
