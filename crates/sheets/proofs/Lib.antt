@@ -4,6 +4,3 @@ pub mod Pages
 pub mod Sound
 pub mod Changes
 pub mod Guarantee
-pub mod Products
-pub mod Joining
-pub mod Answers

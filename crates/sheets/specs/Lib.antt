@@ -1,4 +1,3 @@
 pub mod Layout
 pub mod Sheets
 pub mod Parts
-pub mod Shifts

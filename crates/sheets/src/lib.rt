@@ -1,17 +1,8 @@
-// Page sheets: writing the sheet of a file, reading one, and checking a file against one.
-use keys::Tested;
+// Page sheets: the layout of their bytes and the answers of the calls. The definitions are in specs/, their laws in proofs/. The calls are in
+// the crates sheet_writing, sheet_reading and sheet_checking.
 use refusals::Refusal;
-ghost use mathlib.Core.Path.{_≡_};
-ghost use mathlib.Core.List.{[], _∷_};
-ghost use lib.ListN.{length};
-ghost use Rattle.refusals.specs.Refusals.{Answer, Test, firstOf, passes};
-ghost use Rattle.sheets.specs.Layout.{version1, contentsIn};
-ghost use Rattle.sheets.specs.Sheets.{readSheet, sheetRead, reading, numbersOf, compared, checkSheet, checked};
 
 pub mod fields;
-pub mod paging;
-pub mod shifts;
-pub mod wellformed;
 
 // The answer to writing a sheet.
 pub enum Written {
@@ -46,36 +37,4 @@ pub enum Checked {
 pub enum Changed {
     Bytes(u64, u64),
     None,
-}
-
-// Reads a sheet. Numbers 14 (size, letters, version), 1, 2, 12, 14 (total, fingerprints, joining).
-pub fn read(sheet: &[u8]) -> Reading
-    ensures { λ r. ⌜ reading r ≡ sheetRead (readSheet (now (sheet .entry))) ⌝ }
-{
-    if !wellformed::head_right(sheet) {
-        return Reading::Refused(Refusal::SheetMalformed);
-    }
-    let key = fields::number_at(sheet, 5, 8);
-    match keys::test(key) {
-        Tested::Refused(r) => {
-            return Reading::Refused(r);
-        }
-        Tested::Accepted => {}
-    }
-    let size = fields::number_at(sheet, 17, 2);
-    if !fields::size_right(size) {
-        return Reading::Refused(Refusal::PageSize);
-    }
-    let n = fields::number_at(sheet, 13, 4);
-    if !wellformed::body_right(sheet, key, n, size) {
-        return Reading::Refused(Refusal::SheetMalformed);
-    }
-    let count = fields::page_count(size, n);
-    Reading::Sheet(Sheet {
-        key: key,
-        length: n,
-        size: size,
-        pages: count,
-        fingerprint: fields::number_at(sheet, (19 + 8 * count) as usize, 8),
-    })
 }
