@@ -1,6 +1,9 @@
 // Checking a file against a page sheet.
 use refusals::Refusal;
+use sheets::Changed;
 use sheets::Checked;
+use sheets::Reading;
+use sheets::Sheet;
 use sheets::fields;
 ghost use mathlib.Core.Path.{_≡_};
 ghost use Prim.Native.Nat.{_+_, _*_, _≤_, _<_, _^_};
@@ -8,9 +11,9 @@ ghost use lib.ListN.{length};
 ghost use Rattle.gf2.specs.Polynomials.{monic};
 ghost use Rattle.refusals.specs.Refusals.{Answer};
 ghost use Rattle.tables.specs.Tables.{TableOf};
-ghost use Rattle.sheets.specs.Layout.{numbersAt};
-ghost use Rattle.sheets.specs.Sheets.{firstChange, checked};
-ghost use Rattle.sheets.specs.Parts.{pagesLeft, fingerprintsFrom};
+ghost use Rattle.sheets.specs.Layout.{version1, numbersAt, contentsIn};
+ghost use Rattle.sheets.specs.Sheets.{firstChange, checkSheet, checked, rangeOf, changed};
+ghost use Rattle.sheets.specs.Parts.{pagesLeft, fingerprintsFrom, ReadAs, comparison};
 
 // The first page whose fingerprint differs from the sheet's, of those from a place on, where page `first` begins.
 fn change_from(
@@ -42,4 +45,52 @@ fn change_from(
         i += 1;
     }
     Checked::Same
+}
+
+// A file against a sheet that was read as x. Number 7.
+fn compare(sheet: &[u8], x: Sheet, file: &[u8]) -> Checked
+    requires { ⌜ ReadAs (now sheet) x ⌝ }
+    ensures { λ r. ⌜ checked r ≡ comparison (now (sheet .entry)) (now (file .entry)) ⌝ }
+{
+    let n = file.len() as u64;
+    let length = x.length;
+    let key = x.key;
+    let size = x.size;
+    if 4294967295 < n {
+        return Checked::Refused(Refusal::TooLong);
+    }
+    if n != length {
+        return Checked::OtherLength;
+    }
+    let k = gf2::degree(key);
+    let low = gf2::low_bits(key, k);
+    let mut words = [0u64; 1024];
+    tables::rows::fill(&mut words, k, low);
+    change_from(sheet, &words, k, low, size as usize, file, 0, 0)
+}
+
+// Checks a file against a sheet. All of reading's numbers, then 7.
+pub fn check(sheet: &[u8], file: &[u8]) -> Checked
+    ensures { λ r. ⌜ checked r ≡ checkSheet (now (sheet .entry)) (now (file .entry)) ⌝ }
+{
+    match sheet_reading::read(sheet) {
+        Reading::Refused(r) => Checked::Refused(r),
+        Reading::Sheet(x) => compare(sheet, x, file),
+    }
+}
+
+// The bytes of the first changed page: from the first to before the last. Goes on only where the check names a page.
+pub fn first_changed_range(sheet: &[u8], file: &[u8]) -> Changed
+    ensures { λ r. ⌜ changed r ≡ rangeOf (contentsIn version1 (now (sheet .entry))) (checkSheet (now (sheet .entry)) (now (file .entry))) ⌝ }
+{
+    let Checked::Page(i) = check(sheet, file) else {
+        return Changed::None;
+    };
+    let size = fields::number_at(sheet, 17, 2);
+    let n = file.len() as u64;
+    let from = i as u64 * size;
+    if n < from + size {
+        return Changed::Bytes(from, n);
+    }
+    Changed::Bytes(from, from + size)
 }

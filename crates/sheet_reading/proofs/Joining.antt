@@ -109,21 +109,3 @@ module _ (sheet : List ℕ) (key n size count : ℕ) (ek : key ≡ numberAt 5 8 
   count-small lo hi b =
       let t : count * size < n + size = rw ec (count-tight size n (omega arith)) in
       omega (arith, mul-le-mul-left count lo)
-
--- the key as the code holds it
-pub record Held (key k low : ℕ) : Type 0 where
-  pub modulus : Modulus k low
-  pub eight : 8 ≤ k
-  pub word : k < 64
-  pub whole : monic k low ≡ key
-
-pub held : (key k low : ℕ) → 256 ≤ key → key < 2 ^ 64 → k ≡ degree key → low ≡ key % 2 ^ k → Held key k low
-held key k low l b ek el =
-    let from : 8 ≤ k = rw ek (degree-from 8 key l) in
-    let word : k < 64 = rw ek (degree-word key (omega arith) b) in
-    record {
-      modulus = (omega arith, omega arith, rw el (mod-lt key (pow-pos k)));
-      eight = from;
-      word = word;
-      whole = rw (el, ek) (monic-of (degree key) key (degree-is key (omega arith)));
-    }

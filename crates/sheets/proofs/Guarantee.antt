@@ -38,7 +38,7 @@ unfolding readSheet
 read-iff sheet b = (there, back)
   where
     there : readSheet sheet ≡ Done (contentsIn version1 sheet) → WellFormed sheet
-    there e = clear-sound sheet b (done-clear (readTests version1 sheet) tt (contentsIn version1 sheet) (contentsIn version1 sheet) e .0)
+    there e = clear-sound sheet (done-clear (readTests version1 sheet) tt (contentsIn version1 sheet) (contentsIn version1 sheet) e .0) b
 
     back : WellFormed sheet → readSheet sheet ≡ Done (contentsIn version1 sheet)
     back w = clear-done (readTests version1 sheet) tt (contentsIn version1 sheet) (rw (← (w .bytes)) at (sound-clear (w .contents) (w .sound)))

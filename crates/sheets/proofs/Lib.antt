@@ -1,5 +1,6 @@
 pub mod Numbers
 pub mod Layouts
+pub mod Moduli
 pub mod Pages
 pub mod Sound
 pub mod Changes

@@ -21,6 +21,7 @@ use Rattle.sheets.specs.Layout.{Layout, version1, numberAt, sheetSize, v
 use Rattle.sheets.specs.Sheets.{contentsOf, pageFingerprints, someUnreduced, joinedPages, pagesJoined, fileFilled, readTests, readSheet, Sound, WellFormed}
 use Rattle.sheets.proofs.Numbers.{number-lt, length-numbersAt}
 use Rattle.sheets.proofs.Layouts.{Fits, length-sheet, letters-back, version-back, read-back, write-back}
+use Rattle.sheets.proofs.Moduli.{key-lt}
 use Rattle.sheets.proofs.Pages.{fingerprint-lt, fingerprints-lt, length-pages, pages-joined}
 
 -- ---- lists of tests of which none holds
@@ -59,11 +60,6 @@ none-unreduced k (g ∷ fs) f e =
     ((leb-false (2 ^ k) g (o .0), i .0), i .1)
 
 -- ---- sound fields fit the layout
-
-key-lt : (key : ℕ) → accepted key ≡ true → key < 2 ^ 64
-key-lt key a =
-    lt-of-lt-of-le (deg-hi key (degree key) (degree-is key (accepted-pos key a)))
-    (let d = accepted-iff key .0 a in pow-mono {i = suc (degree key)} {j = 64} (omega arith))
 
 pub sound-fits : (x : Contents) → Sound x → Fits version1 x
 sound-fits x h =
@@ -115,35 +111,54 @@ sound-clear x h =
 pub neither : (a b c : Bool) → (a || b || c) ≡ false → (a ≡ false) × (b ≡ false) × (c ≡ false)
 neither a b c e = let x = or-neither (a || b) c e in let y = or-neither a b (x .0) in (y .0, y .1, x .1)
 
-pub clear-sound : (sheet : List ℕ) → Bytes sheet → Clear (readTests version1 sheet) → WellFormed sheet
-unfolding contentsIn
-clear-sound sheet b c =
-    let x = contentsIn version1 sheet in
-    let h = neither (ltb (length sheet) 27) (not (eqb (numberAt 0 3 sheet) 0x474650)) (not (eqb (numberAt 3 2 sheet) 1)) (c .0) in
-    let t = neither (not (eqb (length sheet) (sheetSize version1 (length (x .pages))))) (someUnreduced (degree (x .key)) (x .pages ++ x .fingerprint ∷ [])) (not (eqb (pagesJoined x) (fileFilled x))) (c .1 .1 .1 .1 .0) in
-    let long = ltb-false (length sheet) 27 (h .0) in
-    let small = number-lt 5 8 sheet (omega arith) in
-    let n = number-lt 13 4 sheet (omega arith) in
-    let s = or-neither (ltb (x .pageSize) 16) (ltb 4096 (x .pageSize)) (c .1 .1 .1 .0) in
-    let count = length-numbersAt 19 8 (pagesIn version1 sheet) sheet in
-    let fs = none-unreduced (degree (x .key)) (x .pages) (x .fingerprint) (t .1) in
-    let total = eqb-true (length sheet) (sheetSize version1 (length (x .pages))) (not-false _ (t .0)) in
-    record {
-      contents = x;
-      sound =
-          record {
-            key = key-iff (x .key) small .1 (c .1 .0, c .1 .1 .0);
-            length = omega arith;
-            pageSize = (ltb-false (x .pageSize) 16 (s .0), ltb-false 4096 (x .pageSize) (s .1));
-            count = count;
-            pages = fs .0;
-            fingerprint = fs .1;
-            joined = eqb-true (pagesJoined x) (fileFilled x) (not-false _ (t .2));
-          };
-      bytes =
-          sym (write-back version1 sheet b (total ∙ ap (sheetSize version1) count) (eqb-true (numberAt 0 3 sheet) 0x474650 (not-false _ (h .1)))
-          (eqb-true (numberAt 3 2 sheet) 1 (not-false _ (h .2))));
-    }
+-- what the tests say of the bytes where none holds
+module _ (sheet : List ℕ) (c : Clear (readTests version1 sheet)) where
+  head : (ltb (length sheet) 27 ≡ false) × (not (eqb (numberAt 0 3 sheet) 0x474650) ≡ false) × (not (eqb (numberAt 3 2 sheet) 1) ≡ false)
+  head = neither (ltb (length sheet) 27) (not (eqb (numberAt 0 3 sheet) 0x474650)) (not (eqb (numberAt 3 2 sheet) 1)) (c .0)
+
+  x : Contents
+  x = contentsIn version1 sheet
+
+  body : (not (eqb (length sheet) (sheetSize version1 (length (x .pages)))) ≡ false) × (someUnreduced (degree (x .key)) (x .pages ++ x .fingerprint ∷ []) ≡ false)
+      × (not (eqb (pagesJoined x) (fileFilled x)) ≡ false)
+  unfolding x
+  body =
+      neither (not (eqb (length sheet) (sheetSize version1 (length (x .pages))))) (someUnreduced (degree (x .key)) (x .pages ++ x .fingerprint ∷ []))
+      (not (eqb (pagesJoined x) (fileFilled x))) (c .1 .1 .1 .1 .0)
+
+  count : length (x .pages) ≡ pagesIn version1 sheet
+  unfolding x contentsIn
+  count = length-numbersAt 19 8 (pagesIn version1 sheet) sheet
+
+  pub clear-total : length sheet ≡ sheetSize version1 (pagesIn version1 sheet)
+  clear-total = eqb-true (length sheet) (sheetSize version1 (length (x .pages))) (not-false _ (body .0)) ∙ ap (sheetSize version1) count
+
+  pub clear-contents : Sound (contentsIn version1 sheet)
+  unfolding x contentsIn
+  clear-contents =
+      let long = ltb-false (length sheet) 27 (head .0) in
+      let small = number-lt 5 8 sheet (omega arith) in
+      let n = number-lt 13 4 sheet (omega arith) in
+      let s = or-neither (ltb (x .pageSize) 16) (ltb 4096 (x .pageSize)) (c .1 .1 .1 .0) in
+      let fs = none-unreduced (degree (x .key)) (x .pages) (x .fingerprint) (body .1) in
+      record {
+        key = key-iff (x .key) small .1 (c .1 .0, c .1 .1 .0);
+        length = omega arith;
+        pageSize = (ltb-false (x .pageSize) 16 (s .0), ltb-false 4096 (x .pageSize) (s .1));
+        count = count;
+        pages = fs .0;
+        fingerprint = fs .1;
+        joined = eqb-true (pagesJoined x) (fileFilled x) (not-false _ (body .2));
+      }
+
+  pub clear-sound : Bytes sheet → WellFormed sheet
+  clear-sound b =
+      record {
+        contents = contentsIn version1 sheet;
+        sound = clear-contents;
+        bytes =
+            sym (write-back version1 sheet b clear-total (eqb-true (numberAt 0 3 sheet) 0x474650 (not-false _ (head .1))) (eqb-true (numberAt 3 2 sheet) 1 (not-false _ (head .2))));
+      }
 
 -- ---- the numbers of a file's sheet are sound
 

@@ -14,7 +14,8 @@ use Rattle.sheets.specs.Sheets.{someUnreduced, joinedPages}
 use Rattle.sheets.proofs.Numbers.{numbers-last}
 use Rattle.sheets.proofs.Pages.{count-covers, count-tight}
 use Rattle.shifts.proofs.Products.{product-shift}
-use Rattle.sheet_reading.proofs.Joining.{twice, reduced-last, body-is, count-small, Held, held}
+use Rattle.sheet_reading.proofs.Joining.{twice, reduced-last, body-is, count-small}
+use Rattle.sheets.proofs.Moduli.{Held, held}
 use borrow.Author.Needs.{needs}
 use Rattle.sheet_reading.proofs.wellformed.body_right.Statement.{statement}
 use Rattle.sheet_reading.proofs.wellformed.body_right.Tie as tie
