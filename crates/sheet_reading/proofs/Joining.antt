@@ -12,22 +12,17 @@ use lib.Pow.{pow-lt, pow-pos}
 use borrow.Author.Tests.{le-leb, lt-leb, leb-false}
 use Rattle.gf2.specs.Polynomials.{_⊕_, _⊗_, rem, monic, degree, Modulus}
 use Rattle.gf2.proofs.Degrees.{lt-of-high, degree-is}
-use Rattle.gf2.proofs.Products.{one-⊗}
 use Rattle.gf2.proofs.Residues.{rem-lt, rem-small, rem-⊕}
-use Rattle.gf2.proofs.Powers.{rem-rem}
 use Rattle.gf2.proofs.Monics.{monic-pos, monic-degree, monic-of}
 use Rattle.acceptance.proofs.Laws.{or-neither}
 use Rattle.keys.proofs.Laws.{degree-from, degree-word}
 use Rattle.files.specs.declared.Mark.{Mark}
 use Rattle.files.specs.Files.{bits, valueFrom, value, fingerprint, markOf}
 use Rattle.compose.specs.Composing.{joined}
-use Rattle.tables.specs.Groups.{looked}
 use Rattle.sheets.specs.Layout.{version1, numberAt, numbersAt, pageCount, lengthIn, sizeIn, contentsIn}
 use Rattle.sheets.specs.Sheets.{bodyWrong, someUnreduced, joinedPages}
-use Rattle.shifts.specs.Shifts.{Shifts}
 use Rattle.sheets.proofs.Numbers.{length-numbersAt, numbers-last}
 use Rattle.sheets.proofs.Pages.{count-tight}
-use Rattle.shifts.proofs.Products.{shifted}
 
 -- ---- reduced fields
 
@@ -60,19 +55,6 @@ reduced-last k (g ∷ fs) f e =
     (rw (o .0) (i .0), i .1)
 
 -- ---- marks joined
-
-module _ {key : ℕ} (pos : 0 < key) (e : ℕ) (words : List ℕ) (s : Shifts key e words) where
-  word-one : getD words 1 0 ≡ rem key (2 ^ e)
-  word-one =
-      s .rows 0 (omega arith) 1 (omega arith)
-      ∙ ap (rem key) (one-⊗ (rem key (2 ^ (e + 8 * 0))))
-      ∙ rem-rem pos (2 ^ (e + 8 * 0))
-      ∙ ap (λ (n : ℕ). rem key (2 ^ n)) (add-zero e)
-
-  pub joined-by-table : (f g : ℕ) → f < 2 ^ 64 → g < 2 ^ degree key → looked 8 words 8 0 f ⊕ g ⊕ getD words 1 0 ≡ rem key (f * 2 ^ e ⊕ g ⊕ 2 ^ e)
-  joined-by-table f g hf hg =
-      rw (shifted pos e words f s hf, word-one)
-      (sym (rem-⊕ pos (f * 2 ^ e ⊕ g) (2 ^ e) ∙ ap (λ (x : ℕ). x ⊕ rem key (2 ^ e)) (rem-⊕ pos (f * 2 ^ e) g ∙ ap (λ (x : ℕ). rem key (f * 2 ^ e) ⊕ x) (rem-small pos g hg))))
 
 pub joined-next : (key s f n g : ℕ) (gs fs : List ℕ) → fs ≡ g ∷ gs
     → joinedPages key s (record { fingerprint = f; length = n }) fs .fingerprint

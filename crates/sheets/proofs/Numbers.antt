@@ -2,13 +2,13 @@
 use mathlib.Core.Path.{_≡_, refl, sym, ap, ap₂, _∙_}
 use mathlib.Core.List.{List, [], _∷_, _++_, append-assoc, append-nil}
 use Prim.Native.Nat.{ℕ, zero, suc, _+_, _-_, _*_, _/_, _%_, _^_, _≤_, _<_}
-use native.Mathlib.Nat.{mul-one, zero-mul, mul-zero, mul-assoc, zero-add, mul-add-div-right, mul-add-mod-self-right, add-zero, mod-one, mod-mod, mod-eq-of-lt, mul-suc, add-comm, mul-comm}
+use native.Mathlib.Nat.{suc-add, add-suc, mul-one, zero-mul, mul-zero, mul-assoc, zero-add, mul-add-div-right, mul-add-mod-self-right, add-zero, mod-one, mod-mod, mod-eq-of-lt, mul-suc, add-comm, mul-comm}
 use native.Mathlib.Numerals.{add-one}
 use native.Mathlib.Omega.{arith}
 use lib.Arith.{digits-lt, digits-div}
 use lib.ListN.{length, getD, set, take, drop, length-append, length-take, length-drop}
 use lib.Pow.{pow-pos, mod-pow-add, pow-add}
-use lib.Seq.{sets, drop-cons, take-at, drop-at, take-add, drop-drop, drop-append-add, length-take-le}
+use lib.Seq.{sets, sets-eq, drop-cons, take-at, drop-at, take-add, drop-drop, drop-append-add, length-take-le}
 use Rattle.gf2.specs.Lists.{All}
 use Rattle.files.specs.Files.{bits, valueFrom, Bytes}
 use Rattle.files.proofs.Values.{value-byte, value-split, value-lt, length-bits}
@@ -180,3 +180,21 @@ last-of (suc c) place w l =
 
 pub numbers-last : (place w c : ℕ) (l : List ℕ) → numbersAt place w (c + 1) l ≡ numbersAt place w c l ++ numberAt (place + w * c) w l ∷ []
 numbers-last place w c l = ap (λ (n : ℕ). numbersAt place w n l) (add-one c) ∙ last-of c place w l
+
+-- ---- stores behind each other
+
+sets-append : (u v l : List ℕ) (i : ℕ) → sets (sets l i u) (i + length u) v ≡ sets l i (u ++ v)
+sets-append [] v l i = ap (λ (n : ℕ). sets l n v) (add-zero i)
+sets-append (a ∷ u) v l i =
+    ap (λ (n : ℕ). sets (sets (set l i a) (suc i) u) n v) (add-suc i (length u) ∙ sym (suc-add i (length u))) ∙ sets-append u v (set l i a) (suc i)
+
+pub sets-behind : (u v l : List ℕ) (i j : ℕ) → j ≡ i + length u → sets (sets l i u) j v ≡ sets l i (u ++ v)
+sets-behind u v l i j e = ap (λ (n : ℕ). sets (sets l i u) n v) e ∙ sets-append u v l i
+
+-- a whole sheet at the front
+pub sets-front : (u l : List ℕ) (n : ℕ) → length u ≡ n → n ≤ length l → sets l 0 u ≡ u ++ drop n l
+sets-front u l n e h = sets-eq u l 0 (rw (zero-add, e) h) ∙ ap (λ (m : ℕ). u ++ drop m l) (zero-add (length u) ∙ e)
+
+pub fields-behind : (w f : ℕ) (fs l : List ℕ) (i : ℕ) → sets (sets l i (bytesOf w f)) (i + w) (fieldsOf w fs) ≡ sets l i (fieldsOf w (f ∷ fs))
+unfolding fieldsOf
+fields-behind w f fs l i = sets-behind (bytesOf w f) (fieldsOf w fs) l i (i + w) (ap (λ (n : ℕ). i + n) (sym (length-bytesOf w f)))

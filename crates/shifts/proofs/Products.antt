@@ -9,11 +9,11 @@ use native.Mathlib.Omega.{arith}
 use lib.Arith.{lt-one, digits-lt}
 use lib.ListN.{length, getD}
 use lib.Pow.{pow-pos, pow-add, shr-lt, split}
-use Rattle.gf2.specs.Polynomials.{_⊕_, _⊗_, rem}
+use Rattle.gf2.specs.Polynomials.{_⊕_, _⊗_, degree, rem}
 use Rattle.gf2.proofs.Sums.{⊕-append, ⊕-shl, ⊕-comm, ⊕-assoc, ⊕-zero}
-use Rattle.gf2.proofs.Products.{⊗-pow}
-use Rattle.gf2.proofs.Residues.{rem-zero, rem-⊕}
-use Rattle.gf2.proofs.Powers.{rem-⊗-right}
+use Rattle.gf2.proofs.Products.{one-⊗, ⊗-pow}
+use Rattle.gf2.proofs.Residues.{rem-zero, rem-small, rem-⊕}
+use Rattle.gf2.proofs.Powers.{rem-rem, rem-⊗-right}
 use Rattle.multiples.specs.Rows.{Multiples, SameBefore}
 use Rattle.tables.specs.Groups.{looked}
 use Rattle.shifts.specs.Shifts.{Shifts}
@@ -49,6 +49,20 @@ module _ (w e m : ℕ) {key : ℕ} (pos : 0 < key) (words : List ℕ) (rows : Ro
 
 pub shifted : {key : ℕ} (pos : 0 < key) (e : ℕ) (words : List ℕ) (f : ℕ) → Shifts key e words → f < 2 ^ 64 → looked 8 words 8 0 f ≡ rem key (f * 2 ^ e)
 shifted {key} pos e words f s h = groups 8 e 8 pos words (s .rows) 8 0 f (omega arith) h ∙ ap (λ (x : ℕ). rem key (f * 2 ^ x)) (rw mul-zero (add-zero e))
+
+-- a mark joined behind another of residue f, by the table
+module _ {key : ℕ} (pos : 0 < key) (e : ℕ) (words : List ℕ) (s : Shifts key e words) where
+  word-one : getD words 1 0 ≡ rem key (2 ^ e)
+  word-one =
+      s .rows 0 (omega arith) 1 (omega arith)
+      ∙ ap (rem key) (one-⊗ (rem key (2 ^ (e + 8 * 0))))
+      ∙ rem-rem pos (2 ^ (e + 8 * 0))
+      ∙ ap (λ (n : ℕ). rem key (2 ^ n)) (add-zero e)
+
+  pub joined-by-table : (f g : ℕ) → f < 2 ^ 64 → g < 2 ^ degree key → looked 8 words 8 0 f ⊕ g ⊕ getD words 1 0 ≡ rem key (f * 2 ^ e ⊕ g ⊕ 2 ^ e)
+  joined-by-table f g hf hg =
+      rw (shifted pos e words f s hf, word-one)
+      (sym (rem-⊕ pos (f * 2 ^ e ⊕ g) (2 ^ e) ∙ ap (λ (x : ℕ). x ⊕ rem key (2 ^ e)) (rem-⊕ pos (f * 2 ^ e) g ∙ ap (λ (x : ℕ). rem key (f * 2 ^ e) ⊕ x) (rem-small pos g hg))))
 
 -- ---- as the code goes
 

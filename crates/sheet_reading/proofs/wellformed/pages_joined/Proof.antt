@@ -14,8 +14,9 @@ use Rattle.files.specs.Files.{markOf}
 use Rattle.sheets.specs.Layout.{numberAt, numbersAt}
 use Rattle.sheets.specs.Sheets.{someUnreduced, joinedPages}
 use Rattle.tables.specs.Groups.{looked}
+use Rattle.shifts.proofs.Products.{joined-by-table}
 use Rattle.sheets.proofs.Numbers.{numbers-next, numbers-done}
-use Rattle.sheet_reading.proofs.Joining.{reduced-first, joined-by-table, joined-next, joined-done, empty-mark}
+use Rattle.sheet_reading.proofs.Joining.{reduced-first, joined-next, joined-done, empty-mark}
 use Rattle.sheet_reading.proofs.wellformed.pages_joined.Statement.{statement}
 use Rattle.sheet_reading.proofs.wellformed.pages_joined.Tie as tie
 use Rattle.sheet_reading.proofs.wellformed.pages_joined.Reads as reads
