@@ -34,10 +34,17 @@ pub fn page_end(n: usize, at: usize, size: usize) -> usize
 }
 
 // The residue of what precedes a page with the page behind it: joined where the page is whole, g being its fingerprint, and fed where not.
-pub fn behind(words: &[u64], shift: &[u64], k: u32, low: u64, size: usize, f: u64, g: u64, page: &[u8]) -> u64
-    requires {
-        ⌜ TableOf k low (now words) × Shifts (monic k low) (8 * size) (now shift) × (f < 2 ^ k) × (g ≡ fingerprint (monic k low) (filled size (now page))) ⌝
-    }
+pub fn behind(
+    words: &[u64],
+    shift: &[u64],
+    k: u32,
+    low: u64,
+    size: usize,
+    f: u64,
+    g: u64,
+    page: &[u8],
+) -> u64
+    requires { ⌜ TableOf k low (now words) × Shifts (monic k low) (8 * size) (now shift) × (f < 2 ^ k) × (g ≡ fingerprint (monic k low) (filled size (now page))) ⌝ }
     ensures { λ r. ⌜ r ≡ rem (monic k low) (valueFrom f (bits (now (page .entry)))) ⌝ }
 {
     if page.len() == size {

@@ -19,23 +19,8 @@ use Rattle.sheets.specs.declared.Sheet.{Sheet}
 use Rattle.sheets.specs.Layout.{version1, sheetSize, pageCount, numberAt, lengthIn, sizeIn, pagesIn, Contents, contentsIn}
 use Rattle.sheets.specs.Sheets.{someUnreduced, pagesJoined, fileFilled, headWrong, bodyWrong, readTests, readSheet, sheetRead, numbersOf}
 use Rattle.sheets.proofs.Numbers.{length-numbersAt}
+use Rattle.sheets.proofs.Steps.{first-true, first-false}
 use Rattle.sheets.proofs.Sound.{neither, done-clear}
-
--- ---- one test
-
-module _ {S A : Type 0} (b : Bool) (r : Refusal) (ts : List Test) (s : S) (v : A) where
-  pub first-true : b ≡ true → firstOf (b ⇒ r ∷ ts) s v ≡ Refused r s
-  first-true e = rw e
-
-  pub first-false : b ≡ false → firstOf (b ⇒ r ∷ ts) s v ≡ firstOf ts s v
-  first-false e = rw e
-
--- a function answers whether a test does not hold: what it says by each answer
-pub holds : (r b : Bool) → r ≡ not b → not r ≡ true → b ≡ true
-holds r b e t = not-false b (sym e ∙ not-true r t)
-
-pub fails : (r b : Bool) → r ≡ not b → not r ≡ false → b ≡ false
-fails r b e t = not-true b (sym e ∙ not-false r t)
 
 -- ---- reading
 
@@ -55,9 +40,6 @@ body-total sheet e =
 pub head-long : (sheet : List ℕ) → headWrong version1 sheet ≡ false → 27 ≤ length sheet
 head-long sheet e =
     ltb-false (length sheet) 27 (neither (ltb (length sheet) 27) (not (eqb (numberAt 0 3 sheet) 0x474650)) (not (eqb (numberAt 3 2 sheet) 1)) e .0)
-
-pub size-bounds : (s : ℕ) → (ltb s 16 || ltb 4096 s) ≡ false → (16 ≤ s) × (s ≤ 4096)
-size-bounds s e = let o = or-neither (ltb s 16) (ltb 4096 s) e in (ltb-false s 16 (o .0), ltb-false 4096 s (o .1))
 
 module _ (sheet : List ℕ) where
   size-wrong : Bool

@@ -3,7 +3,7 @@ use mathlib.Core.Path.{_≡_, refl, sym, ap, ap₂, _∙_}
 use mathlib.Core.Bool.{Bool, true, false, _||_, not}
 use mathlib.Core.List.{List, [], _∷_, _++_}
 use Prim.Native.Nat.{ℕ, zero, suc, _+_, _-_, _*_, _/_, _%_, _^_, _≤_, _<_}
-use native.Mathlib.Nat.{add-zero, div-eq-of-lt, mul-le-mul-left, mod-lt}
+use native.Mathlib.Nat.{add-zero, div-eq-of-lt, mod-lt}
 use native.Mathlib.Decide.{decLt}
 use native.Mathlib.Omega.{arith}
 use lib.Dec.{leb, eqb}
@@ -22,7 +22,6 @@ use Rattle.compose.specs.Composing.{joined}
 use Rattle.sheets.specs.Layout.{version1, numberAt, numbersAt, pageCount, lengthIn, sizeIn, contentsIn}
 use Rattle.sheets.specs.Sheets.{bodyWrong, someUnreduced, joinedPages}
 use Rattle.sheets.proofs.Numbers.{length-numbersAt, numbers-last}
-use Rattle.sheets.proofs.Pages.{count-tight}
 
 -- ---- reduced fields
 
@@ -86,8 +85,3 @@ module _ (sheet : List ℕ) (key n size count : ℕ) (ek : key ≡ numberAt 5 8 
   body-is =
       let total : 19 + 8 * count + 8 ≡ 27 + 8 * count = omega arith in
       rw (← ek, ← en, ← es, ← ec, length-numbersAt 19 8 count sheet, total, numbers-last 19 8 count sheet)
-
-  pub count-small : 16 ≤ size → size ≤ 4096 → n < 2 ^ 32 → count < 2 ^ 29
-  count-small lo hi b =
-      let t : count * size < n + size = rw ec (count-tight size n (omega arith)) in
-      omega (arith, mul-le-mul-left count lo)

@@ -29,15 +29,22 @@ fn put_head(buffer: &mut [u8], key: u64, n: u64, size: u64)
 }
 
 // Writes the fingerprints of the pages from a place on, where page `first` begins, and gives the file's, f being that of what precedes.
-fn put_from(buffer: &mut [u8], words: &[u64], shift: &[u64], k: u32, low: u64, size: usize, file: &[u8], from: usize, first: usize, f: u64) -> u64
-    requires {
-        ⌜ TableOf k low (now words) × Shifts (monic k low) (8 * size) (now shift) × (16 ≤ size) × (size ≤ 4096) × (length (now file) < 2 ^ 32)
-        × (from ≤ length (now file) + 4096) × (19 + 8 * first + 8 * pagesLeft size (now file) from ≤ length (now buffer)) × (f < 2 ^ k) ⌝
-    }
-    ensures {
-        λ r. ⌜ (now (buffer .exit) ≡ sets (now (buffer .entry)) (19 + 8 * first) (fieldsOf 8 (fingerprintsFrom (monic k low) size (now (file .entry)) from)))
-        × (r ≡ rem (monic k low) (valueFrom f (bits (drop from (now (file .entry)))))) ⌝
-    }
+fn put_from(
+    buffer: &mut [u8],
+    words: &[u64],
+    shift: &[u64],
+    k: u32,
+    low: u64,
+    size: usize,
+    file: &[u8],
+    from: usize,
+    first: usize,
+    f: u64,
+) -> u64
+    requires { ⌜ TableOf k low (now words) × Shifts (monic k low) (8 * size) (now shift) × (16 ≤ size) × (size ≤ 4096) × (length (now file) < 2 ^ 32)
+        × (from ≤ length (now file) + 4096) × (19 + 8 * first + 8 * pagesLeft size (now file) from ≤ length (now buffer)) × (f < 2 ^ k) ⌝ }
+    ensures { λ r. ⌜ (now (buffer .exit) ≡ sets (now (buffer .entry)) (19 + 8 * first) (fieldsOf 8 (fingerprintsFrom (monic k low) size (now (file .entry)) from)))
+        × (r ≡ rem (monic k low) (valueFrom f (bits (drop from (now (file .entry)))))) ⌝ }
 {
     let mut at = from;
     let mut place = 19 + 8 * first;
@@ -55,14 +62,10 @@ fn put_from(buffer: &mut [u8], words: &[u64], shift: &[u64], k: u32, low: u64, s
 
 // Writes the sheet; the buffer's further bytes keep their value.
 fn put_sheet(buffer: &mut [u8], key: u64, size: u64, file: &[u8])
-    requires {
-        ⌜ (256 ≤ key) × (16 ≤ size) × (size ≤ 4096) × (length (now file) < 2 ^ 32)
-        × (sheetSize version1 (pageCount size (length (now file))) ≤ length (now buffer)) ⌝
-    }
-    ensures {
-        λ r. ⌜ now (buffer .exit) ≡ sheetBytes version1 (contentsOf key size (now (file .entry)))
-        ++ drop (sheetSize version1 (pageCount size (length (now (file .entry))))) (now (buffer .entry)) ⌝
-    }
+    requires { ⌜ (256 ≤ key) × (16 ≤ size) × (size ≤ 4096) × (length (now file) < 2 ^ 32)
+        × (sheetSize version1 (pageCount size (length (now file))) ≤ length (now buffer)) ⌝ }
+    ensures { λ r. ⌜ now (buffer .exit) ≡ sheetBytes version1 (contentsOf key size (now (file .entry)))
+        ++ drop (sheetSize version1 (pageCount size (length (now (file .entry))))) (now (buffer .entry)) ⌝ }
 {
     let n = file.len() as u64;
     let k = gf2::degree(key);
@@ -79,9 +82,7 @@ fn put_sheet(buffer: &mut [u8], key: u64, size: u64, file: &[u8])
 
 // Writes the sheet of a file. Numbers 1, 2, 7, 12, 13.
 pub fn write(key: u64, size: u64, file: &[u8], buffer: &mut [u8]) -> Written
-    ensures {
-        λ r. ⌜ written r (now (buffer .exit)) ≡ writeSheet key size (now (file .entry)) (now (buffer .entry)) ⌝
-    }
+    ensures { λ r. ⌜ written r (now (buffer .exit)) ≡ writeSheet key size (now (file .entry)) (now (buffer .entry)) ⌝ }
 {
     match keys::test(key) {
         Tested::Refused(r) => {

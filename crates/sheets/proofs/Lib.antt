@@ -5,3 +5,4 @@ pub mod Pages
 pub mod Sound
 pub mod Changes
 pub mod Guarantee
+pub mod Steps

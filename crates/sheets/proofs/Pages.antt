@@ -2,7 +2,7 @@
 use mathlib.Core.Path.{_≡_, refl, sym, ap, ap₂, _∙_}
 use mathlib.Core.List.{List, [], _∷_, _++_, append-assoc, append-nil}
 use Prim.Native.Nat.{ℕ, zero, suc, _+_, _-_, _*_, _/_, _%_, _^_, _≤_, _<_, min}
-use native.Mathlib.Nat.{one-mul, add-div-right, div-eq-of-lt, sub-zero, mul-zero, zero-mul, mul-one, mul-suc, suc-mul, add-zero, zero-add, mul-assoc, div-add-mod', mod-lt, add-comm}
+use native.Mathlib.Nat.{one-mul, mul-le-mul-left, add-div-right, div-eq-of-lt, sub-zero, mul-zero, zero-mul, mul-one, mul-suc, suc-mul, add-zero, zero-add, mul-assoc, div-add-mod', mod-lt, add-comm}
 use native.Mathlib.Decide.{decLe}
 use native.Mathlib.Numerals.{add-one}
 use native.Mathlib.Omega.{arith}
@@ -31,6 +31,9 @@ count-covers s n h = omega (arith, div-add-mod' (n + s - 1) s, mod-lt (n + s - 1
 
 pub count-tight : (s n : ℕ) → 0 < s → pageCount s n * s < n + s
 count-tight s n h = omega (arith, div-add-mod' (n + s - 1) s)
+
+pub count-small : (s n : ℕ) → 16 ≤ s → s ≤ 4096 → n < 2 ^ 32 → pageCount s n < 2 ^ 29
+count-small s n lo hi b = omega (arith, count-tight s n (omega arith), mul-le-mul-left (pageCount s n) lo)
 
 -- ---- a page filled up
 

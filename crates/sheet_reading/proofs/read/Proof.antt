@@ -10,7 +10,8 @@ use Rattle.keys.specs.Testing.{testKey}
 use Rattle.keys.proofs.Laws.{Passed, passed, refused, passed-low}
 use Rattle.sheets.specs.Layout.{version1, numberAt, pageCount, sizeIn, pagesIn, contentsIn}
 use Rattle.sheets.specs.Sheets.{headWrong, bodyWrong, sheetRead, numbersOf}
-use Rattle.sheet_reading.proofs.Answers.{holds, fails, numbers-are, body-total, head-long, size-bounds, read-head, read-key, read-size, read-body, read-done}
+use Rattle.sheets.proofs.Steps.{holds, fails, size-bounds}
+use Rattle.sheet_reading.proofs.Answers.{numbers-are, body-total, head-long, read-head, read-key, read-size, read-body, read-done}
 use borrow.Author.Needs.{needs}
 use Rattle.sheet_reading.proofs.read.Statement.{statement}
 use Rattle.sheet_reading.proofs.read.Tie as tie

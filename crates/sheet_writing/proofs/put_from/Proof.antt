@@ -23,7 +23,7 @@ use Rattle.sheet_pages.proofs.page_mark.Reads as page-mark-reads
 use Rattle.sheets.proofs.fields.put.Reads as put-reads
 
 abbrev Inv-loop : tie.InvT-loop
-Inv-loop buffer₀ words shift k low size file from first f at₀ place₀ x₀ buffer at place x = 
+Inv-loop buffer₀ words shift k low size file from first f at₀ place₀ x₀ buffer at place x =
     (at ≤ length file + 4096) × (place + 8 * pagesLeft size file at ≤ length buffer) × (length buffer ≡ length buffer₀) × (x < 2 ^ k)
     × (sets buffer place (fieldsOf 8 (fingerprintsFrom (monic k low) size file at)) ≡ sets buffer₀ (19 + 8 * first) (fieldsOf 8 (fingerprintsFrom (monic k low) size file from)))
     × (rem (monic k low) (valueFrom x (bits (drop at file))) ≡ rem (monic k low) (valueFrom f (bits (drop from file))))
@@ -120,20 +120,20 @@ loop-again c =
     let put = c .before .before .before .before .put in
     let g = c .before .before .before .before .before .before .page-mark .result in
     let cut : take (c .before .before .before .before .before .before .before .before .page-end .result - l .at) (drop (l .at) (a .file .now)) ≡ take (a .size) (drop (l .at) (a .file .now)) =
-        ap (λ (n : ℕ). take (n - l .at) (drop (l .at) (a .file .now))) e ∙ page-cut (a .size) (a .file .now) (l .at) in
+    ap (λ (n : ℕ). take (n - l .at) (drop (l .at) (a .file .now))) e ∙ page-cut (a .size) (a .file .now) (l .at) in
     let mark : g ≡ fingerprint key (filled (a .size) (take (a .size) (drop (l .at) (a .file .now)))) =
-        c .before .before .before .before .before .before .page-mark .ensures ∙ ap (λ (p : List ℕ). fingerprint key (filled (a .size) p)) cut in
+    c .before .before .before .before .before .before .page-mark .ensures ∙ ap (λ (p : List ℕ). fingerprint key (filled (a .size) p)) cut in
     let x : c .behind .result ≡ rem key (valueFrom (l .x) (bits (take (a .size) (drop (l .at) (a .file .now))))) =
-        c .behind .ensures ∙ ap (λ (p : List ℕ). rem key (valueFrom (l .x) (bits p))) cut in (
+    c .behind .ensures ∙ ap (λ (p : List ℕ). rem key (valueFrom (l .x) (bits p))) cut in (
       omega arith,
       omega (arith, put .kept .0),
       put .kept .0 ∙ l .inv .2,
       rw x (rem-below (a .k) (a .low) (m .2) _),
       ap (λ (b : List ℕ). sets b (l .place + 8) (fieldsOf 8 (fingerprintsFrom key (a .size) (a .file .now) (l .at + a .size)))) (put .ensures)
-      ∙ fields-behind 8 g (fingerprintsFrom key (a .size) (a .file .now) (l .at + a .size)) (l .buffer) (l .place)
-      ∙ ap (λ (fs : List ℕ). sets (l .buffer) (l .place) (fieldsOf 8 fs))
-      (ap (λ (f : ℕ). f ∷ fingerprintsFrom key (a .size) (a .file .now) (l .at + a .size)) mark ∙ sym (from-next (a .size) (a .file .now) (l .at) (omega arith) key (omega arith)))
-      ∙ l .inv .4,
+          ∙ fields-behind 8 g (fingerprintsFrom key (a .size) (a .file .now) (l .at + a .size)) (l .buffer) (l .place)
+          ∙ ap (λ (fs : List ℕ). sets (l .buffer) (l .place) (fieldsOf 8 fs))
+          (ap (λ (f : ℕ). f ∷ fingerprintsFrom key (a .size) (a .file .now) (l .at + a .size)) mark ∙ sym (from-next (a .size) (a .file .now) (l .at) (omega arith) key (omega arith)))
+          ∙ l .inv .4,
       ap (λ (y : ℕ). rem key (valueFrom y (bits (drop (l .at + a .size) (a .file .now))))) x ∙ residue-next pos (a .file .now) (a .size) (l .at) (l .x) ∙ l .inv .5,
     )
 

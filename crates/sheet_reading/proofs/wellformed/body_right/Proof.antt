@@ -12,9 +12,9 @@ use Rattle.files.specs.Files.{markOf}
 use Rattle.sheets.specs.Layout.{version1, numberAt, numbersAt, lengthIn, sizeIn, pageCount}
 use Rattle.sheets.specs.Sheets.{someUnreduced, joinedPages}
 use Rattle.sheets.proofs.Numbers.{numbers-last}
-use Rattle.sheets.proofs.Pages.{count-covers, count-tight}
+use Rattle.sheets.proofs.Pages.{count-covers, count-tight, count-small}
 use Rattle.shifts.proofs.Products.{product-shift}
-use Rattle.sheet_reading.proofs.Joining.{twice, reduced-last, body-is, count-small}
+use Rattle.sheet_reading.proofs.Joining.{twice, reduced-last, body-is}
 use Rattle.sheets.proofs.Moduli.{Held, held}
 use borrow.Author.Needs.{needs}
 use Rattle.sheet_reading.proofs.wellformed.body_right.Statement.{statement}
@@ -33,8 +33,7 @@ use Rattle.sheet_reading.proofs.wellformed.pages_joined.Reads as pages-
 small : (c : tie.After-page-count) → c .page-count .result < 2 ^ 29
 small c =
     let s = c .before .before in
-    let q = s .pre in
-    count-small (s .args .sheet .now) (s .args .key) (s .args .n) (s .args .size) (c .page-count .result) (q .5) (q .6) (q .7) (c .page-count .ensures) (q .2) (q .3) (q .4)
+    rw (c .page-count .ensures) (count-small (s .args .size) (s .args .n) (s .pre .2) (s .pre .3) (s .pre .4))
 
 tight : (c : tie.After-page-count) → c .page-count .result * c .before .before .args .size < c .before .before .args .n + c .before .before .args .size
 tight c = rw (c .page-count .ensures) (count-tight (c .before .before .args .size) (c .before .before .args .n) (omega arith))
