@@ -1,5 +1,4 @@
-pub mod Windows
-pub mod Residues
+pub mod Comparing
 pub mod Numbers
 pub mod Blocks
 pub mod Calls

@@ -4,8 +4,8 @@ ghost use Prim.Native.Nat.{_+_, _*_, _^_, _≤_, _<_};
 ghost use lib.ListN.{length};
 ghost use Rattle.gf2.specs.Polynomials.{monic, rem, Modulus};
 ghost use Rattle.multiples.specs.Rows.{Multiples};
-ghost use Rattle.search.specs.Searching.{window};
-ghost use Rattle.search.specs.Rolling.{residue, keyOf, Ready};
+ghost use Rattle.windows.specs.Rolling.{window};
+ghost use Rattle.windows.specs.Rolling.{residue, keyOf, Ready};
 
 // What stays the same from window to window: the key's degree and low word, the pattern's length and its residue.
 pub struct Setup {
