@@ -2,3 +2,5 @@ pub mod Comparing
 pub mod Numbers
 pub mod Blocks
 pub mod Calls
+pub mod Places
+pub mod Readings

@@ -46,7 +46,8 @@ pub fn roll(s: Setup, red: &[u64; 256], out: &[u64; 256], text: &[u8], i: usize,
 {
     let longer = append(s.k, s.low, red, g, text[i + s.m]);
     let first = text[i] as usize;
-    longer ^ out[first]
+    let gone = out[first];
+    longer ^ gone
 }
 
 // The residues of the first window and of the pattern, and the table's t^(8m).

@@ -30,11 +30,11 @@ shared-slice-read-first c = search needs
 cast-first : tie.Need-cast-first
 cast-first c = omega (arith, c .shared-slice-known3 .given (c .before .before .before .before .before .args .i))
 
-mul-result : tie.Need-mul-result
-mul-result c = omega (arith, c .shared-slice-known3 .given (c .before .before .before .before .before .args .i))
+mul-gone : tie.Need-mul-gone
+mul-gone c = omega (arith, c .shared-slice-known3 .given (c .before .before .before .before .before .args .i))
 
-element-copy-out-result : tie.Need-element-copy-out-result
-element-copy-out-result c = omega (arith, c .shared-slice-known3 .given (c .before .before .before .before .before .args .i))
+element-copy-out-gone : tie.Need-element-copy-out-gone
+element-copy-out-gone c = omega (arith, c .shared-slice-known3 .given (c .before .before .before .before .before .args .i))
 
 returns : tie.Need-returns
 unfolding _⊕_
@@ -56,6 +56,6 @@ roll-spec =
     append-requires
     shared-slice-read-first
     cast-first
-    mul-result
-    element-copy-out-result
+    mul-gone
+    element-copy-out-gone
     returns)
