@@ -1,18 +1,18 @@
 // The search for a pattern in a text by a rolling fingerprint.
 use keys::Tested;
 use refusals::Refusal;
-use rolling::Setup;
+use windows::flags;
+use windows::rolling;
+use windows::rolling::Setup;
 
-mod rolling; // residues of windows, by tables
-mod flags; // which windows have the pattern's residue
-mod compare; // the bytes of those windows against the pattern's
+mod compare; // the bytes of windows against the pattern's
 
 ghost use mathlib.Core.Path.{_≡_};
 ghost use Prim.Native.Nat.{_+_, _-_, _*_, _%_, _^_, _≤_, _<_};
 ghost use lib.ListN.{length};
 ghost use Rattle.gf2.specs.Polynomials.{monic, rem, Modulus};
-ghost use Rattle.search.specs.Searching.{window, places, counts, overlay, search, wordsAfter, searched};
-ghost use Rattle.search.specs.Rolling.{residue, keyOf, Ready};
+ghost use Rattle.search.specs.Searching.{places, counts, overlay, search, wordsAfter, searched};
+ghost use Rattle.windows.specs.Rolling.{window, residue, keyOf, Ready};
 
 // The number of places, and the number of false alarms.
 pub struct Counts {

@@ -10,8 +10,8 @@ use borrow.Author.Needs.{needs}
 use lib.ListN.{length}
 use lib.Seq.{sets}
 use Rattle.gf2.proofs.Monics.{monic-pos}
-use Rattle.search.specs.Searching.{window, windows, isPlace, isAlarm}
-use Rattle.search.specs.Rolling.{residue, keyOf}
+use Rattle.search.specs.Searching.{windows, isPlace, isAlarm}
+use Rattle.windows.specs.Rolling.{window, residue, keyOf}
 use Rattle.search.proofs.Numbers.{Tally, tally-begin, tally-block, tally-end, tally-length, passing-length}
 use Rattle.search.proofs.Blocks.{flagged-places, flagged-alarms, all-found}
 use Rattle.search.proofs.search_blocks.Statement.{statement}
@@ -19,7 +19,7 @@ use Rattle.search.proofs.search_blocks.Tie as tie
 use Rattle.search.proofs.search_blocks.Reads as reads
 use Rattle.search.proofs.search_blocks.Lts as lts
 use Rattle.search.proofs.compare.compare.Reads as compare-reads
-use Rattle.search.proofs.flags.mark_block.Reads as mark-block-reads
+use Rattle.windows.proofs.flags.mark_block.Reads as mark-block-reads
 
 abbrev Inv-loop : tie.InvT-loop
 Inv-loop s red out text pattern first words₀ flags₀ n found₀ g₀ from₀ words flags found g from =

@@ -6,13 +6,13 @@ use borrow.Author.Needs.{needs}
 use lib.ListN.{length}
 use Rattle.gf2.proofs.Monics.{monic-pos}
 use Rattle.gf2.proofs.Steps.{residue-lt}
-use Rattle.search.proofs.Residues.{multiples-of, multiples-top}
+use Rattle.windows.proofs.Residues.{multiples-of, multiples-top}
 use Rattle.search.proofs.search_under.Statement.{statement}
 use Rattle.search.proofs.search_under.Tie as tie
 use Rattle.search.proofs.search_under.Reads as reads
 use Rattle.search.proofs.search_under.Lts as lts
 use Rattle.multiples.proofs.fill_row.Reads as fill-row-reads
-use Rattle.search.proofs.rolling.read_first.Reads as read-first-reads
+use Rattle.windows.proofs.rolling.read_first.Reads as read-first-reads
 use Rattle.search.proofs.search_blocks.Reads as search-blocks-reads
 
 -- src/lib.rt:64:25

@@ -10,9 +10,11 @@ use native.Mathlib.Omega.{arith}
 use borrow.Author.Tests.{not-true, not-false}
 use lib.ListN.{length, drop, getD, set}
 use lib.Seq.{set-out}
-use Rattle.search.specs.Searching.{window, same, isPlace}
-use Rattle.search.specs.Rolling.{flaggedPlace, flaggedAlarm}
-use Rattle.search.proofs.Windows.{window-length, window-at, same-step, same-differs, same-end, unflagged-place, unflagged-alarm, flagged-place, flagged-alarm}
+use Rattle.search.specs.Searching.{same, isPlace}
+use Rattle.search.specs.Flagged.{flaggedPlace, flaggedAlarm}
+use Rattle.windows.specs.Rolling.{window}
+use Rattle.windows.proofs.Windows.{window-length, window-at}
+use Rattle.search.proofs.Comparing.{same-step, same-differs, same-end, unflagged-place, unflagged-alarm, flagged-place, flagged-alarm}
 use Rattle.search.proofs.Numbers.{Tally, tally-begin, tally-skip, tally-alarm, tally-place, tally-end, tally-length}
 use Rattle.search.proofs.compare.compare.Statement.{statement}
 use Rattle.search.proofs.compare.compare.Tie as tie

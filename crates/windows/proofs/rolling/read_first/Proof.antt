@@ -1,4 +1,4 @@
--- `search::rolling::read_first` meets its contract. The loop's invariant: i bytes of each were read.
+-- `windows::rolling::read_first` meets its contract. The loop's invariant: i bytes of each were read.
 use mathlib.Core.Path.{_≡_, refl, sym, ap, _∙_}
 use Prim.Native.Nat.{ℕ, _+_, _-_, _*_, _^_, _≤_, _<_}
 use native.Mathlib.Nat.{zero-add}
@@ -7,15 +7,15 @@ use lib.ListN.{length, getD}
 use Rattle.gf2.specs.Polynomials.{monic, rem}
 use Rattle.gf2.proofs.Monics.{monic-pos}
 use Rattle.gf2.proofs.Steps.{residue-lt, residue-one}
-use Rattle.search.specs.Searching.{window}
-use Rattle.search.specs.Rolling.{residue, keyOf}
-use Rattle.search.proofs.Windows.{window-none, window-whole}
-use Rattle.search.proofs.Residues.{residue-none, read-on, residue-below, shift-next}
-use Rattle.search.proofs.rolling.read_first.Statement.{statement}
-use Rattle.search.proofs.rolling.read_first.Tie as tie
-use Rattle.search.proofs.rolling.read_first.Reads as reads
-use Rattle.search.proofs.rolling.read_first.Lts as lts
-use Rattle.search.proofs.rolling.append.Reads as append-reads
+use Rattle.windows.specs.Rolling.{window}
+use Rattle.windows.specs.Rolling.{residue, keyOf}
+use Rattle.windows.proofs.Windows.{window-none, window-whole}
+use Rattle.windows.proofs.Residues.{residue-none, read-on, residue-below, shift-next}
+use Rattle.windows.proofs.rolling.read_first.Statement.{statement}
+use Rattle.windows.proofs.rolling.read_first.Tie as tie
+use Rattle.windows.proofs.rolling.read_first.Reads as reads
+use Rattle.windows.proofs.rolling.read_first.Lts as lts
+use Rattle.windows.proofs.rolling.append.Reads as append-reads
 
 abbrev Inv-loop : tie.InvT-loop
 Inv-loop k low red text pattern first₀ wanted₀ shift₀ i₀ first wanted shift i =

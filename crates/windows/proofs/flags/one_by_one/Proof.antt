@@ -1,19 +1,19 @@
--- `search::flags::one_by_one` meets its contract. The loop's invariant: j windows have their flags, and the residue is that of the next one, if there is one.
+-- `windows::flags::one_by_one` meets its contract. The loop's invariant: j windows have their flags, and the residue is that of the next one, if there is one.
 use mathlib.Core.Path.{_≡_, refl, sym, ap, _∙_}
 use mathlib.Core.Logic.{⊎-elim}
 use mathlib.Core.Bool.{false}
 use Prim.Native.Nat.{ℕ, _+_, _-_, _≤_, _<_}
 use native.Mathlib.Omega.{arith}
 use lib.ListN.{length, length-set}
-use Rattle.search.specs.Searching.{window}
-use Rattle.search.specs.Rolling.{residue, keyOf, Filled, hit, Marked}
-use Rattle.search.proofs.Residues.{same-place, hit-is}
-use Rattle.search.proofs.Numbers.{Runs, runs-begin, runs-more, runs-end, filled-none, filled-more}
-use Rattle.search.proofs.flags.one_by_one.Statement.{statement}
-use Rattle.search.proofs.flags.one_by_one.Tie as tie
-use Rattle.search.proofs.flags.one_by_one.Reads as reads
-use Rattle.search.proofs.flags.one_by_one.Lts as lts
-use Rattle.search.proofs.rolling.roll.Reads as roll-reads
+use Rattle.windows.specs.Rolling.{window}
+use Rattle.windows.specs.Rolling.{residue, keyOf, Filled, hit, Marked}
+use Rattle.windows.proofs.Residues.{same-place, hit-is}
+use Rattle.windows.proofs.Filling.{Runs, runs-begin, runs-more, runs-end, filled-none, filled-more}
+use Rattle.windows.proofs.flags.one_by_one.Statement.{statement}
+use Rattle.windows.proofs.flags.one_by_one.Tie as tie
+use Rattle.windows.proofs.flags.one_by_one.Reads as reads
+use Rattle.windows.proofs.flags.one_by_one.Lts as lts
+use Rattle.windows.proofs.rolling.roll.Reads as roll-reads
 
 abbrev Inv-loop : tie.InvT-loop
 Inv-loop s red out text from size g flags₀ a₀ j₀ flags a j =

@@ -1,20 +1,20 @@
--- `search::flags::by_lanes` meets its contract. The loop's invariant: j windows of each run have their flags, and the four residues are those of the next ones.
+-- `windows::flags::by_lanes` meets its contract. The loop's invariant: j windows of each run have their flags, and the four residues are those of the next ones.
 use mathlib.Core.Path.{_≡_, refl, sym, ap, _∙_}
 use mathlib.Core.Logic.{⊎-elim}
 use mathlib.Core.Bool.{false}
 use Prim.Native.Nat.{ℕ, _+_, _-_, _≤_, _<_}
 use native.Mathlib.Omega.{arith}
 use lib.ListN.{length}
-use Rattle.search.specs.Searching.{window}
-use Rattle.search.specs.Rolling.{residue, keyOf, Filled, hit, Marked}
-use Rattle.search.proofs.Residues.{same-place, hit-is}
-use Rattle.search.proofs.Numbers.{Runs, runs-begin, runs-more, runs-end, filled-none, filled-more}
-use Rattle.search.proofs.flags.by_lanes.Statement.{statement}
-use Rattle.search.proofs.flags.by_lanes.Tie as tie
-use Rattle.search.proofs.flags.by_lanes.Reads as reads
-use Rattle.search.proofs.flags.by_lanes.Lts as lts
-use Rattle.search.proofs.flags.three_windows.Reads as three-windows-reads
-use Rattle.search.proofs.rolling.roll.Reads as roll-reads
+use Rattle.windows.specs.Rolling.{window}
+use Rattle.windows.specs.Rolling.{residue, keyOf, Filled, hit, Marked}
+use Rattle.windows.proofs.Residues.{same-place, hit-is}
+use Rattle.windows.proofs.Filling.{Runs, runs-begin, runs-more, runs-end, filled-none, filled-more}
+use Rattle.windows.proofs.flags.by_lanes.Statement.{statement}
+use Rattle.windows.proofs.flags.by_lanes.Tie as tie
+use Rattle.windows.proofs.flags.by_lanes.Reads as reads
+use Rattle.windows.proofs.flags.by_lanes.Lts as lts
+use Rattle.windows.proofs.flags.three_windows.Reads as three-windows-reads
+use Rattle.windows.proofs.rolling.roll.Reads as roll-reads
 
 abbrev Inv-loop : tie.InvT-loop
 Inv-loop s red out text from g flags₀ a₀ b₀ c₀ d₀ j₀ flags a b c d j =

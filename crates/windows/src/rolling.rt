@@ -4,8 +4,8 @@ ghost use Prim.Native.Nat.{_+_, _*_, _^_, _≤_, _<_};
 ghost use lib.ListN.{length};
 ghost use Rattle.gf2.specs.Polynomials.{monic, rem, Modulus};
 ghost use Rattle.multiples.specs.Rows.{Multiples};
-ghost use Rattle.search.specs.Searching.{window};
-ghost use Rattle.search.specs.Rolling.{residue, keyOf, Ready};
+ghost use Rattle.windows.specs.Rolling.{window};
+ghost use Rattle.windows.specs.Rolling.{residue, keyOf, Ready};
 
 // What stays the same from window to window: the key's degree and low word, the pattern's length and its residue.
 pub struct Setup {
@@ -46,7 +46,8 @@ pub fn roll(s: Setup, red: &[u64; 256], out: &[u64; 256], text: &[u8], i: usize,
 {
     let longer = append(s.k, s.low, red, g, text[i + s.m]);
     let first = text[i] as usize;
-    longer ^ out[first]
+    let gone = out[first];
+    longer ^ gone
 }
 
 // The residues of the first window and of the pattern, and the table's t^(8m).

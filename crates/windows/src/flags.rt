@@ -5,8 +5,8 @@ ghost use mathlib.Core.Path.{_≡_};
 ghost use mathlib.Core.Bool.{false};
 ghost use Prim.Native.Nat.{_+_, _-_, _≤_, _<_};
 ghost use lib.ListN.{length};
-ghost use Rattle.search.specs.Searching.{window};
-ghost use Rattle.search.specs.Rolling.{residue, keyOf, Ready, hit, Filled, Marked};
+ghost use Rattle.windows.specs.Rolling.{window};
+ghost use Rattle.windows.specs.Rolling.{residue, keyOf, Ready, hit, Filled, Marked};
 
 // The residues of three windows.
 pub struct Three {

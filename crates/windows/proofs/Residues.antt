@@ -1,31 +1,29 @@
 -- Laws of the residue without the leading 1: of bytes appended and of the next window; and of the tables.
-use mathlib.Core.Path.{_≡_, refl, sym, ap, ap₂, subst, _∙_}
-use mathlib.Core.Bool.{Bool, true, false}
+use mathlib.Core.Path.{_≡_, refl, sym, ap, _∙_}
 use mathlib.Core.List.{List, [], _∷_, _++_}
-use Prim.Native.Nat.{ℕ, zero, suc, _+_, _-_, _*_, _/_, _%_, _^_, _≤_, _<_}
-use native.Mathlib.Nat.{add-comm, add-zero, one-mul, zero-mul, zero-add, mod-lt, mod-eq-of-lt}
+use Prim.Native.Nat.{ℕ, suc, _+_, _*_, _^_, _≤_, _<_}
+use native.Mathlib.Nat.{add-zero, one-mul, zero-mul, zero-add, mod-eq-of-lt}
 use native.Mathlib.Decide.{ℕ-discrete}
 use native.Mathlib.Numerals.{add-one}
 use native.Mathlib.Omega.{arith}
 use borrow.Author.Tests.{eq-eqb, ne-eqb}
 use lib.Dec.{eqb}
-use lib.Arith.{digits-lt}
 use lib.ListN.{length, getD}
-use lib.Pow.{pow-pos, pow-add, shr-shr, shr-lt, high, low, mod-pow-add}
+use lib.Pow.{pow-add}
 use Rattle.gf2.specs.Polynomials.{_⊕_, _⊗_, monic, rem}
 use Rattle.gf2.proofs.Sums.{⊕-cancel, ⊕-comm, ⊕-move}
 use Rattle.gf2.proofs.Products.{⊗-pow}
 use Rattle.gf2.proofs.Residues.{rem-zero, rem-⊕}
 use Rattle.gf2.proofs.Powers.{rem-⊗-right, rem-shl}
-use Rattle.gf2.proofs.Monics.{monic-pos}
-use Rattle.gf2.proofs.Steps.{residue-lt, residue-split, residue-top}
+use Rattle.gf2.proofs.Monics.{monic-pos, monic-degree}
+use Rattle.gf2.proofs.Steps.{residue-lt, residue-top}
 use Rattle.multiples.specs.Rows.{Multiples}
+use Rattle.lookups.specs.Groups.{Rows}
 use Rattle.files.specs.Files.{bits, valueFrom, value, fingerprint}
 use Rattle.files.proofs.Values.{value-append, value-⊕, value-byte, length-bits, bits-append, rem-from}
-use Rattle.search.specs.Searching.{window}
-use Rattle.search.specs.declared.rolling.Setup.{Setup}
-use Rattle.search.specs.Rolling.{residue, keyOf, hit}
-use Rattle.search.proofs.Windows.{window-length, window-more, window-front, window-none}
+use Rattle.windows.specs.declared.rolling.Setup.{Setup}
+use Rattle.windows.specs.Rolling.{window, residue, keyOf, hit}
+use Rattle.windows.proofs.Windows.{window-length, window-more, window-front}
 
 one-byte : (s b : ℕ) → b < 256 → valueFrom s (bits (b ∷ [])) ≡ s * 256 + b
 unfolding valueFrom bits
@@ -131,49 +129,6 @@ hit-is s text from j x e = ap (λ (y : ℕ). eqb y (s .wanted)) e
 
 -- ---- the tables
 
--- what stands at t^(n + j) and above of a number with n new low bits, and what stands below
-module _ (f w n j : ℕ) (h : w < 2 ^ n) where
-  above : (f * 2 ^ n + w) / 2 ^ (n + j) ≡ f / 2 ^ j
-  above = sym (shr-shr (f * 2 ^ n + w) n j) ∙ ap (λ (x : ℕ). x / 2 ^ j) (high f n h)
-
-  below : (f * 2 ^ n + w) % 2 ^ (n + j) ≡ f % 2 ^ j * 2 ^ n + w
-  below =
-      ap (λ (m : ℕ). (f * 2 ^ n + w) % 2 ^ m) (add-comm n j)
-      ∙ mod-pow-add (f * 2 ^ n + w) j n ∙ ap₂ (λ (x y : ℕ). x % 2 ^ j * 2 ^ n + y) (high f n h) (low f n h)
-
-module _ (k c : ℕ) (h : c < 2 ^ k) (f b : ℕ) (wide : 8 ≤ k) (lb : b < 256) where
-  -- a byte behind a residue: eight coefficients reach t^k and fall out
-  pub append-is : rem (monic k c) (f * 256 + b) ≡ (f % 2 ^ (k - 8) * 256 + b) ⊕ rem (monic k c) (f / 2 ^ (k - 8) ⊗ 2 ^ k)
-  append-is =
-      residue-split k c h (f * 256 + b)
-      ∙ ap₂ (λ (x y : ℕ). rem (monic k c) (x * 2 ^ k) ⊕ y) up down
-      ∙ ⊕-comm (rem (monic k c) (f / 2 ^ (k - 8) * 2 ^ k)) (f % 2 ^ (k - 8) * 256 + b)
-      ∙ ap (λ (x : ℕ). (f % 2 ^ (k - 8) * 256 + b) ⊕ rem (monic k c) x) (sym (⊗-pow k (f / 2 ^ (k - 8))))
-    where
-      e : k ≡ 8 + (k - 8)
-      e = omega arith
-
-      up : (f * 256 + b) / 2 ^ k ≡ f / 2 ^ (k - 8)
-      up = ap (λ (n : ℕ). (f * 256 + b) / 2 ^ n) e ∙ above f b 8 (k - 8) lb
-
-      down : (f * 256 + b) % 2 ^ k ≡ f % 2 ^ (k - 8) * 256 + b
-      down = ap (λ (n : ℕ). (f * 256 + b) % 2 ^ n) e ∙ below f b 8 (k - 8) lb
-
-  -- they are below 2^8, and the rest has room for the byte
-  pub append-top : f < 2 ^ k → f / 2 ^ (k - 8) < 256
-  append-top l = shr-lt 8 (k - 8) (subst (λ (n : ℕ). f < 2 ^ n) e l)
-    where
-      e : k ≡ 8 + (k - 8)
-      e = omega arith
-
-  pub append-rest : f % 2 ^ (k - 8) * 256 + b < 2 ^ k
-  append-rest =
-      subst (λ (n : ℕ). f % 2 ^ (k - 8) * 256 + b < 2 ^ n) e
-      (rw (pow-add 2 (k - 8) 8) (digits-lt {q = f % 2 ^ (k - 8)} {m = 2 ^ (k - 8)} (mod-lt f (pow-pos (k - 8))) lb))
-    where
-      e : k - 8 + 8 ≡ k
-      e = omega arith
-
 module _ {p : ℕ} (pos : 0 < p) (c : ℕ) where
   -- the multiples of a residue are those of what it is the residue of
   pub multiples-of : (table : List ℕ) → Multiples p (rem p c) 0 256 table → Multiples p c 0 256 table
@@ -182,3 +137,10 @@ module _ {p : ℕ} (pos : 0 < p) (c : ℕ) where
 -- t^k is the low word
 pub multiples-top : (k c : ℕ) → c < 2 ^ k → (table : List ℕ) → Multiples (monic k c) c 0 256 table → Multiples (monic k c) (2 ^ k) 0 256 table
 multiples-top k c h table t = multiples-of (monic-pos k c h) (2 ^ k) table (rw (residue-top k c h) t)
+
+-- they are the one row of words that takes a byte at t^k and above off
+pub one-row : (k c : ℕ) → c < 2 ^ k → (table : List ℕ) → Multiples (monic k c) (2 ^ k) 0 256 table → Rows 8 (monic k c) 1 table
+one-row k c h table t j l i b =
+    let z : j ≡ 0 = omega arith in
+    let e : k + 8 * 0 ≡ k = omega arith in
+    rw (z, monic-degree k c h, e) (t i b ∙ sym (rem-⊗-right (monic-pos k c h) i (2 ^ k)))

@@ -1,4 +1,4 @@
--- `search::rolling::roll` meets its contract: `rolled`.
+-- `windows::rolling::roll` meets its contract: `rolled`.
 use mathlib.Core.Path.{_≡_, refl, ap, _∙_}
 use Prim.Native.Nat.{ℕ, _+_, _^_, _<_}
 use native.Mathlib.Omega.{arith}
@@ -6,10 +6,10 @@ use borrow.Author.Needs.{needs}
 use lib.ListN.{getD}
 use Rattle.gf2.specs.Polynomials.{_⊕_}
 use Rattle.gf2.proofs.Monics.{monic-pos}
-use Rattle.search.specs.Searching.{window}
-use Rattle.search.proofs.Residues.{rolled, residue-below}
-use Rattle.search.proofs.rolling.roll.Statement.{statement}
-use Rattle.search.proofs.rolling.roll.Tie as tie
+use Rattle.windows.specs.Rolling.{window}
+use Rattle.windows.proofs.Residues.{rolled, residue-below}
+use Rattle.windows.proofs.rolling.roll.Statement.{statement}
+use Rattle.windows.proofs.rolling.roll.Tie as tie
 
 add-append : tie.Need-add-append
 add-append c = search needs
@@ -30,11 +30,11 @@ shared-slice-read-first c = search needs
 cast-first : tie.Need-cast-first
 cast-first c = omega (arith, c .shared-slice-known3 .given (c .before .before .before .before .before .args .i))
 
-mul-result : tie.Need-mul-result
-mul-result c = omega (arith, c .shared-slice-known3 .given (c .before .before .before .before .before .args .i))
+mul-gone : tie.Need-mul-gone
+mul-gone c = omega (arith, c .shared-slice-known3 .given (c .before .before .before .before .before .args .i))
 
-element-copy-out-result : tie.Need-element-copy-out-result
-element-copy-out-result c = omega (arith, c .shared-slice-known3 .given (c .before .before .before .before .before .args .i))
+element-copy-out-gone : tie.Need-element-copy-out-gone
+element-copy-out-gone c = omega (arith, c .shared-slice-known3 .given (c .before .before .before .before .before .args .i))
 
 returns : tie.Need-returns
 unfolding _⊕_
@@ -56,6 +56,6 @@ roll-spec =
     append-requires
     shared-slice-read-first
     cast-first
-    mul-result
-    element-copy-out-result
+    mul-gone
+    element-copy-out-gone
     returns)

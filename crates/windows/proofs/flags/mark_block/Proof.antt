@@ -1,13 +1,13 @@
--- `search::flags::mark_block` meets its contract, by those of the two ways that it goes.
+-- `windows::flags::mark_block` meets its contract, by those of the two ways that it goes.
 use native.Mathlib.Omega.{arith}
 use borrow.Author.Needs.{needs}
-use Rattle.search.proofs.flags.mark_block.Statement.{statement}
-use Rattle.search.proofs.flags.mark_block.Tie as tie
-use Rattle.search.proofs.flags.mark_block.Reads as reads
-use Rattle.search.proofs.flags.mark_block.Lts as lts
-use Rattle.search.proofs.flags.by_lanes.Reads as by-lanes-reads
-use Rattle.search.proofs.flags.least.Reads as least-reads
-use Rattle.search.proofs.flags.one_by_one.Reads as one-by-one-reads
+use Rattle.windows.proofs.flags.mark_block.Statement.{statement}
+use Rattle.windows.proofs.flags.mark_block.Tie as tie
+use Rattle.windows.proofs.flags.mark_block.Reads as reads
+use Rattle.windows.proofs.flags.mark_block.Lts as lts
+use Rattle.windows.proofs.flags.by_lanes.Reads as by-lanes-reads
+use Rattle.windows.proofs.flags.least.Reads as least-reads
+use Rattle.windows.proofs.flags.one_by_one.Reads as one-by-one-reads
 
 -- src/flags.rt:102:16
 sub-left : tie.Need-sub-left

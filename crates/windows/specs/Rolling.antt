@@ -1,15 +1,18 @@
--- How the code comes to the windows' fingerprints: for the crate's own functions.
+-- The windows of a text, and what the functions that look at them promise.
 use mathlib.Core.Path.{_≡_}
-use mathlib.Core.Bool.{Bool, false, _&&_, not}
+use mathlib.Core.Bool.{Bool, false}
 use mathlib.Core.List.{List}
-use Prim.Native.Nat.{ℕ, _+_, _-_, _*_, _^_, _≤_, _<_}
+use Prim.Native.Nat.{ℕ, _+_, _*_, _^_, _≤_, _<_}
 use lib.Dec.{eqb}
-use lib.ListN.{length, getD}
+use lib.ListN.{length, take, drop, getD}
 use Rattle.gf2.specs.Polynomials.{monic, rem, Modulus}
 use Rattle.multiples.specs.Rows.{Multiples}
 use Rattle.files.specs.Files.{bits, valueFrom}
-use Rattle.search.specs.Searching.{window, isPlace}
-use Rattle.search.specs.declared.rolling.Setup.{Setup}
+use Rattle.windows.specs.declared.rolling.Setup.{Setup}
+
+-- the window of m bytes at the place i
+unfoldable pub window : ℕ → List ℕ → ℕ → List ℕ
+window m text i = take m (drop i text)
 
 -- the residue of bytes without the leading 1: bytes of one length have the same one exactly where they have the same fingerprint
 unfoldable pub residue : ℕ → List ℕ → ℕ
@@ -38,10 +41,3 @@ hit s text from j = eqb (residue (keyOf s) (window (s .m) text (from + j))) (s .
 pub record Marked (s : Setup) (text : List ℕ) (from size rest : ℕ) (marks : List Bool) : Type 0 where
   pub flags : Filled false (hit s text from) 0 size marks
   pub next : from + size + s .m ≤ length text → rest ≡ residue (keyOf s) (window (s .m) text (from + size))
-
--- a flagged window that is a place, and one that is not
-unfoldable pub flaggedPlace : List Bool → List ℕ → List ℕ → ℕ → ℕ → Bool
-flaggedPlace flags text pattern from i = getD flags (i - from) false && isPlace text pattern i
-
-unfoldable pub flaggedAlarm : List Bool → List ℕ → List ℕ → ℕ → ℕ → Bool
-flaggedAlarm flags text pattern from i = getD flags (i - from) false && not (isPlace text pattern i)

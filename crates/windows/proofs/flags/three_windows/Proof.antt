@@ -1,18 +1,18 @@
--- `search::flags::three_windows` meets its contract. The loop's invariant: j bytes of each were read.
+-- `windows::flags::three_windows` meets its contract. The loop's invariant: j bytes of each were read.
 use mathlib.Core.Path.{_≡_, refl, sym, ap, _∙_}
 use Prim.Native.Nat.{ℕ, _+_, _-_, _*_, _^_, _≤_, _<_}
 use native.Mathlib.Omega.{arith}
 use lib.ListN.{length, getD}
 use Rattle.gf2.proofs.Monics.{monic-pos}
-use Rattle.search.specs.Searching.{window}
-use Rattle.search.specs.Rolling.{residue, keyOf}
-use Rattle.search.proofs.Windows.{window-none}
-use Rattle.search.proofs.Residues.{residue-none, read-on, residue-below}
-use Rattle.search.proofs.flags.three_windows.Statement.{statement}
-use Rattle.search.proofs.flags.three_windows.Tie as tie
-use Rattle.search.proofs.flags.three_windows.Reads as reads
-use Rattle.search.proofs.flags.three_windows.Lts as lts
-use Rattle.search.proofs.rolling.append.Reads as append-reads
+use Rattle.windows.specs.Rolling.{window}
+use Rattle.windows.specs.Rolling.{residue, keyOf}
+use Rattle.windows.proofs.Windows.{window-none}
+use Rattle.windows.proofs.Residues.{residue-none, read-on, residue-below}
+use Rattle.windows.proofs.flags.three_windows.Statement.{statement}
+use Rattle.windows.proofs.flags.three_windows.Tie as tie
+use Rattle.windows.proofs.flags.three_windows.Reads as reads
+use Rattle.windows.proofs.flags.three_windows.Lts as lts
+use Rattle.windows.proofs.rolling.append.Reads as append-reads
 
 abbrev Inv-loop : tie.InvT-loop
 Inv-loop s red out text from b₀ c₀ d₀ j₀ b c d j =
