@@ -1,8 +1,37 @@
-.PHONY: test fmt
+.PHONY: run test conformance benchmark fmt libraries
 
-# Proves every crate from nothing, tries the must-fail edits, runs the programs. Its last line is "N passed, 0 failed".
+LIBRARIES = bench site keyholder
+ROUNDS = 1
+
+# The main job on an embedded sample: the printing program reads a key and a file and prints the file's mark.
+run:
+	@rt check mark > /dev/null
+	@printf '2000000000000027\nGauge 7, offset -0.0125 m\n' | target/bin/mark
+
+# Proves every crate from nothing, tries the must-fail edits, runs the programs and compares the C interface with a second
+# implementation. Its last line is "N passed, 0 failed".
 test:
-	rt ci
+	@tools/test
+
+# The static libraries for C and Rust.
+libraries:
+	@for name in $(LIBRARIES); do rt staticlib $$name > /dev/null || exit 1; done
+
+# The C interface against a second implementation in Rust. More rounds compare more: make conformance ROUNDS=20
+conformance: libraries
+	@mkdir -p target/conformance
+	@rustc --edition 2021 -O conformance/main.rs -o target/conformance/conformance -L target/staticlib $(LIBRARIES:%=-l static=%)
+	@target/conformance/conformance $(ROUNDS)
+
+# Ours beside the peers, in one run. The peers are Debian packages: libntl-dev libflint-dev golang-go golang-github-restic-chunker-dev
+benchmark: libraries
+	@rt staticlib gf2_measured > /dev/null
+	@mkdir -p target/benchmark
+	@cd benchmark && GO111MODULE=off GOPATH=/usr/share/gocode go build -buildmode=c-archive -o ../target/benchmark/librestic.a restic.go
+	@gcc -O3 -c benchmark/peers.c -o target/benchmark/peers.o
+	@g++ -O3 -Itarget/benchmark benchmark/main.cpp target/benchmark/peers.o $(LIBRARIES:%=target/staticlib/lib%.a) \
+		target/staticlib/libgf2_measured.a target/benchmark/librestic.a -lntl -lflint -lgmp -lpthread -o target/benchmark/benchmark
+	@target/benchmark/benchmark
 
 # Lays every .rt and .antt file out.
 fmt:

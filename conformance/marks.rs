@@ -1,19 +1,19 @@
 //! Beginning and feeding marks, by bits and by tables, and the tables themselves.
 use crate::{generator::Generator, gfp, reference, Tally};
 
-fn ours(mark: reference::Mark) -> gfp::Mark {
+pub fn ours(mark: reference::Mark) -> gfp::Mark {
     gfp::Mark { fingerprint: mark.fingerprint, length: mark.length }
 }
 
 /// The state after a call, and the number: on refusal the state handed in.
-fn outcome(before: reference::Mark, answer: Result<reference::Mark, u32>) -> (gfp::Mark, u32) {
+pub fn outcome(before: reference::Mark, answer: Result<reference::Mark, u32>) -> (gfp::Mark, u32) {
     match answer {
         Ok(mark) => (ours(mark), 0),
         Err(number) => (ours(before), number),
     }
 }
 
-fn after(mut mark: gfp::Mark, call: impl FnOnce(&mut gfp::Mark) -> Result<(), u32>) -> (gfp::Mark, u32) {
+pub fn after(mut mark: gfp::Mark, call: impl FnOnce(&mut gfp::Mark) -> Result<(), u32>) -> (gfp::Mark, u32) {
     let number = call(&mut mark).err().unwrap_or(0);
     (mark, number)
 }

@@ -49,6 +49,33 @@ uint32_t gfp_feed_table(uint64_t key, uint64_t *fingerprint, uint64_t *length, c
 /* Feeds the next part under GFP_HOUSE_KEY, by the table that the library holds. Refusals: 7, 8. */
 uint32_t gfp_feed_house(uint64_t *fingerprint, uint64_t *length, const uint8_t *part, size_t part_length);
 
+/* ---- Site: link libsite.a and libbench.a */
+
+/* Joins marks: the file of the mark (other, size) goes behind the file of the mark in the two places. Refusals: 1, 2, 7, 8. */
+uint32_t gfp_join_behind(uint64_t key, uint64_t *fingerprint, uint64_t *length, uint64_t other, uint64_t size);
+
+/* Joins marks: the file of the mark (other, size) goes in front. Refusals: 1, 2, 7, 8. */
+uint32_t gfp_join_in_front(uint64_t key, uint64_t *fingerprint, uint64_t *length, uint64_t other, uint64_t size);
+
+/* Changes a page in a file's mark: the new bytes stand where the old ones stood, from the byte at the given place on. The mark is
+ * right where the old bytes are what stood there. Refusals: 1, 2, 7, 8, 9, 10. */
+uint32_t gfp_replace_page(uint64_t key, uint64_t *fingerprint, uint64_t *length, uint64_t place, const uint8_t *old_page,
+                          size_t old_length, const uint8_t *new_page, size_t new_length);
+
+/* All places of the pattern in the text, byte offsets from 0, overlaps included, rising: the first ones into the lent words, as far as
+ * they reach; further words keep their value. The number of places goes to *places, however many words were lent, and the number of
+ * windows with the pattern's fingerprint and other bytes to *alarms. Refusals: 1, 2, 7, 11. */
+uint32_t gfp_search(uint64_t key, const uint8_t *text, size_t text_length, const uint8_t *pattern, size_t pattern_length, uint32_t *words,
+                    size_t words_length, uint32_t *places, uint32_t *alarms);
+
+/* ---- Keyholder: link libkeyholder.a, libsite.a and libbench.a */
+
+/* Draws a key by Rabin's method: the degree is one of 11, 13, 17, 19, 23, 29, 31, 37, 41, 43, 47, 53, 59, 61, and the element a random number
+ * from 2 to 2^degree - 1. A uniform element draws a uniform key: each accepted key of the degree is drawn by as many elements as the
+ * degree. Take the element from the system's random source (getrandom), as many bits as the degree, and try again on refusal 4.
+ * Refusals: 3, 4. */
+uint32_t gfp_draw(uint64_t degree, uint64_t element, uint64_t *key);
+
 #ifdef __cplusplus
 }
 #endif

@@ -10,6 +10,11 @@ mod raw {
         pub fn gfp_test_table(key: u64, words: *const u64, words_length: usize) -> u32;
         pub fn gfp_feed_table(key: u64, fingerprint: *mut u64, length: *mut u64, words: *const u64, words_length: usize, part: *const u8, part_length: usize) -> u32;
         pub fn gfp_feed_house(fingerprint: *mut u64, length: *mut u64, part: *const u8, part_length: usize) -> u32;
+        pub fn gfp_join_behind(key: u64, fingerprint: *mut u64, length: *mut u64, other: u64, size: u64) -> u32;
+        pub fn gfp_join_in_front(key: u64, fingerprint: *mut u64, length: *mut u64, other: u64, size: u64) -> u32;
+        pub fn gfp_replace_page(key: u64, fingerprint: *mut u64, length: *mut u64, place: u64, old: *const u8, old_length: usize, new: *const u8, new_length: usize) -> u32;
+        pub fn gfp_search(key: u64, text: *const u8, text_length: usize, pattern: *const u8, pattern_length: usize, words: *mut u32, words_length: usize, places: *mut u32, alarms: *mut u32) -> u32;
+        pub fn gfp_draw(degree: u64, element: u64, key: *mut u64) -> u32;
     }
 }
 
@@ -59,6 +64,24 @@ impl Mark {
     pub fn feed_house(&mut self, part: &[u8]) -> Result<(), Refusal> {
         answer(unsafe { raw::gfp_feed_house(&mut self.fingerprint, &mut self.length, part.as_ptr(), part.len()) }, ())
     }
+
+    /// The other mark's file goes behind this one's.
+    pub fn join_behind(&mut self, key: u64, other: Mark) -> Result<(), Refusal> {
+        answer(unsafe { raw::gfp_join_behind(key, &mut self.fingerprint, &mut self.length, other.fingerprint, other.length) }, ())
+    }
+
+    /// The other mark's file goes in front of this one's.
+    pub fn join_in_front(&mut self, key: u64, other: Mark) -> Result<(), Refusal> {
+        answer(unsafe { raw::gfp_join_in_front(key, &mut self.fingerprint, &mut self.length, other.fingerprint, other.length) }, ())
+    }
+
+    /// The new page stands where the old one stood, from the byte at `place` on.
+    pub fn replace_page(&mut self, key: u64, place: u64, old: &[u8], new: &[u8]) -> Result<(), Refusal> {
+        let number = unsafe {
+            raw::gfp_replace_page(key, &mut self.fingerprint, &mut self.length, place, old.as_ptr(), old.len(), new.as_ptr(), new.len())
+        };
+        answer(number, ())
+    }
 }
 
 pub fn make_table(key: u64, words: &mut [u64]) -> Result<(), Refusal> {
@@ -67,4 +90,27 @@ pub fn make_table(key: u64, words: &mut [u64]) -> Result<(), Refusal> {
 
 pub fn test_table(key: u64, words: &[u64]) -> Result<(), Refusal> {
     answer(unsafe { raw::gfp_test_table(key, words.as_ptr(), words.len()) }, ())
+}
+
+/// The number of places and of false alarms.
+#[derive(Clone, Copy, Debug, PartialEq, Eq)]
+pub struct Counts {
+    pub places: u32,
+    pub alarms: u32,
+}
+
+/// The places of the pattern in the text, the first ones into `words`.
+pub fn search(key: u64, text: &[u8], pattern: &[u8], words: &mut [u32]) -> Result<Counts, Refusal> {
+    let mut counts = Counts { places: 0, alarms: 0 };
+    let number = unsafe {
+        raw::gfp_search(key, text.as_ptr(), text.len(), pattern.as_ptr(), pattern.len(), words.as_mut_ptr(), words.len(), &mut counts.places, &mut counts.alarms)
+    };
+    answer(number, counts)
+}
+
+/// The key of a degree that an element draws.
+pub fn draw(degree: u64, element: u64) -> Result<u64, Refusal> {
+    let mut key = 0;
+    let number = unsafe { raw::gfp_draw(degree, element, &mut key) };
+    answer(number, key)
 }

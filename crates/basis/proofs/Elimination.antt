@@ -8,7 +8,7 @@ use native.Mathlib.Nat.{zero-mul, one-mul, mul-zero, zero-div, pow-suc, mod-lt, 
 use native.Mathlib.Omega.{arith}
 use lib.ListN.{length, length-map}
 use lib.Pow.{pow-pos}
-use lib.Bits.{bitXor, bitAnd, xor-comm, and-mask, and-zero-r}
+use lib.Bits.{bitAnd, and-mask, and-zero-r}
 use lib.Count.{trailingZeros, under}
 use Rattle.gf2.specs.Polynomials.{_⊕_, _⊗_}
 use Rattle.gf2.proofs.Sums.{⊕-zero, zero-⊕, ⊕-self, ⊕-shr, ⊕-low, ⊕-eq, ⊕-move, ⊕-swap, ⊕-half, ⊕-dbl, xor}
@@ -20,7 +20,7 @@ use Rattle.basis.specs.Rows.{sumOf, Independent, clear}
 bit-zero : (c : ℕ) → 0 / 2 ^ c % 2 ≡ 0
 bit-zero c = ap (λ (x : ℕ). x % 2) (zero-div (2 ^ c))
 
-low-⊕ : (a b c : ℕ) → (a ⊕ b) % 2 * c ≡ a % 2 * c ⊕ b % 2 * c
+pub low-⊕ : (a b c : ℕ) → (a ⊕ b) % 2 * c ≡ a % 2 * c ⊕ b % 2 * c
 low-⊕ a b c = rw (low-is (a ⊕ b) c, low-is a c, low-is b c) (simp (⊕-half, ⊕-⊗, ⊕-dbl, xor))
   where
     low-is : (x y : ℕ) → x % 2 * y ≡ x / 2 ⊗ y * 2 ⊕ x ⊗ y
@@ -106,14 +106,13 @@ module _ (c v : ℕ) (rows : List ℕ) (one : v / 2 ^ c % 2 ≡ 1) where
 
 -- ---- the step in code: a mask of ones where column c holds a 1
 
-pub clear-masked : (c v r mask : ℕ) → v < 2 ^ 64 → mask < 2 ^ 64 → (mask + bitAnd (r / 2 ^ c) 1) % 2 ^ 64 ≡ 0 → bitXor r (bitAnd v mask) ≡ clear c v r
-unfolding clear _⊕_
-clear-masked c v r mask lv lm e = xor-comm r (bitAnd v mask) ∙ ap (λ (x : ℕ). bitXor x r) (go (bit-cases (r / 2 ^ c % 2) (mod-2 (r / 2 ^ c))))
+pub masked : (c v x mask : ℕ) → v < 2 ^ 64 → mask < 2 ^ 64 → (mask + bitAnd (x / 2 ^ c) 1) % 2 ^ 64 ≡ 0 → bitAnd v mask ≡ x / 2 ^ c % 2 * v
+masked c v x mask lv lm e = go (bit-cases (x / 2 ^ c % 2) (mod-2 (x / 2 ^ c)))
   where
-    bit : bitAnd (r / 2 ^ c) 1 ≡ r / 2 ^ c % 2
-    bit = and-mask (r / 2 ^ c) 1
+    bit : bitAnd (x / 2 ^ c) 1 ≡ x / 2 ^ c % 2
+    bit = and-mask (x / 2 ^ c) 1
 
-    go : (r / 2 ^ c % 2 ≡ 0) ⊎ (r / 2 ^ c % 2 ≡ 1) → bitAnd v mask ≡ r / 2 ^ c % 2 * v
+    go : (x / 2 ^ c % 2 ≡ 0) ⊎ (x / 2 ^ c % 2 ≡ 1) → bitAnd v mask ≡ x / 2 ^ c % 2 * v
     go (inl z) =
         let m : mask ≡ 0 = omega (arith, bit, mod-eq-of-lt lm) in
         rw (z, m, zero-mul) (and-zero-r v)

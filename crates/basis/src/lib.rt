@@ -3,16 +3,17 @@ ghost use mathlib.Core.Path.{_≡_};
 ghost use mathlib.Core.Bool.{true};
 ghost use mathlib.Core.Logic.{_↔_};
 ghost use mathlib.Core.List.{map};
-ghost use Prim.Native.Nat.{_/_, _%_, _^_, _≤_, _<_};
+ghost use Prim.Native.Nat.{_*_, _/_, _%_, _^_, _≤_, _<_};
 ghost use lib.ListN.{take};
 ghost use Rattle.basis.specs.Rows.{Independent, clear};
+ghost use Rattle.basis.specs.Echelon.{emptyBasis, reduceBy, insertInto};
 
-// r, with v added where column c of r holds a 1.
-fn cleared(v: u64, c: u32, r: u64) -> u64
+// v where column c of x holds a 1, 0 where it holds a 0. No branch: the rows are data.
+fn chosen(x: u64, c: u32, v: u64) -> u64
     requires { ⌜ c < 64 ⌝ }
-    ensures { λ s. ⌜ s ≡ clear c v r ⌝ }
+    ensures { λ r. ⌜ r ≡ x / 2 ^ c % 2 * v ⌝ }
 {
-    r ^ (v & std::num::wrapping_sub_u64(0, (r >> c) & 1))
+    v & std::num::wrapping_sub_u64(0, (x >> c) & 1)
 }
 
 // Clears column c of every row by v.
@@ -21,7 +22,8 @@ fn clear_column(rows: &mut [u64], v: u64, c: u32)
     ensures { λ r. ⌜ now (rows .exit) ≡ map (clear c v) (now (rows .entry)) ⌝ }
 {
     for j in 0..rows.len() {
-        rows[j] = cleared(v, c, rows[j]);
+        let r = rows[j];
+        rows[j] = chosen(r, c, v) ^ r;
     }
 }
 
@@ -49,4 +51,59 @@ pub fn independent(rows: [u64; 64], n: usize) -> bool
         clear_column(&mut work[next..n], v, c);
     }
     true
+}
+
+// Rows in echelon form, one for each leading column, 0 where there is none: and of each, which of the rows that were inserted it is
+// the sum of.
+pub struct Basis {
+    pub rows: [u64; 64],
+    pub combinations: [u64; 64],
+}
+
+// What a basis leaves of a row, and which rows that is the sum of.
+pub struct Reduced {
+    pub row: u64,
+    pub combination: u64,
+}
+
+impl Basis {
+    pub fn new() -> Basis
+        ensures { λ r. ⌜ r ≡ emptyBasis ⌝ }
+    {
+        Basis {
+            rows: [0; 64],
+            combinations: [0; 64],
+        }
+    }
+
+    // The row, less each row of the basis that leads in a column where it holds a 1, from the highest column down.
+    pub fn reduce(self, row: u64, combination: u64) -> Reduced
+        ensures { λ r. ⌜ r ≡ reduceBy self 64 row combination ⌝ }
+    {
+        let mut x = row;
+        let mut sum = combination;
+        let mut n: u32 = 64;
+        while 0 < n {
+            n -= 1;
+            let i = n as usize;
+            sum = chosen(x, n, self.combinations[i]) ^ sum;
+            x = chosen(x, n, self.rows[i]) ^ x;
+        }
+        Reduced {
+            row: x,
+            combination: sum,
+        }
+    }
+
+    // With what is left of a row, in its leading column.
+    pub fn insert(self, left: Reduced) -> Basis
+        requires { ⌜ 0 < left .row ⌝ }
+        ensures { λ r. ⌜ r ≡ insertInto self left ⌝ }
+    {
+        let mut basis = self;
+        let i = gf2::degree(left.row) as usize;
+        basis.rows[i] = left.row;
+        basis.combinations[i] = left.combination;
+        basis
+    }
 }

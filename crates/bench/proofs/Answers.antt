@@ -1,18 +1,28 @@
 -- An answer about running marks under one key, and the same answer about marks.
-use mathlib.Core.Path.{_≡_, refl}
+use mathlib.Core.Path.{_≡_, refl, ap, _∙_}
+use mathlib.Core.List.{List}
 use Prim.Native.Nat.{ℕ}
 use Rattle.refusals.specs.Refusals.{Answer, Done, Refused, numberOf, stateOf, valueOr}
 use Rattle.files.specs.declared.Mark.{Mark}
+use Rattle.tables.specs.declared.Made.{Made}
+use Rattle.tables.specs.declared.Made.the-variants as made-cases
+use Rattle.tables.specs.Answers.{made}
 use Rattle.marks.specs.declared.Running.{Running}
 use Rattle.marks.specs.Feeding.{markIn, begunUnder, fedUnder}
 
-pub fed-number : (key : ℕ) (a : Answer Mark Mark) → numberOf (fedUnder key a) ≡ numberOf a
+fed-number : (key : ℕ) (a : Answer Mark Mark) → numberOf (fedUnder key a) ≡ numberOf a
 fed-number key (Done m) = refl
 fed-number key (Refused r m) = refl
 
-pub fed-state : (key : ℕ) (a : Answer Mark Mark) → markIn (stateOf (fedUnder key a)) ≡ stateOf a
+fed-state : (key : ℕ) (a : Answer Mark Mark) → markIn (stateOf (fedUnder key a)) ≡ stateOf a
 fed-state key (Done m) = refl
 fed-state key (Refused r m) = refl
+
+-- what `store` leaves of an answer under a key: the number and the mark of the answer about marks
+pub stored : (key : ℕ) (a : Answer Mark Mark) (x : Answer Running Running) (n : ℕ) (m : Mark) → x ≡ fedUnder key a
+    → (n ≡ numberOf x) × (m ≡ markIn (stateOf x)) → (n ≡ numberOf a) × (m ≡ stateOf a)
+stored key a x n m e h =
+    (h .0 ∙ ap numberOf e ∙ fed-number key a, h .1 ∙ ap (λ (y : Answer Running Running). markIn (stateOf y)) e ∙ fed-state key a)
 
 pub begun-number : (key : ℕ) (a : Answer Unit Mark) → numberOf (begunUnder key a) ≡ numberOf a
 begun-number key (Done m) = refl
@@ -26,3 +36,8 @@ markOr before (Refused r s) = before
 pub begun-value : (key : ℕ) (before : Mark) (a : Answer Unit Mark) → markOr before (begunUnder key a) ≡ valueOr before a
 begun-value key before (Done m) = refl
 begun-value key before (Refused r s) = refl
+
+-- the words of an answer about a table are those that the buffer holds
+pub made-state : (words : List ℕ) (r : Made) → words ≡ stateOf (made words r)
+made-state words made-cases.Done = refl
+made-state words (made-cases.Refused q) = refl

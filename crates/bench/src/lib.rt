@@ -4,11 +4,15 @@ ghost use mathlib.Core.Path.{_≡_};
 ghost use Rattle.refusals.specs.Refusals.{numberOf, stateOf, valueOr};
 ghost use Rattle.keys.specs.Testing.{testKey};
 ghost use Rattle.marks.specs.Feeding.{begin, feedBits, fed, markIn};
+ghost use Rattle.tables.specs.Tables.{makeTable, testTable, feedTable, feedHouse};
 ghost use Rattle.bench.specs.Places.{markAt};
+use files::Mark;
 use keys::Tested;
 use marks::Begun;
 use marks::Fed;
 use marks::Running;
+use tables::Checked;
+use tables::Made;
 
 // The mark of an answer to the two places, and its number. On refusal the mark is the one that was handed in.
 pub fn store(answer: Fed, fingerprint: &mut u64, length: &mut u64) -> u32
@@ -71,4 +75,66 @@ pub extern "C" fn gfp_feed(key: u64, fingerprint: &mut u64, length: &mut u64, pa
         length: *length,
     };
     store(m.feed(part), fingerprint, length)
+}
+
+// The key's table into the lent words. Numbers 1, 2, 5.
+#[no_mangle]
+pub extern "C" fn gfp_make_table(key: u64, words: &mut [u64]) -> u32
+    ensures { λ r. ⌜
+        (r ≡ numberOf (makeTable key (now (words .entry))))
+        × (now (words .exit) ≡ stateOf (makeTable key (now (words .entry))))
+        ⌝ }
+{
+    match tables::make(key, words) {
+        Made::Done => 0,
+        Made::Refused(r) => refusals::number(r),
+    }
+}
+
+// Are the words the key's table? Numbers 1, 2, 5, 6.
+#[no_mangle]
+pub extern "C" fn gfp_test_table(key: u64, words: &[u64]) -> u32
+    ensures { λ r. ⌜ r ≡ numberOf (testTable key (now (words .entry))) ⌝ }
+{
+    match tables::test(key, words) {
+        Checked::Right => 0,
+        Checked::Refused(r) => refusals::number(r),
+    }
+}
+
+// The next part by a table. Numbers 1, 2, 5, 6, 7, 8.
+#[no_mangle]
+pub extern "C" fn gfp_feed_table(
+    key: u64,
+    fingerprint: &mut u64,
+    length: &mut u64,
+    words: &[u64],
+    part: &[u8],
+) -> u32
+    ensures { λ r. ⌜
+        (r ≡ numberOf (feedTable key (markAt (now (fingerprint .entry)) (now (length .entry))) (now (words .entry)) (now (part .entry))))
+        × (markAt (now (fingerprint .exit)) (now (length .exit)) ≡ stateOf (feedTable key (markAt (now (fingerprint .entry)) (now (length .entry))) (now (words .entry)) (now (part .entry))))
+        ⌝ }
+{
+    let m = Running {
+        key: key,
+        fingerprint: *fingerprint,
+        length: *length,
+    };
+    store(tables::feed(m, words, part), fingerprint, length)
+}
+
+// The next part under the house key, by the table that the library holds. Numbers 7, 8.
+#[no_mangle]
+pub extern "C" fn gfp_feed_house(fingerprint: &mut u64, length: &mut u64, part: &[u8]) -> u32
+    ensures { λ r. ⌜
+        (r ≡ numberOf (feedHouse (markAt (now (fingerprint .entry)) (now (length .entry))) (now (part .entry))))
+        × (markAt (now (fingerprint .exit)) (now (length .exit)) ≡ stateOf (feedHouse (markAt (now (fingerprint .entry)) (now (length .entry))) (now (part .entry))))
+        ⌝ }
+{
+    let m = Mark {
+        fingerprint: *fingerprint,
+        length: *length,
+    };
+    store(house::feed_house(m, part), fingerprint, length)
 }

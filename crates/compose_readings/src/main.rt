@@ -1,23 +1,8 @@
-// Joining and page changes under key 0x11B, printed and compared with their figures: the fingerprint and the length, or the refusal's number
-// with the mark that went back.
+// Joining and page changes, printed and compared with their figures: the fingerprint and the length, or the refusal's number with the mark
+// that went back. Under key 0x11B where nothing else is said.
 use files::Mark;
 use marks::Fed;
 use marks::Running;
-
-fn running(key: u64, fingerprint: u64, length: u64) -> Running {
-    Running {
-        key: key,
-        fingerprint: fingerprint,
-        length: length,
-    }
-}
-
-fn mark(fingerprint: u64, length: u64) -> Mark {
-    Mark {
-        fingerprint: fingerprint,
-        length: length,
-    }
-}
 
 fn show_mark(m: Running) {
     io::print_hex(1, m.fingerprint, 2);
@@ -26,8 +11,7 @@ fn show_mark(m: Running) {
     io::write_all(1, b" bytes\n");
 }
 
-fn show(what: &[u8], answer: Fed) {
-    io::write_all(1, what);
+fn show(answer: Fed) {
     match answer {
         Fed::Next(m) => {
             show_mark(m);
@@ -41,106 +25,113 @@ fn show(what: &[u8], answer: Fed) {
     }
 }
 
-fn joining() {
-    let m = running(0x11B, 0x5A, 1);
-    show(
-        b"41 joined with 42: ",
-        compose::join_behind(m, mark(0x59, 1)),
-    );
-    show(
-        b"41 joined with the empty file: ",
-        compose::join_behind(m, mark(1, 0)),
-    );
-    show(
-        b"the empty file in front of 41: ",
-        compose::join_in_front(m, mark(1, 0)),
-    );
-    let n = running(0x11B, 0x59, 1);
-    show(
-        b"41 in front of 42: ",
-        compose::join_in_front(n, mark(0x5A, 1)),
-    );
-    show(
-        b"42 joined with 41: ",
-        compose::join_behind(n, mark(0x5A, 1)),
-    );
-    show(
-        b"4294967295 bytes and none: ",
-        compose::join_behind(running(0x11B, 0x5A, 4294967295), mark(1, 0)),
-    );
-    show(
-        b"4294967295 bytes and one: ",
-        compose::join_behind(running(0x11B, 0x5A, 4294967295), mark(0x59, 1)),
-    );
-    let half: u64 = 1 << 63;
-    show(
-        b"2^63 bytes and 2^63: ",
-        compose::join_behind(running(0x11B, 0x5A, half), mark(0x59, half)),
-    );
-    show(
-        b"a fingerprint of 9 bits: ",
-        compose::join_behind(m, mark(0x100, 1)),
-    );
-    show(
-        b"key 255: ",
-        compose::join_behind(running(0xFF, 0x5A, 1), mark(0x59, 1)),
-    );
-    show(
-        b"key 0x101, too long: ",
-        compose::join_in_front(running(0x101, 0x5A, half), mark(0x59, half)),
+// The mark of fingerprint f and length a with the one of fingerprint g and length b behind it, and in front of it.
+fn join(what: &[u8], key: u64, f: u64, a: u64, g: u64, b: u64) {
+    let m = Running {
+        key: key,
+        fingerprint: f,
+        length: a,
+    };
+    let other = Mark {
+        fingerprint: g,
+        length: b,
+    };
+    io::write_all(1, what);
+    io::write_all(1, b"\n  behind: ");
+    show(compose::join_behind(m, other));
+    io::write_all(1, b"  in front: ");
+    show(compose::join_in_front(m, other));
+}
+
+// A page changed in the mark of fingerprint f and length a.
+fn change(what: &[u8], f: u64, a: u64, place: u64, old: &[u8], new: &[u8]) {
+    let m = Running {
+        key: 0x11B,
+        fingerprint: f,
+        length: a,
+    };
+    io::write_all(1, what);
+    show(compose::replace_page(m, place, old, new));
+}
+
+fn joins() {
+    join(b"41 and 42", 0x11B, 0x5A, 1, 0x59, 1);
+    join(b"41 and the empty file", 0x11B, 0x5A, 1, 1, 0);
+    join(b"4294967295 bytes and none", 0x11B, 0x5A, 4294967295, 1, 0);
+    join(
+        b"4294967295 bytes and one",
+        0x11B,
+        0x5A,
+        4294967295,
+        0x59,
+        1,
     );
 }
 
-fn pages() {
-    let m = running(0x11B, 0x9D, 2);
-    let last: u64 = 18446744073709551615;
-    show(
-        b"41 42, 42 becomes 43: ",
-        compose::replace_page(m, 1, b"\x42", b"\x43"),
+fn joins_refused() {
+    join(
+        b"2^63 bytes and 2^63",
+        0x11B,
+        0x5A,
+        9223372036854775808,
+        0x59,
+        9223372036854775808,
     );
-    show(
-        b"41 42, 41 becomes 40: ",
-        compose::replace_page(m, 0, b"\x41", b"\x40"),
+    join(b"a fingerprint of 9 bits", 0x11B, 0x5A, 1, 0x100, 1);
+    join(b"key 255", 0xFF, 0x5A, 1, 0x59, 1);
+    join(
+        b"key 101, 2^63 bytes",
+        0x101,
+        0x5A,
+        9223372036854775808,
+        0x59,
+        1,
     );
-    show(
+}
+
+fn changes() {
+    change(b"41 42, 42 becomes 43: ", 0x9D, 2, 1, b"\x42", b"\x43");
+    change(b"41 42, 41 becomes 40: ", 0x9D, 2, 0, b"\x41", b"\x40");
+    change(
         b"41 42 becomes 00 00: ",
-        compose::replace_page(m, 0, b"\x41\x42", b"\x00\x00"),
+        0x9D,
+        2,
+        0,
+        b"\x41\x42",
+        b"\x00\x00",
     );
-    show(
-        b"an empty page at the end: ",
-        compose::replace_page(m, 2, b"", b""),
+}
+
+fn changes_at_the_end() {
+    change(b"no byte at the end: ", 0x9D, 2, 2, b"", b"");
+    change(b"no byte past the end: ", 0x9D, 2, 3, b"", b"");
+    change(
+        b"one byte at place 2^64 - 1: ",
+        0x9D,
+        2,
+        18446744073709551615,
+        b"\x41",
+        b"\x40",
     );
-    show(
-        b"an empty page past the end: ",
-        compose::replace_page(m, 3, b"", b""),
-    );
-    show(
-        b"place 2^64 - 1, one byte: ",
-        compose::replace_page(m, last, b"\x41", b"\x40"),
-    );
-    show(
-        b"place 2^64 - 1, no byte: ",
-        compose::replace_page(m, last, b"", b""),
-    );
-    show(
+}
+
+fn changes_refused() {
+    change(
         b"pages of different length: ",
-        compose::replace_page(m, last, b"\x41", b""),
+        0x9D,
+        2,
+        18446744073709551615,
+        b"\x41",
+        b"",
     );
-    show(
-        b"a fingerprint of 9 bits: ",
-        compose::replace_page(running(0x11B, 0x100, 2), 3, b"\x41", b""),
-    );
-    show(
-        b"a length of 2^32: ",
-        compose::replace_page(running(0x11B, 0x100, 4294967296), 3, b"\x41", b""),
-    );
-    show(
-        b"key 0x405: ",
-        compose::replace_page(running(0x405, 0x100, 4294967296), 3, b"\x41", b""),
-    );
+    change(b"a fingerprint of 9 bits: ", 0x100, 2, 3, b"\x41", b"");
+    change(b"a length of 2^32: ", 0x100, 4294967296, 3, b"\x41", b"");
 }
 
 fn main() {
-    joining();
-    pages();
+    joins();
+    joins_refused();
+    changes();
+    changes_at_the_end();
+    changes_refused();
 }

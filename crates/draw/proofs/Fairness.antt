@@ -66,7 +66,7 @@ unfolding every-listed prime-test undivided
 listed-test k e = at-listed degrees k tt e
 
 module _ (k : ℕ) (listed : among k degrees ≡ true) where
-  range : (11 ≤ k) × (k ≤ 61)
+  pub range : (11 ≤ k) × (k ≤ 61)
   unfolding prime-test
   range =
       let both = and-left (leb 11 k && leb k 61) (undivided k (k - 2)) (listed-test k listed) in

@@ -2,3 +2,6 @@ pub mod Draws
 pub mod Drawers
 pub mod Sums
 pub mod Fairness
+pub mod Lists
+pub mod Matrices
+pub mod Relations

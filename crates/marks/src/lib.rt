@@ -113,10 +113,12 @@ impl Running {
         if !reduced(k, f) {
             return Fed::Refused(Refusal::MarkNotReduced, self);
         }
+        let next = feed_bytes(k, gf2::low_bits(key, k), f, part);
+        let total = length + n;
         Fed::Next(Running {
             key: key,
-            fingerprint: feed_bytes(k, gf2::low_bits(key, k), f, part),
-            length: length + n,
+            fingerprint: next,
+            length: total,
         })
     }
 }

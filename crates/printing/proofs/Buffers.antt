@@ -2,11 +2,12 @@
 use mathlib.Core.Path.{_≡_, refl, sym, ap, ap₂, _∙_}
 use mathlib.Core.List.{List, [], _∷_, _++_, append-assoc, append-nil}
 use Prim.Native.Nat.{ℕ, _+_, _-_, _≤_, _<_}
-use native.Mathlib.Nat.{add-assoc}
+use native.Mathlib.Nat.{zero-add, add-assoc}
 use native.Mathlib.Omega.{arith}
 use lib.ListN.{length, take, drop, length-append, length-drop}
 use lib.Seq.{length-take-le, take-at, drop-append-add, drop-drop, take-length, take-all, drop-length}
 use borrow.Rule.Slice.PartMut.{midOf, postOf, putMid, post-is}
+use Rattle.io.specs.Counts.{Counts}
 use Rattle.printing.specs.Printing.{putAt}
 
 module _ (out : List ℕ) (at : ℕ) where
@@ -22,6 +23,12 @@ module _ (out : List ℕ) (at : ℕ) where
   length-put text h =
       length-append (take at out ++ text) (drop (at + length text) out)
       ∙ omega (arith, length-append (take at out) text, length-take-le at out (omega arith), length-drop (at + length text) out)
+
+  pub put-counts : (text l : List ℕ) (n : ℕ) → at + length text ≤ length out → n ≡ at + length text → l ≡ putAt out at text → Counts n l
+  put-counts text l n h e f = rw (f, e) (within, sym (length-take-le (at + length text) (putAt out at text) within))
+    where
+      within : at + length text ≤ length (putAt out at text)
+      within = omega (arith, length-put text h)
 
   -- two texts, one behind the other
   pub put-put : (s t : List ℕ) → at + length s ≤ length out → putAt (putAt out at s) (at + length s) t ≡ putAt out at (s ++ t)
@@ -41,3 +48,17 @@ module _ (out : List ℕ) (at : ℕ) where
           ∙ drop-append-add (take at out ++ s) (drop (at + length s) out) (length t)
           ∙ drop-drop (length t) (at + length s) out
           ∙ ap (λ (n : ℕ). drop n out) (add-assoc at (length s) (length t) ∙ ap (λ (n : ℕ). at + n) (sym (length-append s t)))
+
+  -- the buffer l has the text at the place, and n is the place behind it
+  abbrev pub Holds : ℕ → List ℕ → List ℕ → Type 0
+  Holds n l text = (n ≡ at + length text) × (l ≡ putAt out at text)
+
+  pub put-next : (s t l l′ : List ℕ) (n n′ : ℕ) → n ≤ length out → Holds n l s → n′ ≡ n + length t → l′ ≡ putAt l n t → Holds n′ l′ (s ++ t)
+  put-next s t l l′ n n′ b h e f = (
+    e ∙ ap (λ (x : ℕ). x + length t) (h .0) ∙ add-assoc at (length s) (length t) ∙ ap (λ (x : ℕ). at + x) (sym (length-append s t)),
+    f ∙ ap₂ (λ (x : List ℕ) (m : ℕ). putAt x m t) (h .1) (h .0) ∙ put-put s t (rw (h .0) at b),
+  )
+
+-- what the writer of a whole text shows
+pub whole : (out text l : List ℕ) (n : ℕ) → n ≤ length out → Holds out 0 n l text → (n ≡ length text) × (Counts n l × (l ≡ putAt out 0 text))
+whole out text l n b h = (h .0 ∙ zero-add (length text), (put-counts out 0 text l n (rw (h .0) at b) (h .0) (h .1), h .1))

@@ -65,3 +65,20 @@ module _ (n : ℕ) (input : List ℕ) where
   pub key-digits : n < length input → 1 ≤ n → n ≤ 16 → allDigits (take n input) ≡ true → keyBefore n input ≡ Key (hexFrom 0 (take n input)) (n + 1)
   unfolding keyBefore
   key-digits h lo hi e = rw (lt-ltb n (length input) h, le-leb 1 n lo, le-leb n 16 hi, e)
+
+-- the file begins within the input or at its end
+pub key-within : (input : List ℕ) (key at : ℕ) → keyLine input ≡ Key key at → at ≤ length input
+unfolding keyLine keyBefore
+key-within input key at e = go (ltb n (length input)) (leb 1 n && leb n 16) (allDigits (take n input)) refl e
+  where
+    n : ℕ
+    n = indexOf 10 input
+
+    none : NoKey ≡ Key key at → ⊥
+    none f = let z : _≡_ {A = ℕ} 0 1 = cc in omega arith
+
+    go : (a b c : Bool) → ltb n (length input) ≡ a → cond (a && b && c) (Key (hexFrom 0 (take n input)) (n + 1)) NoKey ≡ Key key at → at ≤ length input
+    go true true true t f = let g : n + 1 ≡ at = cc in omega (arith, ltb-true n (length input) t)
+    go true true false t f = absurd (none f)
+    go true false c t f = absurd (none f)
+    go false b c t f = absurd (none f)

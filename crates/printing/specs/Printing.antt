@@ -67,6 +67,9 @@ report m =
 unfoldable pub refused : Refusal → List ℕ
 refused r = ascii "refused " ++ numeral 10 (number r) ++ ascii "\n"
 
+unfoldable pub noKey : List ℕ
+noKey = ascii "no key\n"
+
 abbrev pub answerText : {S : Type 0} → Answer S Running → List ℕ
 answerText (Done m) = report m
 answerText (Refused r s) = refused r
@@ -76,7 +79,7 @@ unfoldable pub markFile : ℕ → List ℕ → Answer Unit Running
 markFile key file = begunUnder key (firstOf (keyTests key ++ passes (length file ∷ []) ⇒ TooLong ∷ []) tt (markOf key file))
 
 abbrev pub printedAfter : KeyLine → List ℕ → List ℕ
-printedAfter NoKey input = ascii "no key\n"
+printedAfter NoKey input = noKey
 printedAfter (Key key at) input = answerText (markFile key (drop at input))
 
 -- what the program prints on an input

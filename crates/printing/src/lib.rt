@@ -6,7 +6,9 @@ ghost use mathlib.Core.Bool.{true};
 ghost use Prim.Native.Nat.{_+_, _≤_};
 ghost use mathlib.Core.List.{_++_};
 ghost use lib.ListN.{length};
-ghost use Rattle.printing.specs.Printing.{digit, allDigits, hexFrom, keyLine, numeral, putAt};
+ghost use Rattle.io.specs.Counts.{Counts};
+ghost use Rattle.gf2.specs.Polynomials.{degree};
+ghost use Rattle.printing.specs.Printing.{digit, allDigits, hexFrom, keyLine, numeral, report, refused, noKey, putAt};
 
 // What the first line of an input says: the key, and the place where the file begins.
 pub enum KeyLine {
@@ -124,4 +126,49 @@ fn put_hex(out: &mut [u8], at: usize, label: &[u8], n: u64) -> usize
     let mut digits = [0u8; 16];
     let k = io::hex(n, 1, &mut digits);
     put_both(out, at, label, &digits[..k])
+}
+
+// The degree of a key; 0 of the number 0.
+fn degree(key: u64) -> u32
+    ensures { λ r. ⌜ r ≡ degree key ⌝ }
+{
+    if key == 0 {
+        return 0;
+    }
+    gf2::degree(key)
+}
+
+// The three lines of a mark, at the front of a buffer, and their length.
+pub fn report(m: Running, out: &mut [u8; 96]) -> usize
+    ensures { λ r. ⌜ r ≡ length (report m) ⌝ }
+    ensures { λ r. ⌜ Counts r (now (out .exit)) ⌝ }
+    ensures { λ _. ⌜ now (out .exit) ≡ putAt (now (out .entry)) 0 (report m) ⌝ }
+{
+    let key = m.key;
+    let fingerprint = m.fingerprint;
+    let length = m.length;
+    let a = put_decimal(out, 0, b"key ", degree(key) as u64);
+    let b = put_hex(out, a, b" ", key);
+    let c = put_decimal(out, b, b"\nbytes ", length);
+    let d = put_hex(out, c, b"\nmark ", fingerprint);
+    put(out, d, b"\n")
+}
+
+// The line of a refusal.
+pub fn refusal(r: Refusal, out: &mut [u8; 96]) -> usize
+    ensures { λ n. ⌜ n ≡ length (refused r) ⌝ }
+    ensures { λ n. ⌜ Counts n (now (out .exit)) ⌝ }
+    ensures { λ _. ⌜ now (out .exit) ≡ putAt (now (out .entry)) 0 (refused r) ⌝ }
+{
+    let a = put_decimal(out, 0, b"refused ", refusals::number(r) as u64);
+    put(out, a, b"\n")
+}
+
+// The line where the input gives no key.
+pub fn no_key(out: &mut [u8; 96]) -> usize
+    ensures { λ n. ⌜ n ≡ length noKey ⌝ }
+    ensures { λ n. ⌜ Counts n (now (out .exit)) ⌝ }
+    ensures { λ _. ⌜ now (out .exit) ≡ putAt (now (out .entry)) 0 noKey ⌝ }
+{
+    put(out, 0, b"no key\n")
 }

@@ -2,11 +2,11 @@
 -- them some six times as fast as it takes `bitXor` of numbers. `value k w` is the number that the first k coefficients of w write.
 use mathlib.Core.Path.{_≡_, refl, sym, ap, ap₂, _∙_}
 use Prim.Native.Nat.{ℕ, zero, suc, _+_, _*_, _/_, _%_, _^_, _≤_, _<_, suc-le-suc}
-use native.Mathlib.Nat.{le-trans, le-of-suc-le, le-of-suc-le-suc, not-suc-le-zero, zero-add, suc-add, add-suc, zero-mul, one-mul, mul-one, pow-suc, le-suc, lt-of-lt-of-le, le-refl, le-add-left, div-self, mod-one, mod-lt, mul-comm}
+use native.Mathlib.Nat.{le-trans, le-of-suc-le, le-of-suc-le-suc, not-suc-le-zero, zero-add, suc-add, zero-mul, one-mul, mul-one, pow-suc, le-suc, lt-of-lt-of-le, le-refl, le-add-left, mod-one, mod-lt, mul-comm}
 use native.Mathlib.Numerals.{one-add}
 use native.Mathlib.Omega.{arith}
 use lib.Pow.{pow-pos, pow-mono, pow-lt, pow-add, mod-pow-add}
-use Rattle.gf2.specs.Polynomials.{_⊕_, _⊗_, Degree, monic, rem, Divides}
+use Rattle.gf2.specs.Polynomials.{_⊕_, Degree, monic, rem, Divides}
 use Rattle.gf2.proofs.Sums.{⊕-zero, zero-⊕, ⊕-self, ⊕-assoc, ⊕-left-comm, ⊕-dbl, ⊕-shl, ⊕-lt, ⊕-append, xor}
 use Rattle.gf2.proofs.Products.{⊗-pow, ⊗-comm, shl-suc, mod-2}
 use Rattle.gf2.proofs.Degrees.{degree-eq, deg-pos}

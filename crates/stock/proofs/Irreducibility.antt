@@ -4,15 +4,15 @@ use mathlib.Core.Path.{_≡_, refl, sym, ap, ap₂, _∙_}
 use mathlib.Core.Bool.{Bool, _&&_}
 use mathlib.Core.List.{List, [], _∷_}
 use Prim.Native.Nat.{ℕ, zero, suc, _*_, _/_, _%_, _^_, _≤_, _<_}
-use native.Mathlib.Nat.{le-of-eq, le-suc, zero-mul, one-mul, pow-suc, lt-of-lt-of-le, div-lt-iff-lt-mul, mod-eq-of-lt, mod-lt}
+use native.Mathlib.Nat.{le-of-eq, le-suc, zero-mul, one-mul, pow-suc, lt-of-lt-of-le, div-lt-iff-lt-mul, mod-eq-of-lt}
 use native.Mathlib.Omega.{arith}
 use lib.Arith.{lt-one}
 use lib.Dec.{T, eqb, eqb→eq}
 use lib.ListN.{length}
-use lib.Pow.{pow-pos, split}
+use lib.Pow.{pow-pos}
 use Rattle.gf2.specs.Polynomials.{_⊕_, _⊗_, degree, Degree, monic, rem, Irreducible}
 use Rattle.gf2.proofs.Lists.{and-left, and-right}
-use Rattle.gf2.proofs.Sums.{⊕-self, ⊕-append, ⊕-cancel, ⊕-swap}
+use Rattle.gf2.proofs.Sums.{⊕-self, ⊕-cancel, ⊕-swap}
 use Rattle.gf2.proofs.Products.{⊗-zero, zero-⊗, ⊗-one, one-⊗, ⊗-pow, ⊗-assoc, bit-⊕, by-bit, by-low, ring}
 use Rattle.gf2.proofs.Degrees.{degree-eq, deg-lo, deg-pos}
 use Rattle.gf2.proofs.Monics.{monic-of}

@@ -5,7 +5,7 @@ use Prim.Native.Nat.{ℕ, zero, suc, _+_, _^_, _≤_, _<_}
 use native.Mathlib.Nat.{le-refl, pow-suc}
 use native.Mathlib.Decide.{ℕ-discrete}
 use native.Mathlib.Omega.{arith}
-use Rattle.gf2.specs.Polynomials.{degree, Degree}
+use Rattle.gf2.specs.Polynomials.{Degree}
 use Rattle.gf2.proofs.Degrees.{degree-is, degree-eq, deg-lo, deg-hi, deg-intro}
 use Rattle.acceptance.specs.Keys.{accepted}
 use Rattle.acceptance.proofs.Laws.{accepted-pos}

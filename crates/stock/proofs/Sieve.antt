@@ -1,7 +1,7 @@
 -- A test that the checker computes, and that shows a key to be the smallest accepted one of its degree: it is irreducible, and each
 -- smaller number of that degree is a multiple of one of a few listed divisors.
-use mathlib.Core.Path.{_≡_, refl, sym, ap, ap₂, _∙_}
-use mathlib.Core.Bool.{Bool, true, false, _&&_, _||_, true≢false}
+use mathlib.Core.Path.{_≡_, sym, ap, _∙_}
+use mathlib.Core.Bool.{Bool, true, false, _&&_, _||_}
 use mathlib.Core.List.{List, [], _∷_}
 use Prim.Native.Nat.{ℕ, zero, suc, _+_, _-_, _^_, _≤_, _<_}
 use native.Mathlib.Nat.{add-zero, add-suc, suc-add, one-mul, pow-suc, le-of-suc-le-suc, not-suc-le-zero}

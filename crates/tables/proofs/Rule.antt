@@ -1,26 +1,25 @@
 -- Laws of the rule of a table: row j has the multiples of the residue of t^(k + w·j), and words follow the rule where none differs.
 use mathlib.Core.Path.{_≡_, refl, sym, ap, ap₂, _∙_}
-use mathlib.Core.Bool.{Bool, true, false, not, _||_}
+use mathlib.Core.Bool.{Bool, true, false, not}
 use mathlib.Core.List.{List, [], _∷_}
-use Prim.Native.Nat.{ℕ, zero, suc, _+_, _-_, _*_, _/_, _%_, _^_, _≤_, _<_, suc-le-suc}
-use native.Mathlib.Nat.{le-refl, add-zero, zero-add, add-suc, suc-add, one-mul, not-suc-le-zero, le-of-suc-le-suc, pow-suc, mul-comm}
+use Prim.Native.Nat.{ℕ, zero, suc, _+_, _-_, _*_, _^_, _≤_, _<_, suc-le-suc}
+use native.Mathlib.Nat.{le-refl, add-zero, zero-add, add-suc, suc-add, not-suc-le-zero, le-of-suc-le-suc, pow-suc}
 use native.Mathlib.Decide.{decLt}
 use native.Mathlib.Omega.{arith}
 use lib.Arith.{digits-div, digits-mod}
 use lib.Dec.{eqb}
 use lib.ListN.{length, getD}
 use lib.Pow.{pow-add, pow-lt}
-use lib.Seq.{ext-getD}
 use borrow.Author.Tests.{eqb-true, eq-eqb, not-false}
 use Rattle.gf2.specs.Polynomials.{_⊕_, _⊗_, degree, monic, rem}
-use Rattle.gf2.proofs.Sums.{⊕-self}
-use Rattle.gf2.proofs.Products.{⊗-comm, ⊗-pow, ⊗-assoc}
+use Rattle.gf2.proofs.Products.{⊗-comm, ⊗-pow}
 use Rattle.gf2.proofs.Divisors.{dvd-by, dvd-refl}
-use Rattle.gf2.proofs.Residues.{rem-lt, rem-unique}
+use Rattle.gf2.proofs.Residues.{rem-unique}
 use Rattle.gf2.proofs.Powers.{rem-⊗-right}
 use Rattle.gf2.proofs.Monics.{monic-⊕, monic-degree, monic-pos}
 use Rattle.acceptance.proofs.Laws.{or-neither}
-use Rattle.tables.specs.Tables.{word, differs, tableFrom}
+use Rattle.lookups.specs.Groups.{Rows}
+use Rattle.tables.specs.Tables.{word, differs, tableFrom, Table}
 use Rattle.multiples.specs.Rows.{Multiples}
 use Rattle.multiples.proofs.Doubling.{multiple-next}
 
@@ -135,3 +134,7 @@ table-length rule c words e = ap length e ∙ length-table rule 0 c
 
 pub table-rule : (rule : ℕ → ℕ) (c : ℕ) (words : List ℕ) → words ≡ tableFrom rule 0 c → Follows rule (length words) words
 table-rule rule c words e = follows rule words (rw e (table-follows rule 0 c))
+
+pub table-rows : {key : ℕ} (pos : 0 < key) (words : List ℕ) → Table key words → Rows 8 key 4 words
+table-rows {key} pos words e j l =
+    follows-row 8 (degree key) pos refl words j (length words) (rw (table-length (word 8 key) 1024 words e) (omega arith)) (table-rule (word 8 key) 1024 words e)

@@ -1,2 +1,2 @@
 pub mod Tables
-pub mod Groups
+pub mod Answers

@@ -2,14 +2,16 @@ use mathlib.Core.Path.{_≡_, refl, sym, ap, _∙_}
 use mathlib.Core.List.{List, map, _++_}
 use Prim.Native.Nat.{ℕ, _+_, _-_, _≤_, _<_}
 use native.Mathlib.Omega.{arith}
+use lib.Bits.{bitXor}
 use lib.ListN.{length, take, drop, getD}
+use Rattle.gf2.specs.Polynomials.{_⊕_}
 use Rattle.basis.specs.Rows.{clear}
 use Rattle.basis.proofs.Mapping.{map-at, map-more, map-whole, length-mapped}
 use Rattle.basis.proofs.clear_column.Statement.{statement}
 use Rattle.basis.proofs.clear_column.Tie as tie
 use Rattle.basis.proofs.clear_column.Reads as reads
 use Rattle.basis.proofs.clear_column.Lts as lts
-use Rattle.basis.proofs.cleared.Reads as cleared-reads
+use Rattle.basis.proofs.chosen.Reads as chosen-reads
 
 abbrev Inv-loop : tie.InvT-loop
 Inv-loop rows₀ v c j₀ j-end rows j = (j ≤ length rows₀) × (rows ≡ map (clear c v) (take j rows₀) ++ drop j rows₀)
@@ -26,14 +28,14 @@ same c =
     let a = c .before .before .args in
     ap length (c .loop .inv .1) ∙ length-mapped (clear (a .c) (a .v)) (c .loop .j) (a .rows .now)
 
-mul-cleared : tie.Need-mul-cleared Inv-loop μ-loop
-mul-cleared c = omega arith
+mul-r : tie.Need-mul-r Inv-loop μ-loop
+mul-r c = omega arith
 
-slice-read-cleared : tie.Need-slice-read-cleared Inv-loop μ-loop
-slice-read-cleared c = omega (arith, same (c .before .before))
+slice-read-r : tie.Need-slice-read-r Inv-loop μ-loop
+slice-read-r c = omega (arith, same (c .before .before))
 
-cleared-requires : tie.Need-cleared-requires Inv-loop μ-loop
-cleared-requires c κs = c .before .before .before .before .pre
+chosen-requires : tie.Need-chosen-requires Inv-loop μ-loop
+chosen-requires c κs = c .before .before .before .before .pre
 
 mul-rows : tie.Need-mul-rows Inv-loop μ-loop
 mul-rows c = omega arith
@@ -48,13 +50,15 @@ loop-less : tie.Need-loop-less Inv-loop μ-loop
 loop-less c = omega arith
 
 loop-again : tie.Need-loop-again Inv-loop μ-loop
+unfolding clear _⊕_
 loop-again c =
     let a = c .before .before .before .before .before .args in
     let l = c .before .before .before .loop in
     let f = clear (a .c) (a .v) in
-    let e : c .cleared .result ≡ f (getD (a .rows .now) (l .j) 0) =
-    c .cleared .ensures ∙ ap (λ (x : List ℕ). f (getD x (l .j) 0)) (l .inv .1) ∙ ap f (map-at f (l .j) (a .rows .now)) in
-    (omega arith, rw (l .inv .1, e) (map-more f (l .j) (a .rows .now) (omega arith)))
+    let e =
+    ap (λ (x : ℕ). bitXor x (getD (l .rows) (l .j) 0)) (c .chosen .ensures)
+    ∙ ap (λ (x : List ℕ). f (getD x (l .j) 0)) (l .inv .1) ∙ ap f (map-at f (l .j) (a .rows .now)) in
+    (omega arith, rw (e, l .inv .1) (map-more f (l .j) (a .rows .now) (omega arith)))
 
 same-length : tie.Need-same-length Inv-loop μ-loop
 same-length c = same (c .before)
@@ -73,9 +77,9 @@ clear-column-spec =
     Inv-loop
     μ-loop
     loop-holds
-    mul-cleared
-    slice-read-cleared
-    cleared-requires
+    mul-r
+    slice-read-r
+    chosen-requires
     mul-rows
     slice-write-rows
     add-j

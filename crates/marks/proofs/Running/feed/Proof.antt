@@ -1,5 +1,5 @@
 -- `Running::feed` meets its contract: each return follows from the tests before it, and the last from `feed_bytes`.
-use mathlib.Core.Path.{_≡_, sym, ap, _∙_}
+use mathlib.Core.Path.{_≡_, refl, sym, ap, _∙_}
 use mathlib.Core.Bool.{true, false}
 use mathlib.Core.List.{_∷_, []}
 use Prim.Native.Nat.{ℕ, _+_, _%_, _^_, _≤_, _<_}
@@ -10,7 +10,8 @@ use borrow.Author.Tests.{leb-false}
 use lib.ListN.{length}
 use lib.Pow.{pow-pos}
 use Rattle.gf2.specs.Polynomials.{degree, rem, monic}
-use Rattle.refusals.specs.Refusals.{passes}
+use Rattle.refusals.specs.Refusals.{Done}
+use Rattle.files.specs.declared.Mark.{Mark}
 use Rattle.files.specs.Files.{bits, valueFrom}
 use Rattle.files.proofs.Marks.{mark-eq}
 use Rattle.keys.proofs.Laws.{Passed, passed, refused, first-passed, first-refused, passed-pos, passed-monic, passed-word, passed-modulus}
@@ -109,8 +110,8 @@ feed-bytes-requires c κs =
     let low = is-reduced key (d .result) (a .self .fingerprint) (d .ensures) (r .result) (r .ensures) (c .before .if2 .left) in
     rw (c .low-bits .ensures, d .ensures) (passed-modulus h (omega arith), leb-false (2 ^ degree key) (a .self .fingerprint) low)
 
-add-t17 : tie.Need-add-t17
-add-t17 c =
+add-total : tie.Need-add-total
+add-total c =
     let w = c .before .before .before .before .before in
     let a = w .before .before .before .before .before .before .args in
     let t = w .before .before .before .before .test in
@@ -140,7 +141,10 @@ returns-4 c =
     let p : monic (d .result) (c .before .low-bits .result) ≡ key = rw (c .before .low-bits .ensures, d .ensures) (passed-monic h) in
     let value : c .feed-bytes .result ≡ rem key (valueFrom (a .self .fingerprint) (bits part)) =
     c .feed-bytes .ensures ∙ ap (λ (q : ℕ). rem q (valueFrom (a .self .fingerprint) (bits part))) p in
-    rw value (sym (ap (fedUnder key) (first-passed key (feedTests key m part) m (fedMark key m part) h ∙ feed-passed key m part m (fedMark key m part) short low)))
+    ap (λ (x : Mark). fedUnder key (Done x)) (mark-eq value refl)
+    ∙ sym
+    (ap (fedUnder key)
+    (first-passed key (feedTests key m part) m (fedMark key m part) h ∙ feed-passed key m part m (fedMark key m part) short low))
 
 pub feed-spec : {M : Type 1} → statement M
 feed-spec =
@@ -157,5 +161,5 @@ feed-spec =
     returns-3
     low-bits-requires
     feed-bytes-requires
-    add-t17
+    add-total
     returns-4)

@@ -1,0 +1,54 @@
+-- The words are what the answer says of them.
+use mathlib.Core.Path.{_≡_, sym, ap, _∙_}
+use Rattle.refusals.specs.Refusals.{numberOf, stateOf}
+use Rattle.tables.specs.declared.Made.{Made}
+use Rattle.tables.specs.Answers.{made}
+use Rattle.bench.proofs.Answers.{made-state}
+use borrow.Author.Needs.{needs}
+use Rattle.bench.proofs.gfp_make_table.Statement.{statement}
+use Rattle.bench.proofs.gfp_make_table.Tie as tie
+
+make-requires : tie.Need-make-requires
+make-requires c κs = search needs
+
+enum-told : tie.Need-enum-told
+enum-told c = search needs
+
+enum-known-r : tie.Need-enum-known-r
+enum-known-r c = search needs
+
+number-requires : tie.Need-number-requires
+number-requires c κs = search needs
+
+same-length : tie.Need-same-length
+same-length c = search needs
+
+returns : tie.Need-returns
+returns c =
+    let m = c .before .before .before .before .make in (
+      ap (λ (x : Made). numberOf (made (m .last .1 .0) x)) (sym (c .enum-told .given .1)) ∙ ap numberOf (m .ensures),
+      made-state (m .last .1 .0) (m .result) ∙ ap stateOf (m .ensures),
+    )
+
+same-length-2 : tie.Need-same-length-2
+same-length-2 c = search needs
+
+returns-2 : tie.Need-returns-2
+returns-2 c =
+    let m = c .before .before .before .before .before .before .make in (
+      c .number .ensures ∙ ap (λ (x : Made). numberOf (made (m .last .1 .0) x)) (sym (c .before .before .r .given .1)) ∙ ap numberOf (m .ensures),
+      made-state (m .last .1 .0) (m .result) ∙ ap stateOf (m .ensures),
+    )
+
+pub gfp-make-table-spec : {M : Type 1} → statement M
+gfp-make-table-spec =
+    tie.close
+    (tie.spec
+    make-requires
+    enum-told
+    enum-known-r
+    number-requires
+    same-length
+    returns
+    same-length-2
+    returns-2)

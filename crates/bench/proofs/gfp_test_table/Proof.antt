@@ -1,0 +1,33 @@
+-- The number is that of the answer.
+use mathlib.Core.Path.{_≡_, sym, ap, _∙_}
+use Rattle.refusals.specs.Refusals.{numberOf}
+use Rattle.tables.specs.declared.Checked.{Checked}
+use Rattle.tables.specs.Answers.{checked}
+use borrow.Author.Needs.{needs}
+use Rattle.bench.proofs.gfp_test_table.Statement.{statement}
+use Rattle.bench.proofs.gfp_test_table.Tie as tie
+
+test-requires : tie.Need-test-requires
+test-requires c κs = search needs
+
+enum-told : tie.Need-enum-told
+enum-told c = search needs
+
+enum-known-r : tie.Need-enum-known-r
+enum-known-r c = search needs
+
+number-requires : tie.Need-number-requires
+number-requires c κs = search needs
+
+returns : tie.Need-returns
+returns c =
+    ap (λ (x : Checked). numberOf (checked x)) (sym (c .enum-told .given .1)) ∙ ap numberOf (c .before .before .test .ensures)
+
+returns-2 : tie.Need-returns-2
+returns-2 c =
+    c .number .ensures ∙ ap (λ (x : Checked). numberOf (checked x)) (sym (c .before .before .r .given .1))
+    ∙ ap numberOf (c .before .before .before .before .test .ensures)
+
+pub gfp-test-table-spec : {M : Type 1} → statement M
+gfp-test-table-spec =
+    tie.close (tie.spec test-requires enum-told enum-known-r number-requires returns returns-2)

@@ -1,0 +1,22 @@
+use mathlib.Core.Path.{_≡_, sym, ap, _∙_}
+use Prim.Native.Nat.{ℕ}
+use borrow.Author.Needs.{needs}
+use borrow.Author.Tests.{lt-ltb, le-ltb}
+use lib.Dec.{leb}
+use Rattle.gf2.proofs.Steps.{shifted-one}
+use Rattle.draw.proofs.out_of_range.Statement.{statement}
+use Rattle.draw.proofs.out_of_range.Tie as tie
+
+shl-power : tie.Need-shl-power
+shl-power c = search needs
+
+returns : tie.Need-returns
+returns c = rw (lt-ltb (c .before .args .element) 2 (c .if1 .taken))
+
+returns-2 : tie.Need-returns-2
+returns-2 c =
+    let a = c .before .args in
+    rw (le-ltb (a .element) 2 (c .if1 .left)) (ap (λ (x : ℕ). leb x (a .element)) (shifted-one (a .k) (c .before .pre)))
+
+pub out-of-range-spec : {M : Type 1} → statement M
+out-of-range-spec = tie.close (tie.spec shl-power returns returns-2)

@@ -1,0 +1,110 @@
+-- The cut: what stands at t^k and above in a number is cut into groups of w bits, and each group is replaced by its word of the table.
+-- For every degree and every width of group.
+use mathlib.Core.Path.{_≡_, sym, ap, ap₂, _∙_}
+use mathlib.Core.List.{List}
+use Prim.Native.Nat.{ℕ, zero, suc, _+_, _-_, _*_, _/_, _%_, _^_, _≤_, _<_}
+use native.Mathlib.Nat.{lt-of-lt-of-le, add-zero, zero-add, add-comm, mul-comm, mod-eq-of-lt, mul-zero, mul-suc, mod-lt, zero-mul}
+use native.Mathlib.Omega.{arith}
+use lib.Arith.{lt-one, digits-lt}
+use lib.ListN.{getD}
+use lib.Pow.{pow-pos, pow-mono, pow-add, shr-lt, shr-shr, split, high, low, mod-pow-add}
+use Rattle.gf2.specs.Polynomials.{_⊕_, degree, rem}
+use Rattle.gf2.proofs.Sums.{⊕-append, ⊕-shl, ⊕-comm, ⊕-assoc, ⊕-zero}
+use Rattle.gf2.proofs.Products.{⊗-pow}
+use Rattle.gf2.proofs.Powers.{rem-⊗-right}
+use Rattle.gf2.proofs.Residues.{rem-zero, rem-small, rem-⊕}
+use Rattle.lookups.specs.Groups.{looked, Rows}
+
+-- what stands at t^(n + j) and above in a number with n new low digits, and what stands below
+module _ (f v n j : ℕ) (h : v < 2 ^ n) where
+  above : (f * 2 ^ n + v) / 2 ^ (n + j) ≡ f / 2 ^ j
+  above = sym (shr-shr (f * 2 ^ n + v) n j) ∙ ap (λ (x : ℕ). x / 2 ^ j) (high f n h)
+
+  below : (f * 2 ^ n + v) % 2 ^ (n + j) ≡ f % 2 ^ j * 2 ^ n + v
+  below =
+      ap (λ (m : ℕ). (f * 2 ^ n + v) % 2 ^ m) (add-comm n j)
+      ∙ mod-pow-add (f * 2 ^ n + v) j n
+      ∙ ap₂ (λ (x y : ℕ). x % 2 ^ j * 2 ^ n + y) (high f n h) (low f n h)
+
+-- what stands below fits a word
+pub below-fits : (f v n j : ℕ) → v < 2 ^ n → j + n ≤ 64 → f % 2 ^ j * 2 ^ n + v < 2 ^ 64
+below-fits f v n j h l = lt-of-lt-of-le (rw (← (pow-add 2 j n)) at (digits-lt {q = f % 2 ^ j} {m = 2 ^ j} (mod-lt f (pow-pos j)) h)) (pow-mono {i = j + n} {j = 64} l)
+
+pub all-fits : (f v n k : ℕ) → f < 2 ^ k → v < 2 ^ n → k + n ≤ 64 → f * 2 ^ n + v < 2 ^ 64
+all-fits f v n k hf h l = lt-of-lt-of-le (rw (← (pow-add 2 k n)) at (digits-lt hf h)) (pow-mono {i = k + n} {j = 64} l)
+
+module _ (w k : ℕ) {key : ℕ} (pos : 0 < key) (deg : degree key ≡ k) (words : List ℕ) (c : ℕ) (rows : Rows w key c words) where
+  at-place : (j i : ℕ) → i < 2 ^ w → j < c → getD words (j * 2 ^ w + i) 0 ≡ rem key (i * 2 ^ (k + w * j))
+  at-place j i l h = rows j h i l ∙ rw deg (rem-⊗-right pos i (2 ^ (k + w * j)) ∙ ap (rem key) (⊗-pow (k + w * j) i))
+
+  shift : (q e : ℕ) → q * 2 ^ (e + w) ≡ q * 2 ^ w * 2 ^ e
+  shift q e = rw pow-add (omega arith)
+
+  sum : (h e : ℕ) → h % 2 ^ w * 2 ^ e ⊕ h / 2 ^ w * 2 ^ (e + w) ≡ h * 2 ^ e
+  sum h e =
+      ap (λ (x : ℕ). h % 2 ^ w * 2 ^ e ⊕ x) (shift (h / 2 ^ w) e)
+      ∙ sym (⊕-shl e (h % 2 ^ w) (h / 2 ^ w * 2 ^ w))
+      ∙ ap (λ (x : ℕ). x * 2 ^ e)
+      (⊕-comm (h % 2 ^ w) (h / 2 ^ w * 2 ^ w) ∙ ⊕-append (h / 2 ^ w) w (h % 2 ^ w) (mod-lt h (pow-pos w)) ∙ split h w)
+
+  exponent : (j : ℕ) → k + w * suc j ≡ k + w * j + w
+  exponent j = omega arith
+
+  -- n groups, the lowest being that of t^(k + w·j)
+  pub groups : (n j h : ℕ) → j + n ≤ c → h < 2 ^ (w * n) → looked w words n j h ≡ rem key (h * 2 ^ (k + w * j))
+  unfolding looked
+  groups zero j h l b = rw (lt-one (rw mul-zero at b), zero-mul) (sym (rem-zero key))
+  groups (suc n) j h l b =
+      ap₂ (λ (x y : ℕ). x ⊕ y)
+      (at-place j (h % 2 ^ w) (mod-lt h (pow-pos w)) (omega arith))
+      (groups n (suc j) (h / 2 ^ w) (omega arith) (shr-lt {n = h} (w * n) w (rw mul-suc at b)))
+      ∙ sym (rem-⊕ pos (h % 2 ^ w * 2 ^ (k + w * j)) (h / 2 ^ w * 2 ^ (k + w * suc j)))
+      ∙ ap (λ (x : ℕ). rem key (h % 2 ^ w * 2 ^ (k + w * j) ⊕ h / 2 ^ w * 2 ^ x)) (exponent j)
+      ∙ ap (rem key) (sum h (k + w * j))
+
+  -- n groups of w bits at t^k and above, and what stands below
+  pub cut : (n v : ℕ) → n ≤ c → v < 2 ^ (w * n + k)
+      → v % 2 ^ k ⊕ looked w words n 0 (v / 2 ^ k) ≡ rem key v
+  cut n v l b =
+      ap₂ (λ (x y : ℕ). x ⊕ y) (sym (rem-small pos (v % 2 ^ k) (rw deg (mod-lt v (pow-pos k)))))
+      (groups n 0 (v / 2 ^ k) (omega arith) (shr-lt {n = v} (w * n) k b)
+      ∙ ap (λ (x : ℕ). rem key (v / 2 ^ k * 2 ^ x)) (rw mul-zero (add-zero k)))
+      ∙ sym (rem-⊕ pos (v % 2 ^ k) (v / 2 ^ k * 2 ^ k))
+      ∙ ap (rem key)
+      (⊕-comm (v % 2 ^ k) (v / 2 ^ k * 2 ^ k)
+      ∙ ⊕-append (v / 2 ^ k) k (v % 2 ^ k) (mod-lt v (pow-pos k))
+      ∙ split v k)
+
+  -- the same of v behind f, n groups of w bits
+  module _ (n f v : ℕ) (l : n ≤ c) (hf : f < 2 ^ k) (hv : v < 2 ^ (w * n)) where
+    behind-lt : f * 2 ^ (w * n) + v < 2 ^ (w * n + k)
+    behind-lt = rw (pow-add 2 (w * n) k, mul-comm (2 ^ (w * n)) (2 ^ k)) (digits-lt hf hv)
+
+    pub cut-behind : (f * 2 ^ (w * n) + v) % 2 ^ k ⊕ looked w words n 0 ((f * 2 ^ (w * n) + v) / 2 ^ k) ≡ rem key (f * 2 ^ (w * n) + v)
+    cut-behind = cut n (f * 2 ^ (w * n) + v) l behind-lt
+
+    -- where the degree is no less than the bits behind, from f alone
+    pub cut-high : (j : ℕ) → k ≡ w * n + j → (f % 2 ^ j * 2 ^ (w * n) + v) ⊕ looked w words n 0 (f / 2 ^ j) ≡ rem key (f * 2 ^ (w * n) + v)
+    cut-high j e =
+        ap₂ (λ (x y : ℕ). x ⊕ looked w words n 0 y)
+        (sym (below f v (w * n) j hv) ∙ ap (λ (m : ℕ). (f * 2 ^ (w * n) + v) % 2 ^ m) (sym e))
+        (sym (above f v (w * n) j hv) ∙ ap (λ (m : ℕ). (f * 2 ^ (w * n) + v) / 2 ^ m) (sym e))
+        ∙ cut-behind
+
+-- the n highest bits of f
+pub top-lt : (f n k : ℕ) → n ≤ k → f < 2 ^ k → f / 2 ^ (k - n) < 2 ^ n
+top-lt f n k l h =
+    let e : k ≡ n + (k - n) = omega arith in
+    shr-lt {n = f} n (k - n) (rw e at h)
+
+-- ---- the sums as the code has them
+
+pub look-four : (words : List ℕ) (rest h : ℕ)
+    → rest ⊕ getD words (h % 256) 0 ⊕ getD words (256 + h / 256 % 256) 0 ⊕ getD words (512 + h / 65536 % 256) 0 ⊕ getD words (768 + h / 16777216 % 256) 0 ≡ rest ⊕ looked 8 words 4 0 h
+unfolding looked
+look-four words rest h =
+    rw (zero-add (h % 256), ← (shr-shr h 8 8), ← (shr-shr h 16 8), ← (shr-shr h 8 8)) (simp (⊕-assoc, ⊕-zero))
+
+pub look-one : (words : List ℕ) (rest h : ℕ) → h < 256 → rest ⊕ getD words h 0 ≡ rest ⊕ looked 8 words 1 0 h
+unfolding looked
+look-one words rest h l = rw (zero-add (h % 256), mod-eq-of-lt l, ⊕-zero)

@@ -1,0 +1,210 @@
+-- The calls of the printing program, on whatever parts its input arrives in, give what `printed` says of the whole input.
+use mathlib.Core.Path.{_≡_, refl, sym, ap, ap₂, _∙_}
+use mathlib.Core.Bool.{Bool, true, false}
+use mathlib.Core.List.{List, [], _∷_, _++_, append-assoc, append-nil}
+use Prim.Native.Nat.{ℕ, zero, suc, _+_, _^_, _≤_, _<_, min}
+use native.Mathlib.Nat.{min-zero, zero-min, suc-min-suc, min-eq-left, min-eq-right}
+use native.Mathlib.Decide.{decLe, decLt}
+use native.Mathlib.Omega.{arith}
+use lib.Dec.{leb, ltb, eqb}
+use lib.ListN.{length, take, drop, length-append, length-take, take-append-drop}
+use lib.Seq.{take-take, drop-append-le}
+use borrow.Author.Tests.{lt-ltb, le-ltb, lt-leb}
+use Rattle.bytes.specs.Bytes.{indexOf, indexAfter}
+use Rattle.gf2.specs.Polynomials.{degree}
+use Rattle.gf2.proofs.Residues.{rem-lt}
+use Rattle.refusals.specs.declared.Refusal.{Refusal}
+use Rattle.refusals.specs.declared.Refusal.the-variants.{KeyBelow256, KeyReducible, TooLong}
+use Rattle.refusals.specs.Refusals.{Answer, Done, Refused, Test, _⇒_, firstOf, passes, longest}
+use Rattle.acceptance.specs.Keys.{reducible, keyTests}
+use Rattle.files.specs.declared.Mark.{Mark}
+use Rattle.files.specs.Files.{markOf, value, fingerprint}
+use Rattle.files.proofs.Marks.{mark-eq}
+use Rattle.files.proofs.Marks as files
+use Rattle.keys.proofs.Laws.{Passed, first-passed, passed-pos}
+use Rattle.marks.specs.declared.Running.{Running}
+use Rattle.marks.specs.Feeding.{begin, fedMark, feedTests, begunUnder, fedUnder, unreduced}
+use Rattle.marks.proofs.Laws.{sum-passes, sum-fits, feed-long, feed-passed}
+use Rattle.tables.specs.Tables.{word, tableFrom, makeTable, feedTable}
+use Rattle.tables.proofs.Rule.{length-table, table-follows}
+use Rattle.tables.proofs.Calls.{make-done, feed-tested}
+use Rattle.printing.specs.declared.KeyLine.{KeyLine}
+use Rattle.printing.specs.declared.KeyLine.the-variants.{NoKey, Key}
+use Rattle.printing.specs.Printing.{keyBefore, keyLine, noKey, refused, answerText, markFile, printedAfter, printed}
+use Rattle.printing.proofs.Laws.{long-line, key-within}
+
+-- ---- the first 17 bytes decide the key's line
+
+index-more : (t : Bool) (m i j : ℕ) → i ≡ min m j → indexAfter t i ≡ min (suc m) (indexAfter t j)
+unfolding indexAfter
+index-more true m i j e = sym (min-zero (suc m))
+index-more false m i j e = ap suc e ∙ sym (suc-min-suc m j)
+
+index-take : (b m : ℕ) (xs : List ℕ) → indexOf b (take m xs) ≡ min m (indexOf b xs)
+unfolding indexOf
+index-take b zero xs = sym (zero-min (indexOf b xs))
+index-take b (suc m) [] = sym (min-zero (suc m))
+index-take b (suc m) (x ∷ xs) = index-more (eqb x b) m (indexOf b (take m xs)) (indexOf b xs) (index-take b m xs)
+
+-- a line of at most 16 bytes, in 17 bytes and in the whole
+same : (n : ℕ) (input : List ℕ) → n < 17 → keyBefore n (take 17 input) ≡ keyBefore n input
+unfolding keyBefore
+same n input h = rw (take-take n 17 input (omega arith), length-take 17 input, room)
+  where
+    room : ltb n (min 17 (length input)) ≡ ltb n (length input)
+    room = go (decLt n (length input))
+      where
+        go : Dec (n < length input) → ltb n (min 17 (length input)) ≡ ltb n (length input)
+        go (yes q) = rw (lt-ltb n (length input) q) (lt-ltb n (min 17 (length input)) (omega arith))
+        go (no q) = rw (le-ltb n (length input) (omega arith)) (le-ltb n (min 17 (length input)) (omega arith))
+
+pub head-decides : (input : List ℕ) → keyLine (take 17 input) ≡ keyLine input
+unfolding keyLine
+head-decides input = go (decLe (indexOf 10 input) 16)
+  where
+    n : ℕ
+    n = indexOf 10 input
+
+    go : Dec (n ≤ 16) → keyBefore (indexOf 10 (take 17 input)) (take 17 input) ≡ keyBefore n input
+    go (no q) =
+        let e : indexOf 10 (take 17 input) ≡ 17 = index-take 10 17 input ∙ min-eq-left (omega arith) in
+        rw (e, long-line 17 (take 17 input) (omega arith)) (sym (long-line n input (omega arith)))
+    go (yes q) =
+        let e : indexOf 10 (take 17 input) ≡ n = index-take 10 17 input ∙ min-eq-right (omega arith) in
+        rw e (same n input (omega arith))
+
+-- ---- the calls
+
+-- the parts, one behind the other
+abbrev pub joined : List (List ℕ) → List ℕ
+joined [] = []
+joined (part ∷ parts) = part ++ joined parts
+
+-- feeds by the words of a table, one after another, until one is refused
+abbrev pub feeds : ℕ → List ℕ → Answer Mark Mark → List (List ℕ) → Answer Mark Mark
+feeds key words a [] = a
+feeds key words (Done m) (part ∷ parts) = feeds key words (feedTable key m words part) parts
+feeds key words (Refused r m) (part ∷ parts) = Refused r m
+
+-- with the table that was made
+abbrev pub feedsBy : ℕ → Answer (List ℕ) (List ℕ) → Mark → List (List ℕ) → Answer Mark Mark
+feedsBy key (Done words) m parts = feeds key words (Done m) parts
+feedsBy key (Refused r words) m parts = Refused r m
+
+-- beginning a mark, making a table in the words `blank`, and feeding the parts: what is printed then
+abbrev pub calls : ℕ → Answer Unit Mark → List ℕ → List (List ℕ) → List ℕ
+calls key (Done m) blank parts = answerText (fedUnder key (feedsBy key (makeTable key blank) m parts))
+calls key (Refused r s) blank parts = refused r
+
+-- the same from the key's line on: the bytes of head behind it are the first part
+abbrev pub called : KeyLine → List ℕ → List ℕ → List (List ℕ) → List ℕ
+called NoKey head blank parts = noKey
+called (Key key at) head blank parts = calls key (begin key) blank (drop at head ∷ parts)
+
+-- ---- feeding the parts is marking the file
+
+-- an answer without the state
+abbrev pub tell : {S : Type 0} → Answer S Mark → Answer Unit Mark
+tell (Done m) = Done m
+tell (Refused r s) = Refused r tt
+
+text-told : (key : ℕ) (a : Answer Mark Mark) → answerText (fedUnder key a) ≡ answerText (begunUnder key (tell a))
+text-told key (Done m) = refl
+text-told key (Refused r m) = refl
+
+stopped : (key : ℕ) (words : List ℕ) (r : Refusal) (m : Mark) (parts : List (List ℕ)) → feeds key words (Refused r m) parts ≡ Refused r m
+stopped key words r m [] = refl
+stopped key words r m (part ∷ parts) = refl
+
+module _ (key : ℕ) (h : Passed key) where
+  fed-is : (file part : List ℕ) → fedMark key (markOf key file) part ≡ markOf key (file ++ part)
+  unfolding fedMark markOf
+  fed-is file part = mark-eq (files.fed (passed-pos h) file part) (sym (length-append file part))
+
+  below : (file : List ℕ) → unreduced key (markOf key file) ≡ false
+  unfolding markOf fingerprint
+  below file = lt-leb (2 ^ degree key) (fingerprint key file) (rem-lt (passed-pos h) (value file))
+
+  -- the table that was made passes its tests
+  table : List ℕ
+  table = tableFrom (word 8 key) 0 1024
+
+  tested : (m : Mark) (part : List ℕ) → feedTable key m table part ≡ firstOf (feedTests key m part) m (fedMark key m part)
+  unfolding table
+  tested m part = feed-tested key m (tableFrom (word 8 key) 0 1024) part h (length-table (word 8 key) 0 1024) (table-follows (word 8 key) 0 1024)
+
+  feed-goes : (file part : List ℕ) → length file + length part ≤ longest → feedTable key (markOf key file) table part ≡ Done (markOf key (file ++ part))
+  unfolding markOf
+  feed-goes file part l =
+      tested (markOf key file) part
+      ∙ feed-passed key (markOf key file) part (markOf key file) (fedMark key (markOf key file) part) (sum-fits (length file) (length part) l) (below file)
+      ∙ ap Done (fed-is file part)
+
+  feed-stops : (file part : List ℕ) → longest < length file + length part → feedTable key (markOf key file) table part ≡ Refused TooLong (markOf key file)
+  unfolding markOf
+  feed-stops file part l =
+      tested (markOf key file) part
+      ∙ feed-long key (markOf key file) part (markOf key file) (fedMark key (markOf key file) part) (sum-passes (length file) (length part) l)
+
+  -- number 7 of a whole file
+  abbrev judged : List ℕ → Answer Unit Mark
+  judged file = firstOf (passes (length file ∷ []) ⇒ TooLong ∷ []) tt (markOf key file)
+
+  short : (file : List ℕ) → length file ≤ longest → judged file ≡ Done (markOf key file)
+  short file l = rw (le-ltb longest (length file) l)
+
+  long : (file : List ℕ) → longest < length file → judged file ≡ Refused TooLong tt
+  long file l = rw (lt-ltb longest (length file) l)
+
+  feed-one : (file part : List ℕ) (parts : List (List ℕ)) → Dec (length file + length part ≤ longest)
+      → (length (file ++ part) ≤ longest → tell (feeds key table (Done (markOf key (file ++ part))) parts) ≡ judged (file ++ part ++ joined parts))
+      → tell (feeds key table (feedTable key (markOf key file) table part) parts) ≡ judged (file ++ (part ++ joined parts))
+  feed-one file part parts (yes l) ih =
+      ap (λ (a : Answer Mark Mark). tell (feeds key table a parts)) (feed-goes file part l)
+      ∙ ih (omega (arith, length-append file part))
+      ∙ ap judged (append-assoc file part (joined parts))
+  feed-one file part parts (no l) ih =
+      ap (λ (a : Answer Mark Mark). tell (feeds key table a parts)) (feed-stops file part (omega arith))
+      ∙ ap tell (stopped key table TooLong (markOf key file) parts)
+      ∙ sym (long (file ++ (part ++ joined parts)) (omega (arith, length-append file (part ++ joined parts), length-append part (joined parts))))
+
+  feeds-told : (file : List ℕ) (parts : List (List ℕ)) → length file ≤ longest
+      → tell (feeds key table (Done (markOf key file)) parts) ≡ judged (file ++ joined parts)
+  feeds-told file [] l = sym (ap judged (append-nil file) ∙ short file l)
+  feeds-told file (part ∷ parts) l =
+      feed-one file part parts (decLe (length file + length part) longest) (λ m. feeds-told (file ++ part) parts m)
+
+  accepted-marked : (blank : List ℕ) (parts : List (List ℕ)) → length blank ≡ 1024
+      → calls key (Done (markOf key [])) blank parts ≡ answerText (begunUnder key (judged (joined parts)))
+  unfolding table
+  accepted-marked blank parts e =
+      ap (λ (t : Answer (List ℕ) (List ℕ)). answerText (fedUnder key (feedsBy key t (markOf key []) parts))) (make-done key blank h e)
+      ∙ text-told key (feeds key table (Done (markOf key [])) parts)
+      ∙ ap (λ (a : Answer Unit Mark). answerText (begunUnder key a)) (feeds-told [] parts (omega arith))
+
+key-marked : (key : ℕ) (blank : List ℕ) (parts : List (List ℕ)) → length blank ≡ 1024
+    → calls key (begin key) blank parts ≡ answerText (markFile key (joined parts))
+unfolding begin markFile
+key-marked key blank parts e = go (ltb key 256) (reducible key) refl refl
+  where
+    go : (x y : Bool) → ltb key 256 ≡ x → reducible key ≡ y
+        → calls key (firstOf (x ⇒ KeyBelow256 ∷ y ⇒ KeyReducible ∷ []) tt (markOf key [])) blank parts
+        ≡ answerText (begunUnder key (firstOf (x ⇒ KeyBelow256 ∷ y ⇒ KeyReducible ∷ passes (length (joined parts) ∷ []) ⇒ TooLong ∷ []) tt (markOf key (joined parts))))
+    go true y t u = refl
+    go false true t u = refl
+    go false false t u = accepted-marked key (record { low = t; irreducible = u }) blank parts e
+
+-- the program's text, of an input that is read in any parts behind its first 17 bytes
+pub program : (input blank : List ℕ) (parts : List (List ℕ)) → length blank ≡ 1024 → joined parts ≡ drop 17 input
+    → called (keyLine (take 17 input)) (take 17 input) blank parts ≡ printed input
+unfolding printed
+program input blank parts n e = go (keyLine (take 17 input)) refl ∙ ap (λ (l : KeyLine). printedAfter l input) (head-decides input)
+  where
+    go : (l : KeyLine) → keyLine (take 17 input) ≡ l → called l (take 17 input) blank parts ≡ printedAfter l input
+    go NoKey t = refl
+    go (Key key at) t =
+        key-marked key blank (drop at (take 17 input) ∷ parts) n
+        ∙ ap (λ (file : List ℕ). answerText (markFile key file)) (rest at (key-within (take 17 input) key at t))
+      where
+        rest : (at : ℕ) → at ≤ length (take 17 input) → drop at (take 17 input) ++ joined parts ≡ drop at input
+        rest at l = rw (e, ← (drop-append-le at (take 17 input) (drop 17 input) l)) (ap (drop at) (take-append-drop 17 input))

@@ -1,0 +1,11 @@
+-- Document 01's example of the printing program, computed from the definitions alone.
+use mathlib.Core.Path.{_≡_, refl}
+use Rattle.bytes.specs.Bytes.{indexOf, indexAfter}
+use Rattle.gf2.specs.Polynomials.{_⊕_, degree, halvings, rem, longDivision, reduce}
+use Rattle.acceptance.specs.Keys.{reducible, anyBelow}
+use Rattle.files.specs.Files.{bits, lowBits, value, valueFrom, fingerprint, markOf}
+use Rattle.printing.specs.Printing.{ascii, printed, keyLine, keyBefore, allDigits, digit, hexFrom, digitsOf, numeral, report, markFile}
+
+pub example : printed (ascii "11b\nAB") ≡ ascii "key 8 11b\nbytes 2\nmark 9d\n"
+unfolding ascii printed keyLine keyBefore allDigits digit hexFrom digitsOf numeral report markFile indexOf indexAfter degree halvings rem longDivision reduce _⊕_ reducible anyBelow bits lowBits value valueFrom fingerprint markOf
+example = refl

@@ -1,0 +1,170 @@
+-- Laws of the numbers that pass a test, of the words they are written to, and of counting them.
+use mathlib.Core.Path.{_≡_, refl, sym, ap, ap₂, subst, _∙_}
+use mathlib.Core.Bool.{Bool, true, false}
+use mathlib.Core.List.{List, [], _∷_, _++_}
+use Prim.Native.Nat.{ℕ, zero, suc, _+_, _-_, _≤_, _<_}
+use native.Mathlib.Nat.{add-zero, zero-add, add-suc, suc-add, le-refl}
+use native.Mathlib.Numerals.{add-one}
+use native.Mathlib.Omega.{arith}
+use lib.ListN.{length, set, length-append}
+use lib.Seq.{sets, length-sets}
+use Rattle.search.specs.Searching.{keep, passing, overlay}
+
+-- ---- the numbers that pass a test
+
+module _ (test : ℕ → Bool) where
+  pub passing-none : (n : ℕ) → passing test n 0 ≡ []
+  unfolding passing
+  passing-none n = refl
+
+  pub passing-hit : (n c : ℕ) → test n ≡ true → passing test n (suc c) ≡ n ∷ passing test (suc n) c
+  unfolding passing
+  passing-hit n c e = rw e
+
+  pub passing-miss : (n c : ℕ) → test n ≡ false → passing test n (suc c) ≡ passing test (suc n) c
+  unfolding passing
+  passing-miss n c e = rw e
+
+  keep-append : (b : Bool) (n : ℕ) (x y : List ℕ) → keep b n (x ++ y) ≡ keep b n x ++ y
+  keep-append true n x y = refl
+  keep-append false n x y = refl
+
+  pub passing-append : (n c e : ℕ) → passing test n (c + e) ≡ passing test n c ++ passing test (n + c) e
+  unfolding passing
+  passing-append n zero e = rw (zero-add, add-zero)
+  passing-append n (suc c) e =
+      rw (suc-add c e, add-suc n c, ← (suc-add n c))
+      (ap (keep (test n) n) (passing-append (suc n) c e) ∙ keep-append (test n) n (passing test (suc n) c) (passing test (suc n + c) e))
+
+  keep-length : (b : Bool) (n c : ℕ) (x : List ℕ) → length x ≤ c → length (keep b n x) ≤ suc c
+  keep-length true n c x h = omega arith
+  keep-length false n c x h = omega arith
+
+  pub passing-length : (n c : ℕ) → length (passing test n c) ≤ c
+  unfolding passing
+  passing-length n zero = omega arith
+  passing-length n (suc c) = keep-length (test n) n c (passing test (suc n) c) (passing-length (suc n) c)
+
+  -- what is left from the i-th of c numbers on
+  left : (n i c : ℕ) → i < c → passing test (n + i) (c - i) ≡ passing test (n + i) (suc (c - (i + 1)))
+  left n i c h = let e : c - i ≡ suc (c - (i + 1)) = omega arith in rw e
+
+  pub left-miss : (n i c : ℕ) → i < c → test (n + i) ≡ false → passing test (n + i) (c - i) ≡ passing test (n + (i + 1)) (c - (i + 1))
+  left-miss n i c h e =
+      let z : n + (i + 1) ≡ suc (n + i) = omega arith in
+      left n i c h ∙ rw z (passing-miss (n + i) (c - (i + 1)) e)
+
+  pub left-hit : (n i c : ℕ) → i < c → test (n + i) ≡ true → passing test (n + i) (c - i) ≡ (n + i) ∷ passing test (n + (i + 1)) (c - (i + 1))
+  left-hit n i c h e =
+      let z : n + (i + 1) ≡ suc (n + i) = omega arith in
+      left n i c h ∙ rw z (passing-hit (n + i) (c - (i + 1)) e)
+
+  pub left-block : (n i s c : ℕ) → i + s ≤ c → passing test (n + i) (c - i) ≡ passing test (n + i) s ++ passing test (n + (i + s)) (c - (i + s))
+  left-block n i s c h =
+      let e : c - i ≡ s + (c - (i + s)) = omega arith in
+      let z : n + i + s ≡ n + (i + s) = omega arith in
+      rw e (rw z at (passing-append (n + i) s (c - (i + s))))
+
+  pub left-all : (n c : ℕ) → passing test (n + 0) (c - 0) ≡ passing test n c
+  left-all n c =
+      let e : c - 0 ≡ c = omega arith in
+      rw (add-zero n, e)
+
+  pub left-none : (n i c : ℕ) → c ≤ i → passing test (n + i) (c - i) ≡ []
+  left-none n i c h =
+      let e : c - i ≡ 0 = omega arith in
+      rw e (passing-none (n + i))
+
+-- only the numbers in question matter
+pub passing-same : (t u : ℕ → Bool) (n c : ℕ) → ((i : ℕ) → n ≤ i → i < n + c → t i ≡ u i) → passing t n c ≡ passing u n c
+unfolding passing
+passing-same t u n zero h = refl
+passing-same t u n (suc c) h =
+    ap₂ (λ (b : Bool) (x : List ℕ). keep b n x) (h n (le-refl n) (omega arith))
+    (passing-same t u (suc n) c (λ i a b. h i (omega arith) (omega arith)))
+
+-- ---- words written one after the other; past the end nothing is written
+
+pub sets-append : (l : List ℕ) (i : ℕ) (x y : List ℕ) → sets l i (x ++ y) ≡ sets (sets l i x) (i + length x) y
+sets-append l i [] y = rw add-zero
+sets-append l i (a ∷ x) y = sets-append (set l i a) (suc i) x y ∙ rw (suc-add i (length x), add-suc i (length x))
+
+sets-behind : (y : ℕ) (l : List ℕ) (i : ℕ) (ps : List ℕ) → sets (y ∷ l) (suc i) ps ≡ y ∷ sets l i ps
+sets-behind y l i [] = refl
+sets-behind y l i (p ∷ ps) = sets-behind y (set l i p) (suc i) ps
+
+sets-empty : (i : ℕ) (ps : List ℕ) → sets {A = ℕ} [] i ps ≡ []
+sets-empty i [] = refl
+sets-empty i (p ∷ ps) = sets-empty (suc i) ps
+
+pub overlay-sets : (ps l : List ℕ) → overlay ps l ≡ sets l 0 ps
+unfolding overlay
+overlay-sets [] l = refl
+overlay-sets (p ∷ ps) [] = sym (sets-empty 1 ps)
+overlay-sets (p ∷ ps) (w ∷ l) = ap (λ (r : List ℕ). p ∷ r) (overlay-sets ps l) ∙ sym (sets-behind p l 0 ps)
+
+-- ---- a count under way: what was found, and what is left to find of c numbers, make what there is to find
+-- p and a are the numbers that passed the tests P and A so far, and those of P were written to the words
+
+module _ (P A : ℕ → Bool) (n c : ℕ) (words₀ : List ℕ) (p₀ a₀ : ℕ) where
+  pub record Tally (words : List ℕ) (p a i : ℕ) : Type 0 where
+    pub placed : p + length (passing P (n + i) (c - i)) ≡ p₀ + length (passing P n c)
+    pub alarmed : a + length (passing A (n + i) (c - i)) ≡ a₀ + length (passing A n c)
+    pub written : sets words p (passing P (n + i) (c - i)) ≡ sets words₀ p₀ (passing P n c)
+
+  pub tally-begin : Tally words₀ p₀ a₀ 0
+  tally-begin = record { placed = rw (left-all P n c); alarmed = rw (left-all A n c); written = rw (left-all P n c) }
+
+  module _ (words : List ℕ) (p a i : ℕ) (h : i < c) (t : Tally words p a i) where
+    pub tally-skip : P (n + i) ≡ false → A (n + i) ≡ false → Tally words p a (i + 1)
+    tally-skip e f =
+        record {
+          placed = rw (left-miss P n i c h e) at (t .placed);
+          alarmed = rw (left-miss A n i c h f) at (t .alarmed);
+          written = rw (left-miss P n i c h e) at (t .written);
+        }
+
+    pub tally-alarm : P (n + i) ≡ false → A (n + i) ≡ true → Tally words p (a + 1) (i + 1)
+    tally-alarm e f =
+        record {
+          placed = rw (left-miss P n i c h e) at (t .placed);
+          alarmed = (let q = rw (left-hit A n i c h f) at (t .alarmed) in omega arith);
+          written = rw (left-miss P n i c h e) at (t .written);
+        }
+
+    pub tally-place : P (n + i) ≡ true → A (n + i) ≡ false → Tally (set words p (n + i)) (p + 1) a (i + 1)
+    tally-place e f =
+        record {
+          placed = (let q = rw (left-hit P n i c h e) at (t .placed) in omega arith);
+          alarmed = rw (left-miss A n i c h f) at (t .alarmed);
+          written = rw (add-one p) (rw (left-hit P n i c h e) at (t .written));
+        }
+
+  -- s numbers at once
+  pub tally-block : (words next : List ℕ) (p a i s q b : ℕ) → i + s ≤ c → Tally words p a i → next ≡ sets words p (passing P (n + i) s)
+      → q ≡ p + length (passing P (n + i) s) → b ≡ a + length (passing A (n + i) s) → Tally next q b (i + s)
+  tally-block words next p a i s q b h t en eq eb =
+      record {
+        placed = count P p q eq (t .placed);
+        alarmed = count A a b eb (t .alarmed);
+        written =
+            rw (en, eq)
+            (sym (sets-append words p (passing P (n + i) s) (passing P (n + (i + s)) (c - (i + s)))) ∙ ap (sets words p) (sym (left-block P n i s c h)) ∙ t .written);
+      }
+    where
+      count : (T : ℕ → Bool) (x y : ℕ) {z : ℕ} → y ≡ x + length (passing T (n + i) s) → x + length (passing T (n + i) (c - i)) ≡ z
+          → y + length (passing T (n + (i + s)) (c - (i + s))) ≡ z
+      count T x y ey ex =
+          let parts = ap length (left-block T n i s c h) ∙ length-append (passing T (n + i) s) (passing T (n + (i + s)) (c - (i + s))) in
+          omega arith
+
+  pub tally-end : (words : List ℕ) (p a i : ℕ) → c ≤ i → Tally words p a i
+      → (p ≡ p₀ + length (passing P n c)) × (a ≡ a₀ + length (passing A n c)) × (words ≡ sets words₀ p₀ (passing P n c))
+  tally-end words p a i h t =
+      let placed = rw (left-none P n i c h) at (t .placed) in
+      let alarmed = rw (left-none A n i c h) at (t .alarmed) in
+      (omega arith, omega arith, (rw (left-none P n i c h) at (t .written)))
+
+  pub tally-length : (words : List ℕ) (p a i : ℕ) → Tally words p a i → length words ≡ length words₀
+  tally-length words p a i t =
+      sym (length-sets words p (passing P (n + i) (c - i))) ∙ ap length (t .written) ∙ length-sets words₀ p₀ (passing P n c)

@@ -1,0 +1,81 @@
+-- The search for a pattern in a text (document 01, "Searching a log"). Both are lists of bytes; a place is an offset from 0.
+use mathlib.Core.Bool.{Bool, true, false, _&&_, not}
+use mathlib.Core.List.{List, [], _∷_, _++_}
+use Prim.Native.Nat.{ℕ, zero, suc, _+_, _-_}
+use lib.Dec.{eqb}
+use lib.ListN.{length}
+use Rattle.refusals.specs.declared.Refusal.the-variants.{TooLong, EmptyPattern}
+use Rattle.refusals.specs.Refusals.{Answer, Done, Refused, stateOf, Test, _⇒_, firstOf, passes}
+use Rattle.acceptance.specs.Keys.{keyTests}
+use Rattle.files.specs.Files.{fingerprint}
+use Rattle.windows.specs.Rolling.{window}
+use Rattle.search.specs.declared.Counts.{Counts}
+use Rattle.search.specs.declared.Searched.{Searched}
+use Rattle.search.specs.declared.Searched.the-variants as cases
+
+-- how many windows as long as the pattern the text has: none where the pattern is longer
+unfoldable pub windows : List ℕ → List ℕ → ℕ
+windows text pattern = length text + 1 - length pattern
+
+-- the same bytes
+unfoldable pub same : List ℕ → List ℕ → Bool
+same [] [] = true
+same [] (y ∷ b) = false
+same (x ∷ a) [] = false
+same (x ∷ a) (y ∷ b) = eqb x y && same a b
+
+-- the pattern stands at the place i
+unfoldable pub isPlace : List ℕ → List ℕ → ℕ → Bool
+isPlace text pattern i = same (window (length pattern) text i) pattern
+
+-- the window has the pattern's fingerprint
+unfoldable pub alike : ℕ → List ℕ → List ℕ → ℕ → Bool
+alike key text pattern i = eqb (fingerprint key (window (length pattern) text i)) (fingerprint key pattern)
+
+-- a false alarm: the pattern's fingerprint, and other bytes
+unfoldable pub isAlarm : ℕ → List ℕ → List ℕ → ℕ → Bool
+isAlarm key text pattern i = alike key text pattern i && not (isPlace text pattern i)
+
+-- of the c numbers from n on those that pass the test, rising
+abbrev pub keep : Bool → ℕ → List ℕ → List ℕ
+keep true n rest = n ∷ rest
+keep false n rest = rest
+
+unfoldable pub passing : (ℕ → Bool) → ℕ → ℕ → List ℕ
+passing test n zero = []
+passing test n (suc c) = keep (test n) n (passing test (suc n) c)
+
+unfoldable pub places : List ℕ → List ℕ → List ℕ
+places text pattern = passing (isPlace text pattern) 0 (windows text pattern)
+
+unfoldable pub alarms : ℕ → List ℕ → List ℕ → List ℕ
+alarms key text pattern = passing (isAlarm key text pattern) 0 (windows text pattern)
+
+-- the first ones, as far as the lent words reach; further words keep their value
+unfoldable pub overlay : List ℕ → List ℕ → List ℕ
+overlay [] words = words
+overlay (p ∷ ps) [] = []
+overlay (p ∷ ps) (w ∷ words) = p ∷ overlay ps words
+
+-- ---- the call
+
+-- numbers 1, 2, 7 and 11
+abbrev pub searchTests : ℕ → List ℕ → List ℕ → List Test
+searchTests key text pattern =
+    keyTests key ++ passes (length text ∷ length pattern ∷ []) ⇒ TooLong ∷ eqb (length pattern) 0 ⇒ EmptyPattern ∷ []
+
+-- the number of places, and the number of false alarms
+unfoldable pub counts : ℕ → List ℕ → List ℕ → Counts
+counts key text pattern = record { places = length (places text pattern); alarms = length (alarms key text pattern) }
+
+unfoldable pub search : ℕ → List ℕ → List ℕ → Answer Unit Counts
+search key text pattern = firstOf (searchTests key text pattern) tt (counts key text pattern)
+
+-- the lent words after the call
+unfoldable pub wordsAfter : ℕ → List ℕ → List ℕ → List ℕ → List ℕ
+wordsAfter key text pattern words = stateOf (firstOf (searchTests key text pattern) words (overlay (places text pattern) words))
+
+-- the answer in code
+abbrev pub searched : Searched → Answer Unit Counts
+searched (cases.Found c) = Done c
+searched (cases.Refused r) = Refused r tt

@@ -1,0 +1,106 @@
+-- `test` meets its contract: each return follows from the tests before it.
+use mathlib.Core.Path.{_≡_, sym, ap, _∙_}
+use Prim.Native.Nat.{ℕ, _-_}
+use native.Mathlib.Omega.{arith}
+use mathlib.Core.Bool.{not}
+use borrow.Author.Tests.{not-true, not-false}
+use Rattle.gf2.specs.Polynomials.{degree, monic}
+use Rattle.keys.proofs.Laws.{passed, refused, passed-pos, passed-monic, passed-word, passed-modulus}
+use Rattle.tables.specs.Tables.{word, differs}
+use Rattle.tables.proofs.Calls.{test-key, test-size, test-word, test-done}
+use borrow.Author.Needs.{needs}
+use Rattle.tables.proofs.test.Statement.{statement}
+use Rattle.tables.proofs.test.Tie as tie
+
+test-requires : tie.Need-test-requires
+test-requires c κs = search needs
+
+enum-known-r : tie.Need-enum-known-r
+enum-known-r c = search needs
+
+returns : tie.Need-returns
+returns c =
+    let a = c .before .before .before .before .before .args in
+    let t = c .before .before .before .test in
+    let q = c .before .r .given .0 .0 in
+    sym (test-key (a .key) (a .words .now) q (refused (t .result) (a .key) q (t .ensures) (c .before .r .given .1)))
+
+enum-told : tie.Need-enum-told
+enum-told c = search needs
+
+returns-2 : tie.Need-returns-2
+returns-2 c =
+    let e = c in
+    let s = e .before .before .before .before .before in
+    let a = s .args in
+    let t = e .before .before .before .test in
+    let h = passed (t .result) (a .key) (t .ensures) (e .before .enum-told .given .1) in
+    sym (test-size (a .key) (a .words .now) h (c .if1 .taken))
+
+degree-requires : tie.Need-degree-requires
+degree-requires c κs =
+    let e = c in
+    let s = e .before .before .before .before .before in
+    let a = s .args in
+    let t = e .before .before .before .test in
+    let h = passed (t .result) (a .key) (t .ensures) (e .before .enum-told .given .1) in
+    passed-pos h
+
+low-bits-requires : tie.Need-low-bits-requires
+low-bits-requires c κs =
+    let e = c .before in
+    let s = e .before .before .before .before .before in
+    let a = s .args in
+    let t = e .before .before .before .test in
+    let h = passed (t .result) (a .key) (t .ensures) (e .before .enum-told .given .1) in
+    omega (arith, c .degree .ensures, passed-word h (omega arith))
+
+holds-requires : tie.Need-holds-requires
+holds-requires c κs =
+    let e = c .before .before in
+    let s = e .before .before .before .before .before in
+    let a = s .args in
+    let t = e .before .before .before .test in
+    let h = passed (t .result) (a .key) (t .ensures) (e .before .enum-told .given .1) in
+    rw (c .low-bits .ensures, c .before .degree .ensures) (passed-modulus h (omega arith), e .if1 .left)
+
+returns-3 : tie.Need-returns-3
+returns-3 c =
+    let e = c .before .before .before .before in
+    let s = e .before .before .before .before .before in
+    let a = s .args in
+    let t = e .before .before .before .test in
+    let h = passed (t .result) (a .key) (t .ensures) (e .before .enum-told .given .1) in
+    let d = c .before .before .before .degree in
+    let l = c .before .before .low-bits in
+    let p : monic (d .result) (l .result) ≡ a .key = rw (l .ensures, d .ensures) (passed-monic h) in
+    let r = c .before .holds .ensures ∙ ap (λ (q : ℕ). not (differs (word 8 q) 0 (a .words .now))) p in
+    sym (test-word (a .key) (a .words .now) h (e .if1 .left) (not-false (differs (word 8 (a .key)) 0 (a .words .now)) (sym r ∙ not-true (c .before .holds .result) (c .if2 .taken))))
+
+returns-4 : tie.Need-returns-4
+returns-4 c =
+    let e = c .before .before .before .before in
+    let s = e .before .before .before .before .before in
+    let a = s .args in
+    let t = e .before .before .before .test in
+    let h = passed (t .result) (a .key) (t .ensures) (e .before .enum-told .given .1) in
+    let d = c .before .before .before .degree in
+    let l = c .before .before .low-bits in
+    let p : monic (d .result) (l .result) ≡ a .key = rw (l .ensures, d .ensures) (passed-monic h) in
+    let r = c .before .holds .ensures ∙ ap (λ (q : ℕ). not (differs (word 8 q) 0 (a .words .now))) p in
+    sym (test-done (a .key) (a .words .now) h (e .if1 .left) (not-true (differs (word 8 (a .key)) 0 (a .words .now)) (sym r ∙ not-false (c .before .holds .result) (c .if2 .left))))
+
+pub test-spec : {M : Type 1} → statement M
+test-spec =
+    tie.close
+    (tie.spec
+    test-requires
+    enum-known-r
+    returns
+    enum-told
+    returns-2
+    degree-requires
+    low-bits-requires
+    holds-requires
+    returns-3
+    returns-4)
