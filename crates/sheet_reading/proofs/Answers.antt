@@ -1,12 +1,14 @@
 -- How the calls answer, test by test.
 use mathlib.Core.Path.{_≡_, refl, sym, ap, _∙_}
-use mathlib.Core.Bool.{Bool, true, false, _||_, not}
+use mathlib.Core.Bool.{Bool, true, false, _&&_, _||_, not}
+use mathlib.Core.Logic.{_⊎_, inl, inr}
+use mathlib.Core.Option.{Option, none, some}
 use mathlib.Core.List.{List, [], _∷_, _++_}
 use Prim.Native.Nat.{ℕ, _+_, _*_, _^_, _≤_, _<_}
 use native.Mathlib.Omega.{arith}
 use lib.Dec.{ltb, eqb}
 use lib.ListN.{length}
-use borrow.Author.Tests.{eqb-true, ltb-false, not-true, not-false}
+use borrow.Author.Tests.{lt-ltb, le-ltb, le-leb, lt-leb, eqb-true, ltb-false, not-true, not-false}
 use Rattle.gf2.specs.Polynomials.{degree}
 use Rattle.refusals.specs.declared.Refusal.{Refusal}
 use Rattle.refusals.specs.declared.Refusal.the-variants.{TooLong, PageSize, BufferShort, SheetMalformed}
@@ -17,7 +19,7 @@ use Rattle.keys.specs.Testing.{testKey}
 use Rattle.keys.proofs.Laws.{Passed, first-passed, first-refused}
 use Rattle.sheets.specs.declared.Sheet.{Sheet}
 use Rattle.sheets.specs.Layout.{version1, sheetSize, pageCount, numberAt, lengthIn, sizeIn, pagesIn, Contents, contentsIn}
-use Rattle.sheets.specs.Sheets.{someUnreduced, pagesJoined, fileFilled, headWrong, bodyWrong, readTests, readSheet, sheetRead, numbersOf}
+use Rattle.sheets.specs.Sheets.{someUnreduced, pagesJoined, fileFilled, headWrong, bodyWrong, readTests, readSheet, sheetRead, numbersOf, given, pageAt}
 use Rattle.sheets.proofs.Numbers.{length-numbersAt}
 use Rattle.sheets.proofs.Steps.{first-true, first-false}
 use Rattle.sheets.proofs.Sound.{neither, done-clear}
@@ -85,3 +87,19 @@ module _ (sheet : List ℕ) where
         pub read-done : bodyWrong version1 (length sheet) (contentsIn version1 sheet) ≡ false → readSheet sheet ≡ Done (contentsIn version1 sheet)
         unfolding last body-wrong
         read-done e = after-size ∙ first-false body-wrong SheetMalformed [] tt (contentsIn version1 sheet) e
+
+-- ---- a page's fingerprint
+
+module _ (x : Sheet) (sheet : List ℕ) (i : ℕ) where
+  pub page-none : (x .pages ≤ i) ⊎ (length sheet < sheetSize version1 i) → pageAt x sheet i ≡ none
+  unfolding pageAt
+  page-none (inl l) = rw (le-ltb i (x .pages) l)
+  page-none (inr l) = rw (lt-leb (sheetSize version1 i) (length sheet) l) (both (ltb i (x .pages)))
+    where
+      both : (b : Bool) → given (b && false) (numberAt (19 + 8 * i) 8 sheet) ≡ none
+      both true = refl
+      both false = refl
+
+  pub page-some : i < x .pages → sheetSize version1 i ≤ length sheet → pageAt x sheet i ≡ some (numberAt (19 + 8 * i) 8 sheet)
+  unfolding pageAt
+  page-some l m = rw (lt-ltb i (x .pages) l, le-leb (sheetSize version1 i) (length sheet) m)

@@ -1,11 +1,12 @@
 // Reading a page sheet.
 use keys::Tested;
 use refusals::Refusal;
+use sheets::PageField;
 use sheets::Reading;
 use sheets::Sheet;
 use sheets::fields;
 ghost use mathlib.Core.Path.{_≡_};
-ghost use Rattle.sheets.specs.Sheets.{readSheet, sheetRead, reading};
+ghost use Rattle.sheets.specs.Sheets.{readSheet, sheetRead, reading, pageAt, pageField};
 
 pub mod wellformed;
 
@@ -39,4 +40,21 @@ pub fn read(sheet: &[u8]) -> Reading
         pages: count,
         fingerprint: fields::number_at(sheet, (19 + 8 * count) as usize, 8),
     })
+}
+
+// The fingerprint of page i of a sheet that was read as x.
+pub fn page(x: Sheet, sheet: &[u8], i: u64) -> PageField
+    ensures { λ r. ⌜ pageField r ≡ pageAt x (now (sheet .entry)) i ⌝ }
+{
+    let n = sheet.len() as u64;
+    if x.pages <= i {
+        return PageField::None;
+    }
+    if n < 27 {
+        return PageField::None;
+    }
+    if (n - 27) / 8 < i {
+        return PageField::None;
+    }
+    PageField::Fingerprint(fields::number_at(sheet, (19 + 8 * i) as usize, 8))
 }

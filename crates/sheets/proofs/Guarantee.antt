@@ -3,20 +3,22 @@ use mathlib.Core.Path.{_≡_, refl, sym, ap, ap₂, _∙_}
 use mathlib.Core.Logic.{_≢_, _↔_}
 use mathlib.Core.Bool.{Bool, true, false, _||_, not}
 use mathlib.Core.List.{List, [], _∷_, _++_}
+use mathlib.Core.Option.{Option, none, some}
 use Prim.Native.Nat.{ℕ, zero, suc, _+_, _-_, _*_, _/_, _%_, _^_, _≤_, _<_}
 use native.Mathlib.Nat.{zero-add}
 use native.Mathlib.Omega.{arith}
 use lib.Dec.{ltb, eqb}
-use lib.ListN.{length, take, drop}
+use lib.ListN.{length, getD, take, drop}
 use lib.Seq.{take-at}
-use borrow.Author.Tests.{eq-eqb, ne-eqb, le-ltb, ltb-false}
+use borrow.Author.Tests.{eq-eqb, ne-eqb, lt-ltb, le-ltb, le-leb, ltb-false}
 use Rattle.refusals.specs.declared.Refusal.the-variants.{TooLong}
 use Rattle.refusals.specs.Refusals.{Answer, Done, Refused, numberOf, Test, _⇒_, firstOf, passes, longest}
 use Rattle.acceptance.specs.Keys.{accepted, keyTests}
 use Rattle.acceptance.proofs.Laws.{or-neither, key-iff}
 use Rattle.files.specs.Files.{Bytes, fingerprint}
-use Rattle.sheets.specs.Layout.{version1, numberAt, pagePlace, sheetSize, pageCount, Contents, sheetBytes, contentsIn}
-use Rattle.sheets.specs.Sheets.{contentsOf, pageFingerprints, sizeTest, writeTests, writeSheet, readTests, readSheet, Sound, WellFormed, Outcome, Same, Page, OtherLength, choose, firstChange, pagesNow, compared, checkSheet}
+use Rattle.sheets.specs.Layout.{version1, numberAt, pagePlace, sheetSize, pageCount, pagesIn, Contents, sheetBytes, contentsIn}
+use Rattle.sheets.specs.Sheets.{contentsOf, pageFingerprints, sizeTest, writeTests, writeSheet, readTests, readSheet, Sound, WellFormed, Outcome, Same, Page, OtherLength, choose, firstChange, pagesNow, compared, checkSheet, numbersOf, pageAt}
+use Rattle.sheets.proofs.Numbers.{length-numbersAt, numbers-one}
 use Rattle.sheets.proofs.Layouts.{length-sheet, fingerprint-back, read-back}
 use Rattle.sheets.proofs.Pages.{length-pages}
 use Rattle.sheets.proofs.Sound.{Clear, clear-done, clear-append, done-clear, sound-fits, sound-clear, clear-sound, file-sound}
@@ -42,6 +44,20 @@ read-iff sheet b = (there, back)
 
     back : WellFormed sheet → readSheet sheet ≡ Done (contentsIn version1 sheet)
     back w = clear-done (readTests version1 sheet) tt (contentsIn version1 sheet) (rw (← (w .bytes)) at (sound-clear (w .contents) (w .sound)))
+
+-- each page's fingerprint is given by its place
+pub page-given : (sheet : List ℕ) (w : WellFormed sheet) (i : ℕ) → i < length (w .contents .pages)
+    → pageAt (numbersOf (w .contents)) sheet i ≡ some (getD (w .contents .pages) i 0)
+unfolding pageAt contentsIn
+page-given sheet w i l =
+    let x = w .contents in
+    let back : contentsIn version1 sheet ≡ x = ap (contentsIn version1) (w .bytes) ∙ read-back version1 x (sound-fits x (w .sound)) in
+    let count : pagesIn version1 sheet ≡ length (x .pages) =
+    sym (length-numbersAt 19 8 (pagesIn version1 sheet) sheet) ∙ ap (λ (y : Contents). length (y .pages)) back in
+    let total : length sheet ≡ sheetSize version1 (length (x .pages)) = ap length (w .bytes) ∙ length-sheet version1 x in
+    let field : numberAt (19 + 8 * i) 8 sheet ≡ getD (x .pages) i 0 =
+    sym (numbers-one (pagesIn version1 sheet) 19 8 i sheet (rw count l)) ∙ ap (λ (y : Contents). getD (y .pages) i 0) back in
+    rw (lt-ltb i (length (x .pages)) l, le-leb (sheetSize version1 i) (length sheet) (omega arith), field)
 
 -- ---- writing, then reading
 

@@ -198,3 +198,11 @@ sets-front u l n e h = sets-eq u l 0 (rw (zero-add, e) h) ∙ ap (λ (m : ℕ). 
 pub fields-behind : (w f : ℕ) (fs l : List ℕ) (i : ℕ) → sets (sets l i (bytesOf w f)) (i + w) (fieldsOf w fs) ≡ sets l i (fieldsOf w (f ∷ fs))
 unfolding fieldsOf
 fields-behind w f fs l i = sets-behind (bytesOf w f) (fieldsOf w fs) l i (i + w) (ap (λ (n : ℕ). i + n) (sym (length-bytesOf w f)))
+
+-- one of the numbers
+pub numbers-one : (c place w i : ℕ) (l : List ℕ) → i < c → getD (numbersAt place w c l) i 0 ≡ numberAt (place + w * i) w l
+unfolding numbersAt
+numbers-one zero place w i l h = absurd (omega arith)
+numbers-one (suc c) place w zero l h = ap (λ (n : ℕ). numberAt n w l) (sym (rw (mul-zero w) (add-zero place)))
+numbers-one (suc c) place w (suc i) l h =
+    numbers-one c (place + w) w i l (omega arith) ∙ ap (λ (n : ℕ). numberAt n w l) (omega (arith, mul-suc w i))

@@ -1,7 +1,8 @@
 -- Writing, reading and checking a page sheet (document 01, "Page sheets"): each call is its tests, in document 01's order, and its value.
 use mathlib.Core.Path.{_≡_}
-use mathlib.Core.Bool.{Bool, true, false, _||_, not}
+use mathlib.Core.Bool.{Bool, true, false, _&&_, _||_, not}
 use mathlib.Core.List.{List, [], _∷_, _++_}
+use mathlib.Core.Option.{Option, none, some}
 use Prim.Native.Nat.{ℕ, zero, suc, _+_, _-_, _*_, _^_, _≤_, _<_, min}
 use lib.Dec.{ltb, leb, eqb}
 use lib.ListN.{length, take, drop, replicate}
@@ -19,6 +20,8 @@ use Rattle.sheets.specs.declared.Written.the-variants as written-cases
 use Rattle.sheets.specs.declared.Sheet.{Sheet}
 use Rattle.sheets.specs.declared.Reading.{Reading}
 use Rattle.sheets.specs.declared.Reading.the-variants as reading-cases
+use Rattle.sheets.specs.declared.PageField.{PageField}
+use Rattle.sheets.specs.declared.PageField.the-variants as field-cases
 use Rattle.sheets.specs.declared.Checked.{Checked}
 use Rattle.sheets.specs.declared.Checked.the-variants as checked-cases
 use Rattle.sheets.specs.declared.Changed.{Changed}
@@ -184,6 +187,19 @@ sheetRead (Refused r s) = Refused r s
 abbrev pub reading : Reading → Answer Unit Sheet
 reading (reading-cases.Sheet x) = Done x
 reading (reading-cases.Refused r) = Refused r tt
+
+-- the fingerprint of page i, from the bytes and the numbers that they were read as
+abbrev pub given : Bool → ℕ → Option ℕ
+given true f = some f
+given false f = none
+
+unfoldable pub pageAt : Sheet → List ℕ → ℕ → Option ℕ
+pageAt x sheet i =
+    given (ltb i (x .pages) && leb (sheetSize version1 i) (length sheet)) (numberAt (pagePlace version1 i) (version1 .fingerprintWidth) sheet)
+
+abbrev pub pageField : PageField → Option ℕ
+pageField (field-cases.Fingerprint f) = some f
+pageField field-cases.None = none
 
 abbrev pub checked : Checked → Answer Unit Outcome
 checked checked-cases.Same = Done Same

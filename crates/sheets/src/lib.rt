@@ -38,3 +38,9 @@ pub enum Changed {
     Bytes(u64, u64),
     None,
 }
+
+// The fingerprint of a page of a sheet, or none where there is no such page.
+pub enum PageField {
+    Fingerprint(u64),
+    None,
+}
