@@ -123,12 +123,10 @@ pub extern "C" fn gfp_search(
 // The sheet of a file, with pages of the given size, into the lent bytes; further bytes keep their value. Numbers 1, 2, 7, 12, 13.
 #[no_mangle]
 pub extern "C" fn gfp_write_sheet(key: u64, size: u64, file: &[u8], sheet: &mut [u8]) -> u32
-    ensures {
-        λ r. ⌜
-            (r ≡ numberOf (writeSheet key size (now (file .entry)) (now (sheet .entry))))
-            × (now (sheet .exit) ≡ stateOf (writeSheet key size (now (file .entry)) (now (sheet .entry))))
-        ⌝
-    }
+    ensures { λ r. ⌜
+        (r ≡ numberOf (writeSheet key size (now (file .entry)) (now (sheet .entry))))
+        × (now (sheet .exit) ≡ stateOf (writeSheet key size (now (file .entry)) (now (sheet .entry))))
+        ⌝ }
 {
     match sheet_writing::write(key, size, file, sheet) {
         Written::Done => 0,
@@ -138,14 +136,19 @@ pub extern "C" fn gfp_write_sheet(key: u64, size: u64, file: &[u8], sheet: &mut 
 
 // The numbers of a sheet into five places. Numbers 14 (size, letters, version), 1, 2, 12, 14 (total, fingerprints, joining), in this order.
 #[no_mangle]
-pub extern "C" fn gfp_read_sheet(sheet: &[u8], key: &mut u64, length: &mut u64, size: &mut u64, pages: &mut u64, fingerprint: &mut u64) -> u32
-    ensures {
-        λ r. ⌜
-            (r ≡ numberOf (sheetRead (readSheet (now (sheet .entry)))))
-            × (sheetAt (now (key .exit)) (now (length .exit)) (now (size .exit)) (now (pages .exit)) (now (fingerprint .exit))
-                ≡ valueOr (sheetAt (now (key .entry)) (now (length .entry)) (now (size .entry)) (now (pages .entry)) (now (fingerprint .entry))) (sheetRead (readSheet (now (sheet .entry)))))
-        ⌝
-    }
+pub extern "C" fn gfp_read_sheet(
+    sheet: &[u8],
+    key: &mut u64,
+    length: &mut u64,
+    size: &mut u64,
+    pages: &mut u64,
+    fingerprint: &mut u64,
+) -> u32
+    ensures { λ r. ⌜
+        (r ≡ numberOf (sheetRead (readSheet (now (sheet .entry)))))
+        × (sheetAt (now (key .exit)) (now (length .exit)) (now (size .exit)) (now (pages .exit)) (now (fingerprint .exit))
+        ≡ valueOr (sheetAt (now (key .entry)) (now (length .entry)) (now (size .entry)) (now (pages .entry)) (now (fingerprint .entry))) (sheetRead (readSheet (now (sheet .entry)))))
+        ⌝ }
 {
     match sheet_reading::read(sheet) {
         Reading::Sheet(x) => {
@@ -162,13 +165,16 @@ pub extern "C" fn gfp_read_sheet(sheet: &[u8], key: &mut u64, length: &mut u64, 
 
 // A file checked against a sheet: 0 for same, 1 for a page with its place, 2 for another length. All of reading's numbers, then 7.
 #[no_mangle]
-pub extern "C" fn gfp_check_file(sheet: &[u8], file: &[u8], outcome: &mut u32, page: &mut u32) -> u32
-    ensures {
-        λ r. ⌜
-            (r ≡ numberOf (checkSheet (now (sheet .entry)) (now (file .entry))))
-            × (toldAt (now (outcome .exit)) (now (page .exit)) ≡ toldOr (toldAt (now (outcome .entry)) (now (page .entry))) (checkSheet (now (sheet .entry)) (now (file .entry))))
-        ⌝
-    }
+pub extern "C" fn gfp_check_file(
+    sheet: &[u8],
+    file: &[u8],
+    outcome: &mut u32,
+    page: &mut u32,
+) -> u32
+    ensures { λ r. ⌜
+        (r ≡ numberOf (checkSheet (now (sheet .entry)) (now (file .entry))))
+        × (toldAt (now (outcome .exit)) (now (page .exit)) ≡ toldOr (toldAt (now (outcome .entry)) (now (page .entry))) (checkSheet (now (sheet .entry)) (now (file .entry))))
+        ⌝ }
 {
     match sheet_checking::check(sheet, file) {
         Checked::Same => {
