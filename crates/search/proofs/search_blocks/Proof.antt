@@ -16,7 +16,7 @@ use Rattle.search.proofs.search_blocks.Statement.{statement}
 use Rattle.search.proofs.search_blocks.Tie as tie
 
 abbrev Inv-loop : tie.InvT-loop
-Inv-loop s red out text pattern first words₀ flags₀ n found₀ g₀ from₀ words flags found g from =
+Inv-loop s reduce outgoing text pattern first words₀ flags₀ n found₀ g₀ from₀ words flags found g from =
     (from ≤ n)
     × (length flags ≡ 1024)
     × (found .places ≤ from)
@@ -25,7 +25,7 @@ Inv-loop s red out text pattern first words₀ flags₀ n found₀ g₀ from₀ 
     × Tally (isPlace text pattern) (isAlarm (keyOf s) text pattern) 0 n words₀ 0 0 words (found .places) (found .alarms) from
 
 abbrev μ-loop : tie.MeasureT-loop
-μ-loop s red out text pattern first words₀ flags₀ n found₀ g₀ from₀ words flags found g from = n - from
+μ-loop s reduce outgoing text pattern first words₀ flags₀ n found₀ g₀ from₀ words flags found g from = n - from
 
 sub-windows : tie.Need-sub-windows Inv-loop μ-loop
 sub-windows c = omega arith

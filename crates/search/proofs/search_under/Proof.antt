@@ -41,8 +41,8 @@ search-blocks-requires c κs =
         modulus = m;
         wide = s .pre .1;
         some = s .pre .2;
-        red = multiples-top (a .k) (a .low) (m .2) (c .before .before .before .before .before .before .before .before .before .fill-row .last .0) (c .before .before .before .before .before .before .before .before .before .fill-row .ensures .0);
-        out = multiples-of (monic-pos (a .k) (a .low) (m .2)) (2 ^ (8 * length (a .pattern .now))) (c .before .before .before .before .fill-row2 .last .0) (rw (begin .2) at (c .before .before .before .before .fill-row2 .ensures .0));
+        reduce = multiples-top (a .k) (a .low) (m .2) (c .before .before .before .before .before .before .before .before .before .fill-row .last .0) (c .before .before .before .before .before .before .before .before .before .fill-row .ensures .0);
+        outgoing = multiples-of (monic-pos (a .k) (a .low) (m .2)) (2 ^ (8 * length (a .pattern .now))) (c .before .before .before .before .fill-row2 .last .0) (rw (begin .2) at (c .before .before .before .before .fill-row2 .ensures .0));
       },
       refl,
       begin .1,

@@ -13,8 +13,8 @@ add-left c = search needs
 sub-left-2 : tie.Need-sub-left-2
 sub-left-2 c = search needs
 
-by-lanes-requires : tie.Need-by-lanes-requires
-by-lanes-requires c κs = search needs
+four-runs-requires : tie.Need-four-runs-requires
+four-runs-requires c κs = search needs
 
 returns : tie.Need-returns
 returns c = search needs
@@ -38,7 +38,7 @@ mark-block-spec =
     sub-left
     add-left
     sub-left-2
-    by-lanes-requires
+    four-runs-requires
     returns
     least-requires
     one-by-one-requires

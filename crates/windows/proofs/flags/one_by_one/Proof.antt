@@ -13,14 +13,14 @@ use Rattle.windows.proofs.flags.one_by_one.Statement.{statement}
 use Rattle.windows.proofs.flags.one_by_one.Tie as tie
 
 abbrev Inv-loop : tie.InvT-loop
-Inv-loop s red out text from size g flags₀ a₀ j₀ flags a j =
+Inv-loop s reduce outgoing text from size g flags₀ a₀ j₀ flags a j =
     (j ≤ size)
     × (length flags ≡ 1024)
     × (from + j + s .m ≤ length text → a ≡ residue (keyOf s) (window (s .m) text (from + j)))
     × Filled false (hit s text from) 0 j flags
 
 abbrev μ-loop : tie.MeasureT-loop
-μ-loop s red out text from size g flags₀ a₀ j₀ flags a j = size - j
+μ-loop s reduce outgoing text from size g flags₀ a₀ j₀ flags a j = size - j
 
 loop-holds : tie.Need-loop-holds Inv-loop μ-loop
 loop-holds c =

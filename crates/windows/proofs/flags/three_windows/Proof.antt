@@ -11,14 +11,14 @@ use Rattle.windows.proofs.flags.three_windows.Statement.{statement}
 use Rattle.windows.proofs.flags.three_windows.Tie as tie
 
 abbrev Inv-loop : tie.InvT-loop
-Inv-loop s red out text from b₀ c₀ d₀ j₀ b c d j =
+Inv-loop s reduce outgoing text from b₀ c₀ d₀ j₀ b c d j =
     (j ≤ s .m)
     × (b ≡ residue (keyOf s) (window j text (from + 256)))
     × (c ≡ residue (keyOf s) (window j text (from + 512)))
     × (d ≡ residue (keyOf s) (window j text (from + 768)))
 
 abbrev μ-loop : tie.MeasureT-loop
-μ-loop s red out text from b₀ c₀ d₀ j₀ b c d j = s .m - j
+μ-loop s reduce outgoing text from b₀ c₀ d₀ j₀ b c d j = s .m - j
 
 loop-holds : tie.Need-loop-holds Inv-loop μ-loop
 loop-holds c =
@@ -41,7 +41,7 @@ append-requires c κs =
     let a = s .args in
     let l = c .before .before .before .loop in
     let r = s .pre .0 in
-    (r .modulus, r .wide, rw (l .inv .1) (residue-below (a .s .k) (a .s .low) (r .modulus .2) (window (l .j) (a .text .now) (a .from + 256))), r .red)
+    (r .modulus, r .wide, rw (l .inv .1) (residue-below (a .s .k) (a .s .low) (r .modulus .2) (window (l .j) (a .text .now) (a .from + 256))), r .reduce)
 
 add-append-2 : tie.Need-add-append-2 Inv-loop μ-loop
 add-append-2 c = omega arith
@@ -55,7 +55,7 @@ append-requires-2 c κs =
     let a = s .args in
     let l = c .before .before .before .before .before .loop in
     let r = s .pre .0 in
-    (r .modulus, r .wide, rw (l .inv .2) (residue-below (a .s .k) (a .s .low) (r .modulus .2) (window (l .j) (a .text .now) (a .from + 512))), r .red)
+    (r .modulus, r .wide, rw (l .inv .2) (residue-below (a .s .k) (a .s .low) (r .modulus .2) (window (l .j) (a .text .now) (a .from + 512))), r .reduce)
 
 add-append-3 : tie.Need-add-append-3 Inv-loop μ-loop
 add-append-3 c = omega arith
@@ -69,7 +69,7 @@ append-requires-3 c κs =
     let a = s .args in
     let l = c .before .before .before .before .before .before .before .loop in
     let r = s .pre .0 in
-    (r .modulus, r .wide, rw (l .inv .3) (residue-below (a .s .k) (a .s .low) (r .modulus .2) (window (l .j) (a .text .now) (a .from + 768))), r .red)
+    (r .modulus, r .wide, rw (l .inv .3) (residue-below (a .s .k) (a .s .low) (r .modulus .2) (window (l .j) (a .text .now) (a .from + 768))), r .reduce)
 
 add-j : tie.Need-add-j Inv-loop μ-loop
 add-j c = omega arith

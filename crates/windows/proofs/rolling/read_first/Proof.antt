@@ -15,14 +15,14 @@ use Rattle.windows.proofs.rolling.read_first.Statement.{statement}
 use Rattle.windows.proofs.rolling.read_first.Tie as tie
 
 abbrev Inv-loop : tie.InvT-loop
-Inv-loop k low red text pattern first₀ wanted₀ shift₀ i₀ first wanted shift i =
+Inv-loop k low reduce text pattern first₀ wanted₀ shift₀ i₀ first wanted shift i =
     (i ≤ length pattern)
     × (first ≡ residue (monic k low) (window i text 0))
     × (wanted ≡ residue (monic k low) (window i pattern 0))
     × (shift ≡ rem (monic k low) (2 ^ (8 * i)))
 
 abbrev μ-loop : tie.MeasureT-loop
-μ-loop k low red text pattern first₀ wanted₀ shift₀ i₀ first wanted shift i = length pattern - i
+μ-loop k low reduce text pattern first₀ wanted₀ shift₀ i₀ first wanted shift i = length pattern - i
 
 loop-holds : tie.Need-loop-holds Inv-loop μ-loop
 loop-holds c =

@@ -1,4 +1,4 @@
--- `windows::flags::by_lanes` meets its contract. The loop's invariant: j windows of each run have their flags, and the four residues are those of the next ones.
+-- `windows::flags::four_runs` meets its contract. The loop's invariant: j windows of each run have their flags, and the four residues are those of the next ones.
 use mathlib.Core.Path.{_≡_, _∙_}
 use mathlib.Core.Bool.{false}
 use Prim.Native.Nat.{_+_, _-_, _≤_}
@@ -7,11 +7,11 @@ use Rattle.windows.specs.Rolling.{window}
 use Rattle.windows.specs.Rolling.{residue, keyOf, hit}
 use Rattle.windows.proofs.Residues.{same-place, hit-is}
 use Rattle.windows.proofs.Filling.{Runs, runs-begin, runs-more, runs-end}
-use Rattle.windows.proofs.flags.by_lanes.Statement.{statement}
-use Rattle.windows.proofs.flags.by_lanes.Tie as tie
+use Rattle.windows.proofs.flags.four_runs.Statement.{statement}
+use Rattle.windows.proofs.flags.four_runs.Tie as tie
 
 abbrev Inv-loop : tie.InvT-loop
-Inv-loop s red out text from g flags₀ a₀ b₀ c₀ d₀ j₀ flags a b c d j =
+Inv-loop s reduce outgoing text from g flags₀ a₀ b₀ c₀ d₀ j₀ flags a b c d j =
     (j ≤ 256)
     × (a ≡ residue (keyOf s) (window (s .m) text (from + j)))
     × (b ≡ residue (keyOf s) (window (s .m) text (from + (j + 256))))
@@ -20,7 +20,7 @@ Inv-loop s red out text from g flags₀ a₀ b₀ c₀ d₀ j₀ flags a b c d j
     × Runs false (hit s text from) j flags
 
 abbrev μ-loop : tie.MeasureT-loop
-μ-loop s red out text from g flags₀ a₀ b₀ c₀ d₀ j₀ flags a b c d j = 256 - j
+μ-loop s reduce outgoing text from g flags₀ a₀ b₀ c₀ d₀ j₀ flags a b c d j = 256 - j
 
 three-windows-requires : tie.Need-three-windows-requires Inv-loop μ-loop
 three-windows-requires c κs = (c .before .pre .0, omega arith)
@@ -142,8 +142,8 @@ returns c =
       l .inv .5 .0,
     )
 
-pub by-lanes-spec : {M : Type 1} → statement M
-by-lanes-spec =
+pub four-runs-spec : {M : Type 1} → statement M
+four-runs-spec =
     tie.close
     (tie.spec
     Inv-loop
