@@ -6,13 +6,12 @@ use Prim.Native.Nat.{ℕ, _+_, _-_, _≤_, _<_}
 use native.Mathlib.Nat.{zero-add}
 use native.Mathlib.Omega.{arith}
 use borrow.Author.Tests.{eq-eqb}
-use lib.Dec.{eqb}
 use lib.ListN.{length, getD}
 use lib.Seq.{sets}
 use Rattle.files.specs.Files.{fingerprint}
 use Rattle.search.specs.declared.Counts.{Counts}
 use Rattle.windows.specs.declared.rolling.Setup.{Setup}
-use Rattle.search.specs.Searching.{windows, same, isPlace, alike, isAlarm, passing, places, alarms, counts, overlay}
+use Rattle.search.specs.Searching.{windows, isPlace, alike, isAlarm, passing, places, alarms, counts, overlay}
 use Rattle.windows.specs.Rolling.{window, residue, keyOf, Filled, hit}
 use Rattle.windows.proofs.Windows.{window-length}
 use Rattle.search.specs.Flagged.{flaggedPlace, flaggedAlarm}

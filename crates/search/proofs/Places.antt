@@ -1,15 +1,14 @@
 -- What the definitions come to: the places are the offsets at which the pattern stands in the text, rising; the false alarms are the windows
 -- with its fingerprint and other bytes.
 use mathlib.Core.Path.{_≡_, refl, sym, ap, _∙_}
-use mathlib.Core.Logic.{_⊎_, inl, inr, _↔_, _≢_}
-use mathlib.Core.Bool.{Bool, true, false, not, _&&_, true≢false}
+use mathlib.Core.Logic.{inl, inr, _↔_, _≢_}
+use mathlib.Core.Bool.{Bool, true, false, not, true≢false}
 use mathlib.Core.List.{List, [], _∷_}
 use Prim.Native.Nat.{ℕ, zero, suc, _+_, _-_, _≤_, _<_}
 use native.Mathlib.Nat.{le-refl}
 use native.Mathlib.Decide.{ℕ-discrete}
 use native.Mathlib.Omega.{arith}
 use borrow.Author.Tests.{eq-eqb, eqb-true, not-true}
-use lib.Dec.{eqb}
 use lib.ListN.{length, take, drop}
 use Rattle.gf2.specs.Lists.{All, Some}
 use Rattle.gf2.proofs.Lists.{all-map}

@@ -7,7 +7,8 @@ ghost use lib.Seq.{sets};
 ghost use Rattle.search.specs.Searching.{passing};
 ghost use Rattle.search.specs.Flagged.{flaggedPlace, flaggedAlarm};
 
-// The windows of a block, added to what was found before: a place is written behind the earlier ones, as far as the words reach.
+// The flagged windows of a block, added to what was found before. The comparison leaves off at the first byte that differs; a place is written
+// behind the earlier ones, as far as the words reach.
 pub fn compare(
     text: &[u8],
     pattern: &[u8],

@@ -1,7 +1,7 @@
 -- Laws of the residue without the leading 1: of bytes appended and of the next window; and of the tables.
-use mathlib.Core.Path.{_≡_, refl, sym, ap, _∙_}
+use mathlib.Core.Path.{_≡_, sym, ap, _∙_}
 use mathlib.Core.List.{List, [], _∷_, _++_}
-use Prim.Native.Nat.{ℕ, suc, _+_, _*_, _^_, _≤_, _<_}
+use Prim.Native.Nat.{ℕ, suc, _+_, _*_, _^_, _<_}
 use native.Mathlib.Nat.{add-zero, one-mul, zero-mul, zero-add, mod-eq-of-lt}
 use native.Mathlib.Decide.{ℕ-discrete}
 use native.Mathlib.Numerals.{add-one}
@@ -108,10 +108,10 @@ module _ {p : ℕ} (pos : 0 < p) where
       → x ≡ residue p (window m text i) → r ≡ rem p (x * 256 + getD text e 0) → r ≡ residue p (window (m + 1) text i)
   read-on m text i e x r q h l ex er = er ∙ rw (ex, ← q) (sym (residue-more m text i (rw q h) (rw q l)))
 
-  pub rolled : (m : ℕ) (text out : List ℕ) (i e x r : ℕ) → i + m ≡ e → e < length text → getD text i 0 < 256 → getD text e 0 < 256
-      → Multiples p (2 ^ (8 * m)) 0 256 out → x ≡ residue p (window m text i)
-      → r ≡ rem p (x * 256 + getD text e 0) ⊕ getD out (getD text i 0) 0 → r ≡ residue p (window m text (i + 1))
-  rolled m text out i e x r q h lx ly t ex er =
+  pub rolled : (m : ℕ) (text outgoing : List ℕ) (i e x r : ℕ) → i + m ≡ e → e < length text → getD text i 0 < 256 → getD text e 0 < 256
+      → Multiples p (2 ^ (8 * m)) 0 256 outgoing → x ≡ residue p (window m text i)
+      → r ≡ rem p (x * 256 + getD text e 0) ⊕ getD outgoing (getD text i 0) 0 → r ≡ residue p (window m text (i + 1))
+  rolled m text outgoing i e x r q h lx ly t ex er =
       er
       ∙ rw (ex, ← q, rw zero-add at (t (getD text i 0) lx))
       (sym (residue-next m text i (rw q h) lx (rw q ly)))

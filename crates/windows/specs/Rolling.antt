@@ -26,12 +26,12 @@ abbrev pub keyOf : Setup → ℕ
 keyOf s = monic (s .k) (s .low)
 
 -- the two tables of 256 words: the multiples of t^k, for the byte that comes in, and of t^(8m), for the one that goes out
-pub record Ready (s : Setup) (redTable outTable : List ℕ) : Type 0 where
+pub record Ready (s : Setup) (reduceTable outgoingTable : List ℕ) : Type 0 where
   pub modulus : Modulus (s .k) (s .low)
   pub wide : 8 ≤ s .k
   pub some : 0 < s .m
-  pub red : Multiples (keyOf s) (2 ^ s .k) 0 256 redTable
-  pub out : Multiples (keyOf s) (2 ^ (8 * s .m)) 0 256 outTable
+  pub reduce : Multiples (keyOf s) (2 ^ s .k) 0 256 reduceTable
+  pub outgoing : Multiples (keyOf s) (2 ^ (8 * s .m)) 0 256 outgoingTable
 
 -- of the window j places behind `from`: it has the wanted residue
 unfoldable pub hit : Setup → List ℕ → ℕ → ℕ → Bool

@@ -5,8 +5,7 @@ ghost use mathlib.Core.Path.{_≡_};
 ghost use mathlib.Core.Bool.{false};
 ghost use Prim.Native.Nat.{_+_, _-_, _≤_, _<_};
 ghost use lib.ListN.{length};
-ghost use Rattle.windows.specs.Rolling.{window};
-ghost use Rattle.windows.specs.Rolling.{residue, keyOf, Ready, hit, Filled, Marked};
+ghost use Rattle.windows.specs.Rolling.{window, residue, keyOf, Ready, hit, Filled, Marked};
 
 // The residues of three windows.
 pub struct Three {
@@ -22,8 +21,14 @@ pub struct Block {
 }
 
 // The residues of the windows 256, 512 and 768 places behind `from`.
-fn three_windows(s: Setup, red: &[u64; 256], out: &[u64; 256], text: &[u8], from: usize) -> Three
-    requires { ⌜ Ready s (now red) (now out) × (from + 768 + s .m ≤ length (now text)) ⌝ }
+fn three_windows(
+    s: Setup,
+    reduce: &[u64; 256],
+    outgoing: &[u64; 256],
+    text: &[u8],
+    from: usize,
+) -> Three
+    requires { ⌜ Ready s (now reduce) (now outgoing) × (from + 768 + s .m ≤ length (now text)) ⌝ }
     ensures { λ r. ⌜ (r .b ≡ residue (keyOf s) (window (s .m) (now (text .entry)) (from + 256))) × (r .c ≡ residue (keyOf s) (window (s .m) (now (text .entry)) (from + 512))) × (r .d ≡ residue (keyOf s) (window (s .m) (now (text .entry)) (from + 768))) ⌝ }
 {
     let mut b: u64 = 0;
@@ -32,32 +37,32 @@ fn three_windows(s: Setup, red: &[u64; 256], out: &[u64; 256], text: &[u8], from
     let mut j: usize = 0;
     while j < s.m {
         let i = from + j;
-        b = rolling::append(s.k, s.low, red, b, text[i + 256]);
-        c = rolling::append(s.k, s.low, red, c, text[i + 512]);
-        d = rolling::append(s.k, s.low, red, d, text[i + 768]);
+        b = rolling::append(s.k, s.low, reduce, b, text[i + 256]);
+        c = rolling::append(s.k, s.low, reduce, c, text[i + 512]);
+        d = rolling::append(s.k, s.low, reduce, d, text[i + 768]);
         j += 1;
     }
     Three { b, c, d }
 }
 
-// 1,024 windows: four runs of 256, rolled side by side, as one step waits for the last one of its run alone.
-fn by_lanes(
+// 1,024 windows in four runs of 256, rolled side by side: a step waits for the last one of its own run alone.
+fn four_runs(
     s: Setup,
-    red: &[u64; 256],
-    out: &[u64; 256],
+    reduce: &[u64; 256],
+    outgoing: &[u64; 256],
     text: &[u8],
     from: usize,
     g: u64,
     flags: &mut [bool; 1024],
 ) -> u64
-    requires { ⌜ Ready s (now red) (now out) × (length (now flags) ≡ 1024) × (from + 1024 + s .m ≤ length (now text)) × (g ≡ residue (keyOf s) (window (s .m) (now text) from)) ⌝ }
+    requires { ⌜ Ready s (now reduce) (now outgoing) × (length (now flags) ≡ 1024) × (from + 1024 + s .m ≤ length (now text)) × (g ≡ residue (keyOf s) (window (s .m) (now text) from)) ⌝ }
     ensures { λ r. ⌜ (r ≡ residue (keyOf s) (window (s .m) (now (text .entry)) (from + 1024))) × Filled false (hit s (now (text .entry)) from) 0 1024 (now (flags .exit)) × (length (now (flags .exit)) ≡ 1024) ⌝ }
 {
-    let z = three_windows(s, red, out, text, from);
+    let starts = three_windows(s, reduce, outgoing, text, from);
     let mut a = g;
-    let mut b = z.b;
-    let mut c = z.c;
-    let mut d = z.d;
+    let mut b = starts.b;
+    let mut c = starts.c;
+    let mut d = starts.d;
     let mut j: usize = 0;
     while j < 256 {
         flags[j] = a == s.wanted;
@@ -65,10 +70,10 @@ fn by_lanes(
         flags[j + 512] = c == s.wanted;
         flags[j + 768] = d == s.wanted;
         let i = from + j;
-        a = rolling::roll(s, red, out, text, i, a);
-        b = rolling::roll(s, red, out, text, i + 256, b);
-        c = rolling::roll(s, red, out, text, i + 512, c);
-        d = rolling::roll(s, red, out, text, i + 768, d);
+        a = rolling::roll(s, reduce, outgoing, text, i, a);
+        b = rolling::roll(s, reduce, outgoing, text, i + 256, b);
+        c = rolling::roll(s, reduce, outgoing, text, i + 512, c);
+        d = rolling::roll(s, reduce, outgoing, text, i + 768, d);
         j += 1;
     }
     d
@@ -77,15 +82,15 @@ fn by_lanes(
 // `size` windows, one after the other. There is no next residue behind the text's last window.
 fn one_by_one(
     s: Setup,
-    red: &[u64; 256],
-    out: &[u64; 256],
+    reduce: &[u64; 256],
+    outgoing: &[u64; 256],
     text: &[u8],
     from: usize,
     size: usize,
     g: u64,
     flags: &mut [bool; 1024],
 ) -> u64
-    requires { ⌜ Ready s (now red) (now out) × (length (now flags) ≡ 1024) × (from + size + s .m ≤ length (now text) + 1) × (size ≤ 1024) × (g ≡ residue (keyOf s) (window (s .m) (now text) from)) ⌝ }
+    requires { ⌜ Ready s (now reduce) (now outgoing) × (length (now flags) ≡ 1024) × (from + size + s .m ≤ length (now text) + 1) × (size ≤ 1024) × (g ≡ residue (keyOf s) (window (s .m) (now text) from)) ⌝ }
     ensures { λ r. ⌜ Marked s (now (text .entry)) from size r (now (flags .exit)) × (length (now (flags .exit)) ≡ 1024) ⌝ }
 {
     let mut a = g;
@@ -94,7 +99,7 @@ fn one_by_one(
         flags[j] = a == s.wanted;
         let i = from + j;
         if i + s.m < text.len() {
-            a = rolling::roll(s, red, out, text, i, a);
+            a = rolling::roll(s, reduce, outgoing, text, i, a);
         }
         j += 1;
     }
@@ -107,27 +112,27 @@ fn least(a: usize, b: usize) -> usize
     if a < b { a } else { b }
 }
 
-// The next windows, at most 1,024. Four runs pay where their three new starts take less time than they save.
+// The next windows, at most 1,024. Four runs pay off where the windows that three of them start with are not too long to read.
 pub fn mark_block(
     s: Setup,
-    red: &[u64; 256],
-    out: &[u64; 256],
+    reduce: &[u64; 256],
+    outgoing: &[u64; 256],
     text: &[u8],
     from: usize,
     g: u64,
     flags: &mut [bool; 1024],
 ) -> Block
-    requires { ⌜ Ready s (now red) (now out) × (length (now flags) ≡ 1024) × (from + s .m ≤ length (now text)) × (g ≡ residue (keyOf s) (window (s .m) (now text) from)) ⌝ }
+    requires { ⌜ Ready s (now reduce) (now outgoing) × (length (now flags) ≡ 1024) × (from + s .m ≤ length (now text)) × (g ≡ residue (keyOf s) (window (s .m) (now text) from)) ⌝ }
     ensures { λ r. ⌜ (0 < r .size) × (r .size ≤ 1024) × (from + r .size + s .m ≤ length (now (text .entry)) + 1) × Marked s (now (text .entry)) from (r .size) (r .next) (now (flags .exit)) × (length (now (flags .exit)) ≡ 1024) ⌝ }
 {
     let left = text.len() - s.m + 1 - from;
     if s.m <= 512 {
         if 1024 < left {
-            let next = by_lanes(s, red, out, text, from, g, flags);
+            let next = four_runs(s, reduce, outgoing, text, from, g, flags);
             return Block { size: 1024, next };
         }
     }
     let size = least(left, 1024);
-    let next = one_by_one(s, red, out, text, from, size, g, flags);
+    let next = one_by_one(s, reduce, outgoing, text, from, size, g, flags);
     Block { size, next }
 }

@@ -1,11 +1,11 @@
-// Residues of windows, by two tables: the bytes without the leading 1, which windows and pattern, being equally long, have in common.
+// Residues of windows, by two tables of 256 words: `reduce` for the byte that comes in, `outgoing` for the byte that goes out. The leading 1 of
+// the fingerprint is left off: windows and pattern are equally long, and have it in common.
 ghost use mathlib.Core.Path.{_≡_};
 ghost use Prim.Native.Nat.{_+_, _*_, _^_, _≤_, _<_};
 ghost use lib.ListN.{length};
 ghost use Rattle.gf2.specs.Polynomials.{monic, rem, Modulus};
 ghost use Rattle.multiples.specs.Rows.{Multiples};
-ghost use Rattle.windows.specs.Rolling.{window};
-ghost use Rattle.windows.specs.Rolling.{residue, keyOf, Ready};
+ghost use Rattle.windows.specs.Rolling.{window, residue, keyOf, Ready};
 
 // What stays the same from window to window: the key's degree and low word, the pattern's length and its residue.
 pub struct Setup {
@@ -29,30 +29,37 @@ fn wide(x: u8) -> u64
 }
 
 // A byte behind a residue, by the table of the multiples of t^k.
-pub fn append(k: u32, low: u64, red: &[u64; 256], f: u64, b: u8) -> u64
-    requires { ⌜ Modulus k low × (8 ≤ k) × (f < 2 ^ k) × Multiples (monic k low) (2 ^ k) 0 256 (now red) ⌝ }
+pub fn append(k: u32, low: u64, reduce: &[u64; 256], f: u64, b: u8) -> u64
+    requires { ⌜ Modulus k low × (8 ≤ k) × (f < 2 ^ k) × Multiples (monic k low) (2 ^ k) 0 256 (now reduce) ⌝ }
     ensures { λ r. ⌜ r ≡ rem (monic k low) (f * 256 + b) ⌝ }
 {
     let cut = k - 8;
     let rest = gf2::low_bits(f, cut);
     let top = (f >> cut) as usize;
-    (rest * 256 + wide(b)) ^ red[top]
+    (rest * 256 + wide(b)) ^ reduce[top]
 }
 
 // The residue of the window at i + 1 from that of the window at i: a byte comes in behind, and the first one, times t^(8m), goes out.
-pub fn roll(s: Setup, red: &[u64; 256], out: &[u64; 256], text: &[u8], i: usize, g: u64) -> u64
-    requires { ⌜ Ready s (now red) (now out) × (i + s .m < length (now text)) × (g ≡ residue (keyOf s) (window (s .m) (now text) i)) ⌝ }
+pub fn roll(
+    s: Setup,
+    reduce: &[u64; 256],
+    outgoing: &[u64; 256],
+    text: &[u8],
+    i: usize,
+    g: u64,
+) -> u64
+    requires { ⌜ Ready s (now reduce) (now outgoing) × (i + s .m < length (now text)) × (g ≡ residue (keyOf s) (window (s .m) (now text) i)) ⌝ }
     ensures { λ r. ⌜ r ≡ residue (keyOf s) (window (s .m) (now (text .entry)) (i + 1)) ⌝ }
 {
-    let longer = append(s.k, s.low, red, g, text[i + s.m]);
+    let longer = append(s.k, s.low, reduce, g, text[i + s.m]);
     let first = text[i] as usize;
-    let gone = out[first];
+    let gone = outgoing[first];
     longer ^ gone
 }
 
-// The residues of the first window and of the pattern, and the table's t^(8m).
-pub fn read_first(k: u32, low: u64, red: &[u64; 256], text: &[u8], pattern: &[u8]) -> Start
-    requires { ⌜ Modulus k low × (8 ≤ k) × Multiples (monic k low) (2 ^ k) 0 256 (now red) × (length (now pattern) ≤ length (now text)) ⌝ }
+// Reads the first window and the pattern.
+pub fn read_first(k: u32, low: u64, reduce: &[u64; 256], text: &[u8], pattern: &[u8]) -> Start
+    requires { ⌜ Modulus k low × (8 ≤ k) × Multiples (monic k low) (2 ^ k) 0 256 (now reduce) × (length (now pattern) ≤ length (now text)) ⌝ }
     ensures { λ r. ⌜ (r .first ≡ residue (monic k low) (window (length (now (pattern .entry))) (now (text .entry)) 0)) × (r .wanted ≡ residue (monic k low) (now (pattern .entry))) × (r .shift ≡ rem (monic k low) (2 ^ (8 * length (now (pattern .entry))))) ⌝ }
 {
     let mut first: u64 = 0;
@@ -60,9 +67,9 @@ pub fn read_first(k: u32, low: u64, red: &[u64; 256], text: &[u8], pattern: &[u8
     let mut shift: u64 = 1;
     let mut i: usize = 0;
     while i < pattern.len() {
-        first = append(k, low, red, first, text[i]);
-        wanted = append(k, low, red, wanted, pattern[i]);
-        shift = append(k, low, red, shift, 0);
+        first = append(k, low, reduce, first, text[i]);
+        wanted = append(k, low, reduce, wanted, pattern[i]);
+        shift = append(k, low, reduce, shift, 0);
         i += 1;
     }
     Start {

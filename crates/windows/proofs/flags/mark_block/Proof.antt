@@ -3,41 +3,28 @@ use native.Mathlib.Omega.{arith}
 use borrow.Author.Needs.{needs}
 use Rattle.windows.proofs.flags.mark_block.Statement.{statement}
 use Rattle.windows.proofs.flags.mark_block.Tie as tie
-use Rattle.windows.proofs.flags.mark_block.Reads as reads
-use Rattle.windows.proofs.flags.mark_block.Lts as lts
-use Rattle.windows.proofs.flags.by_lanes.Reads as by-lanes-reads
-use Rattle.windows.proofs.flags.least.Reads as least-reads
-use Rattle.windows.proofs.flags.one_by_one.Reads as one-by-one-reads
 
--- src/flags.rt:102:16
 sub-left : tie.Need-sub-left
 sub-left c = search needs
 
--- src/flags.rt:102:16
 add-left : tie.Need-add-left
 add-left c = search needs
 
--- src/flags.rt:102:16
 sub-left-2 : tie.Need-sub-left-2
 sub-left-2 c = search needs
 
--- src/flags.rt:105:17
-by-lanes-requires : tie.Need-by-lanes-requires
-by-lanes-requires c κs = search needs
+four-runs-requires : tie.Need-four-runs-requires
+four-runs-requires c κs = search needs
 
--- src/flags.rt:106:13
 returns : tie.Need-returns
 returns c = search needs
 
--- src/flags.rt:112:9
 least-requires : tie.Need-least-requires
 least-requires c κs = search needs
 
--- src/flags.rt:113:9
 one-by-one-requires : tie.Need-one-by-one-requires
 one-by-one-requires c κs = search needs
 
--- src/flags.rt:98:1
 returns-2 : tie.Need-returns-2
 returns-2 c =
     let l = c .before .before .least .ensures in
@@ -51,7 +38,7 @@ mark-block-spec =
     sub-left
     add-left
     sub-left-2
-    by-lanes-requires
+    four-runs-requires
     returns
     least-requires
     one-by-one-requires

@@ -1,31 +1,27 @@
 -- `windows::flags::one_by_one` meets its contract. The loop's invariant: j windows have their flags, and the residue is that of the next one, if there is one.
-use mathlib.Core.Path.{_≡_, refl, sym, ap, _∙_}
+use mathlib.Core.Path.{_≡_, _∙_}
 use mathlib.Core.Logic.{⊎-elim}
 use mathlib.Core.Bool.{false}
-use Prim.Native.Nat.{ℕ, _+_, _-_, _≤_, _<_}
+use Prim.Native.Nat.{_+_, _-_, _≤_}
 use native.Mathlib.Omega.{arith}
 use lib.ListN.{length, length-set}
 use Rattle.windows.specs.Rolling.{window}
-use Rattle.windows.specs.Rolling.{residue, keyOf, Filled, hit, Marked}
+use Rattle.windows.specs.Rolling.{residue, keyOf, Filled, hit}
 use Rattle.windows.proofs.Residues.{same-place, hit-is}
-use Rattle.windows.proofs.Filling.{Runs, runs-begin, runs-more, runs-end, filled-none, filled-more}
+use Rattle.windows.proofs.Filling.{filled-none, filled-more}
 use Rattle.windows.proofs.flags.one_by_one.Statement.{statement}
 use Rattle.windows.proofs.flags.one_by_one.Tie as tie
-use Rattle.windows.proofs.flags.one_by_one.Reads as reads
-use Rattle.windows.proofs.flags.one_by_one.Lts as lts
-use Rattle.windows.proofs.rolling.roll.Reads as roll-reads
 
 abbrev Inv-loop : tie.InvT-loop
-Inv-loop s red out text from size g flags₀ a₀ j₀ flags a j =
+Inv-loop s reduce outgoing text from size g flags₀ a₀ j₀ flags a j =
     (j ≤ size)
     × (length flags ≡ 1024)
     × (from + j + s .m ≤ length text → a ≡ residue (keyOf s) (window (s .m) text (from + j)))
     × Filled false (hit s text from) 0 j flags
 
 abbrev μ-loop : tie.MeasureT-loop
-μ-loop s red out text from size g flags₀ a₀ j₀ flags a j = size - j
+μ-loop s reduce outgoing text from size g flags₀ a₀ j₀ flags a j = size - j
 
--- src/flags.rt:80:5
 loop-holds : tie.Need-loop-holds Inv-loop μ-loop
 loop-holds c =
     let s = c .before in
@@ -36,34 +32,27 @@ loop-holds c =
       filled-none 0 (a .flags .now),
     )
 
--- src/flags.rt:81:9
 element-write-flags : tie.Need-element-write-flags Inv-loop μ-loop
 element-write-flags c = omega arith
 
--- src/flags.rt:82:17
 add-i : tie.Need-add-i Inv-loop μ-loop
 add-i c = omega arith
 
--- src/flags.rt:83:12
 add-if1 : tie.Need-add-if1 Inv-loop μ-loop
 add-if1 c = omega arith
 
--- src/flags.rt:84:13
 roll-requires : tie.Need-roll-requires Inv-loop μ-loop
 roll-requires c κs =
     let s = c .before .before .before .before .before .before in
     let l = c .before .before .before .before .loop in
     (s .pre .0, c .if1 .taken, l .inv .2 (omega arith))
 
--- src/flags.rt:86:9
 add-j : tie.Need-add-j Inv-loop μ-loop
 add-j c = omega arith
 
--- src/flags.rt:80:5
 loop-less : tie.Need-loop-less Inv-loop μ-loop
 loop-less c = omega arith
 
--- src/flags.rt:80:5
 loop-again : tie.Need-loop-again Inv-loop μ-loop
 loop-again c =
     let s = c .before .before .before .before .before .before in
@@ -78,7 +67,6 @@ loop-again c =
       filled-more 0 (l .j) (l .flags) _ (l .inv .3) (omega arith) (hit-is (a .s) t (a .from) (l .j) (l .a) (l .inv .2 (omega arith))),
     )
 
--- src/flags.rt:74:1
 returns : tie.Need-returns Inv-loop μ-loop
 returns c =
     let a = c .before .before .before .args in

@@ -1,8 +1,7 @@
 -- `windows::flags::three_windows` meets its contract. The loop's invariant: j bytes of each were read.
-use mathlib.Core.Path.{_≡_, refl, sym, ap, _∙_}
-use Prim.Native.Nat.{ℕ, _+_, _-_, _*_, _^_, _≤_, _<_}
+use mathlib.Core.Path.{_≡_, sym}
+use Prim.Native.Nat.{_+_, _-_, _≤_}
 use native.Mathlib.Omega.{arith}
-use lib.ListN.{length, getD}
 use Rattle.gf2.proofs.Monics.{monic-pos}
 use Rattle.windows.specs.Rolling.{window}
 use Rattle.windows.specs.Rolling.{residue, keyOf}
@@ -10,91 +9,74 @@ use Rattle.windows.proofs.Windows.{window-none}
 use Rattle.windows.proofs.Residues.{residue-none, read-on, residue-below}
 use Rattle.windows.proofs.flags.three_windows.Statement.{statement}
 use Rattle.windows.proofs.flags.three_windows.Tie as tie
-use Rattle.windows.proofs.flags.three_windows.Reads as reads
-use Rattle.windows.proofs.flags.three_windows.Lts as lts
-use Rattle.windows.proofs.rolling.append.Reads as append-reads
 
 abbrev Inv-loop : tie.InvT-loop
-Inv-loop s red out text from b₀ c₀ d₀ j₀ b c d j =
+Inv-loop s reduce outgoing text from b₀ c₀ d₀ j₀ b c d j =
     (j ≤ s .m)
     × (b ≡ residue (keyOf s) (window j text (from + 256)))
     × (c ≡ residue (keyOf s) (window j text (from + 512)))
     × (d ≡ residue (keyOf s) (window j text (from + 768)))
 
 abbrev μ-loop : tie.MeasureT-loop
-μ-loop s red out text from b₀ c₀ d₀ j₀ b c d j = s .m - j
+μ-loop s reduce outgoing text from b₀ c₀ d₀ j₀ b c d j = s .m - j
 
--- src/flags.rt:33:5
 loop-holds : tie.Need-loop-holds Inv-loop μ-loop
 loop-holds c =
     let a = c .before .args .s in
     let zero = residue-none (monic-pos (a .k) (a .low) (c .before .pre .0 .modulus .2)) in
     (omega arith, sym (rw window-none zero), sym (rw window-none zero), sym (rw window-none zero))
 
--- src/flags.rt:34:17
 add-i : tie.Need-add-i Inv-loop μ-loop
 add-i c = omega arith
 
--- src/flags.rt:35:54
 add-append : tie.Need-add-append Inv-loop μ-loop
 add-append c = omega arith
 
--- src/flags.rt:35:49
 shared-slice-read-append : tie.Need-shared-slice-read-append Inv-loop μ-loop
 shared-slice-read-append c = omega arith
 
--- src/flags.rt:35:9
 append-requires : tie.Need-append-requires Inv-loop μ-loop
 append-requires c κs =
     let s = c .before .before .before .before .before in
     let a = s .args in
     let l = c .before .before .before .loop in
     let r = s .pre .0 in
-    (r .modulus, r .wide, rw (l .inv .1) (residue-below (a .s .k) (a .s .low) (r .modulus .2) (window (l .j) (a .text .now) (a .from + 256))), r .red)
+    (r .modulus, r .wide, rw (l .inv .1) (residue-below (a .s .k) (a .s .low) (r .modulus .2) (window (l .j) (a .text .now) (a .from + 256))), r .reduce)
 
--- src/flags.rt:36:54
 add-append-2 : tie.Need-add-append-2 Inv-loop μ-loop
 add-append-2 c = omega arith
 
--- src/flags.rt:36:49
 shared-slice-read-append-2 : tie.Need-shared-slice-read-append-2 Inv-loop μ-loop
 shared-slice-read-append-2 c = omega arith
 
--- src/flags.rt:36:9
 append-requires-2 : tie.Need-append-requires-2 Inv-loop μ-loop
 append-requires-2 c κs =
     let s = c .before .before .before .before .before .before .before in
     let a = s .args in
     let l = c .before .before .before .before .before .loop in
     let r = s .pre .0 in
-    (r .modulus, r .wide, rw (l .inv .2) (residue-below (a .s .k) (a .s .low) (r .modulus .2) (window (l .j) (a .text .now) (a .from + 512))), r .red)
+    (r .modulus, r .wide, rw (l .inv .2) (residue-below (a .s .k) (a .s .low) (r .modulus .2) (window (l .j) (a .text .now) (a .from + 512))), r .reduce)
 
--- src/flags.rt:37:54
 add-append-3 : tie.Need-add-append-3 Inv-loop μ-loop
 add-append-3 c = omega arith
 
--- src/flags.rt:37:49
 shared-slice-read-append-3 : tie.Need-shared-slice-read-append-3 Inv-loop μ-loop
 shared-slice-read-append-3 c = omega arith
 
--- src/flags.rt:37:9
 append-requires-3 : tie.Need-append-requires-3 Inv-loop μ-loop
 append-requires-3 c κs =
     let s = c .before .before .before .before .before .before .before .before .before in
     let a = s .args in
     let l = c .before .before .before .before .before .before .before .loop in
     let r = s .pre .0 in
-    (r .modulus, r .wide, rw (l .inv .3) (residue-below (a .s .k) (a .s .low) (r .modulus .2) (window (l .j) (a .text .now) (a .from + 768))), r .red)
+    (r .modulus, r .wide, rw (l .inv .3) (residue-below (a .s .k) (a .s .low) (r .modulus .2) (window (l .j) (a .text .now) (a .from + 768))), r .reduce)
 
--- src/flags.rt:38:9
 add-j : tie.Need-add-j Inv-loop μ-loop
 add-j c = omega arith
 
--- src/flags.rt:33:5
 loop-less : tie.Need-loop-less Inv-loop μ-loop
 loop-less c = omega arith
 
--- src/flags.rt:33:5
 loop-again : tie.Need-loop-again Inv-loop μ-loop
 loop-again c =
     let s = c .before .before .before .before .before .before .before .before .before .before in
@@ -111,7 +93,6 @@ loop-again c =
           (c .append3 .ensures),
     )
 
--- src/flags.rt:25:1
 returns : tie.Need-returns Inv-loop μ-loop
 returns c =
     let a = c .before .before .before .before .args in

@@ -1,6 +1,6 @@
 -- `windows::rolling::append` meets its contract: one row of the table is cut off (`cut-high`).
-use mathlib.Core.Path.{_≡_, ap₂, _∙_}
-use Prim.Native.Nat.{ℕ, _+_, _-_, _*_, _/_, _%_, _^_, _≤_, _<_}
+use mathlib.Core.Path.{ap₂, _∙_}
+use Prim.Native.Nat.{ℕ, _+_, _-_, _*_, _/_, _%_, _^_, _<_}
 use native.Mathlib.Omega.{arith}
 use borrow.Author.Needs.{needs}
 use lib.ListN.{getD}
@@ -56,9 +56,9 @@ returns c =
     let p = s .pre in
     let h = a .f / 2 ^ (a .k - 8) in
     let low = p .0 .2 in
-    ap₂ (λ (x y : ℕ). (x * 256 + y) ⊕ getD (a .red .now) h 0) (c .before .before .low-bits .ensures) (c .before .wide .ensures .0)
-    ∙ look-one (a .red .now) (a .f % 2 ^ (a .k - 8) * 256 + a .b) h (top (c .before))
-    ∙ cut-high 8 (a .k) (monic-pos (a .k) (a .low) low) (monic-degree (a .k) (a .low) low) (a .red .now) 1 (one-row (a .k) (a .low) low (a .red .now) (p .3)) 1 (a .f) (a .b)
+    ap₂ (λ (x y : ℕ). (x * 256 + y) ⊕ getD (a .reduce .now) h 0) (c .before .before .low-bits .ensures) (c .before .wide .ensures .0)
+    ∙ look-one (a .reduce .now) (a .f % 2 ^ (a .k - 8) * 256 + a .b) h (top (c .before))
+    ∙ cut-high 8 (a .k) (monic-pos (a .k) (a .low) low) (monic-degree (a .k) (a .low) low) (a .reduce .now) 1 (one-row (a .k) (a .low) low (a .reduce .now) (p .3)) 1 (a .f) (a .b)
     (omega arith) (p .2) (omega arith) (a .k - 8) (omega arith)
 
 pub append-spec : {M : Type 1} → statement M

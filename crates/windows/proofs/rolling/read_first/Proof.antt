@@ -1,33 +1,29 @@
 -- `windows::rolling::read_first` meets its contract. The loop's invariant: i bytes of each were read.
-use mathlib.Core.Path.{_≡_, refl, sym, ap, _∙_}
-use Prim.Native.Nat.{ℕ, _+_, _-_, _*_, _^_, _≤_, _<_}
+use mathlib.Core.Path.{_≡_, sym, _∙_}
+use Prim.Native.Nat.{_-_, _*_, _^_, _≤_}
 use native.Mathlib.Nat.{zero-add}
 use native.Mathlib.Omega.{arith}
-use lib.ListN.{length, getD}
+use lib.ListN.{length}
 use Rattle.gf2.specs.Polynomials.{monic, rem}
 use Rattle.gf2.proofs.Monics.{monic-pos}
 use Rattle.gf2.proofs.Steps.{residue-lt, residue-one}
 use Rattle.windows.specs.Rolling.{window}
-use Rattle.windows.specs.Rolling.{residue, keyOf}
+use Rattle.windows.specs.Rolling.{residue}
 use Rattle.windows.proofs.Windows.{window-none, window-whole}
 use Rattle.windows.proofs.Residues.{residue-none, read-on, residue-below, shift-next}
 use Rattle.windows.proofs.rolling.read_first.Statement.{statement}
 use Rattle.windows.proofs.rolling.read_first.Tie as tie
-use Rattle.windows.proofs.rolling.read_first.Reads as reads
-use Rattle.windows.proofs.rolling.read_first.Lts as lts
-use Rattle.windows.proofs.rolling.append.Reads as append-reads
 
 abbrev Inv-loop : tie.InvT-loop
-Inv-loop k low red text pattern first₀ wanted₀ shift₀ i₀ first wanted shift i =
+Inv-loop k low reduce text pattern first₀ wanted₀ shift₀ i₀ first wanted shift i =
     (i ≤ length pattern)
     × (first ≡ residue (monic k low) (window i text 0))
     × (wanted ≡ residue (monic k low) (window i pattern 0))
     × (shift ≡ rem (monic k low) (2 ^ (8 * i)))
 
 abbrev μ-loop : tie.MeasureT-loop
-μ-loop k low red text pattern first₀ wanted₀ shift₀ i₀ first wanted shift i = length pattern - i
+μ-loop k low reduce text pattern first₀ wanted₀ shift₀ i₀ first wanted shift i = length pattern - i
 
--- src/rolling.rt:74:5
 loop-holds : tie.Need-loop-holds Inv-loop μ-loop
 loop-holds c =
     let s = c .before .before in
@@ -39,11 +35,9 @@ loop-holds c =
       sym (residue-one (a .k) (a .low) (s .pre .0)),
     )
 
--- src/rolling.rt:75:44
 shared-slice-read-append : tie.Need-shared-slice-read-append Inv-loop μ-loop
 shared-slice-read-append c = omega arith
 
--- src/rolling.rt:75:9
 append-requires : tie.Need-append-requires Inv-loop μ-loop
 append-requires c κs =
     let s = c .before .before .before .before .before in
@@ -51,11 +45,9 @@ append-requires c κs =
     let l = c .before .before .loop in
     (s .pre .0, s .pre .1, rw (l .inv .1) (residue-below (a .k) (a .low) (s .pre .0 .2) (window (l .i) (a .text .now) 0)), s .pre .2)
 
--- src/rolling.rt:76:46
 shared-slice-read-append-2 : tie.Need-shared-slice-read-append-2 Inv-loop μ-loop
 shared-slice-read-append-2 c = omega arith
 
--- src/rolling.rt:76:9
 append-requires-2 : tie.Need-append-requires-2 Inv-loop μ-loop
 append-requires-2 c κs =
     let s = c .before .before .before .before .before .before .before in
@@ -63,7 +55,6 @@ append-requires-2 c κs =
     let l = c .before .before .before .before .loop in
     (s .pre .0, s .pre .1, rw (l .inv .2) (residue-below (a .k) (a .low) (s .pre .0 .2) (window (l .i) (a .pattern .now) 0)), s .pre .2)
 
--- src/rolling.rt:77:9
 append-requires-3 : tie.Need-append-requires-3 Inv-loop μ-loop
 append-requires-3 c κs =
     let s = c .before .before .before .before .before .before .before .before in
@@ -71,15 +62,12 @@ append-requires-3 c κs =
     let l = c .before .before .before .before .before .loop in
     (s .pre .0, s .pre .1, rw (l .inv .3) (residue-lt (a .k) (a .low) (s .pre .0 .2) (2 ^ (8 * l .i))), s .pre .2)
 
--- src/rolling.rt:78:9
 add-i : tie.Need-add-i Inv-loop μ-loop
 add-i c = omega arith
 
--- src/rolling.rt:74:5
 loop-less : tie.Need-loop-less Inv-loop μ-loop
 loop-less c = omega arith
 
--- src/rolling.rt:74:5
 loop-again : tie.Need-loop-again Inv-loop μ-loop
 loop-again c =
     let s = c .before .before .before .before .before .before .before .before .before in

@@ -1,6 +1,6 @@
 -- `windows::rolling::roll` meets its contract: `rolled`.
-use mathlib.Core.Path.{_≡_, refl, ap, _∙_}
-use Prim.Native.Nat.{ℕ, _+_, _^_, _<_}
+use mathlib.Core.Path.{refl, ap}
+use Prim.Native.Nat.{ℕ, _+_}
 use native.Mathlib.Omega.{arith}
 use borrow.Author.Needs.{needs}
 use lib.ListN.{getD}
@@ -22,7 +22,7 @@ append-requires c κs =
     let s = c .before .before .before in
     let a = s .args in
     let r = s .pre .0 in
-    (r .modulus, r .wide, rw (s .pre .2) (residue-below (a .s .k) (a .s .low) (r .modulus .2) (window (a .s .m) (a .text .now) (a .i))), r .red)
+    (r .modulus, r .wide, rw (s .pre .2) (residue-below (a .s .k) (a .s .low) (r .modulus .2) (window (a .s .m) (a .text .now) (a .i))), r .reduce)
 
 shared-slice-read-first : tie.Need-shared-slice-read-first
 shared-slice-read-first c = search needs
@@ -43,9 +43,9 @@ returns c =
     let a = s .args in
     let r = s .pre .0 in
     let byte = c .before .shared-slice-known3 .given in
-    rolled (monic-pos (a .s .k) (a .s .low) (r .modulus .2)) (a .s .m) (a .text .now) (a .out .now) (a .i) (a .i + a .s .m) (a .g) _
-    refl (s .pre .1) (omega (arith, byte (a .i))) (omega (arith, byte (a .i + a .s .m))) (r .out) (s .pre .2)
-    (ap (λ (x : ℕ). x ⊕ getD (a .out .now) (getD (a .text .now) (a .i) 0) 0) (c .before .before .append .ensures))
+    rolled (monic-pos (a .s .k) (a .s .low) (r .modulus .2)) (a .s .m) (a .text .now) (a .outgoing .now) (a .i) (a .i + a .s .m) (a .g) _
+    refl (s .pre .1) (omega (arith, byte (a .i))) (omega (arith, byte (a .i + a .s .m))) (r .outgoing) (s .pre .2)
+    (ap (λ (x : ℕ). x ⊕ getD (a .outgoing .now) (getD (a .text .now) (a .i) 0) 0) (c .before .before .append .ensures))
 
 pub roll-spec : {M : Type 1} → statement M
 roll-spec =

@@ -1,23 +1,17 @@
--- `windows::flags::by_lanes` meets its contract. The loop's invariant: j windows of each run have their flags, and the four residues are those of the next ones.
-use mathlib.Core.Path.{_≡_, refl, sym, ap, _∙_}
-use mathlib.Core.Logic.{⊎-elim}
+-- `windows::flags::four_runs` meets its contract. The loop's invariant: j windows of each run have their flags, and the four residues are those of the next ones.
+use mathlib.Core.Path.{_≡_, _∙_}
 use mathlib.Core.Bool.{false}
-use Prim.Native.Nat.{ℕ, _+_, _-_, _≤_, _<_}
+use Prim.Native.Nat.{_+_, _-_, _≤_}
 use native.Mathlib.Omega.{arith}
-use lib.ListN.{length}
 use Rattle.windows.specs.Rolling.{window}
-use Rattle.windows.specs.Rolling.{residue, keyOf, Filled, hit, Marked}
+use Rattle.windows.specs.Rolling.{residue, keyOf, hit}
 use Rattle.windows.proofs.Residues.{same-place, hit-is}
-use Rattle.windows.proofs.Filling.{Runs, runs-begin, runs-more, runs-end, filled-none, filled-more}
-use Rattle.windows.proofs.flags.by_lanes.Statement.{statement}
-use Rattle.windows.proofs.flags.by_lanes.Tie as tie
-use Rattle.windows.proofs.flags.by_lanes.Reads as reads
-use Rattle.windows.proofs.flags.by_lanes.Lts as lts
-use Rattle.windows.proofs.flags.three_windows.Reads as three-windows-reads
-use Rattle.windows.proofs.rolling.roll.Reads as roll-reads
+use Rattle.windows.proofs.Filling.{Runs, runs-begin, runs-more, runs-end}
+use Rattle.windows.proofs.flags.four_runs.Statement.{statement}
+use Rattle.windows.proofs.flags.four_runs.Tie as tie
 
 abbrev Inv-loop : tie.InvT-loop
-Inv-loop s red out text from g flags₀ a₀ b₀ c₀ d₀ j₀ flags a b c d j =
+Inv-loop s reduce outgoing text from g flags₀ a₀ b₀ c₀ d₀ j₀ flags a b c d j =
     (j ≤ 256)
     × (a ≡ residue (keyOf s) (window (s .m) text (from + j)))
     × (b ≡ residue (keyOf s) (window (s .m) text (from + (j + 256))))
@@ -26,13 +20,11 @@ Inv-loop s red out text from g flags₀ a₀ b₀ c₀ d₀ j₀ flags a b c d j
     × Runs false (hit s text from) j flags
 
 abbrev μ-loop : tie.MeasureT-loop
-μ-loop s red out text from g flags₀ a₀ b₀ c₀ d₀ j₀ flags a b c d j = 256 - j
+μ-loop s reduce outgoing text from g flags₀ a₀ b₀ c₀ d₀ j₀ flags a b c d j = 256 - j
 
--- src/flags.rt:52:9
 three-windows-requires : tie.Need-three-windows-requires Inv-loop μ-loop
 three-windows-requires c κs = (c .before .pre .0, omega arith)
 
--- src/flags.rt:58:5
 loop-holds : tie.Need-loop-holds Inv-loop μ-loop
 loop-holds c =
     let s = c .before .before in
@@ -46,39 +38,30 @@ loop-holds c =
       runs-begin false (hit (a .s) (a .text .now) (a .from)) (a .flags .now) (s .pre .1),
     )
 
--- src/flags.rt:59:9
 element-write-flags : tie.Need-element-write-flags Inv-loop μ-loop
 element-write-flags c = omega arith
 
--- src/flags.rt:60:15
 add-flags : tie.Need-add-flags Inv-loop μ-loop
 add-flags c = omega arith
 
--- src/flags.rt:60:9
 element-write-flags-2 : tie.Need-element-write-flags-2 Inv-loop μ-loop
 element-write-flags-2 c = omega arith
 
--- src/flags.rt:61:15
 add-flags-2 : tie.Need-add-flags-2 Inv-loop μ-loop
 add-flags-2 c = omega arith
 
--- src/flags.rt:61:9
 element-write-flags-3 : tie.Need-element-write-flags-3 Inv-loop μ-loop
 element-write-flags-3 c = omega arith
 
--- src/flags.rt:62:15
 add-flags-3 : tie.Need-add-flags-3 Inv-loop μ-loop
 add-flags-3 c = omega arith
 
--- src/flags.rt:62:9
 element-write-flags-4 : tie.Need-element-write-flags-4 Inv-loop μ-loop
 element-write-flags-4 c = omega arith
 
--- src/flags.rt:63:17
 add-i : tie.Need-add-i Inv-loop μ-loop
 add-i c = omega arith
 
--- src/flags.rt:64:9
 roll-requires : tie.Need-roll-requires Inv-loop μ-loop
 roll-requires c κs =
     let s = c .before .before .before .before .before .before .before .before in
@@ -86,13 +69,11 @@ roll-requires c κs =
     let l = c .before .before .before .before .before .loop in
     (s .pre .0, omega (arith, s .pre .2, l .inv .0), l .inv .1)
 
--- src/flags.rt:65:46
 add-roll : tie.Need-add-roll Inv-loop μ-loop
 add-roll c =
     let s = c .before .before .before .before .before .before .before .before .before in
     omega (arith, s .pre .2, s .good .1 .1 .1 .0 .0)
 
--- src/flags.rt:65:9
 roll-requires-2 : tie.Need-roll-requires-2 Inv-loop μ-loop
 roll-requires-2 c κs =
     let s = c .before .before .before .before .before .before .before .before .before in
@@ -100,13 +81,11 @@ roll-requires-2 c κs =
     let l = c .before .before .before .before .before .before .loop in
     (s .pre .0, omega (arith, s .pre .2, l .inv .0), l .inv .2 ∙ same-place (keyOf (a .s)) (a .s .m) (a .text .now) (a .from + (l .j + 256)) (a .from + l .j + 256) (omega arith))
 
--- src/flags.rt:66:46
 add-roll-2 : tie.Need-add-roll-2 Inv-loop μ-loop
 add-roll-2 c =
     let s = c .before .before .before .before .before .before .before .before .before .before in
     omega (arith, s .pre .2, s .good .1 .1 .1 .0 .0)
 
--- src/flags.rt:66:9
 roll-requires-3 : tie.Need-roll-requires-3 Inv-loop μ-loop
 roll-requires-3 c κs =
     let s = c .before .before .before .before .before .before .before .before .before .before in
@@ -114,13 +93,11 @@ roll-requires-3 c κs =
     let l = c .before .before .before .before .before .before .before .loop in
     (s .pre .0, omega (arith, s .pre .2, l .inv .0), l .inv .3 ∙ same-place (keyOf (a .s)) (a .s .m) (a .text .now) (a .from + (l .j + 512)) (a .from + l .j + 512) (omega arith))
 
--- src/flags.rt:67:46
 add-roll-3 : tie.Need-add-roll-3 Inv-loop μ-loop
 add-roll-3 c =
     let s = c .before .before .before .before .before .before .before .before .before .before .before in
     omega (arith, s .pre .2, s .good .1 .1 .1 .0 .0)
 
--- src/flags.rt:67:9
 roll-requires-4 : tie.Need-roll-requires-4 Inv-loop μ-loop
 roll-requires-4 c κs =
     let s = c .before .before .before .before .before .before .before .before .before .before .before in
@@ -128,15 +105,12 @@ roll-requires-4 c κs =
     let l = c .before .before .before .before .before .before .before .before .loop in
     (s .pre .0, omega (arith, s .pre .2, c .before .before .before .before .before .before .before .loop-test .taken), l .inv .4 ∙ same-place (keyOf (a .s)) (a .s .m) (a .text .now) (a .from + (l .j + 768)) (a .from + l .j + 768) (omega arith))
 
--- src/flags.rt:68:9
 add-j : tie.Need-add-j Inv-loop μ-loop
 add-j c = omega arith
 
--- src/flags.rt:58:5
 loop-less : tie.Need-loop-less Inv-loop μ-loop
 loop-less c = omega arith
 
--- src/flags.rt:58:5
 loop-again : tie.Need-loop-again Inv-loop μ-loop
 loop-again c =
     let s = c .before .before .before .before .before .before .before .before .before .before .before .before in
@@ -157,7 +131,6 @@ loop-again c =
           (flag (l .j + 768) (l .d) (l .inv .4)),
     )
 
--- src/flags.rt:48:1
 returns : tie.Need-returns Inv-loop μ-loop
 returns c =
     let a = c .before .before .before .before .args in
@@ -169,8 +142,8 @@ returns c =
       l .inv .5 .0,
     )
 
-pub by-lanes-spec : {M : Type 1} → statement M
-by-lanes-spec =
+pub four-runs-spec : {M : Type 1} → statement M
+four-runs-spec =
     tie.close
     (tie.spec
     Inv-loop
