@@ -3,7 +3,8 @@ use mathlib.Core.Path.{_≡_, refl, sym, ap, ap₂, _∙_}
 use mathlib.Core.Bool.{Bool, true, false, not}
 use mathlib.Core.List.{List, [], _∷_}
 use Prim.Native.Nat.{ℕ, zero, suc, _+_, _-_, _*_, _^_, _≤_, _<_, suc-le-suc}
-use native.Mathlib.Nat.{le-refl, add-zero, zero-add, add-suc, suc-add, not-suc-le-zero, le-of-suc-le-suc, pow-suc}
+use native.Mathlib.Nat.{le-refl, le-trans, le-suc, zero-mul, mul-le-mul-right, add-zero, zero-add, add-suc, suc-add, not-suc-le-zero, le-of-suc-le-suc, pow-suc}
+use native.Mathlib.Numerals.{add-one, add-one-le}
 use native.Mathlib.Decide.{decLt}
 use native.Mathlib.Omega.{arith}
 use lib.Arith.{digits-div, digits-mod}
@@ -135,6 +136,17 @@ table-length rule c words e = ap length e ∙ length-table rule 0 c
 pub table-rule : (rule : ℕ → ℕ) (c : ℕ) (words : List ℕ) → words ≡ tableFrom rule 0 c → Follows rule (length words) words
 table-rule rule c words e = follows rule words (rw e (table-follows rule 0 c))
 
+-- ---- the table and its rows, for every width and number of groups
+
+module _ (w : ℕ) {key : ℕ} (pos : 0 < key) (words : List ℕ) where
+  pub follows-rows : (c : ℕ) → Follows (word w key) (c * 2 ^ w) words → Rows w key c words
+  follows-rows c f j l = follows-row w (degree key) pos refl words j (c * 2 ^ w) (mul-le-mul-right (2 ^ w) (add-one-le l)) f
+
+  pub rows-follow : (c : ℕ) → Rows w key c words → Follows (word w key) (c * 2 ^ w) words
+  rows-follow zero r = λ n l. absurd (not-suc-le-zero (rw zero-mul at l))
+  rows-follow (suc c) r =
+      rw (← (add-one c)) (row-follows w (degree key) pos refl words c (rows-follow c (λ j l. r j (le-trans l (le-suc c)))) (r c (le-refl (suc c))))
+
 pub table-rows : {key : ℕ} (pos : 0 < key) (words : List ℕ) → Table key words → Rows 8 key 4 words
-table-rows {key} pos words e j l =
-    follows-row 8 (degree key) pos refl words j (length words) (rw (table-length (word 8 key) 1024 words e) (omega arith)) (table-rule (word 8 key) 1024 words e)
+table-rows {key} pos words e =
+    follows-rows 8 pos words 4 (λ n l. table-rule (word 8 key) 1024 words e n (rw (table-length (word 8 key) 1024 words e) l))

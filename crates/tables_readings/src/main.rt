@@ -80,20 +80,30 @@ fn feed(key: u64, fingerprint: u64, length: u64, words: &[u64], part: &[u8]) {
     show_fed(tables::feed(running(key, fingerprint, length), words, part));
 }
 
-// The words of document 01's readings, and what is answered of the table of 0x11B.
-fn with_the_table(words: &[u64]) {
+// The words of document 01's readings.
+fn some_words(words: &[u64]) {
     if words.len() == 1024 {
         show_word(1, words[1]);
         show_word(2, words[2]);
         show_word(128, words[128]);
         show_word(257, words[257]);
     }
+}
+
+// What is answered of the table of 0x11B.
+fn some_tests(words: &[u64]) {
     test(0x11B, words);
     test(0x11D, words);
     test(0x101, words);
+}
+
+fn some_feeds(words: &[u64]) {
     feed(0x11B, 1, 0, words, b"AB");
     feed(0x11B, 1, 0, words, b"");
     feed(0x11B, 0x5A, 4294967295, words, b"");
+}
+
+fn some_refusals(words: &[u64]) {
     feed(0x11B, 0x5A, 4294967295, words, b"A");
     feed(0x11B, 0x100, 0, words, b"A");
     feed(0x11D, 1, 0, words, b"");
@@ -121,7 +131,10 @@ fn some_tables() {
     let mut words: [u64; 1024] = [0; 1024];
     make(0x11B, &mut words);
     make(0xFF, &mut words);
-    with_the_table(&words);
+    some_words(&words);
+    some_tests(&words);
+    some_feeds(&words);
+    some_refusals(&words);
     with_a_wrong_word(&mut words);
 }
 
