@@ -15,7 +15,7 @@ use Rattle.gf2.proofs.Products.{one-⊗, ⊗-pow}
 use Rattle.gf2.proofs.Residues.{rem-zero, rem-small, rem-⊕}
 use Rattle.gf2.proofs.Powers.{rem-rem, rem-⊗-right}
 use Rattle.multiples.specs.Rows.{Multiples, SameBefore}
-use Rattle.tables.specs.Groups.{looked}
+use Rattle.lookups.specs.Groups.{looked}
 use Rattle.shifts.specs.Shifts.{Shifts}
 
 -- times the residue of a power of t

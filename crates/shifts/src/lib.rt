@@ -4,7 +4,7 @@ ghost use mathlib.Core.Path.{_≡_};
 ghost use Prim.Native.Nat.{_*_, _≤_, _<_};
 ghost use lib.ListN.{length, getD};
 ghost use Rattle.gf2.specs.Polynomials.{_⊕_, monic, Modulus};
-ghost use Rattle.tables.specs.Groups.{looked};
+ghost use Rattle.lookups.specs.Groups.{looked};
 ghost use Rattle.shifts.specs.Shifts.{Shifts};
 
 // The table for t^(8n), the shift by n bytes.

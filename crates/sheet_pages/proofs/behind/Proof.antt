@@ -7,7 +7,7 @@ use lib.Pow.{pow-mono}
 use Rattle.gf2.specs.Polynomials.{_⊕_, rem, monic}
 use Rattle.gf2.proofs.Monics.{monic-pos}
 use Rattle.files.specs.Files.{bits, valueFrom, fingerprint}
-use Rattle.tables.specs.Groups.{looked}
+use Rattle.lookups.specs.Groups.{looked}
 use Rattle.sheets.specs.Sheets.{filled}
 use Rattle.sheets.proofs.Pages.{filled-whole, fingerprint-lt, page-behind}
 use Rattle.shifts.proofs.Products.{joined-by-table}

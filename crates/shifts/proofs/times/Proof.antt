@@ -4,7 +4,7 @@ use native.Mathlib.Omega.{arith}
 use lib.ListN.{length, getD}
 use Rattle.gf2.specs.Polynomials.{_⊕_}
 use Rattle.gf2.proofs.Sums.{zero-⊕}
-use Rattle.tables.specs.Groups.{looked}
+use Rattle.lookups.specs.Groups.{looked}
 use Rattle.shifts.proofs.Products.{look-next, look-done}
 use Rattle.shifts.proofs.times.Statement.{statement}
 use Rattle.shifts.proofs.times.Tie as tie

@@ -13,7 +13,7 @@ use Rattle.files.specs.declared.Mark.{Mark}
 use Rattle.files.specs.Files.{markOf}
 use Rattle.sheets.specs.Layout.{numberAt, numbersAt}
 use Rattle.sheets.specs.Sheets.{someUnreduced, joinedPages}
-use Rattle.tables.specs.Groups.{looked}
+use Rattle.lookups.specs.Groups.{looked}
 use Rattle.shifts.proofs.Products.{joined-by-table}
 use Rattle.sheets.proofs.Numbers.{numbers-next, numbers-done}
 use Rattle.sheet_reading.proofs.Joining.{reduced-first, joined-next, joined-done, empty-mark}
