@@ -6,3 +6,4 @@ pub mod Sound
 pub mod Changes
 pub mod Guarantee
 pub mod Steps
+pub mod Damages
