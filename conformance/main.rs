@@ -9,6 +9,7 @@ mod keys;
 mod marks;
 mod reference;
 mod search;
+mod sheets;
 
 /// Counts what was compared, and reports the first differences.
 pub struct Tally {
@@ -32,11 +33,12 @@ impl Tally {
 fn main() {
     let rounds = std::env::args().nth(1).map_or(1, |n| n.parse().expect("a number of rounds"));
     let mut tally = Tally { passed: 0, failed: 0 };
-    let suites: [(&str, fn(&mut Tally, u64)); 5] = [
+    let suites: [(&str, fn(&mut Tally, u64)); 6] = [
         ("keys", keys::run),
         ("marks and tables", marks::run),
         ("joining, page change, lists of calls", compose::run),
         ("search", search::run),
+        ("page sheets", sheets::run),
         ("drawing", draw::run),
     ];
     for (name, suite) in suites {
