@@ -102,15 +102,18 @@ fn irreducible(key: u64) -> bool
     independent_differences(&mut squares[..n], k as usize - n)
 }
 
-// Is the key accepted, and if not, by which number is it refused?
+// Is the key accepted, and if not, by which number is it refused? The stock key of its degree is known to be.
 pub fn test(key: u64) -> Tested
     ensures { λ r. ⌜ tested r ≡ testKey key ⌝ }
 {
     if key < 256 {
         return Tested::Refused(Refusal::KeyBelow256);
     }
-    if irreducible(key) {
+    if key == stock::stock_key(gf2::degree(key)) {
         return Tested::Accepted;
     }
-    Tested::Refused(Refusal::KeyReducible)
+    if !irreducible(key) {
+        return Tested::Refused(Refusal::KeyReducible);
+    }
+    Tested::Accepted
 }
