@@ -3,16 +3,16 @@
 use mathlib.Core.Path.{_≡_, refl, sym, ap, ap₂, _∙_}
 use mathlib.Core.Logic.{_↔_, _⊎_, inl, inr}
 use mathlib.Core.List.{List, [], _∷_, _++_, map}
-use Prim.Native.Nat.{ℕ, zero, suc, _+_, _-_, _*_, _/_, _%_, _^_, _≤_, _<_}
+use Prim.Native.Nat.{ℕ, zero, suc, _+_, _-_, _*_, _/_, _%_, _^_, _<_}
 use native.Mathlib.Numerals.{add-one, one-add}
-use native.Mathlib.Nat.{add-zero, add-comm, zero-mod, mod-one, zero-mul, one-mul, mul-zero, zero-div, pow-suc, mod-lt, mod-eq-of-lt, eq-zero-or-pos, not-suc-le-zero, le-suc, div-lt-iff-lt-mul, div-one, div-div-eq-div-mul, pow-succ'}
+use native.Mathlib.Nat.{add-zero, add-comm, zero-mod, mod-one, zero-mul, one-mul, mul-zero, zero-div, pow-suc, mod-lt, mod-eq-of-lt, le-suc, div-lt-iff-lt-mul, div-one, div-div-eq-div-mul, pow-succ'}
 use native.Mathlib.Omega.{arith}
 use lib.ListN.{length, length-map, length-append}
 use lib.Pow.{pow-pos, pow-lt, pow-add, split, high, low, shr-lt, recompose, mod-pow-add}
 use lib.Bits.{bitAnd, and-mask, and-high, and-zero-r, block-half, block-odd}
 use lib.Count.{trailingZeros, under}
 use Rattle.gf2.specs.Polynomials.{_⊕_, _⊗_}
-use Rattle.gf2.proofs.Sums.{⊕-zero, zero-⊕, ⊕-left-comm, ⊕-self, ⊕-shr, ⊕-low, ⊕-eq, ⊕-move, ⊕-swap, ⊕-half, ⊕-dbl, xor}
+use Rattle.gf2.proofs.Sums.{⊕-zero, ⊕-left-comm, ⊕-self, ⊕-shr, ⊕-eq, ⊕-move, ⊕-swap, ⊕-half, ⊕-dbl, xor}
 use Rattle.gf2.proofs.Products.{by-bit, bit-cases, mod-2, ⊗-step, ⊕-⊗}
 use Rattle.gf2.proofs.Degrees.{half-pow}
 use Rattle.gf2.proofs.Steps.{shifted-one}

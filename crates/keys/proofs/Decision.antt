@@ -1,21 +1,21 @@
 -- A polynomial is irreducible where its two lists of rows are independent, and only there.
 use mathlib.Core.Path.{_≡_, refl, sym, ap, ap₂, _∙_}
-use mathlib.Core.Logic.{_↔_, _⊎_, inl, inr}
+use mathlib.Core.Logic.{_⊎_, inl, inr}
 use mathlib.Core.Bool.{Bool, true, false, not, true≢false, false≢true}
-use mathlib.Core.List.{List, [], _∷_}
+use mathlib.Core.List.{List}
 use Prim.Native.Nat.{ℕ, zero, suc, _+_, _-_, _*_, _/_, _%_, _^_, _≤_, _<_}
-use native.Mathlib.Nat.{le-suc, zero-mul, one-mul, pow-suc, div-lt-iff-lt-mul, mod-lt, lt-of-lt-of-le, eq-zero-or-pos, div-eq-of-lt, mul-comm}
+use native.Mathlib.Nat.{le-suc, zero-mul, one-mul, pow-suc, div-lt-iff-lt-mul, mod-lt, lt-of-lt-of-le, eq-zero-or-pos, div-eq-of-lt}
 use native.Mathlib.Decide.{decLt}
 use native.Mathlib.Omega.{arith}
 use lib.Arith.{lt-one}
 use lib.ListN.{length, getD}
-use lib.Pow.{pow-pos, pow-mono, pow-add, split, high, shl-lt, shr-lt, add-lt-pow}
+use lib.Pow.{pow-pos, pow-mono, pow-add, split, high, shl-lt, shr-lt}
 use Rattle.gf2.specs.Polynomials.{_⊕_, _⊗_, degree, rem}
-use Rattle.gf2.proofs.Sums.{⊕-zero, ⊕-self, ⊕-eq, ⊕-swap, ⊕-lt, ⊕-append, xor}
-use Rattle.gf2.proofs.Products.{zero-⊗, ⊗-zero, one-⊗, ⊗-one, ⊗-comm, ⊗-pow, ⊗-shl, bit-⊕, by-bit, by-low, ring}
+use Rattle.gf2.proofs.Sums.{⊕-zero, ⊕-self, ⊕-eq, ⊕-swap, ⊕-lt, ⊕-append}
+use Rattle.gf2.proofs.Products.{zero-⊗, ⊗-zero, one-⊗, ⊗-one, ⊗-comm, ⊗-pow, bit-⊕, by-bit, by-low, ring}
 use Rattle.gf2.proofs.Degrees.{degree-is, degree-⊗, deg-hi, deg-le, lt-of-high, pos-⊗, ⊗-no-zero}
 use Rattle.gf2.proofs.Residues.{rem-zero, rem-⊕, rem-small, rem-lt}
-use Rattle.acceptance.proofs.Criterion.{Rigid, rigid-irreducible, irreducible-rigid}
+use Rattle.acceptance.proofs.Criterion.{rigid-irreducible, irreducible-rigid}
 use Rattle.acceptance.specs.Keys.{reducible}
 use Rattle.acceptance.proofs.Laws.{irreducible-of, not-reducible}
 use Rattle.basis.specs.Rows.{sumOf, Independent}

@@ -1,16 +1,15 @@
 -- The odd part of a word is 0 where the word is a square; the word folded is 0 where it is l² ⊕ l for some l.
 use mathlib.Core.Path.{_≡_, refl, sym, ap, ap₂, _∙_}
-use mathlib.Core.Logic.{_⊎_, inl, inr}
 use Prim.Native.Nat.{ℕ, zero, suc, _+_, _-_, _*_, _/_, _%_, _^_, _≤_, _<_}
-use native.Mathlib.Nat.{mul-comm, zero-mul, zero-div, pow-suc, mod-lt, lt-of-lt-of-le}
+use native.Mathlib.Nat.{mul-comm, pow-suc, lt-of-lt-of-le}
 use native.Mathlib.Omega.{arith}
 use lib.Arith.{lt-one}
 use lib.Bits.{bitAnd}
 use lib.Dec.{lit≤}
-use lib.Pow.{pow-pos, pow-mono, shr-lt, shr-shr}
+use lib.Pow.{pow-pos, pow-mono, shr-lt}
 use Rattle.gf2.specs.Polynomials.{_⊕_, _⊗_, longProduct}
-use Rattle.gf2.proofs.Sums.{⊕-zero, zero-⊕, ⊕-assoc, ⊕-self, ⊕-shr, ⊕-low, ⊕-lt, ⊕-move, ⊕-eq, ⊕-half, bits-eq, xor}
-use Rattle.gf2.proofs.Products.{bit-cases, mod-2, ring}
+use Rattle.gf2.proofs.Sums.{⊕-zero, ⊕-assoc, ⊕-self, ⊕-shr, ⊕-low, ⊕-lt, ⊕-eq, ⊕-half, bits-eq, xor}
+use Rattle.gf2.proofs.Products.{mod-2, ring}
 use Rattle.keys.specs.Squares.{evenRoot, oddPart, folded}
 use Rattle.keys.proofs.Linear.{Additive, at-zero, same, none, after, both, shifted, masked, squared, equal}
 

@@ -3,8 +3,8 @@
 use mathlib.Core.Path.{_≡_, refl, sym, ap, ap₂, _∙_}
 use mathlib.Core.Bool.{Bool, true, _&&_}
 use mathlib.Core.Logic.{_⊎_, inl, inr}
-use Prim.Native.Nat.{ℕ, zero, suc, _+_, _*_, _/_, _%_, _^_, _≤_, _<_}
-use native.Mathlib.Nat.{zero-mul, one-mul, pow-suc, mod-lt, mod-mod}
+use Prim.Native.Nat.{ℕ, zero, suc, _*_, _/_, _%_, _^_, _<_}
+use native.Mathlib.Nat.{zero-mul, one-mul, mod-lt, mod-mod}
 use native.Mathlib.Numerals.{one-add}
 use native.Mathlib.Omega.{arith}
 use lib.Arith.{bin-ind, lt-one}
@@ -12,8 +12,8 @@ use lib.Bits.{bitAnd, and-shr, and-mod, and-mask, and-zero-r}
 use lib.Dec.{T, eqb, eqb→eq}
 use lib.Pow.{pow-pos, split, shr-lt}
 use Rattle.gf2.specs.Polynomials.{_⊕_, _⊗_}
-use Rattle.gf2.proofs.Sums.{⊕-shr, ⊕-half, ⊕-low, ⊕-self, ⊕-swap, ⊕-append, ⊕-move, bits-eq, xor}
-use Rattle.gf2.proofs.Products.{by-bit, bit-cases, mod-2, ring}
+use Rattle.gf2.proofs.Sums.{⊕-shr, ⊕-half, ⊕-low, ⊕-self, ⊕-swap, ⊕-append, bits-eq}
+use Rattle.gf2.proofs.Products.{bit-cases, mod-2, ring}
 use Rattle.gf2.proofs.Lists.{and-left, and-right}
 
 pub record Additive (f : ℕ → ℕ) : Type 0 where

@@ -1,15 +1,12 @@
-use mathlib.Core.Path.{_≡_, refl, sym, ap, _∙_}
-use mathlib.Core.Logic.{_↔_}
+use mathlib.Core.Path.{_≡_, refl, sym, ap, ap₂, _∙_}
 use mathlib.Core.List.{List, _++_}
-use Prim.Native.Nat.{ℕ, _+_, _-_, _*_, _^_, _≤_, _<_}
+use Prim.Native.Nat.{ℕ, _+_, _-_, _^_, _≤_}
 use borrow.Author.Needs.{needs}
 use native.Mathlib.Nat.{zero-add}
 use native.Mathlib.Omega.{arith}
 use lib.ListN.{length, drop, getD}
-use lib.Bits.{bitXor}
 use Rattle.gf2.specs.Polynomials.{_⊕_}
 use Rattle.gf2.proofs.Steps.{shifted-one}
-use Rattle.basis.specs.Rows.{Independent}
 use Rattle.keys.specs.Squares.{listFrom, folded}
 use Rattle.keys.proofs.Filling.{length-filled, filled-at, fill, fill-whole}
 use Rattle.keys.proofs.independent_differences.Statement.{statement}
@@ -73,7 +70,7 @@ loop-again c =
     let l = c .before .before .before .loop in
     let f : ℕ → ℕ = value (a .h) (a .rows .now) in
     let row : getD (l .rows) (l .i) 0 ≡ getD (a .rows .now) (l .i) 0 = ap (λ (x : List ℕ). getD x (l .i) 0) (l .inv .1) ∙ filled-at f 0 (l .i) (a .rows .now) (omega arith) in
-    let e : c .fold .result ≡ f (l .i) = c .fold .ensures ∙ rw (row, shifted-one (a .h + l .i) (omega arith)) in
+    let e : c .fold .result ≡ f (l .i) = c .fold .ensures ∙ ap₂ (λ (x y : ℕ). folded 6 (x ⊕ y)) row (shifted-one (a .h + l .i) (omega arith)) in
     (omega arith, rw (l .inv .1) (fill f 0 (l .i) (a .rows .now) (c .fold .result) (omega arith) (e ∙ ap f (sym (zero-add (l .i))))))
 
 independent-requires : tie.Need-independent-requires Inv-loop μ-loop

@@ -1,14 +1,11 @@
 use mathlib.Core.Path.{_≡_, refl, sym, ap, _∙_}
-use mathlib.Core.Logic.{_↔_}
 use mathlib.Core.List.{List, _++_}
-use Prim.Native.Nat.{ℕ, _+_, _-_, _*_, _^_, _≤_, _<_}
+use Prim.Native.Nat.{ℕ, _+_, _-_, _≤_}
 use borrow.Author.Needs.{needs}
 use native.Mathlib.Nat.{zero-add}
 use native.Mathlib.Omega.{arith}
 use lib.ListN.{length, drop, getD}
-use Rattle.gf2.specs.Polynomials.{_⊕_}
-use Rattle.basis.specs.Rows.{Independent}
-use Rattle.keys.specs.Squares.{listFrom, oddPart, folded}
+use Rattle.keys.specs.Squares.{listFrom, oddPart}
 use Rattle.keys.proofs.Filling.{length-filled, filled-at, fill, fill-whole}
 use Rattle.keys.proofs.independent_squares.Statement.{statement}
 use Rattle.keys.proofs.independent_squares.Tie as tie
