@@ -2,17 +2,20 @@
 -- column c of each.
 use mathlib.Core.Path.{_≡_, refl, sym, ap, ap₂, _∙_}
 use mathlib.Core.Logic.{_↔_, _⊎_, inl, inr}
-use mathlib.Core.List.{List, [], _∷_, map}
-use Prim.Native.Nat.{ℕ, zero, suc, _+_, _-_, _*_, _/_, _%_, _^_, _≤_, _<_}
-use native.Mathlib.Nat.{zero-mul, one-mul, mul-zero, zero-div, pow-suc, mod-lt, mod-eq-of-lt, eq-zero-or-pos, not-suc-le-zero, le-suc, div-lt-iff-lt-mul, div-one, div-div-eq-div-mul, pow-succ'}
+use mathlib.Core.List.{List, [], _∷_, _++_, map}
+use Prim.Native.Nat.{ℕ, zero, suc, _+_, _-_, _*_, _/_, _%_, _^_, _<_}
+use native.Mathlib.Numerals.{add-one, one-add}
+use native.Mathlib.Nat.{add-zero, add-comm, zero-mod, mod-one, zero-mul, one-mul, mul-zero, zero-div, pow-suc, mod-lt, mod-eq-of-lt, le-suc, div-lt-iff-lt-mul, div-one, div-div-eq-div-mul, pow-succ'}
 use native.Mathlib.Omega.{arith}
-use lib.ListN.{length, length-map}
-use lib.Pow.{pow-pos}
-use lib.Bits.{bitAnd, and-mask, and-zero-r}
+use lib.ListN.{length, length-map, length-append}
+use lib.Pow.{pow-pos, pow-lt, pow-add, split, high, low, shr-lt, recompose, mod-pow-add}
+use lib.Bits.{bitAnd, and-mask, and-high, and-zero-r, block-half, block-odd}
 use lib.Count.{trailingZeros, under}
 use Rattle.gf2.specs.Polynomials.{_⊕_, _⊗_}
-use Rattle.gf2.proofs.Sums.{⊕-zero, zero-⊕, ⊕-self, ⊕-shr, ⊕-low, ⊕-eq, ⊕-move, ⊕-swap, ⊕-half, ⊕-dbl, xor}
+use Rattle.gf2.proofs.Sums.{⊕-zero, ⊕-left-comm, ⊕-self, ⊕-shr, ⊕-eq, ⊕-move, ⊕-swap, ⊕-half, ⊕-dbl, xor}
 use Rattle.gf2.proofs.Products.{by-bit, bit-cases, mod-2, ⊗-step, ⊕-⊗}
+use Rattle.gf2.proofs.Degrees.{half-pow}
+use Rattle.gf2.proofs.Steps.{shifted-one}
 use Rattle.basis.specs.Rows.{sumOf, Independent, clear}
 
 -- ---- the bit in column c, and clearing, are linear
@@ -104,6 +107,74 @@ module _ (c v : ℕ) (rows : List ℕ) (one : v / 2 ^ c % 2 ≡ 1) where
   pub eliminate : Independent (v ∷ rows) ↔ Independent (map (clear c v) rows)
   eliminate = (there, back)
 
+-- ---- the last row may come first
+
+sum-last : (h v : ℕ) (rows : List ℕ) → sumOf h (rows ++ (v ∷ [])) ≡ h / 2 ^ length rows % 2 * v ⊕ sumOf h rows
+unfolding sumOf
+sum-last h v [] = ap (λ (x : ℕ). x % 2 * v ⊕ 0) (sym (div-one h))
+sum-last h v (r ∷ rows) =
+    ap (λ (x : ℕ). h % 2 * r ⊕ x) (sum-last (h / 2) v rows ∙ ap (λ (x : ℕ). x % 2 * v ⊕ sumOf (h / 2) rows) (sym (half-pow h (length rows))))
+    ∙ ⊕-left-comm (h % 2 * r) (h / 2 ^ suc (length rows) % 2 * v) (sumOf (h / 2) rows)
+
+-- the bits past the rows choose none
+sum-past : (a h : ℕ) (rows : List ℕ) → sumOf (a * 2 ^ length rows + h) rows ≡ sumOf h rows
+unfolding sumOf
+sum-past a h [] = refl
+sum-past a h (r ∷ rows) = rw (block-odd a (length rows) h, block-half a (length rows) h) (ap (λ (x : ℕ). h % 2 * r ⊕ x) (sum-past a (h / 2) rows))
+
+module _ (v : ℕ) (rows : List ℕ) where
+  length-last : length (rows ++ (v ∷ [])) ≡ suc (length rows)
+  length-last = length-append rows (v ∷ []) ∙ add-one (length rows)
+
+  -- the choice h of all rows with v last, and the choice b * 2 + a with v first
+  module _ (a b : ℕ) (bit : a < 2) (small : b < 2 ^ length rows) where
+    both : sumOf (a * 2 ^ length rows + b) (rows ++ (v ∷ [])) ≡ sumOf (b * 2 + a) (v ∷ rows)
+    unfolding sumOf
+    both =
+        sum-last (a * 2 ^ length rows + b) v rows
+        ∙ ap₂ (λ (x y : ℕ). x ⊕ y) (ap (λ (x : ℕ). x * v) (ap (λ (x : ℕ). x % 2) (high a (length rows) small) ∙ e₁)) (sum-past a b rows ∙ ap (λ (x : ℕ). sumOf x rows) e₂)
+      where
+        e₁ : a % 2 ≡ (b * 2 + a) % 2
+        e₁ = omega arith
+
+        e₂ : b ≡ (b * 2 + a) / 2
+        e₂ = omega arith
+
+  last-first : Independent (rows ++ (v ∷ [])) → Independent (v ∷ rows)
+  last-first i h l e = omega (arith, ap (λ (x : ℕ). x / 2 ^ length rows) none, high (h % 2) (length rows) half, zero-div (2 ^ length rows), ap (λ (x : ℕ). x % 2 ^ length rows) none, low (h % 2) (length rows) half, zero-mod (2 ^ length rows))
+    where
+      half : h / 2 < 2 ^ length rows
+      half = div-lt-iff-lt-mul (le-suc 1) .1 (rw pow-suc at l)
+
+      whole : h / 2 * 2 + h % 2 ≡ h
+      whole = omega arith
+
+      bound : h % 2 * 2 ^ length rows + h / 2 < 2 ^ length (rows ++ (v ∷ []))
+      bound = rw (length-last, pow-suc) (by-bit (λ (c : ℕ). c * 2 ^ length rows + h / 2 < 2 ^ length rows * 2) (omega (arith, half)) (omega (arith, half)) h)
+
+      none : h % 2 * 2 ^ length rows + h / 2 ≡ 0
+      none = i (h % 2 * 2 ^ length rows + h / 2) bound (both (h % 2) (h / 2) (mod-2 h) half ∙ rw whole e)
+
+  first-last : Independent (v ∷ rows) → Independent (rows ++ (v ∷ []))
+  first-last i h l e = sym (split h (length rows)) ∙ rw (a-is, b-is, zero-mul)
+    where
+      top : h / 2 ^ length rows < 2
+      top = shr-lt 1 (length rows) (rw (one-add, ← length-last) l)
+
+      none : h % 2 ^ length rows * 2 + h / 2 ^ length rows ≡ 0
+      none =
+          i (h % 2 ^ length rows * 2 + h / 2 ^ length rows) (rw pow-suc (omega (arith, top, mod-lt h (pow-pos (length rows)))))
+          (sym (both (h / 2 ^ length rows) (h % 2 ^ length rows) top (mod-lt h (pow-pos (length rows)))) ∙ rw split e)
+
+      a-is : h / 2 ^ length rows ≡ 0
+      a-is = omega (arith, none)
+
+      b-is : h % 2 ^ length rows ≡ 0
+      b-is = omega (arith, none)
+
+  pub rotate : Independent (rows ++ (v ∷ [])) ↔ Independent (v ∷ rows)
+  rotate = (last-first, first-last)
+
 -- ---- the step in code: a mask of ones where column c holds a 1
 
 pub masked : (c v x mask : ℕ) → v < 2 ^ 64 → mask < 2 ^ 64 → (mask + bitAnd (x / 2 ^ c) 1) % 2 ^ 64 ≡ 0 → bitAnd v mask ≡ x / 2 ^ c % 2 * v
@@ -120,17 +191,45 @@ masked c v x mask lv lm e = go (bit-cases (x / 2 ^ c % 2) (mod-2 (x / 2 ^ c)))
         let m : mask ≡ 2 ^ 64 - 1 = omega (arith, bit, e) in
         rw (o, m, one-mul) (and-mask v 64 ∙ mod-eq-of-lt lv)
 
+-- where v has no 1 below column c, the bit in column c taken from 0 will do
+pub masked-from : (c v x mask : ℕ) → c < 64 → v < 2 ^ 64 → v % 2 ^ c ≡ 0 → mask < 2 ^ 64 → (mask + bitAnd x (1 * 2 ^ c % 2 ^ 64)) % 2 ^ 64 ≡ 0
+    → bitAnd v mask ≡ x / 2 ^ c % 2 * v
+masked-from c v x mask lc lv z lm e = go (bit-cases (x / 2 ^ c % 2) (mod-2 (x / 2 ^ c)))
+  where
+    twice : 2 ^ (1 + c) - 2 ^ c ≡ 2 ^ c
+    twice = rw (add-comm 1 c, pow-add) (omega arith)
+
+    bit : bitAnd x (1 * 2 ^ c % 2 ^ 64) ≡ x / 2 ^ c % 2 * 2 ^ c
+    bit = ap (bitAnd x) (shifted-one c lc ∙ sym twice) ∙ and-high x 1 c
+
+    whole : 64 - c + c ≡ 64
+    whole = omega arith
+
+    exact : v / 2 ^ c % 2 ^ (64 - c) * 2 ^ c ≡ v
+    exact = sym (add-zero (v / 2 ^ c % 2 ^ (64 - c) * 2 ^ c)) ∙ rw (← z) (recompose (64 - c) c (rw whole lv))
+
+    go : (x / 2 ^ c % 2 ≡ 0) ⊎ (x / 2 ^ c % 2 ≡ 1) → bitAnd v mask ≡ x / 2 ^ c % 2 * v
+    go (inl o) =
+        let m : mask ≡ 0 = sym (mod-eq-of-lt lm) ∙ rw (bit, o, zero-mul, add-zero) at e in
+        rw (o, m, zero-mul) (and-zero-r v)
+    go (inr o) =
+        let m : mask ≡ 2 ^ (64 - c + c) - 2 ^ c = rw whole (omega (arith, pow-lt {i = c} lc, pow-pos c, rw (bit, o, one-mul) at e)) in
+        rw (o, m, one-mul) (and-high v (64 - c) c ∙ exact)
+
 -- ---- the lowest one of a row
 
-pub lowest-one : (k n : ℕ) → 0 < n → n < 2 ^ k → (trailingZeros k n < k) × (n / 2 ^ trailingZeros k n % 2 ≡ 1)
+pub lowest-one : (k n : ℕ) → 0 < n → n < 2 ^ k → (trailingZeros k n < k) × (n % 2 ^ trailingZeros k n ≡ 0) × (n / 2 ^ trailingZeros k n % 2 ≡ 1)
 unfolding trailingZeros
 lowest-one zero n p l = absurd (omega arith)
 lowest-one (suc k) n p l = go (bit-cases (n % 2) (mod-2 n)) (λ q. lowest-one k (n / 2) q (div-lt-iff-lt-mul (le-suc 1) .1 (rw pow-suc at l)))
   where
+    more : (t : ℕ) → n / 2 % 2 ^ t ≡ 0 → n % 2 ≡ 0 → n % 2 ^ suc t ≡ 0
+    more t e z = ap (λ (m : ℕ). n % 2 ^ m) (sym (add-one t)) ∙ mod-pow-add n t 1 ∙ rw (e, z)
+
     go : (n % 2 ≡ 0) ⊎ (n % 2 ≡ 1)
-        → (0 < n / 2 → (trailingZeros k (n / 2) < k) × (n / 2 / 2 ^ trailingZeros k (n / 2) % 2 ≡ 1))
-        → (under (n % 2) (trailingZeros k (n / 2)) < suc k) × (n / 2 ^ under (n % 2) (trailingZeros k (n / 2)) % 2 ≡ 1)
+        → (0 < n / 2 → (trailingZeros k (n / 2) < k) × (n / 2 % 2 ^ trailingZeros k (n / 2) ≡ 0) × (n / 2 / 2 ^ trailingZeros k (n / 2) % 2 ≡ 1))
+        → (under (n % 2) (trailingZeros k (n / 2)) < suc k) × (n % 2 ^ under (n % 2) (trailingZeros k (n / 2)) ≡ 0) × (n / 2 ^ under (n % 2) (trailingZeros k (n / 2)) % 2 ≡ 1)
     go (inl z) rest =
         let r = rest (omega arith) in
-        rw z (omega (arith, r .0), rw (pow-succ', ← div-div-eq-div-mul) (r .1))
-    go (inr o) rest = rw o (omega arith, ap (λ (x : ℕ). x % 2) (div-one n) ∙ o)
+        rw z (omega (arith, r .0), more (trailingZeros k (n / 2)) (r .1) z, rw (pow-succ', ← div-div-eq-div-mul) (r .2))
+    go (inr o) rest = rw o (omega arith, mod-one n, ap (λ (x : ℕ). x % 2) (div-one n) ∙ o)

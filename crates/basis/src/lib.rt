@@ -4,7 +4,6 @@ ghost use mathlib.Core.Bool.{true};
 ghost use mathlib.Core.Logic.{_↔_};
 ghost use mathlib.Core.List.{map};
 ghost use Prim.Native.Nat.{_*_, _/_, _%_, _^_, _≤_, _<_};
-ghost use lib.ListN.{take};
 ghost use Rattle.basis.specs.Rows.{Independent, clear};
 ghost use Rattle.basis.specs.Echelon.{emptyBasis, reduceBy, insertInto};
 
@@ -16,39 +15,47 @@ fn chosen(x: u64, c: u32, v: u64) -> u64
     v & std::num::wrapping_sub_u64(0, (x >> c) & 1)
 }
 
+// The same for a v with no 1 below column c: less work, since the bit in column c, taken from 0, is mask enough for such a v.
+fn chosen_from(x: u64, c: u32, v: u64) -> u64
+    requires { ⌜ (c < 64) × (v % 2 ^ c ≡ 0) ⌝ }
+    ensures { λ r. ⌜ r ≡ x / 2 ^ c % 2 * v ⌝ }
+{
+    let bit: u64 = 1 << c;
+    v & std::num::wrapping_sub_u64(0, x & bit)
+}
+
 // Clears column c of every row by v.
 fn clear_column(rows: &mut [u64], v: u64, c: u32)
-    requires { ⌜ c < 64 ⌝ }
+    requires { ⌜ (c < 64) × (v % 2 ^ c ≡ 0) ⌝ }
     ensures { λ r. ⌜ now (rows .exit) ≡ map (clear c v) (now (rows .entry)) ⌝ }
 {
     for j in 0..rows.len() {
         let r = rows[j];
-        rows[j] = chosen(r, c, v) ^ r;
+        rows[j] = chosen_from(r, c, v) ^ r;
     }
 }
 
 // The column of the lowest 1 of a row.
 fn lowest_one(v: u64) -> u32
     requires { ⌜ 0 < v ⌝ }
-    ensures { λ c. ⌜ (c < 64) × (v / 2 ^ c % 2 ≡ 1) ⌝ }
+    ensures { λ c. ⌜ (c < 64) × (v % 2 ^ c ≡ 0) × (v / 2 ^ c % 2 ≡ 1) ⌝ }
 {
     u64::trailing_zeros(v)
 }
 
-// Are the first n rows independent? By elimination: each row clears the column of its lowest 1 from the rows after it.
-pub fn independent(rows: [u64; 64], n: usize) -> bool
-    requires { ⌜ n ≤ 64 ⌝ }
-    ensures { λ r. ⌜ (r ≡ true) ↔ Independent (take n rows) ⌝ }
+// Are the rows independent? By elimination in place: each row, from the last, clears the column of its lowest 1 from the rows before it.
+pub fn independent(rows: &mut [u64]) -> bool
+    ensures { λ r. ⌜ (r ≡ true) ↔ Independent (now (rows .entry)) ⌝ }
 {
-    let mut work = rows;
-    for i in 0..n {
-        let v = work[i];
+    let mut n = rows.len();
+    while 0 < n {
+        n -= 1;
+        let v = rows[n];
         if v == 0 {
             return false;
         }
         let c = lowest_one(v);
-        let next = i + 1;
-        clear_column(&mut work[next..n], v, c);
+        clear_column(&mut rows[..n], v, c);
     }
     true
 }

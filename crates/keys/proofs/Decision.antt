@@ -2,24 +2,27 @@
 use mathlib.Core.Path.{_≡_, refl, sym, ap, ap₂, _∙_}
 use mathlib.Core.Logic.{_⊎_, inl, inr}
 use mathlib.Core.Bool.{Bool, true, false, not, true≢false, false≢true}
-use mathlib.Core.List.{List, [], _∷_}
+use mathlib.Core.List.{List}
 use Prim.Native.Nat.{ℕ, zero, suc, _+_, _-_, _*_, _/_, _%_, _^_, _≤_, _<_}
-use native.Mathlib.Nat.{le-suc, zero-add, zero-mul, one-mul, pow-suc, div-lt-iff-lt-mul, mul-suc, lt-of-lt-of-le, eq-zero-or-pos}
+use native.Mathlib.Nat.{le-suc, zero-mul, one-mul, pow-suc, div-lt-iff-lt-mul, mod-lt, lt-of-lt-of-le, eq-zero-or-pos, div-eq-of-lt}
+use native.Mathlib.Decide.{decLt}
 use native.Mathlib.Omega.{arith}
 use lib.Arith.{lt-one}
-use lib.ListN.{length, take, getD}
-use lib.Seq.{getD-take}
-use lib.Pow.{pow-pos, pow-mono, pow-add}
-use Rattle.gf2.specs.Polynomials.{_⊕_, _⊗_, degree, rem, Irreducible}
-use Rattle.gf2.proofs.Sums.{⊕-self, ⊕-eq, ⊕-swap, xor}
-use Rattle.gf2.proofs.Products.{zero-⊗, ⊗-zero, one-⊗, ⊗-one, ⊗-comm, ⊗-pow, bit-⊕, by-bit, by-low, mod-2, dbl-⊗, ⊗-dbl, ring}
-use Rattle.gf2.proofs.Residues.{rem-zero, rem-⊕, rem-small}
-use Rattle.acceptance.proofs.Criterion.{Rigid, rigid-irreducible, irreducible-rigid}
+use lib.ListN.{length, getD}
+use lib.Pow.{pow-pos, pow-mono, pow-add, split, high, shl-lt, shr-lt}
+use Rattle.gf2.specs.Polynomials.{_⊕_, _⊗_, degree, rem}
+use Rattle.gf2.proofs.Sums.{⊕-zero, ⊕-self, ⊕-eq, ⊕-swap, ⊕-lt, ⊕-append}
+use Rattle.gf2.proofs.Products.{zero-⊗, ⊗-zero, one-⊗, ⊗-one, ⊗-comm, ⊗-pow, bit-⊕, by-bit, by-low, ring}
+use Rattle.gf2.proofs.Degrees.{degree-is, degree-⊗, deg-hi, deg-le, lt-of-high, pos-⊗, ⊗-no-zero}
+use Rattle.gf2.proofs.Residues.{rem-zero, rem-⊕, rem-small, rem-lt}
+use Rattle.acceptance.proofs.Criterion.{rigid-irreducible, irreducible-rigid}
 use Rattle.acceptance.specs.Keys.{reducible}
 use Rattle.acceptance.proofs.Laws.{irreducible-of, not-reducible}
 use Rattle.basis.specs.Rows.{sumOf, Independent}
-use Rattle.keys.specs.Squares.{listFrom, square, difference, squares, differences}
-use Rattle.keys.proofs.Filling.{list-at, list-same}
+use Rattle.keys.specs.Squares.{listFrom, square, oddPart, folded, squareRows, differenceRows}
+use Rattle.keys.proofs.Filling.{length-list, list-same, list-over}
+use Rattle.keys.proofs.Linear.{Additive, at-zero}
+use Rattle.keys.proofs.Folding.{Kernel, odd-kernel, fold-kernel}
 
 half-lt : (h n : ℕ) → h < 2 ^ suc n → h / 2 < 2 ^ n
 half-lt h n l = div-lt-iff-lt-mul (le-suc 1) .1 (rw pow-suc at l)
@@ -32,10 +35,13 @@ bit-square h = by-bit (λ (c : ℕ). c ⊗ c ≡ c) (zero-⊗ 0) (one-⊗ 1) h
 
 -- ---- sums of listed rows
 
-pub length-list : (f : ℕ → ℕ) (i n : ℕ) → length (listFrom f i n) ≡ n
-unfolding listFrom
-length-list f i zero = refl
-length-list f i (suc n) = ap suc (length-list f (suc i) n)
+-- additive functions may be put through the sum
+sum-map : {f : ℕ → ℕ} → Additive f → (g : ℕ → ℕ) (i n h : ℕ) → sumOf h (listFrom (λ j. f (g j)) i n) ≡ f (sumOf h (listFrom g i n))
+unfolding sumOf listFrom
+sum-map {f} a g i zero h = sym (at-zero a)
+sum-map {f} a g i (suc n) h =
+    ap₂ (λ (x y : ℕ). x ⊕ y) (by-bit (λ (c : ℕ). c * f (g i) ≡ f (c * g i)) (rw (zero-mul, zero-mul) (sym (at-zero a))) (rw (one-mul, one-mul)) h) (sum-map a g (suc i) n (h / 2))
+    ∙ sym (a .sum (h % 2 * g i) (sumOf (h / 2) (listFrom g (suc i) n)))
 
 sum-both : (f g : ℕ → ℕ) (i n h : ℕ) → sumOf h (listFrom (λ j. f j ⊕ g j) i n) ≡ sumOf h (listFrom f i n) ⊕ sumOf h (listFrom g i n)
 unfolding sumOf listFrom
@@ -89,112 +95,193 @@ module _ (p : ℕ) (pos : 0 < p) where
       expand : (v g c t : ℕ) → v ⊗ (c ⊗ c) ⊕ v ⊗ t ⊗ t ⊗ (g ⊗ g) ≡ v ⊗ ((g ⊗ t ⊕ c) ⊗ (g ⊗ t ⊕ c))
       expand v g c t = simp ring
 
-  four : (g : ℕ) → 4 ⊗ (g ⊗ g) ≡ g * 2 ⊗ (g * 2)
-  four g = ⊗-comm 4 (g ⊗ g) ∙ ⊗-pow 2 (g ⊗ g) ∙ twice (g ⊗ g) ∙ sym (dbl-⊗ g (g * 2) ∙ ap (λ (x : ℕ). x * 2) (⊗-dbl g g))
+-- ---- the rows of the squares of t^h, .. t^(k - 1), for h half of k, rounded up, and n the other half
+
+module _ (p : ℕ) (pos : 0 < p) (h n : ℕ) (whole : h + n ≡ degree p) (lower : n ≤ h) (upper : h ≤ suc n) (some : 0 < h) (word : degree p < 64) where
+  small-square : (l : ℕ) → l < 2 ^ h → l ⊗ l < 2 ^ degree p
+  small-square l m = go (eq-zero-or-pos l)
     where
-      twice : (x : ℕ) → x * 4 ≡ x * 2 * 2
-      twice x = omega arith
+      go : (l ≡ 0) ⊎ (0 < l) → l ⊗ l < 2 ^ degree p
+      go (inl z) = rw (z, zero-⊗) (pow-pos (degree p))
+      go (inr q) =
+          lt-of-lt-of-le (deg-hi (l ⊗ l) (degree (l ⊗ l)) (degree-is (l ⊗ l) (pos-⊗ l l q q)))
+          (pow-mono (omega (arith, degree-⊗ l l q q, deg-le l (degree l) h (degree-is l q) m)))
 
-  -- ---- for h below t^k
+  small-rem : (l : ℕ) → l < 2 ^ h → rem p (l ⊗ l) ≡ l ⊗ l
+  small-rem l m = rem-small pos (l ⊗ l) (small-square l m)
 
-  sum-first : (k h : ℕ) → h < 2 ^ k → sumOf h (squares p k) ≡ rem p (h ⊗ h)
-  unfolding squares
-  sum-first k h l = sum-squares 0 k h l ∙ ap (rem p) (one-⊗ (h ⊗ h))
+  -- the two maps are x² and x² ⊕ x: x² ⊕ δ x, for δ x = 0 and δ x = x
+  module _ {δ r : ℕ → ℕ} (t : Kernel δ r) where
+    abbrev rows : List ℕ
+    rows = listFrom (λ i. r (square p i ⊕ δ (2 ^ i))) h n
 
-  sum-second : (k g : ℕ) → g < 2 ^ (k - 1) → sumOf g (differences p k) ≡ rem p (g * 2 ⊗ (g * 2)) ⊕ g * 2
-  unfolding differences difference
-  sum-second k g l =
-      sum-both (square p) (λ i. 2 ^ i) 1 (k - 1) g
-      ∙ ap₂ (λ (x y : ℕ). x ⊕ y) (sum-squares 1 (k - 1) g l ∙ ap (rem p) (four g)) (sum-powers 1 (k - 1) g l ∙ ⊗-comm 2 g ∙ ⊗-pow 1 g)
+    abbrev value : ℕ → ℕ
+    value x = rem p (x ⊗ x) ⊕ δ x
 
-  -- the lowest bit of h may be left out of h² ⊕ h: it is its own square
-  square-low : (h : ℕ) → 0 < degree p → rem p (h ⊗ h) ⊕ h ≡ rem p (h / 2 * 2 ⊗ (h / 2 * 2)) ⊕ h / 2 * 2
-  square-low h l =
-      rw (by-low h) at (without (h / 2 * 2) (h % 2) (bit-square h) (lt-of-lt-of-le (mod-2 h) (pow-mono {i = 1} l)))
+    sum-rows : (g : ℕ) → g < 2 ^ n → sumOf g rows ≡ r (value (g * 2 ^ h))
+    sum-rows g l =
+        sum-map (t .additive) (λ i. square p i ⊕ δ (2 ^ i)) h n g
+        ∙ ap r
+        (sum-both (square p) (λ i. δ (2 ^ i)) h n g
+        ∙ ap₂ (λ (x y : ℕ). x ⊕ y) (sum-squares p pos h n g l ∙ ap (rem p) shift) (sum-map (t .δ-additive) (λ i. 2 ^ i) h n g ∙ ap δ (sum-powers h n g l ∙ ⊗-comm (2 ^ h) g ∙ ⊗-pow h g)))
+      where
+        expand : (v : ℕ) → v ⊗ v ⊗ (g ⊗ g) ≡ g ⊗ v ⊗ (g ⊗ v)
+        expand v = simp ring
+
+        twice : 2 ^ (2 * h) ≡ 2 ^ h ⊗ 2 ^ h
+        twice = let e : 2 * h ≡ h + h = omega arith in rw e (pow-add 2 h h ∙ sym (⊗-pow h (2 ^ h)))
+
+        shift : 2 ^ (2 * h) ⊗ (g ⊗ g) ≡ g * 2 ^ h ⊗ (g * 2 ^ h)
+        shift = ap (λ (y : ℕ). y ⊗ (g ⊗ g)) twice ∙ expand (2 ^ h) ∙ ap₂ (λ (y z : ℕ). y ⊗ z) (⊗-pow h g) (⊗-pow h g)
+
+    parts : (g l : ℕ) → l < 2 ^ h → value (g * 2 ^ h ⊕ l) ≡ value (g * 2 ^ h) ⊕ (l ⊗ l ⊕ δ l)
+    parts g l m =
+        ap₂ (λ (x y : ℕ). x ⊕ y) (ap (rem p) (expand (g * 2 ^ h) l) ∙ rem-⊕ pos (g * 2 ^ h ⊗ (g * 2 ^ h)) (l ⊗ l) ∙ ap (λ (y : ℕ). rem p (g * 2 ^ h ⊗ (g * 2 ^ h)) ⊕ y) (small-rem l m)) (t .δ-additive .sum (g * 2 ^ h) l)
+        ∙ ⊕-swap (rem p (g * 2 ^ h ⊗ (g * 2 ^ h))) (l ⊗ l) (δ (g * 2 ^ h)) (δ l)
+      where
+        expand : (a b : ℕ) → (a ⊕ b) ⊗ (a ⊕ b) ≡ a ⊗ a ⊕ b ⊗ b
+        expand a b = simp ring
+
+    abbrev Low : Type 0
+    Low = (x : ℕ) → x < 2 ^ degree p → value x ≡ 0 → x < 2 ^ h
+
+    there : Independent rows → Low
+    there i x l e = lt-of-high x h (i g (rw length-list small) (sum-rows g small ∙ ap r equal ∙ t .zero-at lo (lt-of-lt-of-le lo-lt (pow-mono {j = 32} (omega arith)))))
+      where
+        g : ℕ
+        g = x / 2 ^ h
+
+        lo : ℕ
+        lo = x % 2 ^ h
+
+        lo-lt : lo < 2 ^ h
+        lo-lt = mod-lt x (pow-pos h)
+
+        small : g < 2 ^ n
+        small = let e : n + h ≡ degree p = omega arith in shr-lt n h (rw e l)
+
+        equal : value (g * 2 ^ h) ≡ lo ⊗ lo ⊕ δ lo
+        equal =
+            ⊕-eq (value (g * 2 ^ h)) (lo ⊗ lo ⊕ δ lo)
+            (sym (parts g lo lo-lt) ∙ ap value (⊕-append g h lo lo-lt ∙ split x h) ∙ e)
+
+    back : Low → Independent rows
+    back j g l e = sym (high g h (low .1)) ∙ div-eq-of-lt (rw (⊕-append g h (low .0) (low .1)) at (j (g * 2 ^ h ⊕ low .0) bound zero-there))
+      where
+        small : g < 2 ^ n
+        small = rw length-list at l
+
+        high-lt : g * 2 ^ h < 2 ^ degree p
+        high-lt = let e : n + h ≡ degree p = omega arith in rw e at (shl-lt n h small)
+
+        small-value : value (g * 2 ^ h) < 2 ^ degree p
+        small-value =
+            ⊕-lt (degree p) (rem p (g * 2 ^ h ⊗ (g * 2 ^ h))) (δ (g * 2 ^ h)) (rem-lt pos (g * 2 ^ h ⊗ (g * 2 ^ h))) (t .δ-lt (degree p) (g * 2 ^ h) high-lt)
+
+        low : (l : ℕ) × (l < 2 ^ h) × (value (g * 2 ^ h) ≡ l ⊗ l ⊕ δ l)
+        low =
+            t .only-at (value (g * 2 ^ h)) h (lt-of-lt-of-le small-value (pow-mono {j = 64} (omega arith))) (lt-of-lt-of-le small-value (pow-mono (omega arith)))
+            (sym (sum-rows g small) ∙ e)
+
+        bound : g * 2 ^ h ⊕ low .0 < 2 ^ degree p
+        bound = ⊕-lt (degree p) (g * 2 ^ h) (low .0) high-lt (lt-of-lt-of-le (low .1) (pow-mono (omega arith)))
+
+        zero-there : value (g * 2 ^ h ⊕ low .0) ≡ 0
+        zero-there = parts g (low .0) (low .1) ∙ rw (← low .2) (⊕-self (value (g * 2 ^ h)))
+
+  -- ---- squaring takes no residue to 0 but 0
+
+  abbrev NoNilpotent : Type 0
+  NoNilpotent = (x : ℕ) → 0 < x → x < 2 ^ degree p → rem p (x ⊗ x) ≡ 0 → ⊥
+
+  rows-alone : listFrom (λ i. oddPart (square p i ⊕ 0)) h n ≡ squareRows p h n
+  unfolding squareRows
+  rows-alone = list-same (λ i. oddPart (square p i ⊕ 0)) (λ i. oddPart (square p i)) h h n (λ i l. ap oddPart (⊕-zero (square p (h + i))))
+
+  squares-there : Independent (squareRows p h n) → NoNilpotent
+  squares-there i x q l e = go (⊗-no-zero x x (sym (small-rem x small) ∙ e))
     where
-      without : (a c : ℕ) → c ⊗ c ≡ c → c < 2 ^ degree p → rem p ((a ⊕ c) ⊗ (a ⊕ c)) ⊕ (a ⊕ c) ≡ rem p (a ⊗ a) ⊕ a
-      without a c e m =
-          ap (λ (x : ℕ). rem p x ⊕ (a ⊕ c)) (expand ∙ ap (λ (x : ℕ). a ⊗ a ⊕ x) e)
-          ∙ ap (λ (x : ℕ). x ⊕ (a ⊕ c)) (rem-⊕ pos (a ⊗ a) c ∙ ap (λ (x : ℕ). rem p (a ⊗ a) ⊕ x) (rem-small pos c m))
-          ∙ simp xor
-        where
-          expand : (a ⊕ c) ⊗ (a ⊕ c) ≡ a ⊗ a ⊕ c ⊗ c
-          expand = simp ring
+      small : x < 2 ^ h
+      small = there odd-kernel (rw rows-alone i) x l (rw e (⊕-zero 0))
 
-length-squares : (p k : ℕ) → length (squares p k) ≡ k
-unfolding squares
-length-squares p k = length-list (square p) 0 k
+      go : (x ≡ 0) ⊎ (x ≡ 0) → ⊥
+      go (inl z) = omega arith
+      go (inr z) = omega arith
 
-length-differences : (p k : ℕ) → length (differences p k) ≡ k - 1
-unfolding differences
-length-differences p k = length-list (difference p) 1 (k - 1)
+  squares-back : NoNilpotent → Independent (squareRows p h n)
+  squares-back j = rw rows-alone at (back odd-kernel (λ x l e. go x l e (eq-zero-or-pos x)))
+    where
+      go : (x : ℕ) → x < 2 ^ degree p → rem p (x ⊗ x) ⊕ 0 ≡ 0 → (x ≡ 0) ⊎ (0 < x) → x < 2 ^ h
+      go x l e (inl z) = rw z (pow-pos h)
+      go x l e (inr q) = absurd (j x q l (sym (⊕-zero (rem p (x ⊗ x))) ∙ e))
 
--- ---- the criterion
+  -- ---- squaring keeps no residue but 0 and 1
 
-module _ (p : ℕ) (proper : 1 < p) (deg : 0 < degree p) where
-  abbrev Both : Type 0
-  Both = Independent (squares p (degree p)) × Independent (differences p (degree p))
+  abbrev NoIdempotent : Type 0
+  NoIdempotent = (x : ℕ) → 1 < x → x < 2 ^ degree p → rem p (x ⊗ x) ≡ x → ⊥
 
+  differences-there : Independent (differenceRows p h n) → NoIdempotent
+  unfolding differenceRows
+  differences-there i x q l e = go (⊗-no-zero x (x ⊕ 1) (expand x ∙ rw (sym (small-rem x small) ∙ e) (⊕-self x)))
+    where
+      small : x < 2 ^ h
+      small = there fold-kernel i x l (rw e (⊕-self x))
+
+      expand : (a : ℕ) → a ⊗ (a ⊕ 1) ≡ a ⊗ a ⊕ a
+      expand a = simp ring
+
+      go : (x ≡ 0) ⊎ (x ⊕ 1 ≡ 0) → ⊥
+      go (inl z) = omega arith
+      go (inr z) = omega (arith, ⊕-eq x 1 z)
+
+  differences-back : NoIdempotent → Independent (differenceRows p h n)
+  unfolding differenceRows
+  differences-back j = back fold-kernel (λ x l e. go x l e (decLt 1 x))
+    where
+      go : (x : ℕ) → x < 2 ^ degree p → rem p (x ⊗ x) ⊕ x ≡ 0 → Dec (1 < x) → x < 2 ^ h
+      go x l e (no q) = omega (arith, pow-mono {i = 1} some)
+      go x l e (yes q) = absurd (j x q l (⊕-eq (rem p (x ⊗ x)) x e))
+
+-- ---- the criterion: the key's number 2
+
+module _ (p k : ℕ) (proper : 1 < p) (is : k ≡ degree p) (low : 0 < k) (high : k < 64) where
   pos : 0 < p
   pos = omega (arith, proper)
 
-  whole : degree p ≡ suc (degree p - 1)
-  whole = omega (arith, deg)
+  whole : k - k / 2 + k / 2 ≡ degree p
+  whole = omega arith
 
-  independent-rigid : Both → Rigid p
-  independent-rigid b = record { proper = proper; no-nilpotent = nil; no-idempotent = idem }
-    where
-      nil : (h : ℕ) → 0 < h → h < 2 ^ degree p → rem p (h ⊗ h) ≡ 0 → ⊥
-      nil h n l e = omega (arith, b .0 h (rw length-squares l) (sum-first p pos (degree p) h l ∙ e))
+  word : degree p < 64
+  word = omega arith
 
-      idem : (h : ℕ) → 1 < h → h < 2 ^ degree p → rem p (h ⊗ h) ≡ h → ⊥
-      idem h n l e = omega (arith, b .1 (h / 2) (rw length-differences small) (sum-second p pos (degree p) (h / 2) small ∙ sym (square-low p pos h deg) ∙ rw e (⊕-self h)))
-        where
-          small : h / 2 < 2 ^ (degree p - 1)
-          small = half-lt h (degree p - 1) (rw whole at l)
+  pub irreducible-squares : reducible p ≡ false → Independent (squareRows p (k - k / 2) (k / 2))
+  irreducible-squares e =
+      squares-back p pos (k - k / 2) (k / 2) whole (omega arith) (omega arith) (omega arith) word (irreducible-rigid p (irreducible-of p (omega arith) e) .no-nilpotent)
 
-  rigid-independent : Rigid p → Both
-  rigid-independent r = (first, second)
-    where
-      first : Independent (squares p (degree p))
-      first h l e = go (eq-zero-or-pos h)
-        where
-          small : h < 2 ^ degree p
-          small = rw length-squares at l
+  pub irreducible-differences : reducible p ≡ false → Independent (differenceRows p (k - k / 2) (k / 2))
+  irreducible-differences e =
+      differences-back p pos (k - k / 2) (k / 2) whole (omega arith) (omega arith) (omega arith) word (irreducible-rigid p (irreducible-of p (omega arith) e) .no-idempotent)
 
-          go : (h ≡ 0) ⊎ (0 < h) → h ≡ 0
-          go (inl z) = z
-          go (inr n) = absurd (r .no-nilpotent h n small (sym (sum-first p pos (degree p) h small) ∙ e))
+  pub both-irreducible : Independent (squareRows p (k - k / 2) (k / 2)) → Independent (differenceRows p (k - k / 2) (k / 2)) → reducible p ≡ false
+  both-irreducible i j =
+      not-reducible p
+      (rigid-irreducible p
+      (record {
+        proper = proper;
+        no-nilpotent = squares-there p pos (k - k / 2) (k / 2) whole (omega arith) (omega arith) (omega arith) word i;
+        no-idempotent = differences-there p pos (k - k / 2) (k / 2) whole (omega arith) (omega arith) (omega arith) word j;
+      }))
 
-      second : Independent (differences p (degree p))
-      second g l e = go (eq-zero-or-pos g)
-        where
-          small : g < 2 ^ (degree p - 1)
-          small = rw length-differences at l
+-- the rows as the code makes them, of listed squares
 
-          double : g * 2 < 2 ^ degree p
-          double = rw (whole, pow-suc 2 (degree p - 1)) (omega (arith, small))
+module _ (p h n : ℕ) (rows : List ℕ) (e : rows ≡ listFrom (square p) h n) where
+  pub squares-made : listFrom (λ i. oddPart (getD rows i 0)) 0 (length rows) ≡ squareRows p h n
+  unfolding squareRows
+  squares-made = rw (e, length-list) (list-over (λ i x. oddPart x) (square p) h n)
 
-          go : (g ≡ 0) ⊎ (0 < g) → g ≡ 0
-          go (inl z) = z
-          go (inr n) =
-              absurd (r .no-idempotent (g * 2) (omega arith) double (⊕-eq (rem p (g * 2 ⊗ (g * 2))) (g * 2) (sym (sum-second p pos (degree p) g small) ∙ e)))
-
-  -- the key's number 2
-  pub irreducible-both : reducible p ≡ false → Both
-  irreducible-both e = rigid-independent (irreducible-rigid p (irreducible-of p deg e))
-
-  pub both-irreducible : Both → reducible p ≡ false
-  both-irreducible b = not-reducible p (rigid-irreducible p (independent-rigid b))
-
--- the second list as the code makes it, of the first
-pub second-rows : (p n : ℕ) (rows : List ℕ) → take n rows ≡ squares p n → listFrom (λ i. getD rows i 0 ⊕ 2 ^ i) 1 (n - 1) ≡ differences p n
-unfolding differences difference squares
-second-rows p n rows e = list-same (λ i. getD rows i 0 ⊕ 2 ^ i) (λ i. square p i ⊕ 2 ^ i) 1 (n - 1) (λ i l m. ap (λ (x : ℕ). x ⊕ 2 ^ i) (same i (omega arith)))
-  where
-    same : (i : ℕ) → i < n → getD rows i 0 ≡ square p i
-    same i l =
-        sym (getD-take n rows i 0 l) ∙ ap (λ (xs : List ℕ). getD xs i 0) e ∙ list-at (square p) 0 n i l ∙ ap (square p) (zero-add i)
+  pub differences-made : listFrom (λ i. folded 6 (getD rows i 0 ⊕ 2 ^ (h + i))) 0 (length rows) ≡ differenceRows p h n
+  unfolding differenceRows
+  differences-made = rw (e, length-list) (list-over (λ i x. folded 6 (x ⊕ 2 ^ i)) (square p) h n)
 
 pub by-test : (b r : Bool) → (r ≡ true → b ≡ false) → (b ≡ false → r ≡ true) → r ≡ not b
 by-test true true f g = absurd (true≢false (f refl))

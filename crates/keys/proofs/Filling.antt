@@ -1,12 +1,12 @@
 -- Laws of listed values, and of a buffer that is filled with them from the front.
 use mathlib.Core.Path.{_≡_, refl, sym, ap, ap₂, _∙_}
-use mathlib.Core.List.{List, [], _∷_, _++_}
-use Prim.Native.Nat.{ℕ, zero, suc, _+_, _*_, _^_, _≤_, _<_, zero-le, suc-le-suc}
-use native.Mathlib.Nat.{add-zero, add-suc, suc-add, le-of-suc-le-suc, not-suc-le-zero, zero-lt-suc, pow-suc}
+use mathlib.Core.List.{List, [], _∷_, _++_, append-nil}
+use Prim.Native.Nat.{ℕ, zero, suc, _+_, _-_, _*_, _^_, _≤_, _<_}
+use native.Mathlib.Nat.{zero-add, add-zero, add-suc, suc-add, le-of-suc-le-suc, not-suc-le-zero, pow-suc}
 use native.Mathlib.Numerals.{add-one}
 use native.Mathlib.Omega.{arith}
-use lib.ListN.{length, take, getD, set}
-use lib.Seq.{take-suc-set}
+use lib.ListN.{length, drop, getD, set, length-append, length-drop}
+use lib.Seq.{drop-cons, drop-length, append-snoc, set-at, getD-at}
 use Rattle.gf2.specs.Polynomials.{rem}
 use Rattle.gf2.proofs.Powers.{rem-shl}
 use Rattle.keys.specs.Squares.{listFrom, square}
@@ -16,21 +16,49 @@ unfolding listFrom
 list-more f a zero = rw add-zero
 list-more f a (suc n) = ap (λ (x : List ℕ). f a ∷ x) (rw (add-suc a n, ← suc-add a n) (list-more f (suc a) n))
 
-pub list-at : (f : ℕ → ℕ) (a n i : ℕ) → i < n → getD (listFrom f a n) i 0 ≡ f (a + i)
+pub length-list : (f : ℕ → ℕ) (i n : ℕ) → length (listFrom f i n) ≡ n
+unfolding listFrom
+length-list f i zero = refl
+length-list f i (suc n) = ap suc (length-list f (suc i) n)
+
+list-at : (f : ℕ → ℕ) (a n i : ℕ) → i < n → getD (listFrom f a n) i 0 ≡ f (a + i)
 unfolding listFrom
 list-at f a zero i h = absurd (not-suc-le-zero h)
 list-at f a (suc n) zero h = rw add-zero
 list-at f a (suc n) (suc i) h = list-at f (suc a) n i (le-of-suc-le-suc h) ∙ rw (suc-add, add-suc)
 
-pub list-same : (f g : ℕ → ℕ) (a n : ℕ) → ((i : ℕ) → a ≤ i → i < a + n → f i ≡ g i) → listFrom f a n ≡ listFrom g a n
+-- counted from a or from b
+pub list-same : (f g : ℕ → ℕ) (a b n : ℕ) → ((i : ℕ) → i < n → f (a + i) ≡ g (b + i)) → listFrom f a n ≡ listFrom g b n
 unfolding listFrom
-list-same f g a zero h = refl
-list-same f g a (suc n) h = ap₂ (λ (x : ℕ) (xs : List ℕ). x ∷ xs) (h a (omega arith) (omega arith)) (list-same f g (suc a) n (λ i l m. h i (omega arith) (omega arith)))
+list-same f g a b zero h = refl
+list-same f g a b (suc n) h =
+    ap₂ (λ (x : ℕ) (xs : List ℕ). x ∷ xs) (rw (add-zero, add-zero) at (h 0 (omega arith)))
+    (list-same f g (suc a) (suc b) n (λ i l. rw (suc-add, suc-add, ← add-suc, ← add-suc) (h (suc i) (omega arith))))
 
--- one value more
-pub fill : (f : ℕ → ℕ) (a n v : ℕ) (rows : List ℕ) → n < length rows → take n rows ≡ listFrom f a n → v ≡ f (a + n)
-    → take (n + 1) (set rows n v) ≡ listFrom f a (n + 1)
-fill f a n v rows h e l = rw (add-one n, take-suc-set rows n v h, e, l) (sym (list-more f a n))
+-- listed values, each put through g with its place
+pub list-over : (g : ℕ → ℕ → ℕ) (f : ℕ → ℕ) (a n : ℕ) → listFrom (λ i. g (a + i) (getD (listFrom f a n) i 0)) 0 n ≡ listFrom (λ i. g i (f i)) a n
+list-over g f a n = list-same (λ i. g (a + i) (getD (listFrom f a n) i 0)) (λ i. g i (f i)) 0 a n (λ i l. rw (zero-add, list-at f a n i l))
+
+-- ---- the buffer, with i values written
+
+module _ (f : ℕ → ℕ) (a i : ℕ) (rows : List ℕ) where
+  pub length-filled : i ≤ length rows → length (listFrom f a i ++ drop i rows) ≡ length rows
+  length-filled h = length-append (listFrom f a i) (drop i rows) ∙ rw (length-list, length-drop) (omega arith)
+
+  pub filled-at : i < length rows → getD (listFrom f a i ++ drop i rows) i 0 ≡ getD rows i 0
+  filled-at h = rw (drop-cons rows i 0 h) (getD-at (listFrom f a i) (getD rows i 0) (drop (suc i) rows) 0 i (length-list f a i))
+
+  pub fill : (v : ℕ) → i < length rows → v ≡ f (a + i) → set (listFrom f a i ++ drop i rows) i v ≡ listFrom f a (i + 1) ++ drop (i + 1) rows
+  fill v h e =
+      rw (drop-cons rows i 0 h) (set-at (listFrom f a i) (getD rows i 0) (drop (suc i) rows) v i (length-list f a i))
+      ∙ sym (append-snoc (listFrom f a i) v (drop (suc i) rows))
+      ∙ last
+    where
+      last : listFrom f a i ++ (v ∷ []) ++ drop (suc i) rows ≡ listFrom f a (i + 1) ++ drop (i + 1) rows
+      last = rw (add-one, list-more f a i, e)
+
+  pub fill-whole : i ≡ length rows → listFrom f a i ++ drop i rows ≡ listFrom f a (length rows)
+  fill-whole e = rw (e, drop-length) (append-nil (listFrom f a (length rows)))
 
 -- two steps from a square to the next one
 pub next-square : (p : ℕ) → 0 < p → (i w : ℕ) → w ≡ square p i → rem p (rem p (w * 2 + 0) * 2 + 0) ≡ square p (i + 1)

@@ -1,6 +1,6 @@
 -- What the callers of the test rely on. A caller that takes the answer t apart has `tested t ≡ testKey key` and, of its arm, t ≡ Accepted or
 -- t ≡ Refused q.
-use mathlib.Core.Path.{_≡_, refl, sym, ap, _∙_}
+use mathlib.Core.Path.{_≡_, sym, ap, _∙_}
 use mathlib.Core.Bool.{Bool, true, false}
 use mathlib.Core.List.{List, [], _∷_, _++_}
 use Prim.Native.Nat.{ℕ, suc, _%_, _^_, _≤_, _<_}
@@ -14,7 +14,7 @@ use Rattle.gf2.proofs.Degrees.{degree-is, deg-hi, deg-le, lt-of-pow-lt}
 use Rattle.gf2.proofs.Monics.{monic-of}
 use Rattle.refusals.specs.declared.Refusal.{Refusal}
 use Rattle.refusals.specs.declared.Refusal.the-variants.{KeyBelow256, KeyReducible}
-use Rattle.refusals.specs.Refusals.{Answer, Done, Refused, numberOf, Test, _⇒_, firstOf}
+use Rattle.refusals.specs.Refusals.{Refused, numberOf, Test, _⇒_, firstOf}
 use Rattle.refusals.proofs.Laws as refusals
 use Rattle.acceptance.specs.Keys.{reducible, accepted, keyTests}
 use Rattle.acceptance.proofs.Laws.{key-iff}

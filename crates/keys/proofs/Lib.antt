@@ -1,3 +1,5 @@
+pub mod Linear
+pub mod Folding
 pub mod Filling
 pub mod Decision
 pub mod Laws

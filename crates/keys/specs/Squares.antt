@@ -1,7 +1,9 @@
--- The rows that decide whether a polynomial p of degree k is irreducible, after Berlekamp: squaring modulo p is linear, and p is
--- irreducible where both lists are independent (proofs/Decision).
+-- The rows that decide whether a polynomial p of degree k is irreducible, after Berlekamp: squaring modulo p is linear. With h half of
+-- k, rounded up, the squares of 1, t, .. t^(h - 1) are those without the modulus; what is left to test are the squares of t^h, ..
+-- t^(k - 1), modulo all squares, and each less its power of t, modulo all l² ⊕ l (proofs/Decision).
 use mathlib.Core.List.{List, [], _∷_}
-use Prim.Native.Nat.{ℕ, zero, suc, _-_, _*_, _^_}
+use Prim.Native.Nat.{ℕ, zero, suc, _+_, _*_, _/_, _%_, _^_}
+use lib.Bits.{bitAnd}
 use Rattle.gf2.specs.Polynomials.{_⊕_, rem}
 
 -- f i, f (i + 1), ..: n of them
@@ -13,14 +15,24 @@ listFrom f i (suc n) = f i ∷ listFrom f (suc i) n
 unfoldable pub square : ℕ → ℕ → ℕ
 square p i = rem p (2 ^ (2 * i))
 
--- the square of t^i, less t^i
-unfoldable pub difference : ℕ → ℕ → ℕ
-difference p i = square p i ⊕ 2 ^ i
+-- the coefficients at the even places below 2 n, closed up: a polynomial whose square has them at their places
+unfoldable pub evenRoot : ℕ → ℕ → ℕ
+evenRoot zero x = 0
+evenRoot (suc n) x = evenRoot n (x / 4) * 2 + x % 2
 
--- of 1, t, .. t^(k - 1)
-unfoldable pub squares : ℕ → ℕ → List ℕ
-squares p k = listFrom (square p) 0 k
+-- the coefficients at the odd places, of a word
+unfoldable pub oddPart : ℕ → ℕ
+oddPart x = bitAnd x 0xAAAAAAAAAAAAAAAA
 
--- of t, .. t^(k - 1): 1 is its own square
-unfoldable pub differences : ℕ → ℕ → List ℕ
-differences p k = listFrom (difference p) 1 (k - 1)
+-- coefficients at even places moved to half their place, n times over: for a word and n = 6 to an odd place, or 0
+unfoldable pub folded : ℕ → ℕ → ℕ
+folded zero x = x
+folded (suc n) x = oddPart x ⊕ folded n (evenRoot 32 x)
+
+-- the rows of the squares, of n powers of t from t^h on
+unfoldable pub squareRows : ℕ → ℕ → ℕ → List ℕ
+squareRows p h n = listFrom (λ i. oddPart (square p i)) h n
+
+-- the rows of the squares, each less its power of t
+unfoldable pub differenceRows : ℕ → ℕ → ℕ → List ℕ
+differenceRows p h n = listFrom (λ i. folded 6 (square p i ⊕ 2 ^ i)) h n

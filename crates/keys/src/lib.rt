@@ -1,11 +1,13 @@
 // The test of a key.
 ghost use mathlib.Core.Path.{_≡_};
-ghost use mathlib.Core.Bool.{not};
-ghost use Prim.Native.Nat.{_-_, _^_, _≤_, _<_};
-ghost use lib.ListN.{take, getD};
+ghost use mathlib.Core.Bool.{true, not};
+ghost use mathlib.Core.Logic.{_↔_};
+ghost use Prim.Native.Nat.{_+_, _-_, _/_, _^_, _≤_, _<_};
+ghost use lib.ListN.{length, getD};
 ghost use Rattle.gf2.specs.Polynomials.{_⊕_, monic, Modulus};
 ghost use Rattle.acceptance.specs.Keys.{reducible};
-ghost use Rattle.keys.specs.Squares.{listFrom, squares};
+ghost use Rattle.basis.specs.Rows.{Independent};
+ghost use Rattle.keys.specs.Squares.{listFrom, square, evenRoot, oddPart, folded};
 ghost use Rattle.keys.specs.Testing.{testKey, tested};
 use refusals::Refusal;
 
@@ -15,31 +17,73 @@ pub enum Tested {
     Refused(Refusal),
 }
 
-// The squares of 1, t, .. t^(k - 1) modulo the key.
-fn square_rows(k: u32, low: u64) -> [u64; 64]
-    requires { ⌜ Modulus k low × (k < 64) ⌝ }
-    ensures { λ r. ⌜ take k r ≡ squares (monic k low) k ⌝ }
+// The squares of t^h, .. t^(k - 1) modulo the key, with h half of k, rounded up. That of t^(h - 1) needs no division.
+fn square_rows(k: u32, low: u64, rows: &mut [u64])
+    requires { ⌜ Modulus k low × (k < 64) × (length (now rows) ≡ k / 2) ⌝ }
+    ensures { λ r. ⌜ now (rows .exit) ≡ listFrom (square (monic k low)) (k - k / 2) (k / 2) ⌝ }
 {
-    let mut rows: [u64; 64] = [0; 64];
-    let mut w: u64 = 1;
-    for i in 0..k {
-        rows[i as usize] = w;
+    let h = k - k / 2;
+    let mut w: u64 = 1 << (2 * h - 2);
+    for i in 0..rows.len() {
         w = gf2::step(k, low, gf2::step(k, low, w, 0), 0);
+        rows[i] = w;
     }
-    rows
 }
 
-// The rows from the second on, each less its power of t.
-fn difference_rows(squares: [u64; 64], n: usize) -> [u64; 64]
-    requires { ⌜ (0 < n) × (n ≤ 64) ⌝ }
-    ensures { λ r. ⌜ take (n - 1) r ≡ listFrom (λ i. getD squares i 0 ⊕ 2 ^ i) 1 (n - 1) ⌝ }
+// The coefficients at the odd places.
+fn odd_part(x: u64) -> u64
+    ensures { λ r. ⌜ r ≡ oddPart x ⌝ }
 {
-    let mut rows: [u64; 64] = [0; 64];
-    for i in 1..n {
-        let power: u64 = 1 << i;
-        rows[i - 1] = squares[i] ^ power;
+    x & 0xAAAAAAAAAAAAAAAA
+}
+
+// The coefficients at the even places, closed up.
+fn even_root(x: u64) -> u64
+    ensures { λ r. ⌜ r ≡ evenRoot 32 x ⌝ }
+{
+    let a = x & 0x5555555555555555;
+    let b = (a ^ (a >> 1)) & 0x3333333333333333;
+    let c = (b ^ (b >> 2)) & 0x0F0F0F0F0F0F0F0F;
+    let d = (c ^ (c >> 4)) & 0x00FF00FF00FF00FF;
+    let e = (d ^ (d >> 8)) & 0x0000FFFF0000FFFF;
+    (e ^ (e >> 16)) & 0x00000000FFFFFFFF
+}
+
+// Every coefficient at an even place but 0 moved to half its place, until it stands at an odd one.
+fn fold(x: u64) -> u64
+    ensures { λ r. ⌜ r ≡ folded 6 x ⌝ }
+{
+    let mut rest = x;
+    let mut sum: u64 = 0;
+    let mut n: u32 = 6;
+    while 0 < n {
+        n -= 1;
+        sum = sum ^ odd_part(rest);
+        rest = even_root(rest);
     }
-    rows
+    sum ^ rest
+}
+
+// Are the rows independent modulo all squares?
+fn independent_squares(rows: &mut [u64]) -> bool
+    ensures { λ r. ⌜ (r ≡ true) ↔ Independent (listFrom (λ i. oddPart (getD (now (rows .entry)) i 0)) 0 (length (now (rows .entry)))) ⌝ }
+{
+    for i in 0..rows.len() {
+        rows[i] = odd_part(rows[i]);
+    }
+    basis::independent(rows)
+}
+
+// Are the rows, each less its power of t, from t^h on, independent modulo all l² ⊕ l?
+fn independent_differences(rows: &mut [u64], h: usize) -> bool
+    requires { ⌜ h + length (now rows) ≤ 64 ⌝ }
+    ensures { λ r. ⌜ (r ≡ true) ↔ Independent (listFrom (λ i. folded 6 (getD (now (rows .entry)) i 0 ⊕ 2 ^ (h + i))) 0 (length (now (rows .entry)))) ⌝ }
+{
+    for i in 0..rows.len() {
+        let power: u64 = 1 << (h + i);
+        rows[i] = fold(rows[i] ^ power);
+    }
+    basis::independent(rows)
 }
 
 // Irreducible, that is: squaring modulo the key takes no residue to 0 but 0 and keeps none but 0 and 1.
@@ -48,23 +92,28 @@ fn irreducible(key: u64) -> bool
     ensures { λ r. ⌜ r ≡ not (reducible key) ⌝ }
 {
     let k = gf2::degree(key);
-    let n = k as usize;
-    let squares = square_rows(k, gf2::low_bits(key, k));
-    if !basis::independent(squares, n) {
+    let n = (k / 2) as usize;
+    let mut squares: [u64; 32] = [0; 32];
+    square_rows(k, gf2::low_bits(key, k), &mut squares[..n]);
+    let mut rows = squares;
+    if !independent_squares(&mut rows[..n]) {
         return false;
     }
-    basis::independent(difference_rows(squares, n), n - 1)
+    independent_differences(&mut squares[..n], k as usize - n)
 }
 
-// Is the key accepted, and if not, by which number is it refused?
+// Is the key accepted, and if not, by which number is it refused? The stock key of its degree is known to be.
 pub fn test(key: u64) -> Tested
     ensures { λ r. ⌜ tested r ≡ testKey key ⌝ }
 {
     if key < 256 {
         return Tested::Refused(Refusal::KeyBelow256);
     }
-    if irreducible(key) {
+    if key == stock::stock_key(gf2::degree(key)) {
         return Tested::Accepted;
     }
-    Tested::Refused(Refusal::KeyReducible)
+    if !irreducible(key) {
+        return Tested::Refused(Refusal::KeyReducible);
+    }
+    Tested::Accepted
 }

@@ -1,6 +1,6 @@
-use mathlib.Core.Path.{_≡_, refl, sym, ap, _∙_}
+use mathlib.Core.Path.{_≡_, refl, ap, _∙_}
 use mathlib.Core.List.{List, map, _++_}
-use Prim.Native.Nat.{ℕ, _+_, _-_, _≤_, _<_}
+use Prim.Native.Nat.{ℕ, _+_, _-_, _≤_}
 use native.Mathlib.Omega.{arith}
 use lib.Bits.{bitXor}
 use lib.ListN.{length, take, drop, getD}
@@ -11,7 +11,7 @@ use Rattle.basis.proofs.clear_column.Statement.{statement}
 use Rattle.basis.proofs.clear_column.Tie as tie
 use Rattle.basis.proofs.clear_column.Reads as reads
 use Rattle.basis.proofs.clear_column.Lts as lts
-use Rattle.basis.proofs.chosen.Reads as chosen-reads
+use Rattle.basis.proofs.chosen_from.Reads as chosen-from-reads
 
 abbrev Inv-loop : tie.InvT-loop
 Inv-loop rows₀ v c j₀ j-end rows j = (j ≤ length rows₀) × (rows ≡ map (clear c v) (take j rows₀) ++ drop j rows₀)
@@ -34,8 +34,8 @@ mul-r c = omega arith
 slice-read-r : tie.Need-slice-read-r Inv-loop μ-loop
 slice-read-r c = omega (arith, same (c .before .before))
 
-chosen-requires : tie.Need-chosen-requires Inv-loop μ-loop
-chosen-requires c κs = c .before .before .before .before .pre
+chosen-from-requires : tie.Need-chosen-from-requires Inv-loop μ-loop
+chosen-from-requires c κs = c .before .before .before .before .pre
 
 mul-rows : tie.Need-mul-rows Inv-loop μ-loop
 mul-rows c = omega arith
@@ -56,7 +56,7 @@ loop-again c =
     let l = c .before .before .before .loop in
     let f = clear (a .c) (a .v) in
     let e =
-    ap (λ (x : ℕ). bitXor x (getD (l .rows) (l .j) 0)) (c .chosen .ensures)
+    ap (λ (x : ℕ). bitXor x (getD (l .rows) (l .j) 0)) (c .chosen-from .ensures)
     ∙ ap (λ (x : List ℕ). f (getD x (l .j) 0)) (l .inv .1) ∙ ap f (map-at f (l .j) (a .rows .now)) in
     (omega arith, rw (e, l .inv .1) (map-more f (l .j) (a .rows .now) (omega arith)))
 
@@ -79,7 +79,7 @@ clear-column-spec =
     loop-holds
     mul-r
     slice-read-r
-    chosen-requires
+    chosen-from-requires
     mul-rows
     slice-write-rows
     add-j

@@ -1,29 +1,31 @@
-use mathlib.Core.Path.{_≡_, refl, sym, ap, _∙_}
+use mathlib.Core.Path.{_≡_, sym, ap, _∙_}
 use mathlib.Core.Bool.{Bool, true, false, false≢true}
 use mathlib.Core.Logic.{_↔_}
-use Prim.Native.Nat.{ℕ, _-_, _^_, _%_, _≤_, _<_}
+use mathlib.Core.List.{List, _++_}
+use Prim.Native.Nat.{ℕ, _+_, _-_, _/_, _^_, _≤_, _<_}
 use native.Mathlib.Nat.{mod-lt}
 use native.Mathlib.Omega.{arith}
-use borrow.Author.Needs.{needs}
 use borrow.Author.Tests.{not-true, not-false}
-use lib.ListN.{take}
+use lib.ListN.{length, take, drop, getD, replicate}
+use lib.Seq.{length-take-le, length-front, take-at}
 use lib.Pow.{pow-pos}
-use Rattle.gf2.specs.Polynomials.{degree, monic, Modulus}
+use Rattle.gf2.specs.Polynomials.{_⊕_, degree, Degree, monic}
 use Rattle.gf2.proofs.Degrees.{degree-is}
 use Rattle.gf2.proofs.Monics.{monic-of}
 use Rattle.acceptance.specs.Keys.{reducible}
 use Rattle.basis.specs.Rows.{Independent}
-use Rattle.keys.specs.Squares.{squares, differences}
-use Rattle.keys.proofs.Decision.{irreducible-both, both-irreducible, second-rows, by-test}
+use Rattle.keys.specs.Squares.{listFrom, square, oddPart, folded, squareRows, differenceRows}
+use Rattle.keys.proofs.Decision.{irreducible-squares, irreducible-differences, both-irreducible, squares-made, differences-made, by-test}
 use Rattle.keys.proofs.Laws.{degree-from, degree-word}
+use borrow.Author.Needs.{needs}
 use Rattle.keys.proofs.irreducible.Statement.{statement}
 use Rattle.keys.proofs.irreducible.Tie as tie
 use Rattle.keys.proofs.irreducible.Reads as reads
 use Rattle.keys.proofs.irreducible.Lts as lts
-use Rattle.basis.proofs.independent.Reads as independent-reads
 use Rattle.gf2.proofs.degree.Reads as degree-reads
 use Rattle.gf2.proofs.low_bits.Reads as low-bits-reads
-use Rattle.keys.proofs.difference_rows.Reads as difference-rows-reads
+use Rattle.keys.proofs.independent_differences.Reads as independent-differences-reads
+use Rattle.keys.proofs.independent_squares.Reads as independent-squares-reads
 use Rattle.keys.proofs.square_rows.Reads as square-rows-reads
 
 degree-requires : tie.Need-degree-requires
@@ -34,7 +36,9 @@ cast-n c = search needs
 
 -- the degree as the code has it
 record Known (key k : ℕ) : Type 0 where
+  proper : 1 < key
   is : k ≡ degree key
+  of-degree : Degree key k
   low : 0 < k
   high : k < 64
 
@@ -43,60 +47,107 @@ known c =
     let key = c .before .args .key in
     let p : 0 < key = omega (arith, c .before .pre) in
     let e = c .degree .ensures in
-    record { is = e; low = rw e (degree-from 1 key (c .before .pre)); high = rw e (degree-word key p (c .before .fits .key .fits)) }
+    record { proper = c .before .pre; is = e; of-degree = rw e (degree-is key p); low = rw e (degree-from 1 key (c .before .pre)); high = rw e (degree-word key p (c .before .fits .key .fits)) }
+
+abbrev zeros : List ℕ
+zeros = replicate 32 0
+
+part-length : {key k : ℕ} → Known key k → length (take (k / 2) zeros) ≡ k / 2
+part-length {key} {k} d = length-take-le (k / 2) zeros (omega (arith, d .high))
 
 low-bits-requires : tie.Need-low-bits-requires
 low-bits-requires c κs = known c .high
 
+array-borrow-prefix-squares : tie.Need-array-borrow-prefix-squares
+array-borrow-prefix-squares c = omega (arith, known (c .before) .high)
+
+slice-aggregate-square-rows : tie.Need-slice-aggregate-square-rows
+slice-aggregate-square-rows c = sym (part-length (known (c .before .before)))
+
 square-rows-requires : tie.Need-square-rows-requires
 square-rows-requires c κs =
-    let d = known (c .before) in
-    ((d .low, omega (arith, d .high), rw (c .low-bits .ensures) (mod-lt (c .before .before .args .key) (pow-pos (c .before .degree .result)))), d .high)
+    let d = known (c .before .before) in (
+      (d .low, omega (arith, d .high), rw (c .before .low-bits .ensures) (mod-lt (c .before .before .before .args .key) (pow-pos (c .before .before .degree .result)))),
+      d .high,
+      part-length d,
+    )
 
-independent-requires : tie.Need-independent-requires
-independent-requires c κs = omega (arith, known (c .before .before) .high)
+-- the array with the squares in front
+module _ (c : tie.After-square-rows) where
+  abbrev key : ℕ
+  key = c .before .before .before .before .args .key
 
--- what the first test decides: the squares of the key
-first : (c : tie.After-independent) → let key = c .before .before .before .before .args .key in
-    (take (degree key) (c .before .square-rows .result) ≡ squares key (degree key)) × ((c .independent .result ≡ true) ↔ Independent (squares key (degree key)))
-first c =
-    let key = c .before .before .before .before .args .key in
-    let e = c .before .before .before .degree .ensures in
-    let m : monic (c .before .before .before .degree .result) (c .before .before .low-bits .result) ≡ key =
-    rw (c .before .before .low-bits .ensures, e) (monic-of (degree key) key (degree-is key (omega (arith, c .before .before .before .before .pre)))) in
-    let rows = rw (m, e) at (c .before .square-rows .ensures) in
-    (rows, rw (e, rows) at (c .independent .ensures))
+  abbrev k : ℕ
+  k = c .before .before .before .degree .result
+
+  abbrev made : List ℕ
+  made = c .square-rows .last .1 .1 .0 ++ drop (k / 2) zeros
+
+  length-made : length made ≡ 32
+  length-made = length-front zeros (c .square-rows .last .1 .1 .0) (k / 2) (c .square-rows .kept .1 .1 .0)
+
+  within : k / 2 ≤ length made
+  within = omega (arith, length-made, known (c .before .before .before) .high)
+
+  squares-are : take (k / 2) made ≡ listFrom (square key) (k - k / 2) (k / 2)
+  squares-are =
+      take-at (c .square-rows .last .1 .1 .0) (drop (k / 2) zeros) (k / 2) (c .square-rows .kept .1 .1 .0 ∙ part-length (known (c .before .before .before)))
+      ∙ c .square-rows .ensures
+      ∙ ap (λ (p : ℕ). listFrom (square p) (k - k / 2) (k / 2)) (ap (monic k) (c .before .before .low-bits .ensures) ∙ monic-of k key (known (c .before .before .before) .of-degree))
+
+  -- what the two tests decide
+  first : {r : Bool} → ((r ≡ true) ↔ Independent (listFrom (λ i. oddPart (getD (take (k / 2) made) i 0)) 0 (length (take (k / 2) made))))
+      → (r ≡ true) ↔ Independent (squareRows key (k - k / 2) (k / 2))
+  first i = rw (squares-made key (k - k / 2) (k / 2) (take (k / 2) made) squares-are) at i
+
+  second : {r : Bool} → ((r ≡ true) ↔ Independent (listFrom (λ i. folded 6 (getD (take (k / 2) made) i 0 ⊕ 2 ^ (k - k / 2 + i))) 0 (length (take (k / 2) made))))
+      → (r ≡ true) ↔ Independent (differenceRows key (k - k / 2) (k / 2))
+  second i = rw (differences-made key (k - k / 2) (k / 2) (take (k / 2) made) squares-are) at i
+
+array-borrow-prefix-rows : tie.Need-array-borrow-prefix-rows
+array-borrow-prefix-rows c = within (c .before)
+
+slice-aggregate-independent-squares : tie.Need-slice-aggregate-independent-squares
+slice-aggregate-independent-squares c = sym (length-take-le _ (made (c .before .before)) (within (c .before .before)))
+
+independent-squares-requires : tie.Need-independent-squares-requires
+independent-squares-requires c κs = search needs
 
 returns : tie.Need-returns
 returns c =
-    let s = c .before .before .before .before .before in
-    let key = s .args .key in
-    let no = not-true (c .before .independent .result) (c .if1 .taken) in
-    by-test (reducible key) false (λ f. absurd (false≢true f))
-    (λ e. sym no ∙ first (c .before) .1 .1 (irreducible-both key (s .pre) (degree-from 1 key (s .pre)) e .0))
+    let m = c .before .before .before .before .before in
+    let d = known (m .before .before .before) in
+    let no = not-true (c .before .before .independent-squares .result) (c .if1 .taken) in
+    by-test (reducible (key m)) false (λ f. absurd (false≢true f))
+    (λ e. sym no ∙ first m (c .before .before .independent-squares .ensures) .1 (irreducible-squares (key m) (k m) (d .proper) (d .is) (d .low) (d .high) e))
 
-difference-rows-requires : tie.Need-difference-rows-requires
-difference-rows-requires c κs = let d = known (c .before .before .before .before) in (d .low, omega (arith, d .high))
+array-borrow-prefix-squares-2 : tie.Need-array-borrow-prefix-squares-2
+array-borrow-prefix-squares-2 c = within (c .before .before .before .before .before)
 
-sub-independent : tie.Need-sub-independent
-sub-independent c = known (c .before .before .before .before .before) .low
+slice-aggregate-independent-differences : tie.Need-slice-aggregate-independent-differences
+slice-aggregate-independent-differences c = let m = c .before .before .before .before .before .before in sym (length-take-le _ (made m) (within m))
 
-independent-requires-2 : tie.Need-independent-requires-2
-independent-requires-2 c κs = omega (arith, known (c .before .before .before .before .before) .high)
+cast-independent-differences : tie.Need-cast-independent-differences
+cast-independent-differences c = search needs
+
+sub-independent-differences : tie.Need-sub-independent-differences
+sub-independent-differences c = search needs
+
+independent-differences-requires : tie.Need-independent-differences-requires
+independent-differences-requires c κs =
+    let m = c .before .before .before .before .before .before in
+    omega (arith, length-take-le (k m / 2) (made m) (within m), known (m .before .before .before) .high)
 
 returns-2 : tie.Need-returns-2
 returns-2 c =
-    let s = c .before .before .before .before .before .before .before in
-    let key = s .args .key in
-    let deg = degree-from 1 key (s .pre) in
-    let yes = not-false (c .before .before .before .independent .result) (c .before .before .if1 .left) in
-    let one = first (c .before .before .before) in
-    let e = c .before .before .before .before .before .before .degree .ensures in
-    let rows = rw e at (c .before .difference-rows .ensures) ∙ second-rows key (degree key) (c .before .before .before .before .square-rows .result) (one .0) in
-    let two = rw (e, rows) at (c .independent2 .ensures) in
-    by-test (reducible key) (c .independent2 .result)
-    (λ t. both-irreducible key (s .pre) deg (one .1 .0 yes, two .0 t))
-    (λ f. two .1 (irreducible-both key (s .pre) deg f .1))
+    let m = c .before .before .before .before .before .before .before .before in
+    let d = known (m .before .before .before) in
+    let yes = not-false (c .before .before .before .before .before .independent-squares .result) (c .before .before .before .if1 .left) in
+    let one = first m (c .before .before .before .before .before .independent-squares .ensures) .0 yes in
+    let two = second m (c .before .independent-differences .ensures) in
+    by-test (reducible (key m)) (c .before .independent-differences .result)
+    (λ t. both-irreducible (key m) (k m) (d .proper) (d .is) (d .low) (d .high) one (two .0 t))
+    (λ e. two .1 (irreducible-differences (key m) (k m) (d .proper) (d .is) (d .low) (d .high) e))
 
 pub irreducible-spec : {M : Type 1} → statement M
 irreducible-spec =
@@ -105,10 +156,16 @@ irreducible-spec =
     degree-requires
     cast-n
     low-bits-requires
+    array-borrow-prefix-squares
+    slice-aggregate-square-rows
     square-rows-requires
-    independent-requires
+    array-borrow-prefix-rows
+    slice-aggregate-independent-squares
+    independent-squares-requires
     returns
-    difference-rows-requires
-    sub-independent
-    independent-requires-2
+    array-borrow-prefix-squares-2
+    slice-aggregate-independent-differences
+    cast-independent-differences
+    sub-independent-differences
+    independent-differences-requires
     returns-2)

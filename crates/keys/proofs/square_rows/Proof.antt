@@ -1,52 +1,80 @@
 use mathlib.Core.Path.{_≡_, refl, sym, ap, _∙_}
-use Prim.Native.Nat.{_+_, _-_, _*_, _^_, _≤_, _<_}
-use native.Mathlib.Nat.{zero-add}
+use mathlib.Core.List.{_++_}
+use Prim.Native.Nat.{_+_, _-_, _*_, _/_, _%_, _^_, _≤_}
 use native.Mathlib.Omega.{arith}
-use borrow.Author.Needs.{needs}
-use lib.ListN.{length, take, length-set}
+use lib.ListN.{length, drop}
+use lib.Pow.{pow-lt}
 use Rattle.gf2.specs.Polynomials.{monic}
 use Rattle.gf2.proofs.Monics.{monic-pos}
-use Rattle.gf2.proofs.Steps.{residue-lt, residue-one}
-use Rattle.keys.specs.Squares.{listFrom, square, squares}
-use Rattle.keys.proofs.Filling.{fill, next-square}
+use Rattle.gf2.proofs.Steps.{residue-lt, residue-small, shifted-one}
+use Rattle.keys.specs.Squares.{listFrom, square}
+use Rattle.keys.proofs.Filling.{length-filled, fill, fill-whole, next-square}
 use Rattle.keys.proofs.square_rows.Statement.{statement}
 use Rattle.keys.proofs.square_rows.Tie as tie
 use Rattle.keys.proofs.square_rows.Reads as reads
 use Rattle.keys.proofs.square_rows.Lts as lts
 use Rattle.gf2.proofs.step.Reads as step-reads
 
+-- w is the square before the next row's
 abbrev Inv-loop : tie.InvT-loop
-Inv-loop k low rows₀ w₀ i₀ rows w i =
-    (i ≤ k) × (length rows ≡ 64) × (w ≡ square (monic k low) i) × (take i rows ≡ squares (monic k low) i)
+Inv-loop k low rows₀ h w₀ i₀ i-end rows w i =
+    (i ≤ length rows₀) × (w ≡ square (monic k low) (h - 1 + i)) × (rows ≡ listFrom (square (monic k low)) h i ++ drop i rows₀)
 
 abbrev μ-loop : tie.MeasureT-loop
-μ-loop k low rows₀ w₀ i₀ rows w i = k - i
+μ-loop k low rows₀ h w₀ i₀ i-end rows w i = length rows₀ - i
+
+sub-h : tie.Need-sub-h Inv-loop μ-loop
+sub-h c = omega arith
+
+mul-w : tie.Need-mul-w Inv-loop μ-loop
+mul-w c = omega arith
+
+sub-w : tie.Need-sub-w Inv-loop μ-loop
+sub-w c = omega arith
+
+cast-w : tie.Need-cast-w Inv-loop μ-loop
+cast-w c = omega arith
+
+shl-w : tie.Need-shl-w Inv-loop μ-loop
+shl-w c = omega arith
+
+-- the square of t^(h - 1) is below t^k
+first : (c : tie.After-slice-known Inv-loop μ-loop) → let a = c .before .args in
+    1 * 2 ^ (2 * (a .k - a .k / 2) - 2) % 2 ^ 64 ≡ square (monic (a .k) (a .low)) (a .k - a .k / 2 - 1 + 0)
+unfolding square
+first c =
+    let a = c .before .args in
+    let e : 2 * (a .k - a .k / 2 - 1 + 0) ≡ 2 * (a .k - a .k / 2) - 2 = omega arith in
+    shifted-one (2 * (a .k - a .k / 2) - 2) (omega arith)
+    ∙ rw e (sym (residue-small (a .k) (a .low) (c .before .pre .0 .2) (2 ^ (2 * (a .k - a .k / 2) - 2)) (pow-lt (omega arith))))
 
 loop-holds : tie.Need-loop-holds Inv-loop μ-loop
-unfolding square squares listFrom
-loop-holds c = (omega arith, search needs, sym (residue-one (c .args .k) (c .args .low) (c .pre .0)), refl)
+unfolding listFrom
+loop-holds c = (omega arith, first c, refl)
 
-cast-rows : tie.Need-cast-rows Inv-loop μ-loop
-cast-rows c = omega arith
-
-mul-rows : tie.Need-mul-rows Inv-loop μ-loop
-mul-rows c = omega arith
-
-array-write-rows : tie.Need-array-write-rows Inv-loop μ-loop
-array-write-rows c = omega arith
+same : (c : tie.At-loop Inv-loop μ-loop) → length (c .loop .rows) ≡ length (c .before .before .args .rows .now)
+same c =
+    let a = c .before .before .args in
+    ap length (c .loop .inv .2) ∙ length-filled (square (monic (a .k) (a .low))) (a .k - a .k / 2) (c .loop .i) (a .rows .now) (c .loop .inv .0)
 
 step-requires : tie.Need-step-requires Inv-loop μ-loop
 unfolding square
 step-requires c κs =
-    let a = c .before .before .args in
-    let m = c .before .before .pre .0 in
-    (m, rw (c .before .loop .inv .2) (residue-lt (a .k) (a .low) (m .2) (2 ^ (2 * c .before .loop .i))), omega arith)
+    let a = c .before .before .before .args in
+    let m = c .before .before .before .pre .0 in
+    (m, rw (c .before .loop .inv .1) (residue-lt (a .k) (a .low) (m .2) _), omega arith)
 
 step-requires-2 : tie.Need-step-requires-2 Inv-loop μ-loop
 step-requires-2 c κs =
-    let a = c .before .before .before .args in
-    let m = c .before .before .before .pre .0 in
+    let a = c .before .before .before .before .args in
+    let m = c .before .before .before .before .pre .0 in
     (m, rw (c .step .ensures) (residue-lt (a .k) (a .low) (m .2) (c .before .before .loop .w * 2 + 0)), omega arith)
+
+mul-rows : tie.Need-mul-rows Inv-loop μ-loop
+mul-rows c = omega arith
+
+slice-write-rows : tie.Need-slice-write-rows Inv-loop μ-loop
+slice-write-rows c = omega (arith, same (c .before .before .before))
 
 add-i : tie.Need-add-i Inv-loop μ-loop
 add-i c = omega arith
@@ -55,23 +83,29 @@ loop-less : tie.Need-loop-less Inv-loop μ-loop
 loop-less c = omega arith
 
 loop-again : tie.Need-loop-again Inv-loop μ-loop
-unfolding squares
 loop-again c =
-    let a = c .before .before .before .before .args in
-    let m = c .before .before .before .before .pre .0 in
+    let a = c .before .before .before .before .before .args in
+    let m = c .before .before .before .before .before .pre .0 in
     let l = c .before .before .before .loop in
-    let p = monic (a .k) (a .low) in (
+    let p = monic (a .k) (a .low) in
+    let h = a .k - a .k / 2 in
+    let next : c .step2 .result ≡ square p (h - 1 + l .i + 1) = c .step2 .ensures ∙ rw (c .before .step .ensures) (next-square p (monic-pos (a .k) (a .low) (m .2)) (h - 1 + l .i) (l .w) (l .inv .1)) in
+    let e₁ : h - 1 + l .i + 1 ≡ h - 1 + (l .i + 1) = omega arith in
+    let e₂ : h - 1 + l .i + 1 ≡ h + l .i = omega arith in (
       omega arith,
-      length-set (l .rows) (l .i) (l .w) ∙ l .inv .1,
-      c .step2 .ensures ∙ rw (c .before .step .ensures) (next-square p (monic-pos (a .k) (a .low) (m .2)) (l .i) (l .w) (l .inv .2)),
-      fill (square p) 0 (l .i) (l .w) (l .rows) (omega arith) (l .inv .3) (l .inv .2 ∙ ap (square p) (sym (zero-add (l .i)))),
+      next ∙ ap (square p) e₁,
+      rw (l .inv .2) (fill (square p) h (l .i) (a .rows .now) (c .step2 .result) (omega arith) (next ∙ ap (square p) e₂)),
     )
+
+same-length : tie.Need-same-length Inv-loop μ-loop
+same-length c = same (c .before)
 
 returns : tie.Need-returns Inv-loop μ-loop
 returns c =
+    let a = c .before .before .before .args in
     let l = c .before .loop in
-    let e : l .i ≡ c .before .before .args .k = omega arith in
-    rw e at (l .inv .3)
+    let p = monic (a .k) (a .low) in
+    l .inv .2 ∙ fill-whole (square p) (a .k - a .k / 2) (l .i) (a .rows .now) (omega arith) ∙ ap (listFrom (square p) (a .k - a .k / 2)) (c .before .before .before .pre .2)
 
 pub square-rows-spec : {M : Type 1} → statement M
 square-rows-spec =
@@ -79,13 +113,18 @@ square-rows-spec =
     (tie.spec
     Inv-loop
     μ-loop
+    sub-h
+    mul-w
+    sub-w
+    cast-w
+    shl-w
     loop-holds
-    cast-rows
-    mul-rows
-    array-write-rows
     step-requires
     step-requires-2
+    mul-rows
+    slice-write-rows
     add-i
     loop-less
     loop-again
+    same-length
     returns)

@@ -1,0 +1,109 @@
+use mathlib.Core.Path.{_≡_, refl, sym, ap, ap₂, _∙_}
+use mathlib.Core.List.{List, _++_}
+use Prim.Native.Nat.{ℕ, _+_, _-_, _^_, _≤_}
+use borrow.Author.Needs.{needs}
+use native.Mathlib.Nat.{zero-add}
+use native.Mathlib.Omega.{arith}
+use lib.ListN.{length, drop, getD}
+use Rattle.gf2.specs.Polynomials.{_⊕_}
+use Rattle.gf2.proofs.Steps.{shifted-one}
+use Rattle.keys.specs.Squares.{listFrom, folded}
+use Rattle.keys.proofs.Filling.{length-filled, filled-at, fill, fill-whole}
+use Rattle.keys.proofs.independent_differences.Statement.{statement}
+use Rattle.keys.proofs.independent_differences.Tie as tie
+use Rattle.keys.proofs.independent_differences.Reads as reads
+use Rattle.keys.proofs.independent_differences.Lts as lts
+use Rattle.basis.proofs.independent.Reads as independent-reads
+use Rattle.keys.proofs.fold.Reads as fold-reads
+
+-- row j in the end
+abbrev value : ℕ → List ℕ → ℕ → ℕ
+value h rows₀ j = folded 6 (getD rows₀ j 0 ⊕ 2 ^ (h + j))
+
+abbrev Inv-loop : tie.InvT-loop
+Inv-loop rows₀ h i₀ i-end rows i = (i ≤ length rows₀) × (rows ≡ listFrom (value h rows₀) 0 i ++ drop i rows₀)
+
+abbrev μ-loop : tie.MeasureT-loop
+μ-loop rows₀ h i₀ i-end rows i = length rows₀ - i
+
+loop-holds : tie.Need-loop-holds Inv-loop μ-loop
+unfolding listFrom
+loop-holds c = (omega arith, refl)
+
+-- the buffer keeps its length
+same : (c : tie.At-loop Inv-loop μ-loop) → length (c .loop .rows) ≡ length (c .before .before .args .rows .now)
+same c =
+    let a = c .before .before .args in
+    ap length (c .loop .inv .1) ∙ length-filled (value (a .h) (a .rows .now)) 0 (c .loop .i) (a .rows .now) (c .loop .inv .0)
+
+add-power : tie.Need-add-power Inv-loop μ-loop
+add-power c = omega arith
+
+shl-power : tie.Need-shl-power Inv-loop μ-loop
+shl-power c = omega arith
+
+mul-fold : tie.Need-mul-fold Inv-loop μ-loop
+mul-fold c = omega arith
+
+slice-read-fold : tie.Need-slice-read-fold Inv-loop μ-loop
+slice-read-fold c = omega (arith, same (c .before .before))
+
+fold-requires : tie.Need-fold-requires Inv-loop μ-loop
+fold-requires c κs = search needs
+
+mul-rows : tie.Need-mul-rows Inv-loop μ-loop
+mul-rows c = omega arith
+
+slice-write-rows : tie.Need-slice-write-rows Inv-loop μ-loop
+slice-write-rows c = omega (arith, same (c .before .before .before))
+
+add-i : tie.Need-add-i Inv-loop μ-loop
+add-i c = omega arith
+
+loop-less : tie.Need-loop-less Inv-loop μ-loop
+loop-less c = omega arith
+
+loop-again : tie.Need-loop-again Inv-loop μ-loop
+unfolding _⊕_
+loop-again c =
+    let a = c .before .before .before .before .before .args in
+    let l = c .before .before .before .loop in
+    let f : ℕ → ℕ = value (a .h) (a .rows .now) in
+    let row : getD (l .rows) (l .i) 0 ≡ getD (a .rows .now) (l .i) 0 = ap (λ (x : List ℕ). getD x (l .i) 0) (l .inv .1) ∙ filled-at f 0 (l .i) (a .rows .now) (omega arith) in
+    let e : c .fold .result ≡ f (l .i) = c .fold .ensures ∙ ap₂ (λ (x y : ℕ). folded 6 (x ⊕ y)) row (shifted-one (a .h + l .i) (omega arith)) in
+    (omega arith, rw (l .inv .1) (fill f 0 (l .i) (a .rows .now) (c .fold .result) (omega arith) (e ∙ ap f (sym (zero-add (l .i))))))
+
+independent-requires : tie.Need-independent-requires Inv-loop μ-loop
+independent-requires c κs = search needs
+
+same-length : tie.Need-same-length Inv-loop μ-loop
+same-length c = c .before .before .independent .kept .0 ∙ same (c .before .before .before .before .before)
+
+returns : tie.Need-returns Inv-loop μ-loop
+returns c =
+    let a = c .before .before .before .before .before .before .before .args in
+    let l = c .before .before .before .before .before .loop in
+    let f : ℕ → ℕ = value (a .h) (a .rows .now) in
+    let e : l .rows ≡ listFrom f 0 (length (a .rows .now)) = l .inv .1 ∙ fill-whole f 0 (l .i) (a .rows .now) (omega arith) in
+    rw e at (c .before .before .independent .ensures)
+
+pub independent-differences-spec : {M : Type 1} → statement M
+independent-differences-spec =
+    tie.close
+    (tie.spec
+    Inv-loop
+    μ-loop
+    loop-holds
+    add-power
+    shl-power
+    mul-fold
+    slice-read-fold
+    fold-requires
+    mul-rows
+    slice-write-rows
+    add-i
+    loop-less
+    loop-again
+    independent-requires
+    same-length
+    returns)

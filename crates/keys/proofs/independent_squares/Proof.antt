@@ -1,0 +1,93 @@
+use mathlib.Core.Path.{_≡_, refl, sym, ap, _∙_}
+use mathlib.Core.List.{List, _++_}
+use Prim.Native.Nat.{ℕ, _+_, _-_, _≤_}
+use borrow.Author.Needs.{needs}
+use native.Mathlib.Nat.{zero-add}
+use native.Mathlib.Omega.{arith}
+use lib.ListN.{length, drop, getD}
+use Rattle.keys.specs.Squares.{listFrom, oddPart}
+use Rattle.keys.proofs.Filling.{length-filled, filled-at, fill, fill-whole}
+use Rattle.keys.proofs.independent_squares.Statement.{statement}
+use Rattle.keys.proofs.independent_squares.Tie as tie
+use Rattle.keys.proofs.independent_squares.Reads as reads
+use Rattle.keys.proofs.independent_squares.Lts as lts
+use Rattle.basis.proofs.independent.Reads as independent-reads
+use Rattle.keys.proofs.odd_part.Reads as odd-part-reads
+
+abbrev Inv-loop : tie.InvT-loop
+Inv-loop rows₀ i₀ i-end rows i = (i ≤ length rows₀) × (rows ≡ listFrom (λ j. oddPart (getD rows₀ j 0)) 0 i ++ drop i rows₀)
+
+abbrev μ-loop : tie.MeasureT-loop
+μ-loop rows₀ i₀ i-end rows i = length rows₀ - i
+
+loop-holds : tie.Need-loop-holds Inv-loop μ-loop
+unfolding listFrom
+loop-holds c = (omega arith, refl)
+
+-- the buffer keeps its length
+same : (c : tie.At-loop Inv-loop μ-loop) → length (c .loop .rows) ≡ length (c .before .before .args .rows .now)
+same c =
+    let rows₀ = c .before .before .args .rows .now in
+    ap length (c .loop .inv .1) ∙ length-filled (λ j. oddPart (getD rows₀ j 0)) 0 (c .loop .i) rows₀ (c .loop .inv .0)
+
+mul-odd-part : tie.Need-mul-odd-part Inv-loop μ-loop
+mul-odd-part c = omega arith
+
+slice-read-odd-part : tie.Need-slice-read-odd-part Inv-loop μ-loop
+slice-read-odd-part c = omega (arith, same (c .before .before))
+
+odd-part-requires : tie.Need-odd-part-requires Inv-loop μ-loop
+odd-part-requires c κs = search needs
+
+mul-rows : tie.Need-mul-rows Inv-loop μ-loop
+mul-rows c = omega arith
+
+slice-write-rows : tie.Need-slice-write-rows Inv-loop μ-loop
+slice-write-rows c = omega (arith, same (c .before .before .before))
+
+add-i : tie.Need-add-i Inv-loop μ-loop
+add-i c = omega arith
+
+loop-less : tie.Need-loop-less Inv-loop μ-loop
+loop-less c = omega arith
+
+loop-again : tie.Need-loop-again Inv-loop μ-loop
+loop-again c =
+    let rows₀ = c .before .before .before .before .before .args .rows .now in
+    let l = c .before .before .before .loop in
+    let f : ℕ → ℕ = λ j. oddPart (getD rows₀ j 0) in
+    let e = ap (λ (x : List ℕ). oddPart (getD x (l .i) 0)) (l .inv .1) ∙ ap oddPart (filled-at f 0 (l .i) rows₀ (omega arith)) in
+    (omega arith, rw (l .inv .1) (fill f 0 (l .i) rows₀ (c .odd-part .result) (omega arith) (c .odd-part .ensures ∙ e ∙ ap f (sym (zero-add (l .i))))))
+
+independent-requires : tie.Need-independent-requires Inv-loop μ-loop
+independent-requires c κs = search needs
+
+same-length : tie.Need-same-length Inv-loop μ-loop
+same-length c = c .before .before .independent .kept .0 ∙ same (c .before .before .before .before .before)
+
+returns : tie.Need-returns Inv-loop μ-loop
+returns c =
+    let rows₀ = c .before .before .before .before .before .before .before .args .rows .now in
+    let l = c .before .before .before .before .before .loop in
+    let f : ℕ → ℕ = λ j. oddPart (getD rows₀ j 0) in
+    let e : l .rows ≡ listFrom f 0 (length rows₀) = l .inv .1 ∙ fill-whole f 0 (l .i) rows₀ (omega arith) in
+    rw e at (c .before .before .independent .ensures)
+
+pub independent-squares-spec : {M : Type 1} → statement M
+independent-squares-spec =
+    tie.close
+    (tie.spec
+    Inv-loop
+    μ-loop
+    loop-holds
+    mul-odd-part
+    slice-read-odd-part
+    odd-part-requires
+    mul-rows
+    slice-write-rows
+    add-i
+    loop-less
+    loop-again
+    independent-requires
+    same-length
+    returns)
