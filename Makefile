@@ -1,6 +1,6 @@
 .PHONY: run test conformance benchmark fmt libraries
 
-LIBRARIES = bench site
+LIBRARIES = bench site keyholder
 ROUNDS = 1
 
 # The main job on an embedded sample: the printing program reads a key and a file and prints the file's mark.

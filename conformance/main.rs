@@ -1,12 +1,15 @@
 //! Compares every public C function with the second implementation of reference.rs, refusals and buffers included.
 //! Usage: conformance [rounds]. The last line counts the comparisons: "N passed, 0 failed".
 mod compose;
+mod draw;
 mod generator;
 #[path = "../bindings/rust/gfp.rs"]
 mod gfp;
 mod keys;
 mod marks;
 mod reference;
+mod search;
+mod sheets;
 
 /// Counts what was compared, and reports the first differences.
 pub struct Tally {
@@ -30,8 +33,14 @@ impl Tally {
 fn main() {
     let rounds = std::env::args().nth(1).map_or(1, |n| n.parse().expect("a number of rounds"));
     let mut tally = Tally { passed: 0, failed: 0 };
-    let suites: [(&str, fn(&mut Tally, u64)); 3] =
-        [("keys", keys::run), ("marks and tables", marks::run), ("joining, page change, lists of calls", compose::run)];
+    let suites: [(&str, fn(&mut Tally, u64)); 6] = [
+        ("keys", keys::run),
+        ("marks and tables", marks::run),
+        ("joining, page change, lists of calls", compose::run),
+        ("search", search::run),
+        ("page sheets", sheets::run),
+        ("drawing", draw::run),
+    ];
     for (name, suite) in suites {
         let before = tally.passed + tally.failed;
         suite(&mut tally, rounds);

@@ -13,6 +13,11 @@ mod raw {
         pub fn gfp_join_behind(key: u64, fingerprint: *mut u64, length: *mut u64, other: u64, size: u64) -> u32;
         pub fn gfp_join_in_front(key: u64, fingerprint: *mut u64, length: *mut u64, other: u64, size: u64) -> u32;
         pub fn gfp_replace_page(key: u64, fingerprint: *mut u64, length: *mut u64, place: u64, old: *const u8, old_length: usize, new: *const u8, new_length: usize) -> u32;
+        pub fn gfp_search(key: u64, text: *const u8, text_length: usize, pattern: *const u8, pattern_length: usize, words: *mut u32, words_length: usize, places: *mut u32, alarms: *mut u32) -> u32;
+        pub fn gfp_write_sheet(key: u64, page_size: u64, file: *const u8, file_length: usize, sheet: *mut u8, sheet_length: usize) -> u32;
+        pub fn gfp_read_sheet(sheet: *const u8, sheet_length: usize, key: *mut u64, length: *mut u64, page_size: *mut u64, pages: *mut u64, fingerprint: *mut u64) -> u32;
+        pub fn gfp_check_file(sheet: *const u8, sheet_length: usize, file: *const u8, file_length: usize, outcome: *mut u32, page: *mut u32) -> u32;
+        pub fn gfp_draw(degree: u64, element: u64, key: *mut u64) -> u32;
     }
 }
 
@@ -88,4 +93,65 @@ pub fn make_table(key: u64, words: &mut [u64]) -> Result<(), Refusal> {
 
 pub fn test_table(key: u64, words: &[u64]) -> Result<(), Refusal> {
     answer(unsafe { raw::gfp_test_table(key, words.as_ptr(), words.len()) }, ())
+}
+
+/// The number of places and of false alarms.
+#[derive(Clone, Copy, Debug, PartialEq, Eq)]
+pub struct Counts {
+    pub places: u32,
+    pub alarms: u32,
+}
+
+/// The places of the pattern in the text, the first ones into `words`.
+pub fn search(key: u64, text: &[u8], pattern: &[u8], words: &mut [u32]) -> Result<Counts, Refusal> {
+    let mut counts = Counts { places: 0, alarms: 0 };
+    let number = unsafe {
+        raw::gfp_search(key, text.as_ptr(), text.len(), pattern.as_ptr(), pattern.len(), words.as_mut_ptr(), words.len(), &mut counts.places, &mut counts.alarms)
+    };
+    answer(number, counts)
+}
+
+/// Writes the page sheet of a file: 27 + 8 × pages bytes.
+pub fn write_sheet(key: u64, page_size: u64, file: &[u8], sheet: &mut [u8]) -> Result<(), Refusal> {
+    answer(unsafe { raw::gfp_write_sheet(key, page_size, file.as_ptr(), file.len(), sheet.as_mut_ptr(), sheet.len()) }, ())
+}
+
+/// The numbers of a page sheet.
+#[derive(Clone, Copy, Debug, Default, PartialEq, Eq)]
+pub struct Sheet {
+    pub key: u64,
+    pub length: u64,
+    pub page_size: u64,
+    pub pages: u64,
+    pub fingerprint: u64,
+}
+
+pub fn read_sheet(sheet: &[u8]) -> Result<Sheet, Refusal> {
+    let mut x = Sheet::default();
+    let number = unsafe {
+        raw::gfp_read_sheet(sheet.as_ptr(), sheet.len(), &mut x.key, &mut x.length, &mut x.page_size, &mut x.pages, &mut x.fingerprint)
+    };
+    answer(number, x)
+}
+
+/// The answer of a check.
+#[derive(Clone, Copy, Debug, PartialEq, Eq)]
+pub enum Check {
+    Same,
+    /// The first page whose fingerprint differs, counted from 0.
+    Page(u32),
+    OtherLength,
+}
+
+pub fn check_file(sheet: &[u8], file: &[u8]) -> Result<Check, Refusal> {
+    let (mut outcome, mut page) = (0, 0);
+    let number = unsafe { raw::gfp_check_file(sheet.as_ptr(), sheet.len(), file.as_ptr(), file.len(), &mut outcome, &mut page) };
+    answer(number, [Check::Same, Check::Page(page), Check::OtherLength][outcome as usize])
+}
+
+/// The key of a degree that an element draws.
+pub fn draw(degree: u64, element: u64) -> Result<u64, Refusal> {
+    let mut key = 0;
+    let number = unsafe { raw::gfp_draw(degree, element, &mut key) };
+    answer(number, key)
 }

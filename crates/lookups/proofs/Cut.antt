@@ -1,12 +1,12 @@
 -- The cut: what stands at t^k and above in a number is cut into groups of w bits, and each group is replaced by its word of the table.
 -- For every degree and every width of group.
-use mathlib.Core.Path.{_≡_, refl, sym, ap, ap₂, _∙_}
+use mathlib.Core.Path.{_≡_, sym, ap, ap₂, _∙_}
 use mathlib.Core.List.{List}
 use Prim.Native.Nat.{ℕ, zero, suc, _+_, _-_, _*_, _/_, _%_, _^_, _≤_, _<_}
 use native.Mathlib.Nat.{lt-of-lt-of-le, add-zero, zero-add, add-comm, mul-comm, mod-eq-of-lt, mul-zero, mul-suc, mod-lt, zero-mul}
 use native.Mathlib.Omega.{arith}
-use lib.Arith.{lt-one, digits-lt, digits-div, digits-mod}
-use lib.ListN.{length, getD}
+use lib.Arith.{lt-one, digits-lt}
+use lib.ListN.{getD}
 use lib.Pow.{pow-pos, pow-mono, pow-add, shr-lt, shr-shr, split, high, low, mod-pow-add}
 use Rattle.gf2.specs.Polynomials.{_⊕_, degree, rem}
 use Rattle.gf2.proofs.Sums.{⊕-append, ⊕-shl, ⊕-comm, ⊕-assoc, ⊕-zero}

@@ -1,7 +1,7 @@
 -- Laws of feeding a part by pieces: some bytes at a time, and in runs that are joined.
 use mathlib.Core.Path.{_≡_, refl, sym, ap, ap₂, _∙_}
 use mathlib.Core.List.{List, [], _∷_, _++_}
-use Prim.Native.Nat.{ℕ, zero, suc, _+_, _-_, _*_, _/_, _%_, _^_, _≤_, _<_}
+use Prim.Native.Nat.{ℕ, _+_, _-_, _*_, _^_, _≤_, _<_}
 use native.Mathlib.Nat.{le-refl, mod-eq-of-lt}
 use native.Mathlib.Numerals.{add-one}
 use native.Mathlib.Omega.{arith}
@@ -11,7 +11,7 @@ use Rattle.gf2.specs.Polynomials.{_⊕_, _⊗_, degree, monic, rem}
 use Rattle.gf2.proofs.Sums.{⊕-lt}
 use Rattle.gf2.proofs.Products.{⊗-pow}
 use Rattle.gf2.proofs.Residues.{rem-⊕, rem-small}
-use Rattle.gf2.proofs.Powers.{rem-rem, rem-shl, rem-⊗-right}
+use Rattle.gf2.proofs.Powers.{rem-shl, rem-⊗-right}
 use Rattle.gf2.proofs.Monics.{monic-pos, monic-degree}
 use Rattle.multiples.proofs.Doubling.{rem-below}
 use Rattle.files.specs.Files.{bits, valueFrom}

@@ -1,7 +1,7 @@
 -- What the inner functions promise of a part of the words.
 use mathlib.Core.Path.{_≡_}
 use mathlib.Core.List.{List}
-use Prim.Native.Nat.{ℕ, _+_, _≤_, _<_}
+use Prim.Native.Nat.{ℕ, _+_, _<_}
 use lib.ListN.{getD}
 use Rattle.gf2.specs.Polynomials.{_⊕_, _⊗_, rem}
 

@@ -8,6 +8,7 @@ use Rattle.files.specs.declared.Mark.{Mark}
 use Rattle.files.specs.Files.{fingerprint}
 use Rattle.keys.specs.Testing.{testKey}
 use Rattle.compose.specs.Composing.{joinBehind}
+use Rattle.search.specs.Searching.{search}
 use Rattle.draw.specs.Drawing.{draw}
 use Rattle.book.specs.Confusions.{Burst}
 
@@ -37,6 +38,8 @@ Readings =
     × (fingerprint 0x11B zeroFile ≡ 0x5E)
     -- joining 5A and 59, one byte each
     × (stateOf (joinBehind 0x11B (mark 0x5A 1) (mark 0x59 1)) ≡ mark 0x9D 2)
+    -- searching: pattern 01 1B in 00 00
+    × (search 0x11B zeroFile keyFile ≡ Done (record { places = 0; alarms = 1 }))
     -- the same fingerprint, across 9 bits, one more than k
     × (fingerprint 0x11B keyFile ≡ 0x5E)
     × Burst 9 zeroFile keyFile

@@ -1,7 +1,6 @@
 -- What the call answers, by the tests that it has made: for the proof of `search`.
-use mathlib.Core.Path.{_≡_, refl, sym, ap, ap₂, _∙_}
-use mathlib.Core.Bool.{true, false}
-use mathlib.Core.List.{List, [], _∷_, _++_}
+use mathlib.Core.Path.{_≡_, sym, ap, _∙_}
+use mathlib.Core.List.{List, [], _∷_}
 use Prim.Native.Nat.{ℕ, _+_, _-_, _≤_, _<_}
 use native.Mathlib.Omega.{arith}
 use lib.Dec.{eqb}
@@ -13,7 +12,7 @@ use Rattle.refusals.specs.Refusals.{Answer, Done, Refused, stateOf, Test, _⇒_
 use Rattle.keys.specs.Testing.{testKey}
 use Rattle.keys.proofs.Laws.{Passed, first-passed, first-refused}
 use Rattle.search.specs.declared.Counts.{Counts}
-use Rattle.search.specs.Searching.{windows, passing, places, alarms, isPlace, isAlarm, counts, overlay, searchTests, search, wordsAfter}
+use Rattle.search.specs.Searching.{windows, passing, places, alarms, counts, overlay, searchTests, search, wordsAfter}
 
 -- numbers 7 and 11, after those of the key
 module _ {S A : Type 0} (key : ℕ) (text pattern : List ℕ) (s : S) (v : A) where

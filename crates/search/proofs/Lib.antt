@@ -1,5 +1,6 @@
-pub mod Windows
-pub mod Residues
+pub mod Comparing
 pub mod Numbers
 pub mod Blocks
 pub mod Calls
+pub mod Places
+pub mod Readings

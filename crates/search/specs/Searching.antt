@@ -3,18 +3,15 @@ use mathlib.Core.Bool.{Bool, true, false, _&&_, not}
 use mathlib.Core.List.{List, [], _∷_, _++_}
 use Prim.Native.Nat.{ℕ, zero, suc, _+_, _-_}
 use lib.Dec.{eqb}
-use lib.ListN.{length, take, drop}
+use lib.ListN.{length}
 use Rattle.refusals.specs.declared.Refusal.the-variants.{TooLong, EmptyPattern}
 use Rattle.refusals.specs.Refusals.{Answer, Done, Refused, stateOf, Test, _⇒_, firstOf, passes}
 use Rattle.acceptance.specs.Keys.{keyTests}
 use Rattle.files.specs.Files.{fingerprint}
+use Rattle.windows.specs.Rolling.{window}
 use Rattle.search.specs.declared.Counts.{Counts}
 use Rattle.search.specs.declared.Searched.{Searched}
 use Rattle.search.specs.declared.Searched.the-variants as cases
-
--- the window of m bytes at the place i
-unfoldable pub window : ℕ → List ℕ → ℕ → List ℕ
-window m text i = take m (drop i text)
 
 -- how many windows as long as the pattern the text has: none where the pattern is longer
 unfoldable pub windows : List ℕ → List ℕ → ℕ

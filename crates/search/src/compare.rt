@@ -5,9 +5,10 @@ ghost use Prim.Native.Nat.{_+_, _≤_, _<_};
 ghost use lib.ListN.{length};
 ghost use lib.Seq.{sets};
 ghost use Rattle.search.specs.Searching.{passing};
-ghost use Rattle.search.specs.Rolling.{flaggedPlace, flaggedAlarm};
+ghost use Rattle.search.specs.Flagged.{flaggedPlace, flaggedAlarm};
 
-// The windows of a block, added to what was found before: a place is written behind the earlier ones, as far as the words reach.
+// The flagged windows of a block, added to what was found before. The comparison leaves off at the first byte that differs; a place is written
+// behind the earlier ones, as far as the words reach.
 pub fn compare(
     text: &[u8],
     pattern: &[u8],

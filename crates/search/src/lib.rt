@@ -1,18 +1,18 @@
 // The search for a pattern in a text by a rolling fingerprint.
 use keys::Tested;
 use refusals::Refusal;
-use rolling::Setup;
+use windows::flags;
+use windows::rolling;
+use windows::rolling::Setup;
 
-mod rolling; // residues of windows, by tables
-mod flags; // which windows have the pattern's residue
-mod compare; // the bytes of those windows against the pattern's
+mod compare; // the bytes of windows against the pattern's
 
 ghost use mathlib.Core.Path.{_≡_};
 ghost use Prim.Native.Nat.{_+_, _-_, _*_, _%_, _^_, _≤_, _<_};
 ghost use lib.ListN.{length};
 ghost use Rattle.gf2.specs.Polynomials.{monic, rem, Modulus};
-ghost use Rattle.search.specs.Searching.{window, places, counts, overlay, search, wordsAfter, searched};
-ghost use Rattle.search.specs.Rolling.{residue, keyOf, Ready};
+ghost use Rattle.search.specs.Searching.{places, counts, overlay, search, wordsAfter, searched};
+ghost use Rattle.windows.specs.Rolling.{window, residue, keyOf, Ready};
 
 // The number of places, and the number of false alarms.
 pub struct Counts {
@@ -29,14 +29,14 @@ pub enum Searched {
 // Block by block: which windows have the pattern's residue, and then which of these have its bytes.
 fn search_blocks(
     s: Setup,
-    red: &[u64; 256],
-    out: &[u64; 256],
+    reduce: &[u64; 256],
+    outgoing: &[u64; 256],
     text: &[u8],
     pattern: &[u8],
     first: u64,
     words: &mut [u32],
 ) -> Counts
-    requires { ⌜ Ready s (now red) (now out) × (s .m ≡ length (now pattern)) × (s .wanted ≡ residue (keyOf s) (now pattern)) × (first ≡ residue (keyOf s) (window (s .m) (now text) 0)) × (length (now pattern) ≤ length (now text)) × (length (now text) ≤ 4294967295) ⌝ }
+    requires { ⌜ Ready s (now reduce) (now outgoing) × (s .m ≡ length (now pattern)) × (s .wanted ≡ residue (keyOf s) (now pattern)) × (first ≡ residue (keyOf s) (window (s .m) (now text) 0)) × (length (now pattern) ≤ length (now text)) × (length (now text) ≤ 4294967295) ⌝ }
     ensures { λ r. ⌜ (r ≡ counts (keyOf s) (now (text .entry)) (now (pattern .entry))) × (now (words .exit) ≡ overlay (places (now (text .entry)) (now (pattern .entry))) (now (words .entry))) ⌝ }
 {
     let mut flags: [bool; 1024] = [false; 1024];
@@ -48,7 +48,7 @@ fn search_blocks(
     let mut g = first;
     let mut from: usize = 0;
     while from < windows {
-        let b = flags::mark_block(s, red, out, text, from, g, &mut flags);
+        let b = flags::mark_block(s, reduce, outgoing, text, from, g, &mut flags);
         found = compare::compare(text, pattern, &flags, from, b.size, found, words);
         from += b.size;
         g = b.next;
@@ -61,18 +61,18 @@ fn search_under(k: u32, low: u64, text: &[u8], pattern: &[u8], words: &mut [u32]
     requires { ⌜ Modulus k low × (8 ≤ k) × (0 < length (now pattern)) × (length (now pattern) ≤ length (now text)) × (length (now text) ≤ 4294967295) ⌝ }
     ensures { λ r. ⌜ (r ≡ counts (monic k low) (now (text .entry)) (now (pattern .entry))) × (now (words .exit) ≡ overlay (places (now (text .entry)) (now (pattern .entry))) (now (words .entry))) ⌝ }
 {
-    let mut red: [u64; 256] = [0; 256];
-    multiples::fill_row(&mut red, 0, 8, k, low, low);
-    let begin = rolling::read_first(k, low, &red, text, pattern);
-    let mut out: [u64; 256] = [0; 256];
-    multiples::fill_row(&mut out, 0, 8, k, low, begin.shift);
+    let mut reduce: [u64; 256] = [0; 256];
+    multiples::fill_row(&mut reduce, 0, 8, k, low, low);
+    let begin = rolling::read_first(k, low, &reduce, text, pattern);
+    let mut outgoing: [u64; 256] = [0; 256];
+    multiples::fill_row(&mut outgoing, 0, 8, k, low, begin.shift);
     let s = Setup {
         k,
         low,
         m: pattern.len(),
         wanted: begin.wanted,
     };
-    search_blocks(s, &red, &out, text, pattern, begin.first, words)
+    search_blocks(s, &reduce, &outgoing, text, pattern, begin.first, words)
 }
 
 // All places of the pattern in the text, rising, overlaps included: the first ones into the lent words, as far as they reach.

@@ -1,5 +1,5 @@
 -- Demand 3 at the Site level: the claims of crate book (specs/Claims.antt), proved.
-use mathlib.Core.Path.{_≡_, refl}
+use mathlib.Core.Path.{_≡_, refl, sym, _∙_}
 use mathlib.Core.List.{List, map}
 use Prim.Native.Nat.{ℕ}
 use lib.Dec.{T}
@@ -11,9 +11,11 @@ use Rattle.book.specs.Claims.{Lists, Lowest, Confusions, Counted, ConfusionsCou
 use Rattle.book.proofs.ConfusionLaws as keys-equal
 use Rattle.book.proofs.Guarantee as any-level
 use Rattle.book.proofs.RunLaws.{run-map}
+use Rattle.sheets.proofs.Guarantee.{written-fingerprint}
+use Rattle.bench.proofs.KeyLaws.{accepted-small}
 use Rattle.bench.specs.Book as bench-book
 use Rattle.bench.proofs.Guarantee as bench-level
-use Rattle.site.specs.Book.{Call, Feeding, Behind, InFront, Page, step, bookTests, site, Route, OfBench, ByCalls}
+use Rattle.site.specs.Book.{Call, Feeding, Behind, InFront, Page, step, bookTests, site, Route, OfBench, ByCalls, InSheet}
 use Rattle.site.proofs.StepLaws.{keeps}
 
 -- the book's tests stand in the order of their numbers
@@ -43,6 +45,7 @@ bench-lists key m calls = run-map (bench-book.step key) (step key) Feeding (λ s
 pub sound : any-level.Sound Route
 sound key file f a (OfBench r) = bench-level.sound key file f a r
 sound key file f a (ByCalls l) = any-level.list-sound site lists key file f a l
+sound key file f a (InSheet s buffer after done e) = sym e ∙ written-fingerprint key s file buffer after (accepted-small key a) done
 
 pub reaches : any-level.Reaches Route
 reaches key file = OfBench (bench-level.reaches key file)

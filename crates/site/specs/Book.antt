@@ -7,12 +7,14 @@ use Prim.Native.Nat.{ℕ, _+_}
 use lib.Dec.{ltb, eqb}
 use lib.ListN.{length, take, drop}
 use Rattle.refusals.specs.declared.Refusal.the-variants.{TooLong, MarkNotReduced, PageLengthsDiffer, PagePastEnd}
-use Rattle.refusals.specs.Refusals.{Answer, Test, _⇒_, passes}
+use Rattle.refusals.specs.Refusals.{Answer, Done, Test, _⇒_, passes}
 use Rattle.acceptance.specs.Keys.{keyTests}
 use Rattle.files.specs.declared.Mark.{Mark}
 use Rattle.files.specs.Files.{True}
 use Rattle.marks.specs.Feeding.{unreduced, sumTest}
 use Rattle.compose.specs.Composing.{joinBehind, joinInFront, replacePage}
+use Rattle.sheets.specs.Layout.{version1, pagePlace, sheetSize, pageCount, numberAt}
+use Rattle.sheets.specs.Sheets.{writeSheet}
 use Rattle.book.specs.Runs.{Level, Leaves}
 use Rattle.bench.specs.Book as bench-level
 
@@ -59,8 +61,15 @@ Brings key file (Page place old new) = take (length old) (drop place file) ≡ o
 abbrev pub site : Level
 site = record { Call = Call; step = step; tests = bookTests; written = written; Brings = Brings }
 
+-- the 8 bytes behind the page fingerprints of a written sheet
+abbrev pub lastField : ℕ → List ℕ → List ℕ → ℕ
+lastField s file after =
+    numberAt (pagePlace version1 (pageCount s (length file))) 8 (take (sheetSize version1 (pageCount s (length file))) after)
+
 -- The routes: the Bench level's, a list of this level's calls, and "any other call of ours that gives a file's fingerprint [..] from
--- its contents or from true marks and old bytes".
+-- its contents or from true marks and old bytes [..], as the writing of a sheet does with its last field".
 pub data Route (key : ℕ) (file : List ℕ) (f : ℕ) : Type 0 where
   OfBench : bench-level.Route key file f → Route key file f
   ByCalls : Leaves site key file f → Route key file f
+  -- the last field of a written sheet
+  InSheet : (s : ℕ) (buffer after : List ℕ) → writeSheet key s file buffer ≡ Done after → lastField s file after ≡ f → Route key file f

@@ -1,15 +1,14 @@
 -- What the calls answer, by the tests that they have made: for the functions' proofs.
-use mathlib.Core.Path.{_≡_, refl, sym, ap, _∙_}
+use mathlib.Core.Path.{_≡_, refl, ap, _∙_}
 use mathlib.Core.Bool.{true, false, not}
 use mathlib.Core.List.{List, [], _∷_, _++_}
 use Prim.Native.Nat.{ℕ}
 use lib.Dec.{eqb}
 use lib.ListN.{length}
 use borrow.Author.Tests.{eq-eqb, ne-eqb}
-use Rattle.gf2.specs.Polynomials.{monic}
 use Rattle.refusals.specs.declared.Refusal.{Refusal}
 use Rattle.refusals.specs.declared.Refusal.the-variants.{TableSize, TableWord}
-use Rattle.refusals.specs.Refusals.{Answer, Done, Refused, stateOf, Test, firstOf}
+use Rattle.refusals.specs.Refusals.{Done, Refused, stateOf, Test, firstOf}
 use Rattle.keys.specs.Testing.{testKey}
 use Rattle.keys.proofs.Laws.{Passed, first-passed, first-refused}
 use Rattle.files.specs.declared.Mark.{Mark}

@@ -1,22 +1,21 @@
 -- Laws of the rule of a table: row j has the multiples of the residue of t^(k + w·j), and words follow the rule where none differs.
 use mathlib.Core.Path.{_≡_, refl, sym, ap, ap₂, _∙_}
-use mathlib.Core.Bool.{Bool, true, false, not, _||_}
+use mathlib.Core.Bool.{Bool, true, false, not}
 use mathlib.Core.List.{List, [], _∷_}
-use Prim.Native.Nat.{ℕ, zero, suc, _+_, _-_, _*_, _/_, _%_, _^_, _≤_, _<_, suc-le-suc}
-use native.Mathlib.Nat.{le-refl, add-zero, zero-add, add-suc, suc-add, one-mul, not-suc-le-zero, le-of-suc-le-suc, pow-suc, mul-comm}
+use Prim.Native.Nat.{ℕ, zero, suc, _+_, _-_, _*_, _^_, _≤_, _<_, suc-le-suc}
+use native.Mathlib.Nat.{le-refl, le-trans, le-suc, zero-mul, mul-le-mul-right, add-zero, zero-add, add-suc, suc-add, not-suc-le-zero, le-of-suc-le-suc, pow-suc}
+use native.Mathlib.Numerals.{add-one, add-one-le}
 use native.Mathlib.Decide.{decLt}
 use native.Mathlib.Omega.{arith}
 use lib.Arith.{digits-div, digits-mod}
 use lib.Dec.{eqb}
 use lib.ListN.{length, getD}
 use lib.Pow.{pow-add, pow-lt}
-use lib.Seq.{ext-getD}
 use borrow.Author.Tests.{eqb-true, eq-eqb, not-false}
 use Rattle.gf2.specs.Polynomials.{_⊕_, _⊗_, degree, monic, rem}
-use Rattle.gf2.proofs.Sums.{⊕-self}
-use Rattle.gf2.proofs.Products.{⊗-comm, ⊗-pow, ⊗-assoc}
+use Rattle.gf2.proofs.Products.{⊗-comm, ⊗-pow}
 use Rattle.gf2.proofs.Divisors.{dvd-by, dvd-refl}
-use Rattle.gf2.proofs.Residues.{rem-lt, rem-unique}
+use Rattle.gf2.proofs.Residues.{rem-unique}
 use Rattle.gf2.proofs.Powers.{rem-⊗-right}
 use Rattle.gf2.proofs.Monics.{monic-⊕, monic-degree, monic-pos}
 use Rattle.acceptance.proofs.Laws.{or-neither}
@@ -137,6 +136,17 @@ table-length rule c words e = ap length e ∙ length-table rule 0 c
 pub table-rule : (rule : ℕ → ℕ) (c : ℕ) (words : List ℕ) → words ≡ tableFrom rule 0 c → Follows rule (length words) words
 table-rule rule c words e = follows rule words (rw e (table-follows rule 0 c))
 
+-- ---- the table and its rows, for every width and number of groups
+
+module _ (w : ℕ) {key : ℕ} (pos : 0 < key) (words : List ℕ) where
+  pub follows-rows : (c : ℕ) → Follows (word w key) (c * 2 ^ w) words → Rows w key c words
+  follows-rows c f j l = follows-row w (degree key) pos refl words j (c * 2 ^ w) (mul-le-mul-right (2 ^ w) (add-one-le l)) f
+
+  pub rows-follow : (c : ℕ) → Rows w key c words → Follows (word w key) (c * 2 ^ w) words
+  rows-follow zero r = λ n l. absurd (not-suc-le-zero (rw zero-mul at l))
+  rows-follow (suc c) r =
+      rw (← (add-one c)) (row-follows w (degree key) pos refl words c (rows-follow c (λ j l. r j (le-trans l (le-suc c)))) (r c (le-refl (suc c))))
+
 pub table-rows : {key : ℕ} (pos : 0 < key) (words : List ℕ) → Table key words → Rows 8 key 4 words
-table-rows {key} pos words e j l =
-    follows-row 8 (degree key) pos refl words j (length words) (rw (table-length (word 8 key) 1024 words e) (omega arith)) (table-rule (word 8 key) 1024 words e)
+table-rows {key} pos words e =
+    follows-rows 8 pos words 4 (λ n l. table-rule (word 8 key) 1024 words e n (rw (table-length (word 8 key) 1024 words e) l))

@@ -1,82 +1,59 @@
-use mathlib.Core.Path.{_≡_, refl, sym, ap, ap₂, _∙_}
-use Prim.Native.Nat.{ℕ, zero, suc, _+_, _-_, _*_, _/_, _%_, _^_, _≤_, _<_}
+-- `feed_long` meets its contract: the runs are joined one after the other, and the rest is fed behind them.
+use mathlib.Core.Path.{_≡_, sym, _∙_}
+use Prim.Native.Nat.{_-_, _*_, _/_}
 use native.Mathlib.Omega.{arith}
-use lib.ListN.{length, take, drop}
+use lib.ListN.{length, take}
 use lib.Seq.{length-take-le}
-use Rattle.gf2.specs.Polynomials.{_⊕_, _⊗_, monic, rem}
 use Rattle.gf2.proofs.Monics.{monic-pos}
-use Rattle.files.specs.Files.{bits, valueFrom}
 use Rattle.multiples.proofs.Doubling.{rem-below}
 use Rattle.lookups.proofs.Parts.{run-length, run-joined, run-rest, joined-lt}
-use borrow.Author.Needs.{needs}
 use Rattle.lookups.proofs.feed_long.Statement.{statement}
 use Rattle.lookups.proofs.feed_long.Tie as tie
-use Rattle.lookups.proofs.feed_long.Reads as reads
-use Rattle.lookups.proofs.feed_long.Lts as lts
-use Rattle.gf2.proofs.power_of_t.Reads as power-of-t-reads
-use Rattle.lookups.proofs.feed_run.Reads as feed-run-reads
-use Rattle.lookups.proofs.feed_runs.Reads as feed-runs-reads
-use Rattle.lookups.proofs.joined.Reads as joined-reads
 
--- src/feeding.rt:135:15
 mul-one : tie.Need-mul-one
-mul-one c = search needs
+mul-one c = omega arith
 
--- src/feeding.rt:136:15
 mul-two : tie.Need-mul-two
-mul-two c = search needs
+mul-two c = omega arith
 
--- src/feeding.rt:137:17
 mul-three : tie.Need-mul-three
-mul-three c = search needs
+mul-three c = omega arith
 
--- src/feeding.rt:138:16
 mul-four : tie.Need-mul-four
-mul-four c = search needs
+mul-four c = omega arith
 
--- src/feeding.rt:139:41
 slice-aggregate-feed-runs : tie.Need-slice-aggregate-feed-runs
 slice-aggregate-feed-runs c =
     let p = c .before .before .before .args .part .now in
     sym (length-take-le (length p / 16 * 4) p (omega arith))
 
--- src/feeding.rt:139:55
 sub-feed-runs : tie.Need-sub-feed-runs
-sub-feed-runs c = search needs
+sub-feed-runs c = omega arith
 
--- src/feeding.rt:139:55
 part-feed-runs-start : tie.Need-part-feed-runs-start
-part-feed-runs-start c = search needs
+part-feed-runs-start c = omega arith
 
--- src/feeding.rt:139:55
 part-feed-runs-end : tie.Need-part-feed-runs-end
-part-feed-runs-end c = search needs
+part-feed-runs-end c = omega arith
 
--- src/feeding.rt:139:72
 sub-feed-runs-2 : tie.Need-sub-feed-runs-2
-sub-feed-runs-2 c = search needs
+sub-feed-runs-2 c = omega arith
 
--- src/feeding.rt:139:72
 part-feed-runs-start-2 : tie.Need-part-feed-runs-start-2
-part-feed-runs-start-2 c = search needs
+part-feed-runs-start-2 c = omega arith
 
--- src/feeding.rt:139:72
 part-feed-runs-end-2 : tie.Need-part-feed-runs-end-2
-part-feed-runs-end-2 c = search needs
+part-feed-runs-end-2 c = omega arith
 
--- src/feeding.rt:139:91
 sub-feed-runs-3 : tie.Need-sub-feed-runs-3
-sub-feed-runs-3 c = search needs
+sub-feed-runs-3 c = omega arith
 
--- src/feeding.rt:139:91
 part-feed-runs-start-3 : tie.Need-part-feed-runs-start-3
-part-feed-runs-start-3 c = search needs
+part-feed-runs-start-3 c = omega arith
 
--- src/feeding.rt:139:91
 part-feed-runs-end-3 : tie.Need-part-feed-runs-end-3
-part-feed-runs-end-3 c = search needs
+part-feed-runs-end-3 c = omega arith
 
--- src/feeding.rt:139:9
 feed-runs-requires : tie.Need-feed-runs-requires
 feed-runs-requires c κs =
     let s = c .before .before .before .before .before .before in
@@ -91,15 +68,12 @@ feed-runs-requires c κs =
       run-length p (3 * n) (4 * n) n (omega arith) (omega arith) ∙ sym one,
     )
 
--- src/feeding.rt:140:37
 mul-power-of-t : tie.Need-mul-power-of-t
-mul-power-of-t c = search needs
+mul-power-of-t c = omega arith
 
--- src/feeding.rt:140:9
 power-of-t-requires : tie.Need-power-of-t-requires
-power-of-t-requires c κs = search needs
+power-of-t-requires c κs = omega arith
 
--- src/feeding.rt:141:9
 joined-requires : tie.Need-joined-requires
 joined-requires c κs =
     let s = c .before .before .before .before .before .before .before .before in
@@ -109,7 +83,6 @@ joined-requires c κs =
     let x = c .before .feed-runs in
     (s .pre .0 .0, rw (x .ensures .0) (rem-below (a .k) (a .low) m _), rw (t .ensures) (rem-below (a .k) (a .low) m _))
 
--- src/feeding.rt:142:9
 joined-requires-2 : tie.Need-joined-requires-2
 joined-requires-2 c κs =
     let s = c .before .before .before .before .before .before .before .before .before in
@@ -120,7 +93,6 @@ joined-requires-2 c κs =
     let j = c .joined in
     (s .pre .0 .0, joined-lt (a .k) (a .low) m (x .result .a) (t .result) (x .result .b) _ (j .result) (j .ensures) (x .ensures .1), rw (t .ensures) (rem-below (a .k) (a .low) m _))
 
--- src/feeding.rt:143:9
 joined-requires-3 : tie.Need-joined-requires-3
 joined-requires-3 c κs =
     let s = c .before .before .before .before .before .before .before .before .before .before in
@@ -132,19 +104,15 @@ joined-requires-3 c κs =
     let j = c .joined2 in
     (s .pre .0 .0, joined-lt (a .k) (a .low) m (i .result) (t .result) (x .result .c) _ (j .result) (j .ensures) (x .ensures .2), rw (t .ensures) (rem-below (a .k) (a .low) m _))
 
--- src/feeding.rt:144:35
 sub-feed-run : tie.Need-sub-feed-run
-sub-feed-run c = search needs
+sub-feed-run c = omega arith
 
--- src/feeding.rt:144:35
 part-feed-run-start : tie.Need-part-feed-run-start
-part-feed-run-start c = search needs
+part-feed-run-start c = omega arith
 
--- src/feeding.rt:144:35
 part-feed-run-end : tie.Need-part-feed-run-end
-part-feed-run-end c = search needs
+part-feed-run-end c = omega arith
 
--- src/feeding.rt:144:5
 feed-run-requires : tie.Need-feed-run-requires
 feed-run-requires c κs =
     let s = c .before .before .before .before .before .before .before .before .before .before .before .before in
@@ -156,7 +124,6 @@ feed-run-requires c κs =
     let j = c .before .joined3 in
     (s .pre .0, joined-lt (a .k) (a .low) m (i .result) (t .result) (x .result .d) _ (j .result) (j .ensures) (x .ensures .3))
 
--- src/feeding.rt:131:1
 returns : tie.Need-returns
 returns c =
     let s = c .before .before .before .before .before .before .before .before .before .before .before .before .before in

@@ -1,66 +1,52 @@
-use mathlib.Core.Path.{_≡_, refl, sym, ap, ap₂, _∙_}
-use Prim.Native.Nat.{ℕ, zero, suc, _+_, _-_, _*_, _/_, _%_, _^_, _≤_, _<_}
+-- `feed_one` meets its contract: the cut with one group of eight bits.
+use mathlib.Core.Path.{ap₂, _∙_}
+use Prim.Native.Nat.{ℕ, _+_, _-_, _*_, _/_, _%_, _^_, _<_}
 use native.Mathlib.Omega.{arith}
 use borrow.Author.Needs.{needs}
-use lib.ListN.{length, getD}
-use Rattle.gf2.specs.Polynomials.{_⊕_, monic, rem}
+use lib.ListN.{getD}
+use Rattle.gf2.specs.Polynomials.{_⊕_, monic}
 use Rattle.gf2.proofs.Monics.{monic-pos, monic-degree}
-use Rattle.lookups.specs.Groups.{looked}
 use Rattle.lookups.proofs.Cut.{below-fits, top-lt, cut-high, look-one}
 use Rattle.lookups.proofs.feed_one.Statement.{statement}
 use Rattle.lookups.proofs.feed_one.Tie as tie
-use Rattle.lookups.proofs.feed_one.Reads as reads
-use Rattle.lookups.proofs.feed_one.Lts as lts
-use Rattle.gf2.proofs.low_bits.Reads as low-bits-reads
-use Rattle.lookups.proofs.wide.Reads as wide-reads
 
--- src/feeding.rt:61:15
 sub-cut : tie.Need-sub-cut
 sub-cut c = search needs
 
--- src/feeding.rt:62:9
 low-bits-requires : tie.Need-low-bits-requires
 low-bits-requires c κs = search needs
 
--- src/feeding.rt:63:21
 cast-top : tie.Need-cast-top
 cast-top c = search needs
 
--- src/feeding.rt:63:16
 shr-top : tie.Need-shr-top
 shr-top c = search needs
 
--- src/feeding.rt:64:6
 mul-result : tie.Need-mul-result
 mul-result c =
     let s = c .before .before in
     let e = c .low-bits .ensures in
     omega (arith, below-fits (s .args .f) 0 8 (s .args .k - 8) (omega arith) (omega arith))
 
--- src/feeding.rt:64:19
 wide-requires : tie.Need-wide-requires
 wide-requires c κs = search needs
 
--- src/feeding.rt:64:6
 add-result : tie.Need-add-result
 add-result c =
     let s = c .before .before .before in
     let e = c .before .low-bits .ensures in
     omega (arith, below-fits (s .args .f) (c .wide .result) 8 (s .args .k - 8) (c .wide .ensures .1) (omega arith))
 
--- src/feeding.rt:64:30
 mul-result-2 : tie.Need-mul-result-2
 mul-result-2 c =
     let s = c .before .before .before in
     omega (arith, top-lt (s .args .f) 8 (s .args .k) (s .pre .0 .1) (s .pre .1), s .pre .0 .2)
 
--- src/feeding.rt:64:30
 shared-slice-read-result : tie.Need-shared-slice-read-result
 shared-slice-read-result c =
     let s = c .before .before .before .before in
     omega (arith, top-lt (s .args .f) 8 (s .args .k) (s .pre .0 .1) (s .pre .1), s .pre .0 .2)
 
--- src/feeding.rt:57:1
 returns : tie.Need-returns
 unfolding _⊕_
 returns c =

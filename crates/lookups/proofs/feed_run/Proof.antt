@@ -1,20 +1,11 @@
-use mathlib.Core.Path.{_≡_, refl, sym, ap, ap₂, _∙_}
-use Prim.Native.Nat.{ℕ, zero, suc, _+_, _-_, _*_, _/_, _%_, _^_, _≤_, _<_}
+-- `feed_run` meets its contract: x stands for f and the bytes before i.
+use mathlib.Core.Path.{refl, _∙_}
+use Prim.Native.Nat.{_-_, _≤_}
 use native.Mathlib.Omega.{arith}
-use borrow.Author.Needs.{needs}
-use lib.ListN.{length, drop}
-use Rattle.gf2.specs.Polynomials.{monic, rem}
-use Rattle.gf2.proofs.Monics.{monic-pos}
-use Rattle.files.specs.Files.{bits, valueFrom}
-use Rattle.multiples.proofs.Doubling.{rem-below}
+use lib.ListN.{length}
 use Rattle.lookups.proofs.Parts.{four-lt, Going, going-four}
 use Rattle.lookups.proofs.feed_run.Statement.{statement}
 use Rattle.lookups.proofs.feed_run.Tie as tie
-use Rattle.lookups.proofs.feed_run.Reads as reads
-use Rattle.lookups.proofs.feed_run.Lts as lts
-use Rattle.lookups.proofs.feed_four.Reads as feed-four-reads
-use Rattle.lookups.proofs.feed_tail.Reads as feed-tail-reads
-use Rattle.lookups.proofs.four_at.Reads as four-at-reads
 
 abbrev Inv-loop : tie.InvT-loop
 Inv-loop words k low f part x₀ i₀ x i =
@@ -23,34 +14,27 @@ Inv-loop words k low f part x₀ i₀ x i =
 abbrev μ-loop : tie.MeasureT-loop
 μ-loop words k low f part x₀ i₀ x i = length part - i
 
--- src/feeding.rt:88:5
 loop-holds : tie.Need-loop-holds Inv-loop μ-loop
 loop-holds c = (omega arith, (c .before .before .pre .1, refl))
 
--- src/feeding.rt:88:16
 sub-loop : tie.Need-sub-loop Inv-loop μ-loop
 sub-loop c = omega arith
 
--- src/feeding.rt:89:41
 four-at-requires : tie.Need-four-at-requires Inv-loop μ-loop
 four-at-requires c κs = omega arith
 
--- src/feeding.rt:89:9
 feed-four-requires : tie.Need-feed-four-requires Inv-loop μ-loop
 feed-four-requires c κs =
     let s = c .before .before .before .before .before in
     let l = c .before .before .loop in
     (s .pre .0, l .inv .1 .0, four-lt (s .args .part .now) (l .i) (c .four-at .result) (omega arith) (c .four-at .ensures))
 
--- src/feeding.rt:90:9
 add-i : tie.Need-add-i Inv-loop μ-loop
 add-i c = omega arith
 
--- src/feeding.rt:88:5
 loop-less : tie.Need-loop-less Inv-loop μ-loop
 loop-less c = omega arith
 
--- src/feeding.rt:88:5
 loop-again : tie.Need-loop-again Inv-loop μ-loop
 loop-again c =
     let s = c .before .before .before .before .before .before in
@@ -61,13 +45,11 @@ loop-again c =
       going-four (a .k) (a .low) (s .pre .0 .0 .2) (a .f) (a .part .now) (l .i) (l .x) (l .inv .1) (v .result) (c .feed-four .result) (omega arith) (v .ensures) (c .feed-four .ensures),
     )
 
--- src/feeding.rt:92:5
 feed-tail-requires : tie.Need-feed-tail-requires Inv-loop μ-loop
 feed-tail-requires c κs =
     let l = c .before .loop in
     (c .before .before .before .before .pre .0, l .inv .1 .0, l .inv .0)
 
--- src/feeding.rt:82:1
 returns : tie.Need-returns Inv-loop μ-loop
 returns c = c .feed-tail .ensures ∙ c .before .before .loop .inv .1 .1
 

@@ -1,16 +1,12 @@
-use mathlib.Core.Path.{_≡_, refl, sym, ap, ap₂, _∙_}
-use Prim.Native.Nat.{ℕ, zero, suc, _+_, _-_, _*_, _/_, _%_, _^_, _≤_, _<_}
+-- `feed_runs` meets its contract: each chain stands for its start and its bytes before i.
+use mathlib.Core.Path.{_≡_, refl}
+use Prim.Native.Nat.{_+_, _-_, _%_, _≤_}
 use native.Mathlib.Omega.{arith}
-use borrow.Author.Needs.{needs}
 use lib.ListN.{length}
 use lib.Pow.{pow-pos}
 use Rattle.lookups.proofs.Parts.{four-lt, Going, going-four, going-all}
 use Rattle.lookups.proofs.feed_runs.Statement.{statement}
 use Rattle.lookups.proofs.feed_runs.Tie as tie
-use Rattle.lookups.proofs.feed_runs.Reads as reads
-use Rattle.lookups.proofs.feed_runs.Lts as lts
-use Rattle.lookups.proofs.feed_four.Reads as feed-four-reads
-use Rattle.lookups.proofs.four_at.Reads as four-at-reads
 
 abbrev Inv-loop : tie.InvT-loop
 Inv-loop words k low f p q r s a₀ b₀ c₀ d₀ i₀ a b c d i =
@@ -19,69 +15,57 @@ Inv-loop words k low f p q r s a₀ b₀ c₀ d₀ i₀ a b c d i =
 abbrev μ-loop : tie.MeasureT-loop
 μ-loop words k low f p q r s a₀ b₀ c₀ d₀ i₀ a b c d i = length p - i
 
--- src/feeding.rt:112:5
 loop-holds : tie.Need-loop-holds Inv-loop μ-loop
 loop-holds c =
     let s = c .before .before .before .before .before in
     let z = pow-pos (s .args .k) in
     (omega arith, refl, (s .pre .1, refl), (z, refl), (z, refl), (z, refl))
 
--- src/feeding.rt:113:41
 four-at-requires : tie.Need-four-at-requires Inv-loop μ-loop
 four-at-requires c κs = omega arith
 
--- src/feeding.rt:113:9
 feed-four-requires : tie.Need-feed-four-requires Inv-loop μ-loop
 feed-four-requires c κs =
     let s = c .before .before .before .before .before .before .before .before in
     let l = c .before .before .loop in
     (s .pre .0, l .inv .2 .0, four-lt (s .args .p .now) (l .i) (c .four-at .result) (omega arith) (c .four-at .ensures))
 
--- src/feeding.rt:114:41
 four-at-requires-2 : tie.Need-four-at-requires-2 Inv-loop μ-loop
 four-at-requires-2 c κs = omega arith
 
--- src/feeding.rt:114:9
 feed-four-requires-2 : tie.Need-feed-four-requires-2 Inv-loop μ-loop
 feed-four-requires-2 c κs =
     let s = c .before .before .before .before .before .before .before .before .before .before in
     let l = c .before .before .before .before .loop in
     (s .pre .0, l .inv .3 .0, four-lt (s .args .q .now) (l .i) (c .four-at2 .result) (omega arith) (c .four-at2 .ensures))
 
--- src/feeding.rt:115:41
 four-at-requires-3 : tie.Need-four-at-requires-3 Inv-loop μ-loop
 four-at-requires-3 c κs = omega arith
 
--- src/feeding.rt:115:9
 feed-four-requires-3 : tie.Need-feed-four-requires-3 Inv-loop μ-loop
 feed-four-requires-3 c κs =
     let s = c .before .before .before .before .before .before .before .before .before .before .before .before in
     let l = c .before .before .before .before .before .before .loop in
     (s .pre .0, l .inv .4 .0, four-lt (s .args .r .now) (l .i) (c .four-at3 .result) (omega arith) (c .four-at3 .ensures))
 
--- src/feeding.rt:116:41
 four-at-requires-4 : tie.Need-four-at-requires-4 Inv-loop μ-loop
 four-at-requires-4 c κs = omega arith
 
--- src/feeding.rt:116:9
 feed-four-requires-4 : tie.Need-feed-four-requires-4 Inv-loop μ-loop
 feed-four-requires-4 c κs =
     let s = c .before .before .before .before .before .before .before .before .before .before .before .before .before .before in
     let l = c .before .before .before .before .before .before .before .before .loop in
     (s .pre .0, l .inv .5 .0, four-lt (s .args .s .now) (l .i) (c .four-at4 .result) (omega arith) (c .four-at4 .ensures))
 
--- src/feeding.rt:117:9
 add-i : tie.Need-add-i Inv-loop μ-loop
 add-i c =
     let s = c .before .before .before .before .before .before .before .before .before .before .before .before .before .before .before in
     let l = c .before .before .before .before .before .before .before .before .before .loop in
     omega (arith, l .inv .0, l .inv .1, s .pre .2)
 
--- src/feeding.rt:112:5
 loop-less : tie.Need-loop-less Inv-loop μ-loop
 loop-less c = omega arith
 
--- src/feeding.rt:112:5
 loop-again : tie.Need-loop-again Inv-loop μ-loop
 loop-again c =
     let s = c .before .before .before .before .before .before .before .before .before .before .before .before .before .before .before in
@@ -106,7 +90,6 @@ loop-again c =
       going-four (a .k) (a .low) m 0 (a .s .now) (l .i) (l .d) (l .inv .5) (v4 .result) (x4 .result) (omega (arith, g, p .5)) (v4 .ensures) (x4 .ensures),
     )
 
--- src/feeding.rt:103:1
 returns : tie.Need-returns Inv-loop μ-loop
 returns c =
     let s = c .before .before .before .before .before .before .before in

@@ -1,7 +1,7 @@
-use mathlib.Core.Path.{_≡_, refl, sym, ap, ap₂, _∙_}
-use Prim.Native.Nat.{ℕ, zero, suc, _+_, _-_, _*_, _/_, _%_, _^_, _≤_, _<_}
+-- `feed_tail` meets its contract: x stands for f and the bytes from `from` to i.
+use mathlib.Core.Path.{_≡_, refl, sym, _∙_}
+use Prim.Native.Nat.{_-_, _^_, _≤_, _<_}
 use native.Mathlib.Omega.{arith}
-use borrow.Author.Needs.{needs}
 use lib.ListN.{length, drop}
 use Rattle.gf2.specs.Polynomials.{monic, rem}
 use Rattle.gf2.proofs.Monics.{monic-pos, monic-degree}
@@ -10,9 +10,6 @@ use Rattle.multiples.proofs.Doubling.{rem-below}
 use Rattle.lookups.proofs.Parts.{fed-byte, fed-all}
 use Rattle.lookups.proofs.feed_tail.Statement.{statement}
 use Rattle.lookups.proofs.feed_tail.Tie as tie
-use Rattle.lookups.proofs.feed_tail.Reads as reads
-use Rattle.lookups.proofs.feed_tail.Lts as lts
-use Rattle.lookups.proofs.feed_one.Reads as feed-one-reads
 
 abbrev Inv-loop : tie.InvT-loop
 Inv-loop words k low f part from x₀ i₀ x i =
@@ -21,27 +18,21 @@ Inv-loop words k low f part from x₀ i₀ x i =
 abbrev μ-loop : tie.MeasureT-loop
 μ-loop words k low f part from x₀ i₀ x i = length part - i
 
--- src/feeding.rt:74:5
 loop-holds : tie.Need-loop-holds Inv-loop μ-loop
 loop-holds c = let p = c .before .before .pre in (p .2, p .1, refl)
 
--- src/feeding.rt:75:40
 shared-slice-read-feed-one : tie.Need-shared-slice-read-feed-one Inv-loop μ-loop
 shared-slice-read-feed-one c = omega arith
 
--- src/feeding.rt:75:9
 feed-one-requires : tie.Need-feed-one-requires Inv-loop μ-loop
 feed-one-requires c κs = (c .before .before .before .before .before .pre .0, c .before .before .loop .inv .1)
 
--- src/feeding.rt:76:9
 add-i : tie.Need-add-i Inv-loop μ-loop
 add-i c = omega arith
 
--- src/feeding.rt:74:5
 loop-less : tie.Need-loop-less Inv-loop μ-loop
 loop-less c = omega arith
 
--- src/feeding.rt:74:5
 loop-again : tie.Need-loop-again Inv-loop μ-loop
 loop-again c =
     let s = c .before .before .before .before .before .before in
@@ -55,7 +46,6 @@ loop-again c =
       fed-byte (monic-pos (a .k) (a .low) m) (a .part .now) (l .i) (l .x) (c .feed-one .result) (omega arith) b e ∙ l .inv .2,
     )
 
--- src/feeding.rt:68:1
 returns : tie.Need-returns Inv-loop μ-loop
 returns c =
     let s = c .before .before .before .before in

@@ -1,19 +1,14 @@
-use mathlib.Core.Path.{_≡_, refl, sym, ap, ap₂, _∙_}
-use Prim.Native.Nat.{ℕ, zero, suc, _+_, _-_, _*_, _/_, _%_, _^_, _≤_, _<_}
-use native.Mathlib.Omega.{arith}
+-- `joined` meets its contract.
+use mathlib.Core.Path.{ap}
+use Prim.Native.Nat.{ℕ, _-_}
 use Rattle.gf2.specs.Polynomials.{_⊕_}
 use borrow.Author.Needs.{needs}
 use Rattle.lookups.proofs.joined.Statement.{statement}
 use Rattle.lookups.proofs.joined.Tie as tie
-use Rattle.lookups.proofs.joined.Reads as reads
-use Rattle.lookups.proofs.joined.Lts as lts
-use Rattle.gf2.proofs.product.Reads as product-reads
 
--- src/feeding.rt:127:5
 product-requires : tie.Need-product-requires
 product-requires c κs = search needs
 
--- src/feeding.rt:123:1
 returns : tie.Need-returns
 unfolding _⊕_
 returns c = ap (λ (x : ℕ). x ⊕ c .before .args .y) (c .product .ensures)

@@ -1,15 +1,13 @@
-use mathlib.Core.Path.{_≡_, refl, sym, ap, ap₂, _∙_}
-use Prim.Native.Nat.{ℕ, zero, suc, _+_, _-_, _*_, _/_, _%_, _^_, _≤_, _<_}
+-- `double` meets its contract: the words before `next` stay, and the i words behind it are shifted ones.
+use mathlib.Core.Path.{_≡_, refl}
+use Prim.Native.Nat.{_+_, _-_, _≤_, _<_}
 use native.Mathlib.Omega.{arith}
-use borrow.Author.Needs.{needs}
 use Rattle.gf2.specs.Polynomials.{_⊕_}
 use Rattle.multiples.specs.Rows.{Shifted, SameBefore}
 use Rattle.multiples.proofs.Doubling.{same-more, shifted-more}
 use lib.ListN.{length, length-set}
 use Rattle.multiples.proofs.double.Statement.{statement}
 use Rattle.multiples.proofs.double.Tie as tie
-use Rattle.multiples.proofs.double.Reads as reads
-use Rattle.multiples.proofs.double.Lts as lts
 
 abbrev Inv-loop : tie.InvT-loop
 Inv-loop words₀ at n y next i₀ words i =
@@ -18,47 +16,36 @@ Inv-loop words₀ at n y next i₀ words i =
 abbrev μ-loop : tie.MeasureT-loop
 μ-loop words₀ at n y next i₀ words i = n - i
 
--- src/rows.rt:16:16
 add-next : tie.Need-add-next Inv-loop μ-loop
 add-next c = omega arith
 
--- src/rows.rt:18:5
 loop-holds : tie.Need-loop-holds Inv-loop μ-loop
 loop-holds c = (omega arith, refl, λ i l. refl, λ i l. absurd (omega arith))
 
--- src/rows.rt:19:33
 add-words : tie.Need-add-words Inv-loop μ-loop
 add-words c = omega arith
 
--- src/rows.rt:19:27
 mul-words : tie.Need-mul-words Inv-loop μ-loop
 mul-words c = omega arith
 
--- src/rows.rt:19:27
 slice-read-words : tie.Need-slice-read-words Inv-loop μ-loop
 slice-read-words c = omega arith
 
--- src/rows.rt:19:15
 add-words-2 : tie.Need-add-words-2 Inv-loop μ-loop
 add-words-2 c = omega arith
 
--- src/rows.rt:19:9
 mul-words-2 : tie.Need-mul-words-2 Inv-loop μ-loop
 mul-words-2 c = omega arith
 
--- src/rows.rt:19:9
 slice-write-words : tie.Need-slice-write-words Inv-loop μ-loop
 slice-write-words c = omega arith
 
--- src/rows.rt:20:9
 add-i : tie.Need-add-i Inv-loop μ-loop
 add-i c = omega arith
 
--- src/rows.rt:18:5
 loop-less : tie.Need-loop-less Inv-loop μ-loop
 loop-less c = omega arith
 
--- src/rows.rt:18:5
 loop-again : tie.Need-loop-again Inv-loop μ-loop
 unfolding _⊕_
 loop-again c =
@@ -74,11 +61,9 @@ loop-again c =
       shifted-more (a .at) (a .at + a .n) (a .y) from (l .words) (l .i) g h (v .2) (v .3),
     )
 
--- src/rows.rt:12:1
 same-length : tie.Need-same-length Inv-loop μ-loop
 same-length c = omega arith
 
--- src/rows.rt:12:1
 returns : tie.Need-returns Inv-loop μ-loop
 returns c =
     let l = c .before .loop in

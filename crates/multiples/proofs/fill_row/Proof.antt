@@ -1,9 +1,9 @@
-use mathlib.Core.Path.{_≡_, refl, sym, ap, ap₂, _∙_}
-use Prim.Native.Nat.{ℕ, zero, suc, _+_, _-_, _*_, _/_, _%_, _^_, _≤_, _<_}
+-- `fill_row` meets its contract: after b turns the row has 2^b words, and y is the multiple by 2^b.
+use mathlib.Core.Path.{_≡_, refl, ap, _∙_}
+use Prim.Native.Nat.{ℕ, _+_, _-_, _*_, _^_, _≤_, _<_}
 use native.Mathlib.Omega.{arith}
-use borrow.Author.Needs.{needs}
-use Rattle.gf2.specs.Polynomials.{_⊕_, _⊗_, monic, rem, Modulus}
-use Rattle.multiples.specs.Rows.{Multiples, Shifted, SameBefore}
+use Rattle.gf2.specs.Polynomials.{_⊗_, monic, rem}
+use Rattle.multiples.specs.Rows.{Multiples, SameBefore}
 use Rattle.multiples.proofs.Doubling.{row-more, row-one, row-before, row-kept, shifted-kept, double-le, multiple-one, multiple-next}
 use lib.ListN.{length, length-set}
 use lib.Pow.{pow-pos}
@@ -13,10 +13,6 @@ use Rattle.gf2.proofs.Monics.{monic-pos, monic-degree}
 use Rattle.multiples.proofs.Doubling.{rem-below}
 use Rattle.multiples.proofs.fill_row.Statement.{statement}
 use Rattle.multiples.proofs.fill_row.Tie as tie
-use Rattle.multiples.proofs.fill_row.Reads as reads
-use Rattle.multiples.proofs.fill_row.Lts as lts
-use Rattle.gf2.proofs.step.Reads as step-reads
-use Rattle.multiples.proofs.double.Reads as double-reads
 
 abbrev Inv-loop : tie.InvT-loop
 Inv-loop words₀ at width k low x n₀ y₀ b₀ words n y b =
@@ -25,15 +21,12 @@ Inv-loop words₀ at width k low x n₀ y₀ b₀ words n y b =
 abbrev μ-loop : tie.MeasureT-loop
 μ-loop words₀ at width k low x n₀ y₀ b₀ words n y b = width - b
 
--- src/rows.rt:29:5
 mul-words : tie.Need-mul-words Inv-loop μ-loop
 mul-words c = omega arith
 
--- src/rows.rt:29:5
 slice-write-words : tie.Need-slice-write-words Inv-loop μ-loop
 slice-write-words c = omega (arith, pow-pos (c .before .args .width))
 
--- src/rows.rt:33:5
 loop-holds : tie.Need-loop-holds Inv-loop μ-loop
 loop-holds c =
     let a = c .before .args in
@@ -49,7 +42,6 @@ loop-holds c =
       λ i h. refl,
     )
 
--- src/rows.rt:34:9
 double-requires : tie.Need-double-requires Inv-loop μ-loop
 double-requires c κs =
     let s = c .before .before .before .before in
@@ -57,7 +49,6 @@ double-requires c κs =
     let e = simp length-set at (l .inv .3) in
     omega (arith, double-le (c .before .loop-test .taken))
 
--- src/rows.rt:35:9
 step-requires : tie.Need-step-requires Inv-loop μ-loop
 step-requires c κs =
     let s = c .before .before .before .before .before .before .before in
@@ -65,21 +56,17 @@ step-requires c κs =
     let l = c .before .before .before .before .before .loop in
     (s .pre .0, rw (l .inv .2) (rem-below (a .k) (a .low) (s .pre .0 .2) (l .n ⊗ a .x)), omega arith)
 
--- src/rows.rt:36:13
 mul-n : tie.Need-mul-n Inv-loop μ-loop
 mul-n c =
     let s = c .before .before .before .before .before .before .before .before in
     omega (arith, double-le (c .before .before .before .before .before .loop-test .taken))
 
--- src/rows.rt:37:9
 add-b : tie.Need-add-b Inv-loop μ-loop
 add-b c = omega arith
 
--- src/rows.rt:33:5
 loop-less : tie.Need-loop-less Inv-loop μ-loop
 loop-less c = omega arith
 
--- src/rows.rt:33:5
 loop-again : tie.Need-loop-again Inv-loop μ-loop
 loop-again c =
     let s = c .before .before .before .before .before .before .before .before in
@@ -99,11 +86,9 @@ loop-again c =
       λ i h. same i (omega arith) ∙ v .5 i h,
     )
 
--- src/rows.rt:25:1
 same-length : tie.Need-same-length Inv-loop μ-loop
 same-length c = let l = c .before .loop in simp length-set at (l .inv .3)
 
--- src/rows.rt:25:1
 returns : tie.Need-returns Inv-loop μ-loop
 returns c =
     let a = c .before .before .before .args in

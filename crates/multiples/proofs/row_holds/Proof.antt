@@ -1,11 +1,11 @@
-use mathlib.Core.Path.{_≡_, refl, sym, ap, ap₂, _∙_}
-use Prim.Native.Nat.{ℕ, zero, suc, _+_, _-_, _*_, _/_, _%_, _^_, _≤_, _<_}
+-- `row_holds` meets its contract: the sum is 0 where the first 2^b words are the row.
+use mathlib.Core.Path.{_≡_, refl, ap, _∙_}
+use Prim.Native.Nat.{ℕ, _+_, _-_, _*_, _^_, _≤_}
 use native.Mathlib.Omega.{arith}
 use borrow.Author.Tests.{eqb-true, eq-eqb}
 use native.Mathlib.Nat.{pow-suc}
 use native.Mathlib.Numerals.{add-one}
 use mathlib.Core.Logic.{_↔_}
-use lib.ListN.{length, getD}
 use lib.Pow.{pow-pos}
 use Rattle.gf2.specs.Polynomials.{_⊗_, monic, rem}
 use Rattle.gf2.proofs.Monics.{monic-pos, monic-degree}
@@ -14,10 +14,6 @@ use Rattle.multiples.proofs.Doubling.{or-iff, iff-trans, row-iff-one, r
 use Rattle.multiples.proofs.Doubling.{rem-below}
 use Rattle.multiples.proofs.row_holds.Statement.{statement}
 use Rattle.multiples.proofs.row_holds.Tie as tie
-use Rattle.multiples.proofs.row_holds.Reads as reads
-use Rattle.multiples.proofs.row_holds.Lts as lts
-use Rattle.gf2.proofs.step.Reads as step-reads
-use Rattle.multiples.proofs.differences.Reads as differences-reads
 
 abbrev Inv-loop : tie.InvT-loop
 Inv-loop words at width k low x sum₀ n₀ y₀ b₀ sum n y b =
@@ -26,15 +22,12 @@ Inv-loop words at width k low x sum₀ n₀ y₀ b₀ sum n y b =
 abbrev μ-loop : tie.MeasureT-loop
 μ-loop words at width k low x sum₀ n₀ y₀ b₀ sum n y b = width - b
 
--- src/rows.rt:76:19
 mul-sum : tie.Need-mul-sum Inv-loop μ-loop
 mul-sum c = omega arith
 
--- src/rows.rt:76:19
 shared-slice-read-sum : tie.Need-shared-slice-read-sum Inv-loop μ-loop
 shared-slice-read-sum c = omega (arith, pow-pos (c .before .before .args .width))
 
--- src/rows.rt:80:5
 loop-holds : tie.Need-loop-holds Inv-loop μ-loop
 loop-holds c =
     let a = c .before .before .args in
@@ -46,14 +39,12 @@ loop-holds c =
       row-iff-one pos (a .x) (a .at) (a .words .now),
     )
 
--- src/rows.rt:81:21
 differences-requires : tie.Need-differences-requires Inv-loop μ-loop
 differences-requires c κs =
     let p = c .before .before .before .before .pre in
     let l = c .before .loop .inv in
     omega (arith, double-le (c .loop-test .taken))
 
--- src/rows.rt:82:9
 step-requires : tie.Need-step-requires Inv-loop μ-loop
 step-requires c κs =
     let s = c .before .before .before .before .before in
@@ -61,21 +52,17 @@ step-requires c κs =
     let l = c .before .before .loop in
     (s .pre .0, rw (l .inv .2) (rem-below (a .k) (a .low) (s .pre .0 .2) (l .n ⊗ a .x)), omega arith)
 
--- src/rows.rt:83:13
 mul-n : tie.Need-mul-n Inv-loop μ-loop
 mul-n c =
     let p = c .before .before .before .before .before .before .pre in
     omega (arith, double-le (c .before .before .loop-test .taken))
 
--- src/rows.rt:84:9
 add-b : tie.Need-add-b Inv-loop μ-loop
 add-b c = omega arith
 
--- src/rows.rt:80:5
 loop-less : tie.Need-loop-less Inv-loop μ-loop
 loop-less c = omega arith
 
--- src/rows.rt:80:5
 loop-again : tie.Need-loop-again Inv-loop μ-loop
 loop-again c =
     let s = c .before .before .before .before .before .before in
@@ -90,7 +77,6 @@ loop-again c =
       iff-trans (or-iff (l .sum) (d .result) {Q = Shifted (a .at) (a .at + l .n) (l .n) (l .y) (a .words .now) (a .words .now)} (v .3) (d .ensures)) (row-iff pos (a .x) (a .at) (a .words .now) (l .b) (l .n) (l .y) (v .1) (v .2)),
     )
 
--- src/rows.rt:72:1
 returns : tie.Need-returns Inv-loop μ-loop
 returns c =
     let a = c .before .before .before .before .args in

@@ -1,9 +1,8 @@
 -- `search::search` meets its contract: each way out by its law of `Calls`.
-use mathlib.Core.Path.{_≡_, refl, sym, ap, _∙_}
-use Prim.Native.Nat.{ℕ, _%_, _^_, _≤_, _<_}
+use mathlib.Core.Path.{_≡_, ap, _∙_}
+use Prim.Native.Nat.{ℕ}
 use native.Mathlib.Omega.{arith}
 use borrow.Author.Needs.{needs}
-use lib.ListN.{length}
 use Rattle.gf2.specs.Polynomials.{degree, monic}
 use Rattle.refusals.specs.Refusals.{Done}
 use Rattle.keys.proofs.Laws.{Passed, passed, refused, passed-pos, passed-from, passed-word, passed-modulus, passed-monic}
@@ -11,22 +10,13 @@ use Rattle.search.specs.Searching.{counts}
 use Rattle.search.proofs.Calls.{call-key, call-text, call-pattern, call-empty, call-done, no-windows}
 use Rattle.search.proofs.search.Statement.{statement}
 use Rattle.search.proofs.search.Tie as tie
-use Rattle.search.proofs.search.Reads as reads
-use Rattle.search.proofs.search.Lts as lts
-use Rattle.gf2.proofs.degree.Reads as degree-reads
-use Rattle.gf2.proofs.low_bits.Reads as low-bits-reads
-use Rattle.keys.proofs.test.Reads as test-reads
-use Rattle.search.proofs.search_under.Reads as search-under-reads
 
--- src/lib.rt:83:11
 test-requires : tie.Need-test-requires
 test-requires c κs = search needs
 
--- src/lib.rt:84:25
 enum-known-r : tie.Need-enum-known-r
 enum-known-r c = search needs
 
--- src/lib.rt:85:13
 returns : tie.Need-returns
 returns c =
     let a = c .before .before .before .before .before .before .before .args in
@@ -43,25 +33,21 @@ accepted c =
 enum-told : tie.Need-enum-told
 enum-told c = search needs
 
--- src/lib.rt:90:9
 returns-2 : tie.Need-returns-2
 returns-2 c =
     let a = c .before .before .before .before .before .before .before .args in
     call-text (a .key) (a .text .now) (a .pattern .now) (a .words .now) (accepted (c .before)) (c .if1 .taken)
 
--- src/lib.rt:93:9
 returns-3 : tie.Need-returns-3
 returns-3 c =
     let a = c .before .before .before .before .before .before .before .before .args in
     call-pattern (a .key) (a .text .now) (a .pattern .now) (a .words .now) (accepted (c .before .before)) (c .before .if1 .left) (c .if2 .taken)
 
--- src/lib.rt:96:9
 returns-4 : tie.Need-returns-4
 returns-4 c =
     let a = c .before .before .before .before .before .before .before .before .before .args in
     call-empty (a .key) (a .text .now) (a .pattern .now) (a .words .now) (accepted (c .before .before .before)) (c .before .before .if1 .left) (c .before .if2 .left) (c .if3 .taken)
 
--- src/lib.rt:99:9
 returns-5 : tie.Need-returns-5
 returns-5 c =
     let a = c .before .before .before .before .before .before .before .before .before .before .args in
@@ -69,26 +55,21 @@ returns-5 c =
     let z = no-windows (a .key) (a .text .now) (a .pattern .now) (a .words .now) (c .if4 .taken) in
     (ap Done (z .0) ∙ e .0, z .1 ∙ e .1)
 
--- src/lib.rt:104:9
 degree-requires : tie.Need-degree-requires
 degree-requires c κs = passed-pos (accepted (c .before .before .before .before))
 
--- src/lib.rt:105:9
 low-bits-requires : tie.Need-low-bits-requires
 low-bits-requires c κs = omega (arith, c .degree .ensures, passed-word (accepted (c .before .before .before .before .before)) (omega arith))
 
--- src/lib.rt:106:21
 search-under-requires : tie.Need-search-under-requires
 search-under-requires c κs =
     let h = accepted (c .before .before .before .before .before .before .before) in
     let d = c .before .before .degree .ensures in
     (rw (c .before .low-bits .ensures, d) (passed-modulus h (omega arith)), rw d (passed-from h), omega arith, omega arith, omega arith)
 
--- src/lib.rt:80:1
 same-length : tie.Need-same-length
 same-length c = search needs
 
--- src/lib.rt:80:1
 returns-6 : tie.Need-returns-6
 returns-6 c =
     let e = c .before .before .before .before .before .before in

@@ -1,28 +1,22 @@
 -- `search::search_blocks` meets its contract. The loop's invariant: of the windows before `from` all places and false alarms are found,
 -- and g is the residue of the next window. The measure is the number of windows that are left.
-use mathlib.Core.Path.{_≡_, refl, sym, ap, ap₂, _∙_}
-use mathlib.Core.Bool.{Bool, false}
+use mathlib.Core.Path.{_≡_, refl, ap, _∙_}
+use mathlib.Core.Bool.{false}
 use mathlib.Core.List.{List}
 use Prim.Native.Nat.{ℕ, _+_, _-_, _≤_, _<_}
-use native.Mathlib.Nat.{zero-add}
 use native.Mathlib.Omega.{arith}
-use borrow.Author.Needs.{needs}
 use lib.ListN.{length}
 use lib.Seq.{sets}
 use Rattle.gf2.proofs.Monics.{monic-pos}
-use Rattle.search.specs.Searching.{window, windows, isPlace, isAlarm}
-use Rattle.search.specs.Rolling.{residue, keyOf}
+use Rattle.search.specs.Searching.{windows, isPlace, isAlarm}
+use Rattle.windows.specs.Rolling.{window, residue, keyOf}
 use Rattle.search.proofs.Numbers.{Tally, tally-begin, tally-block, tally-end, tally-length, passing-length}
 use Rattle.search.proofs.Blocks.{flagged-places, flagged-alarms, all-found}
 use Rattle.search.proofs.search_blocks.Statement.{statement}
 use Rattle.search.proofs.search_blocks.Tie as tie
-use Rattle.search.proofs.search_blocks.Reads as reads
-use Rattle.search.proofs.search_blocks.Lts as lts
-use Rattle.search.proofs.compare.compare.Reads as compare-reads
-use Rattle.search.proofs.flags.mark_block.Reads as mark-block-reads
 
 abbrev Inv-loop : tie.InvT-loop
-Inv-loop s red out text pattern first words₀ flags₀ n found₀ g₀ from₀ words flags found g from =
+Inv-loop s reduce outgoing text pattern first words₀ flags₀ n found₀ g₀ from₀ words flags found g from =
     (from ≤ n)
     × (length flags ≡ 1024)
     × (found .places ≤ from)
@@ -31,17 +25,14 @@ Inv-loop s red out text pattern first words₀ flags₀ n found₀ g₀ from₀ 
     × Tally (isPlace text pattern) (isAlarm (keyOf s) text pattern) 0 n words₀ 0 0 words (found .places) (found .alarms) from
 
 abbrev μ-loop : tie.MeasureT-loop
-μ-loop s red out text pattern first words₀ flags₀ n found₀ g₀ from₀ words flags found g from = n - from
+μ-loop s reduce outgoing text pattern first words₀ flags₀ n found₀ g₀ from₀ words flags found g from = n - from
 
--- src/lib.rt:32:19
 sub-windows : tie.Need-sub-windows Inv-loop μ-loop
 sub-windows c = omega arith
 
--- src/lib.rt:32:19
 add-windows : tie.Need-add-windows Inv-loop μ-loop
 add-windows c = omega arith
 
--- src/lib.rt:36:5
 loop-holds : tie.Need-loop-holds Inv-loop μ-loop
 loop-holds c =
     let s = c .before .before .before in
@@ -55,7 +46,6 @@ loop-holds c =
       tally-begin (isPlace (a .text .now) (a .pattern .now)) (isAlarm (keyOf (a .s)) (a .text .now) (a .pattern .now)) 0 n (a .words .now) 0 0,
     )
 
--- src/lib.rt:37:13
 mark-block-requires : tie.Need-mark-block-requires Inv-loop μ-loop
 mark-block-requires c κs =
     let s = c .before .before .before .before .before .before in
@@ -64,7 +54,6 @@ mark-block-requires c κs =
     let e = s .pre .1 in
     (s .pre .0, l .inv .1, omega arith, l .inv .4 h)
 
--- src/lib.rt:38:9
 compare-requires : tie.Need-compare-requires Inv-loop μ-loop
 compare-requires c κs =
     let s = c .before .before .before .before .before .before .before .before .before in
@@ -74,15 +63,12 @@ compare-requires c κs =
     let some = s .pre .0 .some in
     (block .1, omega arith, omega arith, s .pre .5, l .inv .2, l .inv .3)
 
--- src/lib.rt:39:9
 add-from : tie.Need-add-from Inv-loop μ-loop
 add-from c = omega arith
 
--- src/lib.rt:36:5
 loop-less : tie.Need-loop-less Inv-loop μ-loop
 loop-less c = omega arith
 
--- src/lib.rt:36:5
 loop-again : tie.Need-loop-again Inv-loop μ-loop
 loop-again c =
     let s = c .before .before .before .before .before .before .before .before .before .before .before .before .before in
@@ -111,7 +97,6 @@ loop-again c =
           (found .2 ∙ ap (sets (l .words) (l .found .places)) ps) np na,
     )
 
--- src/lib.rt:27:1
 same-length : tie.Need-same-length Inv-loop μ-loop
 same-length c =
     let a = c .before .before .before .before .before .args in
@@ -119,7 +104,6 @@ same-length c =
     let n = length (a .text .now) - length (a .pattern .now) + 1 in
     tally-length (isPlace (a .text .now) (a .pattern .now)) (isAlarm (keyOf (a .s)) (a .text .now) (a .pattern .now)) 0 n (a .words .now) 0 0 (l .words) (l .found .places) (l .found .alarms) (l .from) (l .inv .5)
 
--- src/lib.rt:27:1
 -- the number of windows as the code counts them
 windows-is : (t q : List ℕ) → length q ≤ length t → length t - length q + 1 ≡ windows t q
 unfolding windows

@@ -1,47 +1,36 @@
 -- `search::search_under` meets its contract: the tables and the first residues are what `search_blocks` asks.
-use mathlib.Core.Path.{_≡_, refl}
-use Prim.Native.Nat.{ℕ, _*_, _^_, _<_}
+use mathlib.Core.Path.{refl}
+use Prim.Native.Nat.{_*_, _^_}
 use native.Mathlib.Omega.{arith}
 use borrow.Author.Needs.{needs}
 use lib.ListN.{length}
 use Rattle.gf2.proofs.Monics.{monic-pos}
 use Rattle.gf2.proofs.Steps.{residue-lt}
-use Rattle.search.proofs.Residues.{multiples-of, multiples-top}
+use Rattle.windows.proofs.Residues.{multiples-of, multiples-top}
 use Rattle.search.proofs.search_under.Statement.{statement}
 use Rattle.search.proofs.search_under.Tie as tie
-use Rattle.search.proofs.search_under.Reads as reads
-use Rattle.search.proofs.search_under.Lts as lts
-use Rattle.multiples.proofs.fill_row.Reads as fill-row-reads
-use Rattle.search.proofs.rolling.read_first.Reads as read-first-reads
-use Rattle.search.proofs.search_blocks.Reads as search-blocks-reads
 
--- src/lib.rt:64:25
 slice-aggregate-fill-row : tie.Need-slice-aggregate-fill-row
 slice-aggregate-fill-row c = search needs
 
--- src/lib.rt:64:5
 fill-row-requires : tie.Need-fill-row-requires
 fill-row-requires c κs = search needs
 
--- src/lib.rt:65:9
 read-first-requires : tie.Need-read-first-requires
 read-first-requires c κs =
     let s = c .before .before .before .before .before .before .before in
     let a = s .args in
     (s .pre .0, s .pre .1, multiples-top (a .k) (a .low) (s .pre .0 .2) (c .before .before .fill-row .last .0) (c .before .before .fill-row .ensures .0), s .pre .3)
 
--- src/lib.rt:67:25
 slice-aggregate-fill-row-2 : tie.Need-slice-aggregate-fill-row-2
 slice-aggregate-fill-row-2 c = search needs
 
--- src/lib.rt:67:5
 fill-row-requires-2 : tie.Need-fill-row-requires-2
 fill-row-requires-2 c κs =
     let s = c .before .before .before .before .before .before .before .before .before in
     let a = s .args in
     (s .pre .0, rw (c .before .read-first .ensures .2) (residue-lt (a .k) (a .low) (s .pre .0 .2) (2 ^ (8 * length (a .pattern .now)))), omega arith)
 
--- src/lib.rt:74:5
 search-blocks-requires : tie.Need-search-blocks-requires
 search-blocks-requires c κs =
     let s = c .before .before .before .before .before .before .before .before .before .before .before .before .before .before in
@@ -52,8 +41,8 @@ search-blocks-requires c κs =
         modulus = m;
         wide = s .pre .1;
         some = s .pre .2;
-        red = multiples-top (a .k) (a .low) (m .2) (c .before .before .before .before .before .before .before .before .before .fill-row .last .0) (c .before .before .before .before .before .before .before .before .before .fill-row .ensures .0);
-        out = multiples-of (monic-pos (a .k) (a .low) (m .2)) (2 ^ (8 * length (a .pattern .now))) (c .before .before .before .before .fill-row2 .last .0) (rw (begin .2) at (c .before .before .before .before .fill-row2 .ensures .0));
+        reduce = multiples-top (a .k) (a .low) (m .2) (c .before .before .before .before .before .before .before .before .before .fill-row .last .0) (c .before .before .before .before .before .before .before .before .before .fill-row .ensures .0);
+        outgoing = multiples-of (monic-pos (a .k) (a .low) (m .2)) (2 ^ (8 * length (a .pattern .now))) (c .before .before .before .before .fill-row2 .last .0) (rw (begin .2) at (c .before .before .before .before .fill-row2 .ensures .0));
       },
       refl,
       begin .1,
@@ -62,11 +51,9 @@ search-blocks-requires c κs =
       s .pre .4,
     )
 
--- src/lib.rt:59:1
 same-length : tie.Need-same-length
 same-length c = search needs
 
--- src/lib.rt:59:1
 returns : tie.Need-returns
 returns c = search needs
 

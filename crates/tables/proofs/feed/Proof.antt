@@ -1,40 +1,27 @@
-use mathlib.Core.Path.{_≡_, refl, sym, ap, ap₂, _∙_}
-use Prim.Native.Nat.{ℕ, zero, suc, _+_, _-_, _*_, _/_, _%_, _^_, _≤_, _<_}
+-- `feed` meets its contract: each return follows from the tests before it, and the last from `feeding::fed`.
+use mathlib.Core.Path.{_≡_, sym, ap, _∙_}
+use Prim.Native.Nat.{ℕ, _-_, _^_, _≤_}
 use native.Mathlib.Omega.{arith}
 use lib.ListN.{length}
-use mathlib.Core.Bool.{true, false, not}
-use mathlib.Core.List.{List, [], _∷_}
+use mathlib.Core.Bool.{not}
 use borrow.Author.Tests.{not-true, not-false, leb-false}
 use Rattle.gf2.specs.Polynomials.{degree, monic, rem, Modulus}
-use Rattle.refusals.specs.Refusals.{passes}
 use Rattle.files.specs.Files.{bits, valueFrom}
 use Rattle.keys.proofs.Laws.{passed, refused, passed-pos, passed-from, passed-monic, passed-word, passed-modulus}
 use Rattle.marks.specs.Feeding.{fedMark, markIn, fedUnder}
 use Rattle.marks.proofs.Laws.{sum-within, not-fits, does-fit, not-reduced, is-reduced, feed-long, feed-unreduced, feed-passed}
-use Rattle.tables.specs.Tables.{word, differs, tableFrom, Table}
+use Rattle.tables.specs.Tables.{word, differs, Table}
 use Rattle.tables.proofs.Calls.{table-right, feed-key, feed-size, feed-word, feed-tested}
 use borrow.Author.Needs.{needs}
 use Rattle.tables.proofs.feed.Statement.{statement}
 use Rattle.tables.proofs.feed.Tie as tie
-use Rattle.tables.proofs.feed.Reads as reads
-use Rattle.tables.proofs.feed.Lts as lts
-use Rattle.gf2.proofs.degree.Reads as degree-reads
-use Rattle.gf2.proofs.low_bits.Reads as low-bits-reads
-use Rattle.keys.proofs.test.Reads as test-reads
-use Rattle.marks.proofs.fits.Reads as fits-reads
-use Rattle.marks.proofs.reduced.Reads as reduced-reads
-use Rattle.tables.proofs.feeding.fed.Reads as fed-reads
-use Rattle.tables.proofs.rows.holds.Reads as holds-reads
 
--- src/lib.rt:72:11
 test-requires : tie.Need-test-requires
 test-requires c κs = search needs
 
--- src/lib.rt:73:25
 enum-known-r : tie.Need-enum-known-r
 enum-known-r c = search needs
 
--- src/lib.rt:74:13
 returns : tie.Need-returns
 returns c =
     let a = c .before .before .before .before .before .before .args in
@@ -46,7 +33,6 @@ returns c =
 enum-told : tie.Need-enum-told
 enum-told c = search needs
 
--- src/lib.rt:79:9
 returns-2 : tie.Need-returns-2
 returns-2 c =
     let e = c in
@@ -59,7 +45,6 @@ returns-2 c =
     let h = passed (t .result) key (t .ensures) (e .before .enum-told .given .1) in
     sym (ap (fedUnder key) (feed-size key m ws part h (c .if1 .taken)))
 
--- src/lib.rt:81:9
 degree-requires : tie.Need-degree-requires
 degree-requires c κs =
     let e = c in
@@ -72,7 +57,6 @@ degree-requires c κs =
     let h = passed (t .result) key (t .ensures) (e .before .enum-told .given .1) in
     passed-pos h
 
--- src/lib.rt:82:9
 low-bits-requires : tie.Need-low-bits-requires
 low-bits-requires c κs =
     let e = c .before in
@@ -85,7 +69,6 @@ low-bits-requires c κs =
     let h = passed (t .result) key (t .ensures) (e .before .enum-told .given .1) in
     omega (arith, c .degree .ensures, passed-word h (omega arith))
 
--- src/lib.rt:83:9
 holds-requires : tie.Need-holds-requires
 holds-requires c κs =
     let e = c .before .before in
@@ -98,7 +81,6 @@ holds-requires c κs =
     let h = passed (t .result) key (t .ensures) (e .before .enum-told .given .1) in
     rw (c .low-bits .ensures, c .before .degree .ensures) (passed-modulus h (omega arith), e .if1 .left)
 
--- src/lib.rt:84:9
 returns-3 : tie.Need-returns-3
 returns-3 c =
     let e = c .before .before .before .before in
@@ -116,11 +98,9 @@ returns-3 c =
     let w = not-false (differs (word 8 key) 0 ws) (sym r ∙ not-true (c .before .holds .result) (c .if2 .taken)) in
     sym (ap (fedUnder key) (feed-word key m ws part h (e .if1 .left) w))
 
--- src/lib.rt:86:9
 fits-requires : tie.Need-fits-requires
 fits-requires c κs = search needs
 
--- src/lib.rt:87:9
 returns-4 : tie.Need-returns-4
 returns-4 c =
     let e = c .before .before .before .before .before .before in
@@ -141,7 +121,6 @@ returns-4 c =
     let long = not-fits (a .m .length) (length part) (f .result) (f .ensures) (c .if3 .taken) in
     sym (ap (fedUnder key) (tested ∙ feed-long key m part m (fedMark key m part) long))
 
--- src/lib.rt:89:9
 reduced-requires : tie.Need-reduced-requires
 reduced-requires c κs =
     let e = c .before .before .before .before .before .before in
@@ -154,7 +133,6 @@ reduced-requires c κs =
     let h = passed (t .result) key (t .ensures) (e .before .enum-told .given .1) in
     omega (arith, c .before .before .before .before .before .degree .ensures, passed-word h (omega arith))
 
--- src/lib.rt:90:9
 returns-5 : tie.Need-returns-5
 returns-5 c =
     let e = c .before .before .before .before .before .before .before .before in
@@ -177,7 +155,6 @@ returns-5 c =
     let high = not-reduced key (d .result) (a .m .fingerprint) (d .ensures) (u .result) (u .ensures) (c .if4 .taken) in
     sym (ap (fedUnder key) (tested ∙ feed-unreduced key m part m (fedMark key m part) short high))
 
--- src/lib.rt:94:22
 fed-requires : tie.Need-fed-requires
 fed-requires c κs =
     let e = c .before .before .before .before .before .before .before .before in
@@ -201,7 +178,6 @@ fed-requires c κs =
     let from : 8 ≤ d .result = rw (d .ensures) (passed-from h) in
     ((modulus, from, table), rw (d .ensures) (leb-false (2 ^ degree key) (a .m .fingerprint) low))
 
--- src/lib.rt:95:17
 add-t20 : tie.Need-add-t20
 add-t20 c =
     let e = c .before .before .before .before .before .before .before .before .before in
@@ -216,7 +192,6 @@ add-t20 c =
     let short = does-fit (a .m .length) (length part) (f .result) (f .ensures) (c .before .before .before .if3 .left) in
     record { fits = omega (arith, sum-within (a .m .length) (length part) short) }
 
--- src/lib.rt:65:1
 returns-6 : tie.Need-returns-6
 unfolding fedMark
 returns-6 c =

@@ -1,34 +1,22 @@
-use mathlib.Core.Path.{_≡_, refl, sym, ap, ap₂, _∙_}
-use Prim.Native.Nat.{ℕ, zero, suc, _+_, _-_, _*_, _/_, _%_, _^_, _≤_, _<_}
+-- `make` meets its contract: each return follows from the tests before it, and the last from `rows::fill`.
+use mathlib.Core.Path.{_≡_, sym, ap, _∙_}
+use Prim.Native.Nat.{ℕ, _-_}
 use native.Mathlib.Omega.{arith}
-use lib.ListN.{length}
-use mathlib.Core.List.{List}
-use mathlib.Core.Bool.{true, false, not}
-use borrow.Author.Tests.{not-true, not-false}
-use Rattle.gf2.specs.Polynomials.{degree, monic, rem}
-use Rattle.refusals.specs.Refusals.{Answer, Done, Refused}
+use Rattle.gf2.specs.Polynomials.{degree, monic}
+use Rattle.refusals.specs.Refusals.{Done}
 use Rattle.keys.proofs.Laws.{passed, refused, passed-pos, passed-monic, passed-word, passed-modulus}
-use Rattle.tables.specs.Tables.{word, differs, tableFrom}
+use Rattle.tables.specs.Tables.{word, tableFrom}
 use Rattle.tables.proofs.Calls.{make-key, make-size, make-done}
 use borrow.Author.Needs.{needs}
 use Rattle.tables.proofs.make.Statement.{statement}
 use Rattle.tables.proofs.make.Tie as tie
-use Rattle.tables.proofs.make.Reads as reads
-use Rattle.tables.proofs.make.Lts as lts
-use Rattle.gf2.proofs.degree.Reads as degree-reads
-use Rattle.gf2.proofs.low_bits.Reads as low-bits-reads
-use Rattle.keys.proofs.test.Reads as test-reads
-use Rattle.tables.proofs.rows.fill.Reads as fill-reads
 
--- src/lib.rt:30:11
 test-requires : tie.Need-test-requires
 test-requires c κs = search needs
 
--- src/lib.rt:31:25
 enum-known-r : tie.Need-enum-known-r
 enum-known-r c = search needs
 
--- src/lib.rt:32:13
 returns : tie.Need-returns
 returns c =
     let a = c .before .before .before .before .before .args in
@@ -39,7 +27,6 @@ returns c =
 enum-told : tie.Need-enum-told
 enum-told c = search needs
 
--- src/lib.rt:37:9
 returns-2 : tie.Need-returns-2
 returns-2 c =
     let e = c in
@@ -49,7 +36,6 @@ returns-2 c =
     let h = passed (t .result) (a .key) (t .ensures) (e .before .enum-told .given .1) in
     sym (make-size (a .key) (a .words .now) h (c .if1 .taken))
 
--- src/lib.rt:39:9
 degree-requires : tie.Need-degree-requires
 degree-requires c κs =
     let e = c in
@@ -59,7 +45,6 @@ degree-requires c κs =
     let h = passed (t .result) (a .key) (t .ensures) (e .before .enum-told .given .1) in
     passed-pos h
 
--- src/lib.rt:40:26
 low-bits-requires : tie.Need-low-bits-requires
 low-bits-requires c κs =
     let e = c .before .before in
@@ -69,7 +54,6 @@ low-bits-requires c κs =
     let h = passed (t .result) (a .key) (t .ensures) (e .before .enum-told .given .1) in
     omega (arith, c .before .degree .ensures, passed-word h (omega arith))
 
--- src/lib.rt:40:5
 fill-requires : tie.Need-fill-requires
 fill-requires c κs =
     let e = c .before .before .before in
@@ -79,11 +63,9 @@ fill-requires c κs =
     let h = passed (t .result) (a .key) (t .ensures) (e .before .enum-told .given .1) in
     rw (c .low-bits .ensures, c .before .before .degree .ensures) (passed-modulus h (omega arith), e .if1 .left)
 
--- src/lib.rt:27:1
 same-length : tie.Need-same-length
 same-length c = search needs
 
--- src/lib.rt:27:1
 returns-3 : tie.Need-returns-3
 returns-3 c =
     let e = c .before .before .before .before .before .before in

@@ -1,33 +1,23 @@
-use mathlib.Core.Path.{_≡_, refl, sym, ap, ap₂, _∙_}
-use Prim.Native.Nat.{ℕ, zero, suc, _+_, _-_, _*_, _/_, _%_, _^_, _≤_, _<_}
+-- `test` meets its contract: each return follows from the tests before it.
+use mathlib.Core.Path.{_≡_, sym, ap, _∙_}
+use Prim.Native.Nat.{ℕ, _-_}
 use native.Mathlib.Omega.{arith}
-use lib.ListN.{length}
-use mathlib.Core.Bool.{true, false, not}
+use mathlib.Core.Bool.{not}
 use borrow.Author.Tests.{not-true, not-false}
-use Rattle.gf2.specs.Polynomials.{degree, monic, rem}
-use Rattle.refusals.specs.Refusals.{Answer, Done, Refused}
+use Rattle.gf2.specs.Polynomials.{degree, monic}
 use Rattle.keys.proofs.Laws.{passed, refused, passed-pos, passed-monic, passed-word, passed-modulus}
-use Rattle.tables.specs.Tables.{word, differs, tableFrom}
+use Rattle.tables.specs.Tables.{word, differs}
 use Rattle.tables.proofs.Calls.{test-key, test-size, test-word, test-done}
 use borrow.Author.Needs.{needs}
 use Rattle.tables.proofs.test.Statement.{statement}
 use Rattle.tables.proofs.test.Tie as tie
-use Rattle.tables.proofs.test.Reads as reads
-use Rattle.tables.proofs.test.Lts as lts
-use Rattle.gf2.proofs.degree.Reads as degree-reads
-use Rattle.gf2.proofs.low_bits.Reads as low-bits-reads
-use Rattle.keys.proofs.test.Reads as test-reads
-use Rattle.tables.proofs.rows.holds.Reads as holds-reads
 
--- src/lib.rt:48:11
 test-requires : tie.Need-test-requires
 test-requires c κs = search needs
 
--- src/lib.rt:49:25
 enum-known-r : tie.Need-enum-known-r
 enum-known-r c = search needs
 
--- src/lib.rt:50:13
 returns : tie.Need-returns
 returns c =
     let a = c .before .before .before .before .before .args in
@@ -38,7 +28,6 @@ returns c =
 enum-told : tie.Need-enum-told
 enum-told c = search needs
 
--- src/lib.rt:55:9
 returns-2 : tie.Need-returns-2
 returns-2 c =
     let e = c in
@@ -48,7 +37,6 @@ returns-2 c =
     let h = passed (t .result) (a .key) (t .ensures) (e .before .enum-told .given .1) in
     sym (test-size (a .key) (a .words .now) h (c .if1 .taken))
 
--- src/lib.rt:57:9
 degree-requires : tie.Need-degree-requires
 degree-requires c κs =
     let e = c in
@@ -58,7 +46,6 @@ degree-requires c κs =
     let h = passed (t .result) (a .key) (t .ensures) (e .before .enum-told .given .1) in
     passed-pos h
 
--- src/lib.rt:58:31
 low-bits-requires : tie.Need-low-bits-requires
 low-bits-requires c κs =
     let e = c .before in
@@ -68,7 +55,6 @@ low-bits-requires c κs =
     let h = passed (t .result) (a .key) (t .ensures) (e .before .enum-told .given .1) in
     omega (arith, c .degree .ensures, passed-word h (omega arith))
 
--- src/lib.rt:58:9
 holds-requires : tie.Need-holds-requires
 holds-requires c κs =
     let e = c .before .before in
@@ -78,7 +64,6 @@ holds-requires c κs =
     let h = passed (t .result) (a .key) (t .ensures) (e .before .enum-told .given .1) in
     rw (c .low-bits .ensures, c .before .degree .ensures) (passed-modulus h (omega arith), e .if1 .left)
 
--- src/lib.rt:59:9
 returns-3 : tie.Need-returns-3
 returns-3 c =
     let e = c .before .before .before .before in
@@ -92,7 +77,6 @@ returns-3 c =
     let r = c .before .holds .ensures ∙ ap (λ (q : ℕ). not (differs (word 8 q) 0 (a .words .now))) p in
     sym (test-word (a .key) (a .words .now) h (e .if1 .left) (not-false (differs (word 8 (a .key)) 0 (a .words .now)) (sym r ∙ not-true (c .before .holds .result) (c .if2 .taken))))
 
--- src/lib.rt:45:1
 returns-4 : tie.Need-returns-4
 returns-4 c =
     let e = c .before .before .before .before in

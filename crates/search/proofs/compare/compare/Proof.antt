@@ -1,23 +1,21 @@
 -- `search::compare::compare` meets its contract. The invariant of the loop over windows: what is found and what is left to find make what
 -- there is to find. The invariant of the loop over bytes: the window is a place where the bytes that are left are the same.
-use mathlib.Core.Path.{_≡_, refl, sym, ap, _∙_}
+use mathlib.Core.Path.{_≡_, refl, sym, _∙_}
 use mathlib.Core.Logic.{⊎-elim}
-use mathlib.Core.Bool.{Bool, true, false, not}
-use mathlib.Core.List.{List, [], _∷_}
-use Prim.Native.Nat.{ℕ, suc, _+_, _-_, _≤_, _<_}
-use native.Mathlib.Numerals.{add-one}
+use mathlib.Core.Bool.{true, false}
+use Prim.Native.Nat.{_+_, _-_, _≤_}
 use native.Mathlib.Omega.{arith}
 use borrow.Author.Tests.{not-true, not-false}
-use lib.ListN.{length, drop, getD, set}
+use lib.ListN.{length, drop, set}
 use lib.Seq.{set-out}
-use Rattle.search.specs.Searching.{window, same, isPlace}
-use Rattle.search.specs.Rolling.{flaggedPlace, flaggedAlarm}
-use Rattle.search.proofs.Windows.{window-length, window-at, same-step, same-differs, same-end, unflagged-place, unflagged-alarm, flagged-place, flagged-alarm}
+use Rattle.search.specs.Searching.{same, isPlace}
+use Rattle.search.specs.Flagged.{flaggedPlace, flaggedAlarm}
+use Rattle.windows.specs.Rolling.{window}
+use Rattle.windows.proofs.Windows.{window-length, window-at}
+use Rattle.search.proofs.Comparing.{same-step, same-differs, same-end, unflagged-place, unflagged-alarm, flagged-place, flagged-alarm}
 use Rattle.search.proofs.Numbers.{Tally, tally-begin, tally-skip, tally-alarm, tally-place, tally-end, tally-length}
 use Rattle.search.proofs.compare.compare.Statement.{statement}
 use Rattle.search.proofs.compare.compare.Tie as tie
-use Rattle.search.proofs.compare.compare.Reads as reads
-use Rattle.search.proofs.compare.compare.Lts as lts
 
 abbrev Inv-loop : tie.InvT-loop
 Inv-loop text pattern flags from size words m count alarms₀ i₀ at j₀ alarms i j =
@@ -39,25 +37,20 @@ Inv-windows text pattern flags from size words₀ m count₀ alarms₀ i₀ word
 abbrev μ-windows : tie.MeasureT-windows
 μ-windows text pattern flags from size words₀ m count₀ alarms₀ i₀ words count alarms i = size - i
 
--- src/compare.rt:19:5
 windows-holds : tie.Need-windows-holds Inv-loop μ-loop Inv-windows μ-windows
 windows-holds c =
     let a = c .args in
     (omega arith, omega arith, omega arith, tally-begin (flaggedPlace (a .flags .now) (a .text .now) (a .pattern .now) (a .from)) (flaggedAlarm (a .flags .now) (a .text .now) (a .pattern .now) (a .from)) (a .from) (a .size) (a .words .now) (a .found .places) (a .found .alarms))
 
--- src/compare.rt:20:13
 element-copy-out-if1 : tie.Need-element-copy-out-if1 Inv-loop μ-loop Inv-windows μ-windows
 element-copy-out-if1 c = omega arith
 
--- src/compare.rt:21:13
 add-i : tie.Need-add-i Inv-loop μ-loop Inv-windows μ-windows
 add-i c = omega arith
 
--- src/compare.rt:19:5
 windows-less : tie.Need-windows-less Inv-loop μ-loop Inv-windows μ-windows
 windows-less c = omega arith
 
--- src/compare.rt:19:5
 windows-again : tie.Need-windows-again Inv-loop μ-loop Inv-windows μ-windows
 windows-again c =
     let a = c .before .before .before .before .args in
@@ -66,40 +59,31 @@ windows-again c =
     let f = unflagged-alarm (a .flags .now) (a .text .now) (a .pattern .now) (a .from) (w .i) (not-true _ (c .if1 .taken)) in
     (omega arith, omega arith, omega arith, tally-skip _ _ (a .from) (a .size) (a .words .now) (a .found .places) (a .found .alarms) (w .words) (w .count) (w .alarms) (w .i) (omega arith) (w .inv .3) e f)
 
--- src/compare.rt:24:18
 add-at : tie.Need-add-at Inv-loop μ-loop Inv-windows μ-windows
 add-at c = omega arith
 
--- src/compare.rt:26:9
 loop-holds : tie.Need-loop-holds Inv-loop μ-loop Inv-windows μ-windows
 unfolding isPlace
 loop-holds c = (refl, refl, omega arith, refl)
 
--- src/compare.rt:27:21
 add-if2 : tie.Need-add-if2 Inv-loop μ-loop Inv-windows μ-windows
 add-if2 c = omega arith
 
--- src/compare.rt:27:16
 shared-slice-read-if2 : tie.Need-shared-slice-read-if2 Inv-loop μ-loop Inv-windows μ-windows
 shared-slice-read-if2 c = omega arith
 
--- src/compare.rt:27:32
 shared-slice-read-if2-2 : tie.Need-shared-slice-read-if2-2 Inv-loop μ-loop Inv-windows μ-windows
 shared-slice-read-if2-2 c = omega arith
 
--- src/compare.rt:28:17
 add-alarms : tie.Need-add-alarms Inv-loop μ-loop Inv-windows μ-windows
 add-alarms c = omega arith
 
--- src/compare.rt:29:17
 add-i-2 : tie.Need-add-i-2 Inv-loop μ-loop Inv-windows μ-windows
 add-i-2 c = omega arith
 
--- src/compare.rt:19:5
 windows-less-2 : tie.Need-windows-less-2 Inv-loop μ-loop Inv-windows μ-windows
 windows-less-2 c = omega arith
 
--- src/compare.rt:19:5
 windows-again-2 : tie.Need-windows-again-2 Inv-loop μ-loop Inv-windows μ-windows
 windows-again-2 c =
     let a = c .before .before .before .before .before .before .before .before .before .args in
@@ -115,15 +99,12 @@ windows-again-2 c =
     let done = tally-alarm _ _ (a .from) (a .size) (a .words .now) (a .found .places) (a .found .alarms) (w .words) (w .count) (w .alarms) (w .i) (omega arith) (w .inv .3) e f in
     (omega arith, omega arith, omega arith, rw (l .inv .0, l .inv .1) done)
 
--- src/compare.rt:32:13
 add-j : tie.Need-add-j Inv-loop μ-loop Inv-windows μ-windows
 add-j c = omega arith
 
--- src/compare.rt:26:9
 loop-less : tie.Need-loop-less Inv-loop μ-loop Inv-windows μ-windows
 loop-less c = omega arith
 
--- src/compare.rt:26:9
 loop-again : tie.Need-loop-again Inv-loop μ-loop Inv-windows μ-windows
 loop-again c =
     let a = c .before .before .before .before .before .before .before .before .before .args in
@@ -139,35 +120,27 @@ loop-again c =
       l .inv .3 ∙ same-step (window (length q) t at) q (l .j) (omega arith) (omega arith) (window-at (length q) t at (l .j) (omega arith) ∙ c .if2 .left),
     )
 
--- src/compare.rt:34:17
 cast-n : tie.Need-cast-n Inv-loop μ-loop Inv-windows μ-windows
 cast-n c = omega arith
 
--- src/compare.rt:36:24
 cast-words : tie.Need-cast-words Inv-loop μ-loop Inv-windows μ-windows
 cast-words c = omega arith
 
--- src/compare.rt:36:13
 mul-words : tie.Need-mul-words Inv-loop μ-loop Inv-windows μ-windows
 mul-words c = omega arith
 
--- src/compare.rt:36:13
 slice-write-words : tie.Need-slice-write-words Inv-loop μ-loop Inv-windows μ-windows
 slice-write-words c = omega arith
 
--- src/compare.rt:38:9
 add-count : tie.Need-add-count Inv-loop μ-loop Inv-windows μ-windows
 add-count c = omega arith
 
--- src/compare.rt:39:9
 add-i-3 : tie.Need-add-i-3 Inv-loop μ-loop Inv-windows μ-windows
 add-i-3 c = omega arith
 
--- src/compare.rt:19:5
 windows-less-3 : tie.Need-windows-less-3 Inv-loop μ-loop Inv-windows μ-windows
 windows-less-3 c = omega arith
 
--- src/compare.rt:19:5
 -- where the arms meet: a store past the end changes nothing
 stored : (c : tie.Joined3 Inv-loop μ-loop Inv-windows μ-windows)
     → c .if3 .words ≡ set (c .before .before .before .before .before .before .windows .words) (c .before .before .before .before .before .before .windows .count) (c .before .before .before .before .before .before .before .args .from + c .before .before .before .before .before .before .windows .i)
@@ -190,14 +163,12 @@ windows-again-3 c =
     let done = tally-place _ _ (a .from) (a .size) (a .words .now) (a .found .places) (a .found .alarms) (w .words) (w .count) (w .alarms) (w .i) (omega arith) (w .inv .3) e f in
     (omega arith, omega arith, omega arith, rw (l .inv .0, l .inv .1, stored c) done)
 
--- src/compare.rt:11:1
 same-length : tie.Need-same-length Inv-loop μ-loop Inv-windows μ-windows
 same-length c =
     let a = c .before .before .args in
     let w = c .before .windows in
     tally-length _ _ (a .from) (a .size) (a .words .now) (a .found .places) (a .found .alarms) (w .words) (w .count) (w .alarms) (w .i) (w .inv .3)
 
--- src/compare.rt:11:1
 returns : tie.Need-returns Inv-loop μ-loop Inv-windows μ-windows
 returns c =
     let a = c .before .before .args in

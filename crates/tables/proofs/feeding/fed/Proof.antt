@@ -1,3 +1,4 @@
+-- `feeding::fed` meets its contract: the table is four rows.
 use borrow.Author.Needs.{needs}
 use Rattle.gf2.specs.Polynomials.{monic}
 use Rattle.gf2.proofs.Monics.{monic-pos}

@@ -1,20 +1,16 @@
-use mathlib.Core.Path.{_≡_, refl, sym, ap, ap₂, _∙_}
-use Prim.Native.Nat.{ℕ, zero, suc, _+_, _-_, _*_, _/_, _%_, _^_, _≤_, _<_}
+-- `fill` meets its contract: after j turns the first j rows follow the rule, and x is the power of the next row.
+use mathlib.Core.Path.{_≡_, sym, ap, _∙_}
+use Prim.Native.Nat.{_+_, _-_, _*_, _^_, _≤_}
 use native.Mathlib.Omega.{arith}
-use borrow.Author.Needs.{needs}
-use Rattle.gf2.specs.Polynomials.{_⊗_, monic, rem}
+use Rattle.gf2.specs.Polynomials.{monic}
 use Rattle.gf2.proofs.Monics.{monic-pos, monic-degree}
 use Rattle.multiples.proofs.Doubling.{rem-below}
 use Rattle.tables.specs.Tables.{word}
-use Rattle.multiples.specs.Rows.{Multiples, SameBefore}
+use Rattle.multiples.specs.Rows.{Multiples}
 use Rattle.tables.proofs.Rule.{power, power-low, power-next, Follows, row-follows, table-is}
-use lib.ListN.{length, getD, take, drop, set}
+use lib.ListN.{length}
 use Rattle.tables.proofs.rows.fill.Statement.{statement}
 use Rattle.tables.proofs.rows.fill.Tie as tie
-use Rattle.tables.proofs.rows.fill.Reads as reads
-use Rattle.tables.proofs.rows.fill.Lts as lts
-use Rattle.gf2.proofs.step.Reads as step-reads
-use Rattle.multiples.proofs.fill_row.Reads as fill-row-reads
 
 abbrev Inv-loop : tie.InvT-loop
 Inv-loop words₀ k low x₀ j₀ words x j =
@@ -23,7 +19,6 @@ Inv-loop words₀ k low x₀ j₀ words x j =
 abbrev μ-loop : tie.MeasureT-loop
 μ-loop words₀ k low x₀ j₀ words x j = 4 - j
 
--- src/rows.rt:48:5
 loop-holds : tie.Need-loop-holds Inv-loop μ-loop
 loop-holds c =
     let a = c .before .args in
@@ -31,11 +26,9 @@ loop-holds c =
     let e : a .k + 8 * 0 ≡ a .k = omega arith in
     (omega arith, p .1, rw e (sym (power-low (a .k) (a .low) (p .0 .2))), λ n l. absurd (omega arith))
 
--- src/rows.rt:49:18
 mul-at : tie.Need-mul-at Inv-loop μ-loop
 mul-at c = omega arith
 
--- src/rows.rt:50:9
 fill-row-requires : tie.Need-fill-row-requires Inv-loop μ-loop
 fill-row-requires c κs =
     let s = c .before .before .before .before in
@@ -43,21 +36,17 @@ fill-row-requires c κs =
     let l = c .before .before .loop in
     (s .pre .0, rw (l .inv .2) (rem-below (a .k) (a .low) (s .pre .0 .2) (2 ^ (a .k + 8 * l .j))), omega arith)
 
--- src/rows.rt:51:37
 add-step : tie.Need-add-step Inv-loop μ-loop
 add-step c = omega arith
 
--- src/rows.rt:51:31
 mul-step : tie.Need-mul-step Inv-loop μ-loop
 mul-step c = omega arith
 
--- src/rows.rt:51:31
 slice-read-step : tie.Need-slice-read-step Inv-loop μ-loop
 slice-read-step c =
     let l = c .before .before .before .before .before .before .loop in
     omega (arith, c .before .before .before .fill-row .kept .0, l .inv .1)
 
--- src/rows.rt:51:9
 step-requires : tie.Need-step-requires Inv-loop μ-loop
 step-requires c κs =
     let s = c .before .before .before .before .before .before .before .before in
@@ -65,15 +54,12 @@ step-requires c κs =
     let e = c .before .before .before .fill-row .ensures .0 128 (omega arith) in
     (s .pre .0, rw e (rem-below (a .k) (a .low) (s .pre .0 .2) _), omega arith)
 
--- src/rows.rt:52:9
 add-j : tie.Need-add-j Inv-loop μ-loop
 add-j c = omega arith
 
--- src/rows.rt:48:5
 loop-less : tie.Need-loop-less Inv-loop μ-loop
 loop-less c = omega arith
 
--- src/rows.rt:48:5
 loop-again : tie.Need-loop-again Inv-loop μ-loop
 loop-again c =
     let s = c .before .before .before .before .before .before .before .before .before in
@@ -91,11 +77,9 @@ loop-again c =
       row-follows 8 (a .k) pos (monic-degree (a .k) (a .low) m) (r .last .0) (l .j) (λ n h. r .ensures .1 n h ∙ l .inv .3 n h) row,
     )
 
--- src/rows.rt:42:1
 same-length : tie.Need-same-length Inv-loop μ-loop
 same-length c = c .before .loop .inv .1 ∙ sym (c .before .before .before .pre .1)
 
--- src/rows.rt:42:1
 returns : tie.Need-returns Inv-loop μ-loop
 returns c =
     let a = c .before .before .before .args in

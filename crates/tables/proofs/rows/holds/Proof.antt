@@ -1,22 +1,18 @@
-use mathlib.Core.Path.{_≡_, refl, sym, ap, ap₂, _∙_}
-use Prim.Native.Nat.{ℕ, zero, suc, _+_, _-_, _*_, _/_, _%_, _^_, _≤_, _<_}
+-- `holds` meets its contract: after j turns the first j rows follow the rule, and x is the power of the next row.
+use mathlib.Core.Path.{_≡_, sym, ap, _∙_}
+use Prim.Native.Nat.{_+_, _-_, _*_, _^_, _≤_}
 use native.Mathlib.Omega.{arith}
-use borrow.Author.Needs.{needs}
-use mathlib.Core.Bool.{Bool, true, false, not, true≢false}
+use mathlib.Core.Bool.{true, false, true≢false}
 use borrow.Author.Tests.{not-true, not-false}
-use Rattle.gf2.specs.Polynomials.{_⊗_, monic, rem}
+use Rattle.gf2.specs.Polynomials.{monic}
 use Rattle.gf2.proofs.Monics.{monic-pos, monic-degree}
 use Rattle.multiples.proofs.Doubling.{rem-below}
-use Rattle.tables.specs.Tables.{word, differs}
+use Rattle.tables.specs.Tables.{word}
 use Rattle.multiples.specs.Rows.{Multiples}
 use Rattle.tables.proofs.Rule.{power, power-low, power-next, Follows, row-follows, follows-row, some-differs, none-differs}
-use lib.ListN.{length, getD, take, drop, set}
+use lib.ListN.{length}
 use Rattle.tables.proofs.rows.holds.Statement.{statement}
 use Rattle.tables.proofs.rows.holds.Tie as tie
-use Rattle.tables.proofs.rows.holds.Reads as reads
-use Rattle.tables.proofs.rows.holds.Lts as lts
-use Rattle.gf2.proofs.step.Reads as step-reads
-use Rattle.multiples.proofs.row_holds.Reads as row-holds-reads
 
 abbrev Inv-loop : tie.InvT-loop
 Inv-loop words k low x₀ j₀ x j = (j ≤ 4) × (x ≡ power (monic k low) (k + 8 * j)) × Follows (word 8 (monic k low)) (j * 256) words
@@ -24,7 +20,6 @@ Inv-loop words k low x₀ j₀ x j = (j ≤ 4) × (x ≡ power (monic k low) (k 
 abbrev μ-loop : tie.MeasureT-loop
 μ-loop words k low x₀ j₀ x j = 4 - j
 
--- src/rows.rt:96:5
 loop-holds : tie.Need-loop-holds Inv-loop μ-loop
 loop-holds c =
     let a = c .before .args in
@@ -32,11 +27,9 @@ loop-holds c =
     let e : a .k + 8 * 0 ≡ a .k = omega arith in
     (omega arith, rw e (sym (power-low (a .k) (a .low) (p .0 .2))), λ n l. absurd (omega arith))
 
--- src/rows.rt:97:18
 mul-at : tie.Need-mul-at Inv-loop μ-loop
 mul-at c = omega arith
 
--- src/rows.rt:98:13
 row-holds-requires : tie.Need-row-holds-requires Inv-loop μ-loop
 row-holds-requires c κs =
     let s = c .before .before .before in
@@ -44,7 +37,6 @@ row-holds-requires c κs =
     let l = c .before .loop in
     (s .pre .0, rw (l .inv .1) (rem-below (a .k) (a .low) (s .pre .0 .2) (2 ^ (a .k + 8 * l .j))), omega arith)
 
--- src/rows.rt:99:13
 returns : tie.Need-returns Inv-loop μ-loop
 returns c =
     let s = c .before .before .before .before .before in
@@ -57,19 +49,15 @@ returns c =
     ∙ not-true (c .before .row-holds .result) (c .if1 .taken)) in
     rw (some-differs (word 8 (monic (a .k) (a .low))) (a .words .now) none)
 
--- src/rows.rt:101:37
 add-step : tie.Need-add-step Inv-loop μ-loop
 add-step c = omega arith
 
--- src/rows.rt:101:31
 mul-step : tie.Need-mul-step Inv-loop μ-loop
 mul-step c = omega arith
 
--- src/rows.rt:101:31
 shared-slice-read-step : tie.Need-shared-slice-read-step Inv-loop μ-loop
 shared-slice-read-step c = omega arith
 
--- src/rows.rt:101:9
 step-requires : tie.Need-step-requires Inv-loop μ-loop
 step-requires c κs =
     let s = c .before .before .before .before .before .before in
@@ -77,15 +65,12 @@ step-requires c κs =
     let e = c .before .before .row-holds .ensures .0 (not-false (c .before .before .row-holds .result) (c .before .if1 .left)) 128 (omega arith) in
     (s .pre .0, rw e (rem-below (a .k) (a .low) (s .pre .0 .2) _), omega arith)
 
--- src/rows.rt:102:9
 add-j : tie.Need-add-j Inv-loop μ-loop
 add-j c = omega arith
 
--- src/rows.rt:96:5
 loop-less : tie.Need-loop-less Inv-loop μ-loop
 loop-less c = omega arith
 
--- src/rows.rt:96:5
 loop-again : tie.Need-loop-again Inv-loop μ-loop
 loop-again c =
     let s = c .before .before .before .before .before .before .before in
@@ -102,7 +87,6 @@ loop-again c =
       row-follows 8 (a .k) pos (monic-degree (a .k) (a .low) m) (a .words .now) (l .j) (l .inv .2) row,
     )
 
--- src/rows.rt:90:1
 returns-2 : tie.Need-returns-2 Inv-loop μ-loop
 returns-2 c =
     let s = c .before .before .before in

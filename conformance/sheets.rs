@@ -1,0 +1,100 @@
+//! Page sheets: writing, reading, checking, and sheets damaged in every byte.
+use crate::{generator::Generator, gfp, reference, Tally};
+
+fn read(sheet: &[u8]) -> Result<gfp::Sheet, u32> {
+    reference::read_sheet(sheet).map(|x| gfp::Sheet {
+        key: x.key,
+        length: x.length,
+        page_size: x.page_size,
+        pages: x.pages.len() as u64,
+        fingerprint: x.fingerprint,
+    })
+}
+
+fn check(sheet: &[u8], file: &[u8]) -> Result<gfp::Check, u32> {
+    reference::check_file(sheet, file).map(|c| match c {
+        reference::Check::Same => gfp::Check::Same,
+        reference::Check::Page(i) => gfp::Check::Page(i as u32),
+        reference::Check::OtherLength => gfp::Check::OtherLength,
+    })
+}
+
+/// Writes a sheet on both sides, with room to spare or too little, and compares what was written.
+fn write(tally: &mut Tally, key: u64, size: u64, file: &[u8], room: usize) -> Vec<u8> {
+    let what = format!("sheet of {} bytes, page size {size}, key {key:#x}, {room} bytes lent", file.len());
+    let before: Vec<u8> = (0..room).map(|i| i as u8 ^ 0xa5).collect();
+    let mut ours = before.clone();
+    let number = gfp::write_sheet(key, size, file, &mut ours).err().unwrap_or(0);
+    let second = reference::write_sheet(key, size, file, &before);
+    tally.same(&what, number, second.clone().err().unwrap_or(0));
+    tally.same(&format!("bytes, {what}"), &ours, &second.unwrap_or(before));
+    ours
+}
+
+fn judge(tally: &mut Tally, what: &str, sheet: &[u8], file: &[u8]) {
+    tally.same(&format!("read, {what}"), gfp::read_sheet(sheet), read(sheet));
+    tally.same(&format!("check, {what}"), gfp::check_file(sheet, file), check(sheet, file));
+}
+
+fn random(tally: &mut Tally, generator: &mut Generator) {
+    let key = generator.key();
+    let size = match generator.below(8) {
+        0 => [0, 15, 4097, 65_552, u64::MAX, 1 << 32][generator.below(6) as usize],
+        1 => [16, 17, 4095, 4096][generator.below(4) as usize],
+        _ => 16 + generator.below(200),
+    };
+    let pages = generator.below(6);
+    let n = (pages * size.min(4096) + [0, 1, size.min(4096) - 1, generator.below(16)][generator.below(4) as usize]) as usize;
+    let mut file = generator.bytes(n.min(30_000));
+    let total = 27 + 8 * (file.len() as u64).div_ceil(size.clamp(16, 4096)) as usize;
+    let room = [total, total, total - 1, total + 5, generator.below(27) as usize, 0][generator.below(6) as usize];
+    let mut sheet = write(tally, key, size, &file, room);
+    sheet.truncate(total);
+    judge(tally, "as written", &sheet, &file);
+    if !file.is_empty() {
+        let at = generator.below(file.len() as u64) as usize;
+        file[at] ^= 1 << generator.below(8);
+        judge(tally, "one bit of the file changed", &sheet, &file);
+        file.pop();
+        judge(tally, "file one byte shorter", &sheet, &file);
+    }
+    if !sheet.is_empty() {
+        let at = generator.below(sheet.len() as u64) as usize;
+        sheet[at] ^= 1 << generator.below(8);
+        judge(tally, &format!("byte {at} of the sheet changed"), &sheet, &file);
+        sheet.pop();
+        judge(tally, "sheet one byte shorter", &sheet, &file);
+    }
+}
+
+/// Every byte of a sheet changed, in every bit.
+fn damage(tally: &mut Tally, key: u64, size: u64, file: &[u8]) {
+    let sheet = reference::sheet(key, size, file);
+    judge(tally, "undamaged", &sheet, file);
+    for at in 0..sheet.len() {
+        for bit in 0..8 {
+            let mut damaged = sheet.clone();
+            damaged[at] ^= 1 << bit;
+            judge(tally, &format!("bit {bit} of byte {at} changed"), &damaged, file);
+        }
+    }
+    for n in 0..sheet.len() {
+        judge(tally, &format!("cut to {n} bytes"), &sheet[..n], file);
+    }
+}
+
+pub fn run(tally: &mut Tally, rounds: u64) {
+    let mut generator = Generator::new(7);
+    // document 01's sheet of 41 42, byte for byte
+    let mut reading = b"GFP\x00\x01\0\0\0\0\0\0\x01\x1b\0\0\0\x02\0\x10\0\0\0\0\0\0\0\xac\0\0\0\0\0\0\0\x9d".to_vec();
+    let written = write(tally, 0x11b, 16, &[0x41, 0x42], 35);
+    tally.same("reading, the sheet of 41 42", &written, &reading);
+    reading[26] ^= 1;
+    tally.same("reading, damaged", gfp::read_sheet(&reading), Err(14));
+    damage(tally, 0x11b, 16, b"AB");
+    damage(tally, gfp::HOUSE_KEY, 16, b"a file of two pages and a bit more");
+    damage(tally, 0x80000009, 20, b"");
+    for _ in 0..rounds * 600 {
+        random(tally, &mut generator);
+    }
+}

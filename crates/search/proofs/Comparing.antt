@@ -1,0 +1,67 @@
+-- Laws of comparing two lists byte by byte, and of flagged windows.
+use mathlib.Core.Path.{_≡_, refl, ap, ap₂}
+use mathlib.Core.Bool.{Bool, true, false, not, false≢true}
+use mathlib.Core.List.{List, [], _∷_}
+use Prim.Native.Nat.{ℕ, _+_, _-_, _≤_, _<_}
+use native.Mathlib.Numerals.{add-one}
+use native.Mathlib.Omega.{arith}
+use borrow.Author.Tests.{eq-eqb, ne-eqb, eqb-true}
+use lib.Dec.{eqb}
+use lib.ListN.{length, drop, getD, drop-of-length-le}
+use lib.Seq.{drop-cons}
+use Rattle.acceptance.proofs.Laws.{and-both}
+use Rattle.search.specs.Searching.{same, isPlace}
+use Rattle.search.specs.Flagged.{flaggedPlace, flaggedAlarm}
+
+-- ---- the same bytes
+
+pub same-iff : (a b : List ℕ) → same a b ≡ true → a ≡ b
+unfolding same
+same-iff [] [] e = refl
+same-iff [] (y ∷ b) e = absurd (false≢true e)
+same-iff (x ∷ a) [] e = absurd (false≢true e)
+same-iff (x ∷ a) (y ∷ b) e =
+    let h = and-both (eqb x y) (same a b) e in
+    ap₂ {C = List ℕ} (λ (z : ℕ) (c : List ℕ). z ∷ c) (eqb-true x y (h .0)) (same-iff a b (h .1))
+
+pub same-refl : (a : List ℕ) → same a a ≡ true
+unfolding same
+same-refl [] = refl
+same-refl (x ∷ a) = rw (eq-eqb x x refl) (same-refl a)
+
+module _ (a b : List ℕ) where
+  module _ (j : ℕ) (h : j < length a) (g : j < length b) where
+    pub same-step : getD a j 0 ≡ getD b j 0 → same (drop j a) (drop j b) ≡ same (drop (j + 1) a) (drop (j + 1) b)
+    unfolding same
+    same-step e = rw (add-one j, drop-cons a j 0 h, drop-cons b j 0 g, eq-eqb (getD a j 0) (getD b j 0) e)
+
+    pub same-differs : (getD a j 0 ≡ getD b j 0 → ⊥) → same (drop j a) (drop j b) ≡ false
+    unfolding same
+    same-differs e = rw (drop-cons a j 0 h, drop-cons b j 0 g, ne-eqb (getD a j 0) (getD b j 0) e)
+
+  pub same-end : (j : ℕ) → length a ≤ j → length b ≤ j → same (drop j a) (drop j b) ≡ true
+  unfolding same
+  same-end j h g = rw (drop-of-length-le a {i = j} h, drop-of-length-le b {i = j} g)
+
+-- ---- flagged windows
+
+module _ (flags : List Bool) (text pattern : List ℕ) (from i : ℕ) where
+  behind : from + i - from ≡ i
+  behind = omega arith
+
+  pub unflagged-place : getD flags i false ≡ false → flaggedPlace flags text pattern from (from + i) ≡ false
+  unfolding flaggedPlace
+  unflagged-place e = rw (behind, e)
+
+  pub unflagged-alarm : getD flags i false ≡ false → flaggedAlarm flags text pattern from (from + i) ≡ false
+  unfolding flaggedAlarm
+  unflagged-alarm e = rw (behind, e)
+
+  module _ (b : Bool) (e : getD flags i false ≡ true) (p : isPlace text pattern (from + i) ≡ b) where
+    pub flagged-place : flaggedPlace flags text pattern from (from + i) ≡ b
+    unfolding flaggedPlace
+    flagged-place = rw (behind, e) p
+
+    pub flagged-alarm : flaggedAlarm flags text pattern from (from + i) ≡ not b
+    unfolding flaggedAlarm
+    flagged-alarm = rw (behind, e) (ap not p)

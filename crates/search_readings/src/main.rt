@@ -1,0 +1,73 @@
+// Searches, printed and compared with their figures: the numbers of places and false alarms, or the refusal's number, and the lent words,
+// each 9 before the call. Under key 0x11B where nothing else is said.
+use search::Searched;
+
+fn show(answer: Searched) {
+    match answer {
+        Searched::Found(c) => {
+            io::print_decimal(1, wide(c.places));
+            io::write_all(1, b" places, ");
+            io::print_decimal(1, wide(c.alarms));
+            io::write_all(1, b" false alarms");
+        }
+        Searched::Refused(r) => {
+            io::write_all(1, b"refused ");
+            io::print_decimal(1, wide(refusals::number(r)));
+        }
+    }
+}
+
+fn wide(x: u32) -> u64 {
+    x as u64
+}
+
+// The word at a place, 0 where there is none.
+fn word(words: &[u32], i: usize) -> u64 {
+    if i < words.len() {
+        return wide(words[i]);
+    }
+    0
+}
+
+// With two words lent.
+fn with_two(what: &[u8], key: u64, text: &[u8], pattern: &[u8]) {
+    let mut words: [u32; 2] = [9; 2];
+    io::write_all(1, what);
+    show(search::search(key, text, pattern, &mut words));
+    io::write_all(1, b", words ");
+    io::print_decimal(1, word(&words, 0));
+    io::write_all(1, b" ");
+    io::print_decimal(1, word(&words, 1));
+    io::write_all(1, b"\n");
+}
+
+// With one word lent.
+fn with_one(what: &[u8], key: u64, text: &[u8], pattern: &[u8]) {
+    let mut words: [u32; 1] = [9; 1];
+    io::write_all(1, what);
+    show(search::search(key, text, pattern, &mut words));
+    io::write_all(1, b", word ");
+    io::print_decimal(1, word(&words, 0));
+    io::write_all(1, b"\n");
+}
+
+// No bytes.
+fn none(bytes: &[u8]) -> &[u8] {
+    &bytes[..0]
+}
+
+fn main() {
+    let aaa: [u8; 3] = [0x61, 0x61, 0x61];
+    let aa: [u8; 2] = [0x61, 0x61];
+    let zeros: [u8; 2] = [0x00, 0x00];
+    let other: [u8; 2] = [0x01, 0x1B];
+    with_two(b"61 61 in 61 61 61: ", 0x11B, &aaa, &aa);
+    with_one(b"61 61 in 61 61 61: ", 0x11B, &aaa, &aa);
+    with_two(b"01 1B in 00 00: ", 0x11B, &zeros, &other);
+    with_two(b"00 00 in 00 00: ", 0x11B, &zeros, &zeros);
+    with_two(b"61 61 61 in 61 61: ", 0x11B, &aa, &aaa);
+    with_two(b"the empty pattern: ", 0x11B, &aa, none(&aa));
+    with_two(b"61 61 in the empty text: ", 0x11B, none(&aa), &aa);
+    with_two(b"key ff: ", 0xFF, &aaa, &aa);
+    with_two(b"key 101, the empty pattern: ", 0x101, &aaa, none(&aa));
+}

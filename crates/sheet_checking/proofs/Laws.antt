@@ -1,0 +1,138 @@
+-- How a check answers, by what reading answers.
+use mathlib.Core.Path.{_≡_, refl, sym, ap, ap₂, _∙_}
+use mathlib.Core.Bool.{Bool, true, false, _||_, not}
+use mathlib.Core.List.{List, [], _∷_, _++_}
+use Prim.Native.Nat.{ℕ, _+_, _*_, _^_, _≤_, _<_, min}
+use native.Mathlib.Nat.{sub-zero, mul-le-mul-left, le-of-suc-le-suc}
+use native.Mathlib.Decide.{ℕ-discrete}
+use native.Mathlib.Omega.{arith}
+use lib.Dec.{ltb, eqb}
+use lib.ListN.{length}
+use borrow.Author.Tests.{eq-eqb, ne-eqb, lt-ltb, le-ltb, ltb-false}
+use Rattle.refusals.specs.declared.Refusal.{Refusal}
+use Rattle.refusals.specs.declared.Refusal.the-variants.{TooLong}
+use Rattle.refusals.specs.Refusals.{Answer, Done, Refused, Test, _⇒_, firstOf, passes, longest}
+use Rattle.sheets.specs.declared.Sheet.{Sheet}
+use Rattle.sheets.specs.Layout.{version1, numberAt, numbersAt, pageCount, pagesIn, sheetSize, Contents, contentsIn}
+use Rattle.sheets.specs.Sheets.{pageFingerprints, contentsOf, readTests, readSheet, numbersOf, sheetRead, Sound, Outcome, Page, OtherLength, choose, firstChange, compared, checkSheet, Range, FromTo, rangeOf}
+use Rattle.sheets.specs.Parts.{pagesLeft, fingerprintsFrom, ReadAs, comparison}
+use Rattle.sheets.proofs.Sound.{Clear, done-clear, neither, clear-total, clear-contents}
+use Rattle.sheets.proofs.Changes.{not-other}
+use Rattle.sheets.proofs.Guarantee.{other-length}
+
+-- ---- more tests behind a list
+
+more-refused : {A B : Type 0} {S : Type 0} (ts us : List Test) (s : S) (v : A) (w : B) (q : Refusal) → firstOf ts s v ≡ Refused q s → firstOf (ts ++ us) s w ≡ Refused q s
+more-refused [] us s v w q e = absurd (let z : _≡_ {A = ℕ} 0 1 = cc in omega arith)
+more-refused (true ⇒ r ∷ ts) us s v w q e = let d : r ≡ q = cc in rw d
+more-refused (false ⇒ r ∷ ts) us s v w q e = more-refused ts us s v w q e
+
+more-clear : {B : Type 0} {S : Type 0} (ts us : List Test) (s : S) (w : B) → Clear ts → firstOf (ts ++ us) s w ≡ firstOf us s w
+more-clear [] us s w c = refl
+more-clear (b ⇒ r ∷ ts) us s w c = rw (c .0) (more-clear ts us s w (c .1))
+
+-- ---- what reading says
+
+refused-inv : (a : Answer Unit Contents) (q : Refusal) → sheetRead a ≡ Refused q tt → a ≡ Refused q tt
+refused-inv (Done x) q e = absurd (let z : _≡_ {A = ℕ} 0 1 = cc in omega arith)
+refused-inv (Refused r s) q e = let d : r ≡ q = cc in rw d
+
+done-inv : (sheet : List ℕ) (a : Answer Unit Contents) (x : Sheet) → readSheet sheet ≡ a → sheetRead a ≡ Done x → ReadAs sheet x
+unfolding readSheet
+done-inv sheet (Done y) x d e =
+    let z = done-clear (readTests version1 sheet) tt (contentsIn version1 sheet) y d .1 in
+    record { done = d ∙ ap Done (sym z); numbers = sym (ap numbersOf z ∙ cc) }
+done-inv sheet (Refused r s) x d e = absurd (let z : _≡_ {A = ℕ} 0 1 = cc in omega arith)
+
+pub read-as : (sheet : List ℕ) (x : Sheet) → Done x ≡ sheetRead (readSheet sheet) → ReadAs sheet x
+read-as sheet x e = done-inv sheet (readSheet sheet) x refl (sym e)
+
+module _ (sheet : List ℕ) where
+  pub check-refused : (q : Refusal) (file : List ℕ) → Refused q tt ≡ sheetRead (readSheet sheet) → checkSheet sheet file ≡ Refused q tt
+  unfolding readSheet checkSheet
+  check-refused q file e =
+      more-refused (readTests version1 sheet) (passes (length file ∷ []) ⇒ TooLong ∷ []) tt (contentsIn version1 sheet) (compared (contentsIn version1 sheet) file) q
+      (refused-inv (readSheet sheet) q (sym e))
+
+  module _ {x : Sheet} (r : ReadAs sheet x) where
+    pub tests-clear : Clear (readTests version1 sheet)
+    unfolding readSheet
+    tests-clear = done-clear (readTests version1 sheet) tt (contentsIn version1 sheet) (contentsIn version1 sheet) (r .done) .0
+
+    pub check-done : (file : List ℕ) → checkSheet sheet file ≡ comparison sheet file
+    unfolding checkSheet
+    check-done file = more-clear (readTests version1 sheet) (passes (length file ∷ []) ⇒ TooLong ∷ []) tt (compared (contentsIn version1 sheet) file) tests-clear
+
+-- ---- the comparison, test by test
+
+module _ (sheet file : List ℕ) where
+  pub compare-long : longest < length file → comparison sheet file ≡ Refused TooLong tt
+  compare-long l = rw (lt-ltb longest (length file) l)
+
+  module _ (fits : length file ≤ longest) where
+    after-long : comparison sheet file ≡ Done (compared (contentsIn version1 sheet) file)
+    after-long = rw (le-ltb longest (length file) fits)
+
+    pub compare-other : (length file ≡ contentsIn version1 sheet .length → ⊥) → comparison sheet file ≡ Done OtherLength
+    unfolding compared
+    compare-other n = after-long ∙ rw (ne-eqb (length file) (contentsIn version1 sheet .length) n)
+
+    -- equally long: page by page
+    pub compare-pages : (key size : ℕ) → key ≡ contentsIn version1 sheet .key → size ≡ contentsIn version1 sheet .pageSize → length file ≡ contentsIn version1 sheet .length
+        → comparison sheet file ≡ Done (firstChange 0 (numbersAt 19 8 (pagesLeft size file 0) sheet) (fingerprintsFrom key size file 0))
+    unfolding compared contentsOf contentsIn
+    compare-pages key size ek es en =
+        after-long ∙ rw (eq-eqb (length file) (contentsIn version1 sheet .length) en, ← en, ← ek, ← es, sub-zero)
+
+-- the numbers that a check goes by
+module _ (sheet : List ℕ) {x : Sheet} (r : ReadAs sheet x) where
+  pub sound : Sound (contentsIn version1 sheet)
+  sound = clear-contents sheet (tests-clear sheet r)
+
+  pub total : length sheet ≡ sheetSize version1 (pagesIn version1 sheet)
+  total = clear-total sheet (tests-clear sheet r)
+
+  pub size-is : x .size ≡ contentsIn version1 sheet .pageSize
+  size-is = ap (λ (y : Sheet). y .size) (r .numbers)
+
+  pub key-is : x .key ≡ contentsIn version1 sheet .key
+  key-is = ap (λ (y : Sheet). y .key) (r .numbers)
+
+  pub length-is : x .length ≡ contentsIn version1 sheet .length
+  length-is = ap (λ (y : Sheet). y .length) (r .numbers)
+
+  -- all fields of the pages are there
+  pub pages-there : (file : List ℕ) → length file ≡ x .length → 19 + 8 * pagesLeft (x .size) file 0 ≤ length sheet
+  unfolding contentsIn
+  pages-there file e = rw (total, sub-zero, e, length-is, size-is) (omega arith)
+
+-- ---- the page that a check names
+
+module _ (sheet file : List ℕ) (i : ℕ) (e : checkSheet sheet file ≡ Done (Page i)) where
+  named : Clear (readTests version1 sheet ++ passes (length file ∷ []) ⇒ TooLong ∷ []) × (compared (contentsIn version1 sheet) file ≡ Page i)
+  unfolding checkSheet
+  named =
+      done-clear (readTests version1 sheet ++ passes (length file ∷ []) ⇒ TooLong ∷ []) tt (compared (contentsIn version1 sheet) file) (Page i) e
+
+  pub named-long : 27 ≤ length sheet
+  named-long =
+      ltb-false (length sheet) 27
+      (neither (ltb (length sheet) 27) (not (eqb (numberAt 0 3 sheet) 0x474650)) (not (eqb (numberAt 3 2 sheet) 1)) (named .0 .0) .0)
+
+  pub named-equal : length file ≡ contentsIn version1 sheet .length
+  named-equal = go (ℕ-discrete (length file) (contentsIn version1 sheet .length))
+    where
+      go : Dec (length file ≡ contentsIn version1 sheet .length) → length file ≡ contentsIn version1 sheet .length
+      go (yes d) = d
+      go (no d) = absurd (not-other (sym (other-length (contentsIn version1 sheet) file d) ∙ named .1))
+
+  -- its bytes, by the numbers that the code has
+  pub named-range : (from size end : ℕ) → size ≡ numberAt 17 2 sheet → from ≡ i * size → end ≡ min (from + size) (length file)
+      → FromTo from end ≡ rangeOf (contentsIn version1 sheet) (checkSheet sheet file)
+  unfolding contentsIn
+  named-range from size end es ef ee =
+      ap₂ (λ (a b : ℕ). FromTo a b) (ef ∙ ap (λ (s : ℕ). i * s) es) (ee ∙ ap₂ (λ (a b : ℕ). min a b) (ap₂ (λ (a b : ℕ). a + b) (ef ∙ ap (λ (s : ℕ). i * s) es) es) named-equal)
+      ∙ ap (rangeOf (contentsIn version1 sheet)) (sym e)
+
+pub range-fits : (i size : ℕ) → i < 2 ^ 32 → size < 2 ^ 16 → i * size + size < 2 ^ 64
+range-fits i size a b = omega (arith, mul-le-mul-left i (le-of-suc-le-suc b))

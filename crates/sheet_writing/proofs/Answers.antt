@@ -1,0 +1,60 @@
+-- How writing answers, test by test.
+use mathlib.Core.Path.{_≡_, refl, sym, ap, _∙_}
+use mathlib.Core.Bool.{Bool, true, false, _||_}
+use mathlib.Core.List.{List, [], _∷_, _++_}
+use Prim.Native.Nat.{ℕ, _+_, _*_, _≤_, _<_}
+use native.Mathlib.Omega.{arith}
+use lib.Dec.{ltb}
+use lib.ListN.{length, drop}
+use borrow.Author.Tests.{lt-ltb, le-ltb}
+use Rattle.refusals.specs.declared.Refusal.{Refusal}
+use Rattle.refusals.specs.declared.Refusal.the-variants.{TooLong, PageSize, BufferShort}
+use Rattle.refusals.specs.Refusals.{Answer, Done, Refused, Test, _⇒_, firstOf, passes, longest}
+use Rattle.acceptance.specs.Keys.{keyTests}
+use Rattle.keys.specs.Testing.{testKey}
+use Rattle.keys.proofs.Laws.{Passed, first-passed, first-refused}
+use Rattle.sheets.specs.Layout.{version1, sheetSize, pageCount, sheetBytes}
+use Rattle.sheets.specs.Sheets.{contentsOf, writeSheet}
+
+module _ (key s : ℕ) (file buffer : List ℕ) where
+  size : ℕ
+  size = sheetSize version1 (pageCount s (length file))
+
+  after : List ℕ
+  after = sheetBytes version1 (contentsOf key s file) ++ drop size buffer
+
+  last : List Test
+  last = ltb (length buffer) size ⇒ BufferShort ∷ []
+
+  rest : List Test
+  rest = passes (length file ∷ []) ⇒ TooLong ∷ (ltb s 16 || ltb 4096 s) ⇒ PageSize ∷ last
+
+  by-steps : writeSheet key s file buffer ≡ firstOf (keyTests key ++ rest) buffer after
+  unfolding writeSheet rest last after size
+  by-steps = refl
+
+  pub write-key : (q : Refusal) → testKey key ≡ Refused q tt → writeSheet key s file buffer ≡ Refused q buffer
+  write-key q e = by-steps ∙ first-refused key rest buffer after q e
+
+  module _ (passed : Passed key) where
+    after-key : writeSheet key s file buffer ≡ firstOf rest buffer after
+    after-key = by-steps ∙ first-passed key rest buffer after passed
+
+    pub write-long : longest < length file → writeSheet key s file buffer ≡ Refused TooLong buffer
+    unfolding rest
+    write-long l = after-key ∙ rw (lt-ltb longest (length file) l)
+
+    module _ (fits : length file ≤ longest) where
+      pub write-size : (ltb s 16 || ltb 4096 s) ≡ true → writeSheet key s file buffer ≡ Refused PageSize buffer
+      unfolding rest
+      write-size e = after-key ∙ rw (le-ltb longest (length file) fits, e)
+
+      module _ (right : (ltb s 16 || ltb 4096 s) ≡ false) where
+        pub write-short : length buffer < sheetSize version1 (pageCount s (length file)) → writeSheet key s file buffer ≡ Refused BufferShort buffer
+        unfolding rest last size
+        write-short l = after-key ∙ rw (le-ltb longest (length file) fits, right, lt-ltb (length buffer) size l)
+
+        pub write-done : sheetSize version1 (pageCount s (length file)) ≤ length buffer
+            → writeSheet key s file buffer ≡ Done (sheetBytes version1 (contentsOf key s file) ++ drop (sheetSize version1 (pageCount s (length file))) buffer)
+        unfolding rest last size after
+        write-done l = after-key ∙ rw (le-ltb longest (length file) fits, right, le-ltb (length buffer) size l)

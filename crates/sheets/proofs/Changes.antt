@@ -1,0 +1,121 @@
+-- Laws of the first place where two lists of fingerprints differ.
+use mathlib.Core.Path.{_≡_, refl, sym, ap, ap₂, _∙_}
+use mathlib.Core.Logic.{_≢_}
+use mathlib.Core.Bool.{Bool, true, false}
+use mathlib.Core.List.{List, [], _∷_}
+use Prim.Native.Nat.{ℕ, zero, suc, _+_, _≤_, _<_}
+use native.Mathlib.Nat.{add-zero, add-suc, suc-add, not-suc-le-zero, le-of-suc-le-suc}
+use native.Mathlib.Decide.{ℕ-discrete}
+use native.Mathlib.Numerals.{add-one}
+use native.Mathlib.Omega.{arith}
+use lib.Dec.{eqb}
+use lib.ListN.{length, getD}
+use borrow.Author.Tests.{eq-eqb, ne-eqb, eqb-true, eqb-false}
+use Rattle.sheets.specs.Sheets.{Outcome, Same, Page, OtherLength, choose, firstChange}
+
+-- the lists differ at place i and at no place before it
+pub record First (fs gs : List ℕ) (i : ℕ) : Type 0 where
+  pub below : i < length fs
+  pub differ : getD fs i 0 ≢ getD gs i 0
+  pub equal : (j : ℕ) → j < i → getD fs j 0 ≡ getD gs j 0
+
+pub page-inj : {i j : ℕ} → Page i ≡ Page j → i ≡ j
+page-inj e = cc
+
+pub not-same : {i : ℕ} → Page i ≡ Same → ⊥
+not-same e = let z : _≡_ {A = ℕ} 0 1 = cc in omega arith
+
+pub not-other : {i : ℕ} → OtherLength ≡ Page i → ⊥
+not-other e = let z : _≡_ {A = ℕ} 0 1 = cc in omega arith
+
+pub other-not-same : OtherLength ≡ Same → ⊥
+other-not-same e = let z : _≡_ {A = ℕ} 0 1 = cc in omega arith
+
+no-change : (n : ℕ) (fs : List ℕ) → firstChange n fs fs ≡ Same
+unfolding firstChange
+no-change n [] = refl
+no-change n (f ∷ fs) = rw (eq-eqb f f refl) (no-change (suc n) fs)
+
+-- both cases of one comparison
+pub data Compared (n f g : ℕ) (fs gs : List ℕ) : Type 0 where
+  alike : f ≡ g → firstChange n (f ∷ fs) (g ∷ gs) ≡ firstChange (suc n) fs gs → Compared n f g fs gs
+  unlike : f ≢ g → firstChange n (f ∷ fs) (g ∷ gs) ≡ Page n → Compared n f g fs gs
+
+pub compare-heads : (n f g : ℕ) (fs gs : List ℕ) → Compared n f g fs gs
+unfolding firstChange
+compare-heads n f g fs gs = go (ℕ-discrete f g)
+  where
+    go : Dec (f ≡ g) → Compared n f g fs gs
+    go (yes e) = alike e (rw (eq-eqb f g e))
+    go (no e) = unlike e (rw (ne-eqb f g e))
+
+pub same-equal : (n : ℕ) (fs gs : List ℕ) → length fs ≡ length gs → firstChange n fs gs ≡ Same → fs ≡ gs
+same-equal n [] [] l e = refl
+same-equal n [] (g ∷ gs) l e = absurd (omega arith)
+same-equal n (f ∷ fs) [] l e = absurd (omega arith)
+same-equal n (f ∷ fs) (g ∷ gs) l e = go (compare-heads n f g fs gs) (same-equal (suc n) fs gs (omega arith))
+  where
+    go : Compared n f g fs gs → (firstChange (suc n) fs gs ≡ Same → fs ≡ gs) → f ∷ fs ≡ g ∷ gs
+    go (alike h d) rest = ap₂ {C = List ℕ} (λ (x : ℕ) (xs : List ℕ). x ∷ xs) h (rest (sym d ∙ e))
+    go (unlike h d) rest = absurd (not-same (sym d ∙ e))
+
+pub equal-same : (n : ℕ) (fs gs : List ℕ) → fs ≡ gs → firstChange n fs gs ≡ Same
+equal-same n fs gs e = ap (λ (hs : List ℕ). firstChange n hs gs) e ∙ no-change n gs
+
+-- one place further
+first-later : (f g : ℕ) (fs gs : List ℕ) (i : ℕ) → f ≡ g → First fs gs i → First (f ∷ fs) (g ∷ gs) (suc i)
+first-later f g fs gs i e h = record { below = omega (arith, h .below); differ = h .differ; equal = equal }
+  where
+    equal : (j : ℕ) → j < suc i → getD (f ∷ fs) j 0 ≡ getD (g ∷ gs) j 0
+    equal zero l = e
+    equal (suc j) l = h .equal j (omega arith)
+
+first-sooner : (f g : ℕ) (fs gs : List ℕ) (i : ℕ) → First (f ∷ fs) (g ∷ gs) (suc i) → First fs gs i
+first-sooner f g fs gs i h = record { below = omega (arith, h .below); differ = h .differ; equal = λ j l. h .equal (suc j) (omega arith) }
+
+pub record Later (n : ℕ) (fs gs : List ℕ) (i : ℕ) : Type 0 where
+  pub place : ℕ
+  pub counted : i ≡ n + place
+  pub first : First fs gs place
+
+pub page-first : (n : ℕ) (fs gs : List ℕ) (i : ℕ) → firstChange n fs gs ≡ Page i → Later n fs gs i
+unfolding firstChange
+page-first n [] gs i e = absurd (not-same (sym e))
+page-first n (f ∷ fs) [] i e = absurd (not-same (sym e))
+page-first n (f ∷ fs) (g ∷ gs) i e = go (compare-heads n f g fs gs) (page-first (suc n) fs gs i)
+  where
+    go : Compared n f g fs gs → (firstChange (suc n) fs gs ≡ Page i → Later (suc n) fs gs i) → Later n (f ∷ fs) (g ∷ gs) i
+    go (alike h d) rest =
+        let r = rest (sym d ∙ e) in
+        record { place = suc (r .place); counted = omega (arith, r .counted); first = first-later f g fs gs (r .place) h (r .first) }
+    go (unlike h d) rest =
+        record { place = 0; counted = sym (page-inj (sym d ∙ e)) ∙ sym (add-zero n); first = record { below = omega arith; differ = h; equal = λ j l. absurd (not-suc-le-zero l) } }
+
+pub first-page : (n : ℕ) (fs gs : List ℕ) (i : ℕ) → length fs ≡ length gs → First fs gs i → firstChange n fs gs ≡ Page (n + i)
+first-page n [] gs i l h = absurd (not-suc-le-zero (h .below))
+first-page n (f ∷ fs) [] i l h = absurd (omega arith)
+first-page n (f ∷ fs) (g ∷ gs) zero l h = go (compare-heads n f g fs gs)
+  where
+    go : Compared n f g fs gs → firstChange n (f ∷ fs) (g ∷ gs) ≡ Page (n + 0)
+    go (alike e d) = absurd (h .differ e)
+    go (unlike e d) = d ∙ ap Page (sym (add-zero n))
+first-page n (f ∷ fs) (g ∷ gs) (suc i) l h = go (compare-heads n f g fs gs) (first-page (suc n) fs gs i (omega arith) (first-sooner f g fs gs i h))
+  where
+    go : Compared n f g fs gs → firstChange (suc n) fs gs ≡ Page (suc n + i) → firstChange n (f ∷ fs) (g ∷ gs) ≡ Page (n + suc i)
+    go (alike e d) rest = d ∙ rest ∙ ap Page (omega arith)
+    go (unlike e d) rest = absurd (e (h .equal 0 (omega arith)))
+
+-- ---- as the code goes: one page a turn
+
+module _ (i f g : ℕ) (fs gs xs ys : List ℕ) (ex : xs ≡ f ∷ fs) (ey : ys ≡ g ∷ gs) where
+  pub changed-here : f ≢ g → firstChange i xs ys ≡ Page i
+  unfolding firstChange
+  changed-here n = rw (ex, ey, ne-eqb f g n)
+
+  pub changed-later : f ≡ g → firstChange i xs ys ≡ firstChange (i + 1) fs gs
+  unfolding firstChange
+  changed-later e = rw (ex, ey, eq-eqb f g e, add-one i)
+
+pub changed-none : (i : ℕ) (xs ys : List ℕ) → xs ≡ [] → firstChange i xs ys ≡ Same
+unfolding firstChange
+changed-none i xs ys e = rw e

@@ -1,0 +1,79 @@
+-- A check that says same: the file has the sheet's fingerprint, so a file that differs from the sheet's own inside k neighbouring bits is
+-- never said to be the same.
+use mathlib.Core.Path.{_≡_, refl, sym, ap, ap₂, _∙_}
+use mathlib.Core.Logic.{_≢_}
+use mathlib.Core.Bool.{true}
+use mathlib.Core.List.{List, []}
+use Prim.Native.Nat.{ℕ, _-_, _*_, _^_, _≤_, _<_}
+use native.Mathlib.Decide.{ℕ-discrete}
+use native.Mathlib.Omega.{arith}
+use lib.ListN.{length}
+use Rattle.gf2.specs.Polynomials.{_⊕_, degree, rem, Divides}
+use Rattle.gf2.proofs.Sums.{⊕-eq, ⊕-lt, ⊕-shl}
+use Rattle.gf2.proofs.Degrees.{degree-is}
+use Rattle.gf2.proofs.Divisors.{dvd-by}
+use Rattle.gf2.proofs.Residues.{dvd-of-rem}
+use Rattle.refusals.specs.Refusals.{Done, longest}
+use Rattle.acceptance.specs.Keys.{accepted}
+use Rattle.acceptance.proofs.Laws.{accepted-iff, accepted-pos}
+use Rattle.files.specs.Files.{Bytes, fingerprint, markOf}
+use Rattle.book.specs.Confusions.{Burst}
+use Rattle.book.proofs.BurstLaws.{no-burst}
+use Rattle.book.proofs.ConfusionLaws.{no-equal-key}
+use Rattle.sheets.specs.Layout.{version1, pageCount, Contents, sheetBytes}
+use Rattle.sheets.specs.Sheets.{contentsOf, pageFingerprints, joinedPages, Sound, WellFormed, Same, pagesNow, compared, checkSheet}
+use Rattle.sheets.proofs.Pages.{fingerprint-lt, pages-joined}
+use Rattle.sheets.proofs.Sound.{file-sound}
+use Rattle.sheets.proofs.Changes.{other-not-same}
+use Rattle.sheets.proofs.Guarantee.{checks, other-length, same-iff}
+
+-- t has an inverse modulo an accepted key
+shift-cancels : (key a b e : ℕ) → accepted key ≡ true → a < 2 ^ degree key → b < 2 ^ degree key → rem key (a * 2 ^ e) ≡ rem key (b * 2 ^ e) → a ≡ b
+shift-cancels key a b e acc la lb h =
+    let i = accepted-iff key .0 acc in
+    let pos = accepted-pos key acc in
+    let d : Divides key ((a ⊕ b) * 2 ^ e) = dvd-by (dvd-of-rem pos (a * 2 ^ e) (b * 2 ^ e) h) (sym (⊕-shl e a b)) in
+    ⊕-eq a b (no-burst key (degree key) (a ⊕ b) e (i .2) (degree-is key pos) (omega arith) (⊕-lt (degree key) a b la lb) d)
+
+done-eq : {S A : Type 0} (x y : A) → _≡_ {A = Rattle.refusals.specs.Refusals.Answer S A} (Done x) (Done y) → x ≡ y
+done-eq x y e = cc
+
+module _ (sheet : List ℕ) (w : WellFormed sheet) (file : List ℕ) (fits : length file ≤ longest) (same : checkSheet sheet file ≡ Done Same) where
+  x : Contents
+  x = w .contents
+
+  says : compared (w .contents) file ≡ Same
+  says = done-eq (compared (w .contents) file) Same (sym (checks sheet w file fits) ∙ same)
+
+  pub same-length : length file ≡ w .contents .length
+  same-length = go (ℕ-discrete (length file) (w .contents .length))
+    where
+      go : Dec (length file ≡ w .contents .length) → length file ≡ w .contents .length
+      go (yes e) = e
+      go (no n) = absurd (other-not-same (sym (other-length (w .contents) file n) ∙ says))
+
+  pub same-pages : w .contents .pages ≡ pagesNow (w .contents) file
+  same-pages = same-iff (w .contents) (w .sound) file same-length .0 says
+
+  -- the file's fingerprint is the sheet's, though a check does not compare them
+  pub same-fingerprint : fingerprint (w .contents .key) file ≡ w .contents .fingerprint
+  unfolding x contentsOf
+  same-fingerprint =
+      shift-cancels (x .key) (fingerprint (x .key) file) (x .fingerprint) (8 * (pageCount (x .pageSize) (length file) * x .pageSize - length file)) (w .sound .key)
+      (fingerprint-lt pos file) (w .sound .fingerprint)
+      (sym (pages-joined pos (x .pageSize) file (omega (arith, w .sound .pageSize .0)))
+      ∙ ap (λ (fs : List ℕ). joinedPages (x .key) (x .pageSize) (markOf (x .key) []) fs .fingerprint) (sym same-pages)
+      ∙ w .sound .joined
+      ∙ ap₂ (λ (c n : ℕ). rem (x .key) (x .fingerprint * 2 ^ (8 * (c * x .pageSize - n)))) (w .sound .count ∙ ap (pageCount (x .pageSize)) (sym same-length)) (sym same-length))
+    where
+      pos : 0 < w .contents .key
+      pos = accepted-pos (w .contents .key) (w .sound .key)
+
+-- of a written sheet: no file that differs inside k neighbouring bits is the same
+pub no-burst-same : (key s : ℕ) (a b : List ℕ) → accepted key ≡ true → length a ≤ longest → 16 ≤ s → s ≤ 4096 → Bytes a → Bytes b → a ≢ b → Burst (degree key) a b
+    → checkSheet (sheetBytes version1 (contentsOf key s a)) b ≡ Done Same → ⊥
+unfolding contentsOf
+no-burst-same key s a b acc n lo hi ha hb ne burst same =
+    let w : WellFormed (sheetBytes version1 (contentsOf key s a)) = record { contents = contentsOf key s a; sound = file-sound key s a acc n lo hi; bytes = refl } in
+    no-equal-key (degree key) a b ha hb ne burst key
+    (record { is-accepted = acc; of-degree = refl; prints = sym (same-fingerprint (sheetBytes version1 (contentsOf key s a)) w b (omega (arith, burst .same-length)) same) })

@@ -1,0 +1,132 @@
+-- What the calls promise together, over the definitions that their contracts cite.
+use mathlib.Core.Path.{_≡_, refl, sym, ap, ap₂, _∙_}
+use mathlib.Core.Logic.{_≢_, _↔_}
+use mathlib.Core.Bool.{Bool, true, false, _||_, not}
+use mathlib.Core.List.{List, [], _∷_, _++_}
+use mathlib.Core.Option.{Option, none, some}
+use Prim.Native.Nat.{ℕ, zero, suc, _+_, _-_, _*_, _/_, _%_, _^_, _≤_, _<_}
+use native.Mathlib.Nat.{zero-add}
+use native.Mathlib.Omega.{arith}
+use lib.Dec.{ltb, eqb}
+use lib.ListN.{length, getD, take, drop}
+use lib.Seq.{take-at}
+use borrow.Author.Tests.{eq-eqb, ne-eqb, lt-ltb, le-ltb, le-leb, ltb-false}
+use Rattle.refusals.specs.declared.Refusal.the-variants.{TooLong}
+use Rattle.refusals.specs.Refusals.{Answer, Done, Refused, numberOf, Test, _⇒_, firstOf, passes, longest}
+use Rattle.acceptance.specs.Keys.{accepted, keyTests}
+use Rattle.acceptance.proofs.Laws.{or-neither, key-iff}
+use Rattle.files.specs.Files.{Bytes, fingerprint}
+use Rattle.sheets.specs.Layout.{version1, numberAt, pagePlace, sheetSize, pageCount, pagesIn, Contents, sheetBytes, contentsIn}
+use Rattle.sheets.specs.Sheets.{contentsOf, pageFingerprints, sizeTest, writeTests, writeSheet, readTests, readSheet, Sound, WellFormed, Outcome, Same, Page, OtherLength, choose, firstChange, pagesNow, compared, checkSheet, numbersOf, pageAt}
+use Rattle.sheets.proofs.Numbers.{length-numbersAt, numbers-one}
+use Rattle.sheets.proofs.Layouts.{length-sheet, fingerprint-back, read-back}
+use Rattle.sheets.proofs.Pages.{length-pages}
+use Rattle.sheets.proofs.Sound.{Clear, clear-done, clear-append, done-clear, sound-fits, sound-clear, clear-sound, file-sound}
+use Rattle.sheets.proofs.Changes.{First, Later, page-inj, not-other, other-not-same, same-equal, equal-same, page-first, first-page}
+
+-- ---- reading
+
+-- a well-formed sheet is read, as the numbers that it is made of
+pub reads : (sheet : List ℕ) (w : WellFormed sheet) → readSheet sheet ≡ Done (w .contents)
+unfolding readSheet
+reads sheet w =
+    rw (w .bytes)
+    (clear-done (readTests version1 (sheetBytes version1 (w .contents))) tt (contentsIn version1 (sheetBytes version1 (w .contents))) (sound-clear (w .contents) (w .sound))
+    ∙ ap Done (read-back version1 (w .contents) (sound-fits (w .contents) (w .sound))))
+
+-- and nothing else is
+pub read-iff : (sheet : List ℕ) → Bytes sheet → (readSheet sheet ≡ Done (contentsIn version1 sheet)) ↔ WellFormed sheet
+unfolding readSheet
+read-iff sheet b = (there, back)
+  where
+    there : readSheet sheet ≡ Done (contentsIn version1 sheet) → WellFormed sheet
+    there e = clear-sound sheet (done-clear (readTests version1 sheet) tt (contentsIn version1 sheet) (contentsIn version1 sheet) e .0) b
+
+    back : WellFormed sheet → readSheet sheet ≡ Done (contentsIn version1 sheet)
+    back w = clear-done (readTests version1 sheet) tt (contentsIn version1 sheet) (rw (← (w .bytes)) at (sound-clear (w .contents) (w .sound)))
+
+-- each page's fingerprint is given by its place
+pub page-given : (sheet : List ℕ) (w : WellFormed sheet) (i : ℕ) → i < length (w .contents .pages)
+    → pageAt (numbersOf (w .contents)) sheet i ≡ some (getD (w .contents .pages) i 0)
+unfolding pageAt contentsIn
+page-given sheet w i l =
+    let x = w .contents in
+    let back : contentsIn version1 sheet ≡ x = ap (contentsIn version1) (w .bytes) ∙ read-back version1 x (sound-fits x (w .sound)) in
+    let count : pagesIn version1 sheet ≡ length (x .pages) =
+    sym (length-numbersAt 19 8 (pagesIn version1 sheet) sheet) ∙ ap (λ (y : Contents). length (y .pages)) back in
+    let total : length sheet ≡ sheetSize version1 (length (x .pages)) = ap length (w .bytes) ∙ length-sheet version1 x in
+    let field : numberAt (19 + 8 * i) 8 sheet ≡ getD (x .pages) i 0 =
+    sym (numbers-one (pagesIn version1 sheet) 19 8 i sheet (rw count l)) ∙ ap (λ (y : Contents). getD (y .pages) i 0) back in
+    rw (lt-ltb i (length (x .pages)) l, le-leb (sheetSize version1 i) (length sheet) (omega arith), field)
+
+-- ---- writing, then reading
+
+-- what is written into a buffer reads back: key, length, page size, every page fingerprint and the file's
+module _ (key s : ℕ) (file buffer after : List ℕ) (fits : key < 2 ^ 64) (done : writeSheet key s file buffer ≡ Done after) where
+  cleared : Clear (writeTests key s file buffer) × (sheetBytes version1 (contentsOf key s file) ++ drop (sheetSize version1 (pageCount s (length file))) buffer ≡ after)
+  unfolding writeSheet
+  cleared = done-clear (writeTests key s file buffer) buffer _ after done
+
+  sound : Sound (contentsOf key s file)
+  sound =
+      let c = cleared .0 in
+      let p = or-neither (ltb longest (length file)) false (c .1 .1 .0) in
+      let z = or-neither (ltb s 16) (ltb 4096 s) (c .1 .1 .1 .0) in
+      file-sound key s file (key-iff key fits .1 (c .0, c .1 .0)) (ltb-false longest (length file) (p .0)) (ltb-false s 16 (z .0)) (ltb-false 4096 s (z .1))
+
+  written : take (sheetSize version1 (pageCount s (length file))) after ≡ sheetBytes version1 (contentsOf key s file)
+  unfolding contentsOf
+  written =
+      ap (take (sheetSize version1 (pageCount s (length file)))) (sym (cleared .1))
+      ∙ take-at (sheetBytes version1 (contentsOf key s file)) (drop (sheetSize version1 (pageCount s (length file))) buffer) (sheetSize version1 (pageCount s (length file)))
+      (length-sheet version1 (contentsOf key s file) ∙ ap (sheetSize version1) (length-pages key (pageCount s (length file)) s file))
+
+  pub written-reads : readSheet (take (sheetSize version1 (pageCount s (length file))) after) ≡ Done (contentsOf key s file)
+  written-reads = rw written (reads (sheetBytes version1 (contentsOf key s file)) (record { contents = contentsOf key s file; sound = sound; bytes = refl }))
+
+  -- its last field is the file's fingerprint
+  pub written-fingerprint : numberAt (pagePlace version1 (pageCount s (length file))) 8 (take (sheetSize version1 (pageCount s (length file))) after) ≡ fingerprint key file
+  unfolding contentsOf
+  written-fingerprint =
+      rw written
+      (ap (λ (c : ℕ). numberAt (pagePlace version1 c) 8 (sheetBytes version1 (contentsOf key s file))) (sym (length-pages key (pageCount s (length file)) s file))
+      ∙ fingerprint-back version1 (contentsOf key s file) (sound-fits (contentsOf key s file) sound))
+
+-- ---- checking a file against a well-formed sheet
+
+module _ (sheet : List ℕ) (w : WellFormed sheet) (file : List ℕ) (fits : length file ≤ longest) where
+  pub checks : checkSheet sheet file ≡ Done (compared (w .contents) file)
+  unfolding checkSheet
+  checks =
+      clear-done (readTests version1 sheet ++ passes (length file ∷ []) ⇒ TooLong ∷ []) tt (compared (contentsIn version1 sheet) file)
+      (clear-append (readTests version1 sheet) (passes (length file ∷ []) ⇒ TooLong ∷ []) (rw (← (w .bytes)) at (sound-clear (w .contents) (w .sound)))
+      (rw (le-ltb longest (length file) fits) refl, tt))
+      ∙ ap (λ (x : Contents). Done (compared x file)) (ap (contentsIn version1) (w .bytes) ∙ read-back version1 (w .contents) (sound-fits (w .contents) (w .sound)))
+
+-- the answer: other length where the lengths differ
+pub other-length : (x : Contents) (file : List ℕ) → length file ≢ x .length → compared x file ≡ OtherLength
+unfolding compared
+other-length x file n = rw (ne-eqb (length file) (x .length) n)
+
+module _ (x : Contents) (sound : Sound x) (file : List ℕ) (e : length file ≡ x .length) where
+  by-pages : compared x file ≡ firstChange 0 (x .pages) (pagesNow x file)
+  unfolding compared
+  by-pages = rw (eq-eqb (length file) (x .length) e)
+
+  as-many : length (x .pages) ≡ length (pagesNow x file)
+  unfolding contentsOf
+  as-many = sound .count ∙ ap (pageCount (x .pageSize)) (sym e) ∙ sym (length-pages (x .key) (pageCount (x .pageSize) (length file)) (x .pageSize) file)
+
+  -- else the first page whose fingerprint differs
+  pub page-iff : (i : ℕ) → (compared x file ≡ Page i) ↔ First (x .pages) (pagesNow x file) i
+  page-iff i = (there, back)
+    where
+      there : compared x file ≡ Page i → First (x .pages) (pagesNow x file) i
+      there h = let l = page-first 0 (x .pages) (pagesNow x file) i (sym by-pages ∙ h) in rw (l .counted, zero-add (l .place)) (l .first)
+
+      back : First (x .pages) (pagesNow x file) i → compared x file ≡ Page i
+      back h = by-pages ∙ first-page 0 (x .pages) (pagesNow x file) i as-many h ∙ ap Page (zero-add i)
+
+  -- else same: every page fingerprint is equal
+  pub same-iff : (compared x file ≡ Same) ↔ (x .pages ≡ pagesNow x file)
+  same-iff = (λ h. same-equal 0 (x .pages) (pagesNow x file) as-many (sym by-pages ∙ h), λ h. by-pages ∙ equal-same 0 (x .pages) (pagesNow x file) h)

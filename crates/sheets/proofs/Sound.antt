@@ -1,0 +1,178 @@
+-- When a sheet is read: no test of reading holds of the bytes exactly where they are a sheet's with sound fields.
+use mathlib.Core.Path.{_≡_, refl, sym, ap, ap₂, _∙_}
+use mathlib.Core.Bool.{Bool, true, false, _||_, not}
+use mathlib.Core.List.{List, [], _∷_, _++_}
+use Prim.Native.Nat.{ℕ, zero, suc, _+_, _-_, _*_, _/_, _%_, _^_, _≤_, _<_}
+use native.Mathlib.Nat.{lt-of-lt-of-le}
+use native.Mathlib.Omega.{arith}
+use lib.Dec.{ltb, leb, eqb, lit<, lit≤}
+use lib.ListN.{length}
+use lib.Pow.{pow-mono}
+use borrow.Author.Tests.{eq-eqb, ne-eqb, lt-ltb, le-ltb, lt-leb, ltb-false, leb-false, eqb-true, not-false}
+use Rattle.gf2.specs.Lists.{All}
+use Rattle.gf2.specs.Polynomials.{degree, rem}
+use Rattle.gf2.proofs.Lists.{all-map}
+use Rattle.gf2.proofs.Degrees.{degree-is, deg-hi}
+use Rattle.refusals.specs.Refusals.{Answer, Done, Refused, numberOf, Test, _⇒_, firstOf, longest}
+use Rattle.acceptance.specs.Keys.{accepted, reducible, keyTests}
+use Rattle.acceptance.proofs.Laws.{or-neither, accepted-iff, accepted-pos, key-iff}
+use Rattle.files.specs.Files.{Bytes, fingerprint, markOf}
+use Rattle.sheets.specs.Layout.{Layout, version1, numberAt, sheetSize, versionPlace, pageCount, lengthIn, sizeIn, pagesIn, Contents, sheetBytes, contentsIn}
+use Rattle.sheets.specs.Sheets.{contentsOf, pageFingerprints, someUnreduced, joinedPages, pagesJoined, fileFilled, readTests, readSheet, Sound, WellFormed}
+use Rattle.sheets.proofs.Numbers.{number-lt, length-numbersAt}
+use Rattle.sheets.proofs.Layouts.{Fits, length-sheet, letters-back, version-back, read-back, write-back}
+use Rattle.sheets.proofs.Moduli.{key-lt}
+use Rattle.sheets.proofs.Pages.{fingerprint-lt, fingerprints-lt, length-pages, pages-joined}
+
+-- ---- lists of tests of which none holds
+
+abbrev pub Clear : List Test → Type 0
+Clear [] = Unit {0}
+Clear (b ⇒ r ∷ ts) = (b ≡ false) × Clear ts
+
+pub clear-done : {S A : Type 0} (ts : List Test) (x : S) (y : A) → Clear ts → firstOf ts x y ≡ Done y
+clear-done [] x y h = refl
+clear-done (true ⇒ r ∷ ts) x y h = absurd (let z : _≡_ {A = ℕ} 0 1 = cc (h .0) in omega arith)
+clear-done (false ⇒ r ∷ ts) x y h = clear-done ts x y (h .1)
+
+pub done-clear : {S A : Type 0} (ts : List Test) (x : S) (y z : A) → firstOf ts x y ≡ Done z → Clear ts × (y ≡ z)
+done-clear [] x y z e = (tt, cc)
+done-clear (true ⇒ r ∷ ts) x y z e = absurd (let z : _≡_ {A = ℕ} 0 1 = cc in omega arith)
+done-clear (false ⇒ r ∷ ts) x y z e = let i = done-clear ts x y z e in ((refl, i .0), i .1)
+
+pub clear-append : (ts us : List Test) → Clear ts → Clear us → Clear (ts ++ us)
+clear-append [] us h k = k
+clear-append (b ⇒ r ∷ ts) us h k = (h .0, clear-append ts us (h .1) k)
+
+-- ---- reduced fingerprints
+
+pub all-reduced : (k : ℕ) (fs : List ℕ) (f : ℕ) → All (λ g. g < 2 ^ k) fs → f < 2 ^ k → someUnreduced k (fs ++ f ∷ []) ≡ false
+unfolding someUnreduced
+all-reduced k [] f h l = rw (lt-leb (2 ^ k) f l)
+all-reduced k (g ∷ fs) f h l = rw (lt-leb (2 ^ k) g (h .0)) (all-reduced k fs f (h .1) l)
+
+pub none-unreduced : (k : ℕ) (fs : List ℕ) (f : ℕ) → someUnreduced k (fs ++ f ∷ []) ≡ false → All (λ g. g < 2 ^ k) fs × (f < 2 ^ k)
+unfolding someUnreduced
+none-unreduced k [] f e = (tt, leb-false (2 ^ k) f (or-neither (leb (2 ^ k) f) false e .0))
+none-unreduced k (g ∷ fs) f e =
+    let o = or-neither (leb (2 ^ k) g) (someUnreduced k (fs ++ f ∷ [])) e in
+    let i = none-unreduced k fs f (o .1) in
+    ((leb-false (2 ^ k) g (o .0), i .0), i .1)
+
+-- ---- sound fields fit the layout
+
+pub sound-fits : (x : Contents) → Sound x → Fits version1 x
+sound-fits x h =
+    record {
+      letters = lit< tt;
+      version = lit< tt;
+      key = key-lt (x .key) (h .key);
+      length = omega (arith, h .length);
+      pageSize = omega (arith, h .pageSize);
+      pages = all-map (λ f l. lt-of-lt-of-le l small) (x .pages) (h .pages);
+      fingerprint = lt-of-lt-of-le (h .fingerprint) small;
+      count = h .count;
+    }
+  where
+    small : 2 ^ degree (x .key) ≤ 2 ^ 64
+    small = let d = accepted-iff (x .key) .0 (h .key) in pow-mono {i = degree (x .key)} {j = 64} (omega arith)
+
+-- ---- the tests of reading
+
+size-clear : (s : ℕ) → 16 ≤ s → s ≤ 4096 → (ltb s 16 || ltb 4096 s) ≡ false
+size-clear s a b = rw (le-ltb s 16 a, le-ltb 4096 s b)
+
+or-clear : {a b c : Bool} → a ≡ false → b ≡ false → c ≡ false → (a || b || c) ≡ false
+or-clear x y z = rw (x, y, z)
+
+pub sound-clear : (x : Contents) → Sound x → Clear (readTests version1 (sheetBytes version1 x))
+sound-clear x h =
+    let f = sound-fits x h in
+    let k = key-iff (x .key) (key-lt (x .key) (h .key)) .0 (h .key) in
+    rw (read-back version1 x f, length-sheet version1 x, letters-back version1 x f, version-back version1 x f) (
+      or-clear (le-ltb (sheetSize version1 (length (x .pages))) 27 (omega arith)) refl refl,
+      (
+        k .0,
+        (
+          k .1,
+          (
+            size-clear (x .pageSize) (h .pageSize .0) (h .pageSize .1),
+            (
+              or-clear (ap not (eq-eqb (sheetSize version1 (length (x .pages))) (sheetSize version1 (length (x .pages))) refl))
+                  (all-reduced (degree (x .key)) (x .pages) (x .fingerprint) (h .pages) (h .fingerprint)) (ap not (eq-eqb (pagesJoined x) (fileFilled x) (h .joined))),
+              tt,
+            ),
+          ),
+        ),
+      ),
+    )
+
+-- none of three tests holds
+pub neither : (a b c : Bool) → (a || b || c) ≡ false → (a ≡ false) × (b ≡ false) × (c ≡ false)
+neither a b c e = let x = or-neither (a || b) c e in let y = or-neither a b (x .0) in (y .0, y .1, x .1)
+
+-- what the tests say of the bytes where none holds
+module _ (sheet : List ℕ) (c : Clear (readTests version1 sheet)) where
+  head : (ltb (length sheet) 27 ≡ false) × (not (eqb (numberAt 0 3 sheet) 0x474650) ≡ false) × (not (eqb (numberAt 3 2 sheet) 1) ≡ false)
+  head = neither (ltb (length sheet) 27) (not (eqb (numberAt 0 3 sheet) 0x474650)) (not (eqb (numberAt 3 2 sheet) 1)) (c .0)
+
+  x : Contents
+  x = contentsIn version1 sheet
+
+  body : (not (eqb (length sheet) (sheetSize version1 (length (x .pages)))) ≡ false) × (someUnreduced (degree (x .key)) (x .pages ++ x .fingerprint ∷ []) ≡ false)
+      × (not (eqb (pagesJoined x) (fileFilled x)) ≡ false)
+  unfolding x
+  body =
+      neither (not (eqb (length sheet) (sheetSize version1 (length (x .pages))))) (someUnreduced (degree (x .key)) (x .pages ++ x .fingerprint ∷ []))
+      (not (eqb (pagesJoined x) (fileFilled x))) (c .1 .1 .1 .1 .0)
+
+  count : length (x .pages) ≡ pagesIn version1 sheet
+  unfolding x contentsIn
+  count = length-numbersAt 19 8 (pagesIn version1 sheet) sheet
+
+  pub clear-total : length sheet ≡ sheetSize version1 (pagesIn version1 sheet)
+  clear-total = eqb-true (length sheet) (sheetSize version1 (length (x .pages))) (not-false _ (body .0)) ∙ ap (sheetSize version1) count
+
+  pub clear-contents : Sound (contentsIn version1 sheet)
+  unfolding x contentsIn
+  clear-contents =
+      let long = ltb-false (length sheet) 27 (head .0) in
+      let small = number-lt 5 8 sheet (omega arith) in
+      let n = number-lt 13 4 sheet (omega arith) in
+      let s = or-neither (ltb (x .pageSize) 16) (ltb 4096 (x .pageSize)) (c .1 .1 .1 .0) in
+      let fs = none-unreduced (degree (x .key)) (x .pages) (x .fingerprint) (body .1) in
+      record {
+        key = key-iff (x .key) small .1 (c .1 .0, c .1 .1 .0);
+        length = omega arith;
+        pageSize = (ltb-false (x .pageSize) 16 (s .0), ltb-false 4096 (x .pageSize) (s .1));
+        count = count;
+        pages = fs .0;
+        fingerprint = fs .1;
+        joined = eqb-true (pagesJoined x) (fileFilled x) (not-false _ (body .2));
+      }
+
+  pub clear-sound : Bytes sheet → WellFormed sheet
+  clear-sound b =
+      record {
+        contents = contentsIn version1 sheet;
+        sound = clear-contents;
+        bytes =
+            sym (write-back version1 sheet b clear-total (eqb-true (numberAt 0 3 sheet) 0x474650 (not-false _ (head .1))) (eqb-true (numberAt 3 2 sheet) 1 (not-false _ (head .2))));
+      }
+
+-- ---- the numbers of a file's sheet are sound
+
+pub file-sound : (key s : ℕ) (file : List ℕ) → accepted key ≡ true → length file ≤ longest → 16 ≤ s → s ≤ 4096 → Sound (contentsOf key s file)
+unfolding contentsOf
+file-sound key s file a n lo hi =
+    let pos = accepted-pos key a in
+    let c = length-pages key (pageCount s (length file)) s file in
+    record {
+      key = a;
+      length = n;
+      pageSize = (lo, hi);
+      count = c;
+      pages = fingerprints-lt pos (pageCount s (length file)) s file;
+      fingerprint = fingerprint-lt pos file;
+      joined = pages-joined pos s file (omega arith) ∙ ap (λ (m : ℕ). rem key (fingerprint key file * 2 ^ (8 * (m * s - length file)))) (sym c);
+    }

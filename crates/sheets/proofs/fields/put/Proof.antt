@@ -1,0 +1,76 @@
+use mathlib.Core.Path.{_≡_, refl, sym, _∙_}
+use Prim.Native.Nat.{_+_, _-_, _*_, _/_, _%_, _^_, _≤_}
+use native.Mathlib.Omega.{arith}
+use lib.ListN.{length, length-set}
+use lib.Seq.{sets}
+use Rattle.sheets.specs.Layout.{bytesOf}
+use Rattle.sheets.proofs.Numbers.{store-next, store-done}
+use Rattle.sheets.proofs.fields.put.Statement.{statement}
+use Rattle.sheets.proofs.fields.put.Tie as tie
+use Rattle.sheets.proofs.fields.put.Reads as reads
+use Rattle.sheets.proofs.fields.put.Lts as lts
+
+abbrev Inv-loop : tie.InvT-loop
+Inv-loop bytes₀ at w x left₀ i₀ bytes left i = (left ≤ 8) × (i + left ≤ length bytes) × (length bytes ≡ length bytes₀) × (sets bytes i (bytesOf left x) ≡ sets bytes₀ at (bytesOf w x))
+
+abbrev μ-loop : tie.MeasureT-loop
+μ-loop bytes₀ at w x left₀ i₀ bytes left i = left
+
+loop-holds : tie.Need-loop-holds Inv-loop μ-loop
+loop-holds c = (omega arith, omega arith, refl, refl)
+
+sub-left : tie.Need-sub-left Inv-loop μ-loop
+sub-left c = omega arith
+
+mul-bytes : tie.Need-mul-bytes Inv-loop μ-loop
+mul-bytes c = omega arith
+
+cast-bytes : tie.Need-cast-bytes Inv-loop μ-loop
+cast-bytes c = omega arith
+
+shr-bytes : tie.Need-shr-bytes Inv-loop μ-loop
+shr-bytes c = omega arith
+
+cast-bytes-2 : tie.Need-cast-bytes-2 Inv-loop μ-loop
+cast-bytes-2 c = omega arith
+
+slice-write-bytes : tie.Need-slice-write-bytes Inv-loop μ-loop
+slice-write-bytes c = omega arith
+
+add-i : tie.Need-add-i Inv-loop μ-loop
+add-i c = omega arith
+
+loop-less : tie.Need-loop-less Inv-loop μ-loop
+loop-less c = omega arith
+
+loop-again : tie.Need-loop-again Inv-loop μ-loop
+loop-again c =
+    let l = c .before .loop in
+    let b = c .before .before .args .x / 2 ^ (8 * (l .left - 1)) % 256 in
+    let e = length-set (l .bytes) (l .i) b in
+    (omega arith, omega arith, e ∙ l .inv .2, sym (store-next (l .bytes) (l .i) (c .before .before .args .x) (l .left) (omega arith)) ∙ l .inv .3)
+
+same-length : tie.Need-same-length Inv-loop μ-loop
+same-length c = c .before .loop .inv .2
+
+returns : tie.Need-returns Inv-loop μ-loop
+returns c = let l = c .before .loop in sym (store-done (l .bytes) (l .i) (c .before .before .args .x) (l .left) (omega arith)) ∙ l .inv .3
+
+pub put-spec : {M : Type 1} → statement M
+put-spec =
+    tie.close
+    (tie.spec
+    Inv-loop
+    μ-loop
+    loop-holds
+    sub-left
+    mul-bytes
+    cast-bytes
+    shr-bytes
+    cast-bytes-2
+    slice-write-bytes
+    add-i
+    loop-less
+    loop-again
+    same-length
+    returns)

@@ -1,0 +1,212 @@
+-- Writing, reading and checking a page sheet (document 01, "Page sheets"): each call is its tests, in document 01's order, and its value.
+use mathlib.Core.Path.{_≡_}
+use mathlib.Core.Bool.{Bool, true, false, _&&_, _||_, not}
+use mathlib.Core.List.{List, [], _∷_, _++_}
+use mathlib.Core.Option.{Option, none, some}
+use Prim.Native.Nat.{ℕ, zero, suc, _+_, _-_, _*_, _^_, _≤_, _<_, min}
+use lib.Dec.{ltb, leb, eqb}
+use lib.ListN.{length, take, drop, replicate}
+use Rattle.gf2.specs.Lists.{All}
+use Rattle.gf2.specs.Polynomials.{degree, rem}
+use Rattle.refusals.specs.declared.Refusal.the-variants.{TooLong, PageSize, BufferShort, SheetMalformed}
+use Rattle.refusals.specs.Refusals.{Answer, Done, Refused, Test, _⇒_, firstOf, passes, longest}
+use Rattle.acceptance.specs.Keys.{accepted, keyTests}
+use Rattle.files.specs.declared.Mark.{Mark}
+use Rattle.files.specs.Files.{fingerprint, markOf}
+use Rattle.compose.specs.Composing.{joined}
+use Rattle.sheets.specs.Layout.{Layout, version1, versionPlace, pagePlace, sheetSize, pageCount, numberAt, Contents, sheetBytes, contentsIn}
+use Rattle.sheets.specs.declared.Written.{Written}
+use Rattle.sheets.specs.declared.Written.the-variants as written-cases
+use Rattle.sheets.specs.declared.Sheet.{Sheet}
+use Rattle.sheets.specs.declared.Reading.{Reading}
+use Rattle.sheets.specs.declared.Reading.the-variants as reading-cases
+use Rattle.sheets.specs.declared.PageField.{PageField}
+use Rattle.sheets.specs.declared.PageField.the-variants as field-cases
+use Rattle.sheets.specs.declared.Checked.{Checked}
+use Rattle.sheets.specs.declared.Checked.the-variants as checked-cases
+use Rattle.sheets.specs.declared.Changed.{Changed}
+use Rattle.sheets.specs.declared.Changed.the-variants as changed-cases
+
+-- ---- the pages of a file
+
+-- a last page shorter than s is filled up with zero bytes
+unfoldable pub filled : ℕ → List ℕ → List ℕ
+filled s page = page ++ replicate (s - length page) 0
+
+-- the fingerprints of the first c pages, of s bytes each
+unfoldable pub pageFingerprints : ℕ → ℕ → ℕ → List ℕ → List ℕ
+pageFingerprints key s zero file = []
+pageFingerprints key s (suc c) file = fingerprint key (filled s (take s file)) ∷ pageFingerprints key s c (drop s file)
+
+unfoldable pub contentsOf : ℕ → ℕ → List ℕ → Contents
+contentsOf key s file =
+    record {
+      key = key;
+      length = length file;
+      pageSize = s;
+      pages = pageFingerprints key s (pageCount s (length file)) file;
+      fingerprint = fingerprint key file;
+    }
+
+-- ---- writing: numbers 1, 2, 7, 12, 13
+
+-- number 12
+abbrev pub sizeTest : ℕ → Test
+sizeTest s = (ltb s 16 || ltb 4096 s) ⇒ PageSize
+
+abbrev pub writeTests : ℕ → ℕ → List ℕ → List ℕ → List Test
+writeTests key s file buffer =
+    keyTests key
+    ++ passes (length file ∷ []) ⇒ TooLong
+    ∷ sizeTest s
+    ∷ ltb (length buffer) (sheetSize version1 (pageCount s (length file))) ⇒ BufferShort
+    ∷ []
+
+-- what the lent buffer holds after the call: its further bytes keep their value
+unfoldable pub writeSheet : ℕ → ℕ → List ℕ → List ℕ → Answer (List ℕ) (List ℕ)
+writeSheet key s file buffer =
+    firstOf (writeTests key s file buffer) buffer
+    (sheetBytes version1 (contentsOf key s file) ++ drop (sheetSize version1 (pageCount s (length file))) buffer)
+
+-- ---- reading: number 14 for size, letters and version; 1, 2, 12; then the rest of 14
+
+-- the marks of pages of s bytes joined behind a mark, without the limit of number 7
+unfoldable pub joinedPages : ℕ → ℕ → Mark → List ℕ → Mark
+joinedPages key s m [] = m
+joinedPages key s m (f ∷ fs) = joinedPages key s (joined key m (record { fingerprint = f; length = s })) fs
+
+-- a fingerprint is not below 2^k
+unfoldable pub someUnreduced : ℕ → List ℕ → Bool
+someUnreduced k [] = false
+someUnreduced k (f ∷ fs) = leb (2 ^ k) f || someUnreduced k fs
+
+-- the pages joined; and the file's fingerprint times t^(8 × (c × s − n)), which is that of the file filled up
+abbrev pub pagesJoined : Contents → ℕ
+pagesJoined x = joinedPages (x .key) (x .pageSize) (markOf (x .key) []) (x .pages) .fingerprint
+
+abbrev pub fileFilled : Contents → ℕ
+fileFilled x = rem (x .key) (x .fingerprint * 2 ^ (8 * (length (x .pages) * x .pageSize - x .length)))
+
+-- number 14, first: size, letters, version
+abbrev pub headWrong : Layout → List ℕ → Bool
+headWrong v sheet =
+    ltb (length sheet) (sheetSize v 0)
+    || not (eqb (numberAt 0 (v .lettersWidth) sheet) (v .letters))
+    || not (eqb (numberAt (versionPlace v) (v .versionWidth) sheet) (v .version))
+
+-- number 14, last: total, fields, joining
+abbrev pub bodyWrong : Layout → ℕ → Contents → Bool
+bodyWrong v size x =
+    not (eqb size (sheetSize v (length (x .pages))))
+    || someUnreduced (degree (x .key)) (x .pages ++ x .fingerprint ∷ [])
+    || not (eqb (pagesJoined x) (fileFilled x))
+
+abbrev pub readTests : Layout → List ℕ → List Test
+readTests v sheet =
+    let x = contentsIn v sheet in
+    headWrong v sheet ⇒ SheetMalformed
+    ∷ keyTests (x .key)
+    ++ sizeTest (x .pageSize)
+    ∷ bodyWrong v (length sheet) x ⇒ SheetMalformed
+    ∷ []
+
+unfoldable pub readSheet : List ℕ → Answer Unit Contents
+readSheet sheet = firstOf (readTests version1 sheet) tt (contentsIn version1 sheet)
+
+-- the same as a description: the bytes are a sheet's, with fields of which number 14 says nothing
+pub record Sound (x : Contents) : Type 0 where
+  pub key : accepted (x .key) ≡ true
+  pub length : x .length ≤ longest
+  pub pageSize : (16 ≤ x .pageSize) × (x .pageSize ≤ 4096)
+  pub count : lib.ListN.length (x .pages) ≡ pageCount (x .pageSize) (x .length)
+  pub pages : All (λ f. f < 2 ^ degree (x .key)) (x .pages)
+  pub fingerprint : x .fingerprint < 2 ^ degree (x .key)
+  pub joined : pagesJoined x ≡ fileFilled x
+
+pub record WellFormed (sheet : List ℕ) : Type 0 where
+  pub contents : Contents
+  pub sound : Sound contents
+  pub bytes : sheet ≡ sheetBytes version1 contents
+
+-- ---- checking a file: all of reading, then 7
+
+pub data Outcome : Type 0 where
+  Same : Outcome
+  Page : ℕ → Outcome
+  OtherLength : Outcome
+
+abbrev pub choose : Bool → Outcome → Outcome → Outcome
+choose true a b = a
+choose false a b = b
+
+-- the first place where two lists of fingerprints differ, counted from i
+unfoldable pub firstChange : ℕ → List ℕ → List ℕ → Outcome
+firstChange i [] gs = Same
+firstChange i (f ∷ fs) [] = Same
+firstChange i (f ∷ fs) (g ∷ gs) = choose (eqb f g) (firstChange (suc i) fs gs) (Page i)
+
+-- the fingerprints of a file's pages, by the sheet's key and page size
+abbrev pub pagesNow : Contents → List ℕ → List ℕ
+pagesNow x file = contentsOf (x .key) (x .pageSize) file .pages
+
+unfoldable pub compared : Contents → List ℕ → Outcome
+compared x file = choose (eqb (length file) (x .length)) (firstChange 0 (x .pages) (pagesNow x file)) OtherLength
+
+unfoldable pub checkSheet : List ℕ → List ℕ → Answer Unit Outcome
+checkSheet sheet file =
+    firstOf (readTests version1 sheet ++ passes (length file ∷ []) ⇒ TooLong ∷ []) tt (compared (contentsIn version1 sheet) file)
+
+-- the bytes of the page that a check names, from the first to before the last: with the sheet's length and page size
+pub data Range : Type 0 where
+  FromTo : ℕ → ℕ → Range
+  NoRange : Range
+
+abbrev pub pageRange : Contents → Outcome → Range
+pageRange x (Page i) = FromTo (i * x .pageSize) (min (i * x .pageSize + x .pageSize) (x .length))
+pageRange x Same = NoRange
+pageRange x OtherLength = NoRange
+
+abbrev pub rangeOf : Contents → Answer Unit Outcome → Range
+rangeOf x (Done o) = pageRange x o
+rangeOf x (Refused r s) = NoRange
+
+-- ---- the answers in code: their numbers and values
+
+abbrev pub written : Written → List ℕ → Answer (List ℕ) (List ℕ)
+written written-cases.Done buffer = Done buffer
+written (written-cases.Refused r) buffer = Refused r buffer
+
+-- the numbers that a reader is given at once; each page's fingerprint is asked for by its place
+abbrev pub numbersOf : Contents → Sheet
+numbersOf x = record { key = x .key; length = x .length; size = x .pageSize; pages = length (x .pages); fingerprint = x .fingerprint }
+
+abbrev pub sheetRead : Answer Unit Contents → Answer Unit Sheet
+sheetRead (Done x) = Done (numbersOf x)
+sheetRead (Refused r s) = Refused r s
+
+abbrev pub reading : Reading → Answer Unit Sheet
+reading (reading-cases.Sheet x) = Done x
+reading (reading-cases.Refused r) = Refused r tt
+
+-- the fingerprint of page i, from the bytes and the numbers that they were read as
+abbrev pub given : Bool → ℕ → Option ℕ
+given true f = some f
+given false f = none
+
+unfoldable pub pageAt : Sheet → List ℕ → ℕ → Option ℕ
+pageAt x sheet i =
+    given (ltb i (x .pages) && leb (sheetSize version1 i) (length sheet)) (numberAt (pagePlace version1 i) (version1 .fingerprintWidth) sheet)
+
+abbrev pub pageField : PageField → Option ℕ
+pageField (field-cases.Fingerprint f) = some f
+pageField field-cases.None = none
+
+abbrev pub checked : Checked → Answer Unit Outcome
+checked checked-cases.Same = Done Same
+checked (checked-cases.Page i) = Done (Page i)
+checked checked-cases.OtherLength = Done OtherLength
+checked (checked-cases.Refused r) = Refused r tt
+
+abbrev pub changed : Changed → Range
+changed (changed-cases.Bytes a b) = FromTo a b
+changed changed-cases.None = NoRange

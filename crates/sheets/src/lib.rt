@@ -1,0 +1,46 @@
+// Page sheets: the layout of their bytes and the answers of the calls. The definitions are in specs/, their laws in proofs/. The calls are in
+// the crates sheet_writing, sheet_reading and sheet_checking.
+use refusals::Refusal;
+
+pub mod fields;
+
+// The answer to writing a sheet.
+pub enum Written {
+    Done,
+    Refused(Refusal),
+}
+
+// The numbers of a sheet: its key, the file's length, the page size, the number of pages and the file's fingerprint.
+pub struct Sheet {
+    pub key: u64,
+    pub length: u64,
+    pub size: u64,
+    pub pages: u64,
+    pub fingerprint: u64,
+}
+
+// The answer to reading a sheet.
+pub enum Reading {
+    Sheet(Sheet),
+    Refused(Refusal),
+}
+
+// The answer to checking a file against a sheet: the first page whose fingerprint differs, counted from 0, or none.
+pub enum Checked {
+    Same,
+    Page(u32),
+    OtherLength,
+    Refused(Refusal),
+}
+
+// A range of bytes, from the first to before the last.
+pub enum Changed {
+    Bytes(u64, u64),
+    None,
+}
+
+// The fingerprint of a page of a sheet, or none where there is no such page.
+pub enum PageField {
+    Fingerprint(u64),
+    None,
+}

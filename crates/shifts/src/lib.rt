@@ -1,0 +1,47 @@
+// Multiplication of residues by one power of t, by a table of 2,048 words. These functions are for the project's own crates:
+// what they require, every caller proves.
+ghost use mathlib.Core.Path.{_≡_};
+ghost use Prim.Native.Nat.{_*_, _≤_, _<_};
+ghost use lib.ListN.{length, getD};
+ghost use Rattle.gf2.specs.Polynomials.{_⊕_, monic, Modulus};
+ghost use Rattle.lookups.specs.Groups.{looked};
+ghost use Rattle.shifts.specs.Shifts.{Shifts};
+
+// The table for t^(8n), the shift by n bytes.
+pub fn fill(words: &mut [u64], k: u32, low: u64, n: u64)
+    requires { ⌜ Modulus k low × (n ≤ 4096) × (length (now words) ≡ 2048) ⌝ }
+    ensures { λ r. ⌜ Shifts (monic k low) (8 * n) (now (words .exit)) ⌝ }
+{
+    let mut x = gf2::power_of_t(k, low, 8 * n);
+    let mut j: usize = 0;
+    while j < 8 {
+        let at = j * 256;
+        multiples::fill_row(words, at, 8, k, low, x);
+        x = gf2::step(k, low, words[at + 128], 0);
+        j += 1;
+    }
+}
+
+// The product, by the bytes of the residue.
+pub fn times(words: &[u64], f: u64) -> u64
+    requires { ⌜ length (now words) ≡ 2048 ⌝ }
+    ensures { λ r. ⌜ r ≡ looked 8 (now (words .entry)) 8 0 f ⌝ }
+{
+    let mut sum: u64 = 0;
+    let mut rest = f;
+    let mut j: usize = 0;
+    while j < 8 {
+        sum = sum ^ words[j * 256 + (rest % 256) as usize];
+        rest = rest / 256;
+        j += 1;
+    }
+    sum
+}
+
+// A page mark joined behind a mark: F·t^(8n) + G + t^(8n), which is word 1.
+pub fn join(words: &[u64], f: u64, g: u64) -> u64
+    requires { ⌜ length (now words) ≡ 2048 ⌝ }
+    ensures { λ r. ⌜ r ≡ looked 8 (now (words .entry)) 8 0 f ⊕ g ⊕ getD (now (words .entry)) 1 0 ⌝ }
+{
+    times(words, f) ^ g ^ words[1]
+}

@@ -1,0 +1,63 @@
+-- The bytes are what the answer says of them.
+use mathlib.Core.Path.{_≡_, refl, sym, ap, _∙_}
+use mathlib.Core.List.{List}
+use Prim.Native.Nat.{ℕ}
+use Rattle.refusals.specs.Refusals.{numberOf, stateOf}
+use Rattle.sheets.specs.declared.Written.{Written}
+use Rattle.sheets.specs.declared.Written.the-variants as written-cases
+use Rattle.sheets.specs.Sheets.{written}
+use borrow.Author.Needs.{needs}
+use Rattle.site.proofs.gfp_write_sheet.Statement.{statement}
+use Rattle.site.proofs.gfp_write_sheet.Tie as tie
+
+-- the bytes of an answer about a sheet are those that the buffer holds
+written-state : (r : Written) (bytes : List ℕ) → bytes ≡ stateOf (written r bytes)
+written-state written-cases.Done bytes = refl
+written-state (written-cases.Refused q) bytes = refl
+
+write-requires : tie.Need-write-requires
+write-requires c κs = search needs
+
+enum-told : tie.Need-enum-told
+enum-told c = search needs
+
+enum-known-r : tie.Need-enum-known-r
+enum-known-r c = search needs
+
+number-requires : tie.Need-number-requires
+number-requires c κs = search needs
+
+same-length : tie.Need-same-length
+same-length c = search needs
+
+returns : tie.Need-returns
+returns c =
+    let w = c .before .before .before .before .write in
+    let e = sym (c .enum-told .given .1) in (
+      ap (λ (x : Written). numberOf (written x (w .last .1 .1 .1 .0))) e ∙ ap numberOf (w .ensures),
+      written-state (w .result) (w .last .1 .1 .1 .0) ∙ ap stateOf (w .ensures),
+    )
+
+same-length-2 : tie.Need-same-length-2
+same-length-2 c = search needs
+
+returns-2 : tie.Need-returns-2
+returns-2 c =
+    let w = c .before .before .before .before .before .before .write in
+    let e = sym (c .before .before .r .given .1) in (
+      c .number .ensures ∙ ap (λ (x : Written). numberOf (written x (w .last .1 .1 .1 .0))) e ∙ ap numberOf (w .ensures),
+      written-state (w .result) (w .last .1 .1 .1 .0) ∙ ap stateOf (w .ensures),
+    )
+
+pub gfp-write-sheet-spec : {M : Type 1} → statement M
+gfp-write-sheet-spec =
+    tie.close
+    (tie.spec
+    write-requires
+    enum-told
+    enum-known-r
+    number-requires
+    same-length
+    returns
+    same-length-2
+    returns-2)

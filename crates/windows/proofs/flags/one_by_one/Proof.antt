@@ -1,0 +1,91 @@
+-- `windows::flags::one_by_one` meets its contract. The loop's invariant: j windows have their flags, and the residue is that of the next one, if there is one.
+use mathlib.Core.Path.{_≡_, _∙_}
+use mathlib.Core.Logic.{⊎-elim}
+use mathlib.Core.Bool.{false}
+use Prim.Native.Nat.{_+_, _-_, _≤_}
+use native.Mathlib.Omega.{arith}
+use lib.ListN.{length, length-set}
+use Rattle.windows.specs.Rolling.{window}
+use Rattle.windows.specs.Rolling.{residue, keyOf, Filled, hit}
+use Rattle.windows.proofs.Residues.{same-place, hit-is}
+use Rattle.windows.proofs.Filling.{filled-none, filled-more}
+use Rattle.windows.proofs.flags.one_by_one.Statement.{statement}
+use Rattle.windows.proofs.flags.one_by_one.Tie as tie
+
+abbrev Inv-loop : tie.InvT-loop
+Inv-loop s reduce outgoing text from size g flags₀ a₀ j₀ flags a j =
+    (j ≤ size)
+    × (length flags ≡ 1024)
+    × (from + j + s .m ≤ length text → a ≡ residue (keyOf s) (window (s .m) text (from + j)))
+    × Filled false (hit s text from) 0 j flags
+
+abbrev μ-loop : tie.MeasureT-loop
+μ-loop s reduce outgoing text from size g flags₀ a₀ j₀ flags a j = size - j
+
+loop-holds : tie.Need-loop-holds Inv-loop μ-loop
+loop-holds c =
+    let s = c .before in
+    let a = s .args in (
+      omega arith,
+      s .pre .1,
+      (λ h. s .pre .4 ∙ same-place (keyOf (a .s)) (a .s .m) (a .text .now) (a .from) (a .from + 0) (omega arith)),
+      filled-none 0 (a .flags .now),
+    )
+
+element-write-flags : tie.Need-element-write-flags Inv-loop μ-loop
+element-write-flags c = omega arith
+
+add-i : tie.Need-add-i Inv-loop μ-loop
+add-i c = omega arith
+
+add-if1 : tie.Need-add-if1 Inv-loop μ-loop
+add-if1 c = omega arith
+
+roll-requires : tie.Need-roll-requires Inv-loop μ-loop
+roll-requires c κs =
+    let s = c .before .before .before .before .before .before in
+    let l = c .before .before .before .before .loop in
+    (s .pre .0, c .if1 .taken, l .inv .2 (omega arith))
+
+add-j : tie.Need-add-j Inv-loop μ-loop
+add-j c = omega arith
+
+loop-less : tie.Need-loop-less Inv-loop μ-loop
+loop-less c = omega arith
+
+loop-again : tie.Need-loop-again Inv-loop μ-loop
+loop-again c =
+    let s = c .before .before .before .before .before .before in
+    let a = s .args in
+    let l = c .before .before .before .before .loop in
+    let t = a .text .now in (
+      omega arith,
+      simp length-set (l .inv .1),
+      (λ h. ⊎-elim (λ w. w .2 ∙ w .1 .ensures ∙ same-place (keyOf (a .s)) (a .s .m) t (a .from + l .j + 1) (a .from + (l .j + 1)) (omega arith))
+          (λ w. absurd (omega (arith, w .0 .left)))
+          (c .if1 .came)),
+      filled-more 0 (l .j) (l .flags) _ (l .inv .3) (omega arith) (hit-is (a .s) t (a .from) (l .j) (l .a) (l .inv .2 (omega arith))),
+    )
+
+returns : tie.Need-returns Inv-loop μ-loop
+returns c =
+    let a = c .before .before .before .args in
+    let l = c .before .loop in
+    let e : l .j ≡ a .size = omega arith in
+    (record { flags = rw e at (l .inv .3); next = rw e at (l .inv .2) }, l .inv .1)
+
+pub one-by-one-spec : {M : Type 1} → statement M
+one-by-one-spec =
+    tie.close
+    (tie.spec
+    Inv-loop
+    μ-loop
+    loop-holds
+    element-write-flags
+    add-i
+    add-if1
+    roll-requires
+    add-j
+    loop-less
+    loop-again
+    returns)
