@@ -9,8 +9,8 @@ use native.Mathlib.Omega.{arith}
 use borrow.Author.Tests.{eqb-true, eq-eqb}
 use lib.Dec.{eqb}
 use lib.Pow.{pow-pos, pow-lt, pow-mono}
-use Rattle.gf2.specs.Polynomials.{_⊕_, Degree, degree, Divides, rem, Irreducible}
-use Rattle.gf2.proofs.Sums.{⊕-self, ⊕-self-left, ⊕-comm, ⊕-eq, ⊕-lt, xor}
+use Rattle.gf2.specs.Polynomials.{_⊕_, degree, Divides, rem, Irreducible}
+use Rattle.gf2.proofs.Sums.{⊕-self, ⊕-comm, ⊕-eq, ⊕-lt, xor}
 use Rattle.gf2.proofs.Degrees.{degree-is, degree-eq, degree-⊗, deg-lo, deg-hi, deg-intro, deg-pos, deg-zero, deg-⊕, deg-cancel}
 use Rattle.gf2.proofs.Divisors.{dvd-by, dvd-⊕}
 use Rattle.gf2.proofs.Residues.{rem-lt, rem-small, rem-dvd, rem-cong, rem-of-dvd, dvd-of-rem-zero}

@@ -1,20 +1,20 @@
 -- Drawing is fair and covers every key (Rabin's Lemmas 1 and 2): for a listed degree k each element from 2 to 2^k - 1 draws one
 -- accepted key of degree k, each such key is drawn by exactly k elements, and so their number times k is 2^k - 2. What fails for few
 -- keys therefore fails for few elements.
-use mathlib.Core.Path.{_≡_, refl, sym, ap, ap₂, _∙_}
+use mathlib.Core.Path.{_≡_, refl, sym, ap, _∙_}
 use mathlib.Core.Logic.{_≢_}
 use mathlib.Core.Bool.{Bool, true, false, _&&_, _||_, not, true≢false}
 use mathlib.Core.List.{List, [], _∷_}
 use Prim.Native.Nat.{ℕ, zero, suc, _+_, _-_, _*_, _%_, _^_, _≤_, _<_}
-use native.Mathlib.Nat.{le-refl, one-mul, zero-mul, mul-one, two-pow-succ, le-trans}
+use native.Mathlib.Nat.{one-mul, zero-mul, two-pow-succ}
 use native.Mathlib.Decide.{ℕ-discrete, decLt}
 use native.Mathlib.Omega.{arith}
 use lib.Dec.{T, T-not, leb, leb→le, eqb, eqb-refl}
 use lib.Pow.{pow-mono}
 use borrow.Author.Tests.{eqb-true, eq-eqb}
-use Rattle.gf2.specs.Polynomials.{degree, Degree, Irreducible}
+use Rattle.gf2.specs.Polynomials.{degree}
 use Rattle.gf2.proofs.Lists.{and-left, and-right}
-use Rattle.gf2.proofs.Degrees.{degree-is, degree-eq, deg-lo, deg-hi, deg-intro, deg-pos}
+use Rattle.gf2.proofs.Degrees.{degree-is, degree-eq, deg-lo, deg-hi, deg-intro}
 use Rattle.acceptance.specs.Keys.{accepted}
 use Rattle.acceptance.proofs.Laws.{accepted-iff, accepted-pos}
 use Rattle.book.specs.Confusions.{toOne, countFrom}
@@ -25,7 +25,7 @@ use Rattle.stock.proofs.Table.{stock-smallest}
 use Rattle.draw.specs.Drawing.{degrees, among, drawn, Draws}
 use Rattle.draw.proofs.Draws.{drawn-is, drawn-draws, drawn-irreducible}
 use Rattle.draw.proofs.Drawers.{Drawers, drawers}
-use Rattle.draw.proofs.Sums.{sumFrom, count-is-sum, sum-same, sum-times, count-same, count-all, count-one, count-none, count-twice, differ}
+use Rattle.draw.proofs.Sums.{count-is-sum, sum-same, sum-times, count-all, count-one, count-none, count-twice, differ}
 
 -- ---- the listed degrees are primes from 11 to 61, by one computed test
 

@@ -5,3 +5,4 @@ pub mod Fairness
 pub mod Lists
 pub mod Matrices
 pub mod Relations
+pub mod Evaluation

@@ -1,96 +1,231 @@
--- Elimination over the powers of e modulo f: while the first k are inserted into a basis, something is left of each, as no relation
--- among them holds. Then nothing is left of the next one, and the relation is the key that e draws.
-use mathlib.Core.Path.{_≡_, refl, sym, ap, _∙_}
+-- Elimination with the sums of rows beside the rows: what it keeps, and how it ends in a relation.
+use mathlib.Core.Path.{_≡_, refl, sym, ap, ap₂, _∙_}
 use mathlib.Core.Logic.{_⊎_, inl, inr}
-use Prim.Native.Nat.{ℕ, suc, _+_, _*_, _^_, _≤_, _<_}
-use native.Mathlib.Nat.{pow-suc, le-refl, lt-of-lt-of-le, eq-zero-or-pos, div-self}
+use mathlib.Core.List.{List, [], _∷_, map}
+use Prim.Native.Nat.{ℕ, zero, suc, _+_, _-_, _*_, _/_, _%_, _^_, _≤_, _<_, suc-le-suc}
+use native.Mathlib.Nat.{zero-mul, one-mul, zero-add, add-zero, sub-zero, add-suc, suc-add, le-suc, lt-of-lt-of-le, le-of-suc-le-suc, not-suc-le-zero, eq-zero-or-pos, div-self}
 use native.Mathlib.Numerals.{add-one}
 use native.Mathlib.Omega.{arith}
+use lib.ListN.{length, take, drop, getD, set, replicate, length-map, length-replicate}
 use lib.Pow.{pow-pos, pow-mono}
-use Rattle.gf2.specs.Polynomials.{_⊕_, _⊗_, Degree, degree, rem}
-use Rattle.gf2.proofs.Degrees.{degree-eq, deg-hi, deg-pos}
-use Rattle.basis.specs.declared.Basis.{Basis}
-use Rattle.basis.specs.Echelon.{emptyBasis, reduceBy, insertInto}
-use Rattle.basis.proofs.Echelon.{reduce-lt}
-use Rattle.basis.proofs.Insertion.{Holds, Left, freeColumns, all-free, reduce-left, start-holds, insert-holds, one-column-less, all-columns}
-use Rattle.fields.specs.Fields.{at, Field}
-use Rattle.fields.proofs.Values.{mulmod, at-⊕, at-one, at-dbl}
-use Rattle.draw.specs.Drawing.{drawn}
-use Rattle.draw.proofs.Draws.{at-lt, no-smaller, drawn-is, draws-by-root}
+use lib.Seq.{length-take-le, getD-take, drop-at, take-at}
+use borrow.Rule.Slice.PartMut.{putMid, mid-len, same-len-mid}
+use Rattle.gf2.specs.Polynomials.{_⊕_, degree, Degree}
+use Rattle.gf2.proofs.Sums.{⊕-left-comm, ⊕-lt, ⊕-zero}
+use Rattle.gf2.proofs.Products.{by-bit, bit-cases}
+use Rattle.gf2.proofs.Degrees.{degree-is, deg-hi, deg-pos, deg-⊕}
+use Rattle.basis.specs.Rows.{sumOf, Independent, clear}
+use Rattle.basis.proofs.Parts.{part-cons, turn}
+use Rattle.basis.proofs.Insertion.{sum-⊕}
+use Rattle.draw.specs.Matrices.{NoRelation, addWhere}
+use Rattle.draw.proofs.Matrices.{sum-take, sum-place, bit-value}
 
-module _ (f k : ℕ) (h : Field f k) (e : ℕ) where
-  pos : 0 < f
-  pos = omega (arith, h .irreducible .proper)
+-- ---- a list of sums that is changed one by one, from the front
 
-  full : degree f ≡ k
-  full = degree-eq f k (h .of-degree)
+module _ (c w : ℕ) where
+  pub length-added : (rows sums : List ℕ) → length (addWhere c w rows sums) ≡ length sums
+  unfolding addWhere
+  length-added [] sums = refl
+  length-added (r ∷ rows) [] = refl
+  length-added (r ∷ rows) (s ∷ sums) = ap suc (length-added rows sums)
 
-  -- the value at e is additive
-  pub value-⊕ : (p q : ℕ) → at f (p ⊕ q) e ≡ at f p e ⊕ at f q e
-  value-⊕ p q = at-⊕ pos p q e
+  pub added-at : (j : ℕ) (rows sums : List ℕ) → getD (addWhere c w (take j rows) sums) j 0 ≡ getD sums j 0
+  unfolding addWhere
+  added-at zero rows sums = refl
+  added-at (suc j) [] sums = refl
+  added-at (suc j) (r ∷ rows) [] = refl
+  added-at (suc j) (r ∷ rows) (s ∷ sums) = added-at j rows sums
 
-  -- the i powers before x are in, and x is the next one
-  pub record Inserted (i : ℕ) (b : Basis) (x : ℕ) : Type 0 where
-    pub power : x ≡ at f (2 ^ i) e
-    pub holds : Holds (λ p. at f p e) value-⊕ i b
-    pub free : freeColumns b k + i ≡ k
+  more : (j : ℕ) (rows sums : List ℕ) → j < length rows
+      → set (addWhere c w (take j rows) sums) j (getD rows j 0 / 2 ^ c % 2 * w ⊕ getD sums j 0) ≡ addWhere c w (take (suc j) rows) sums
+  unfolding addWhere
+  more j [] sums h = absurd (not-suc-le-zero h)
+  more zero (r ∷ rows) [] h = refl
+  more zero (r ∷ rows) (s ∷ sums) h = refl
+  more (suc j) (r ∷ rows) [] h = refl
+  more (suc j) (r ∷ rows) (s ∷ sums) h = ap (λ (x : List ℕ). (r / 2 ^ c % 2 * w ⊕ s) ∷ x) (more j rows sums (le-of-suc-le-suc h))
 
-  pub none-inserted : Inserted 0 emptyBasis 1
-  none-inserted =
-      record {
-        power = sym (at-one pos e (rw full (pow-mono {i = 1} {j = k} (omega (arith, h .prime .proper)))));
-        holds = start-holds (λ p. at f p e) value-⊕;
-        free = omega (arith, all-free k);
-      }
+  pub added-more : (j : ℕ) (rows sums : List ℕ) → j < length rows
+      → set (addWhere c w (take j rows) sums) j (getD rows j 0 / 2 ^ c % 2 * w ⊕ getD sums j 0) ≡ addWhere c w (take (j + 1) rows) sums
+  added-more j rows sums h = rw add-one (more j rows sums h)
 
-  module _ (low : 1 < e) (high : e < 2 ^ k) (small : k ≤ 64) where
-    module _ (i : ℕ) (b : Basis) (x : ℕ) (s : Inserted i b x) where
-      pub power-lt : x < 2 ^ k
-      power-lt = rw (s .power) (at-lt f k h (2 ^ i) e)
+-- ---- rows and sums
 
-      left : Left (λ p. at f p e) value-⊕ i b (reduceBy b 64 x (2 ^ i))
-      left =
-          reduce-left (λ p. at f p e) value-⊕ i b (s .holds) x (2 ^ i) (sym (s .power)) (div-self (pow-pos i)) (lt-of-lt-of-le power-lt (pow-mono small))
+module _ (L : ℕ → ℕ) (add : (x y : ℕ) → L (x ⊕ y) ≡ L x ⊕ L y) where
+  -- each row, from row i on, is the value at t^i less its sum, and the sum is of rows before it
+  abbrev pub Tied : ℕ → List ℕ → List ℕ → Type 0
+  Tied i [] sums = Unit {0}
+  Tied i (r ∷ rows) [] = ⊥
+  Tied i (r ∷ rows) (s ∷ sums) = (s < 2 ^ i) × (L (2 ^ i ⊕ s) ≡ r) × Tied (suc i) rows sums
 
-      -- a relation among fewer than k powers does not hold
-      pub something-left : i < k → 0 < reduceBy b 64 x (2 ^ i) .row
-      something-left l = go (eq-zero-or-pos (reduceBy b 64 x (2 ^ i) .row))
+  pub tied-start : (i : ℕ) (rows sums : List ℕ) → length rows ≤ length sums → ((j : ℕ) → j < length rows → getD rows j 0 ≡ L (2 ^ (i + j)))
+      → ((j : ℕ) → getD sums j 0 ≡ 0) → Tied i rows sums
+  tied-start i [] sums l h z = tt
+  tied-start i (r ∷ rows) [] l h z = not-suc-le-zero l
+  tied-start i (r ∷ rows) (s ∷ sums) l h z = (
+    rw (z 0) (pow-pos i),
+    rw (z 0) (ap L (⊕-zero (2 ^ i)) ∙ sym (h 0 (omega arith) ∙ ap (λ (n : ℕ). L (2 ^ n)) (add-zero i))),
+    tied-start (suc i) rows sums (le-of-suc-le-suc l)
+        (λ j m. h (suc j) (suc-le-suc m) ∙ ap (λ (n : ℕ). L (2 ^ n)) (add-suc i j ∙ sym (suc-add i j))) (λ j. z (suc j)),
+  )
+
+  -- a column is cleared by a row v before them, whose value is that of w
+  pub tied-cleared : (c v w : ℕ) → L w ≡ v → (i : ℕ) (rows sums : List ℕ) → w < 2 ^ i → Tied i rows sums
+      → Tied i (map (clear c v) rows) (addWhere c w rows sums)
+  unfolding clear addWhere
+  tied-cleared c v w e i [] sums l t = tt
+  tied-cleared c v w e i (r ∷ rows) [] l t = t
+  tied-cleared c v w e i (r ∷ rows) (s ∷ sums) l t = (
+    ⊕-lt i (r / 2 ^ c % 2 * w) s (by-bit (λ (b : ℕ). b * w < 2 ^ i) (rw zero-mul (pow-pos i)) (rw one-mul l) (r / 2 ^ c)) (t .0),
+    ap L (⊕-left-comm (2 ^ i) (r / 2 ^ c % 2 * w) s) ∙ add (r / 2 ^ c % 2 * w) (2 ^ i ⊕ s)
+        ∙ ap₂ (λ (x y : ℕ). x ⊕ y) (bit-value L add (r / 2 ^ c) w ∙ ap (λ (x : ℕ). r / 2 ^ c % 2 * x) e) (t .1),
+    tied-cleared c v w e (suc i) rows sums (lt-of-lt-of-le l (pow-mono (le-suc i))) (t .2),
+  )
+
+-- ---- a turn, on the buffers: row i clears the rows from i + 1 up to n, which the code lends as parts of the buffers
+
+put-part : (a k : ℕ) (rows ys : List ℕ) → a ≤ length rows → length ys ≡ k → take k (drop a (putMid a k rows ys)) ≡ ys
+put-part a k rows ys h e = ap (take k) (drop-at (take a rows) _ a (length-take-le a rows h)) ∙ take-at ys _ k e
+
+module _ (L : ℕ → ℕ) (add : (x y : ℕ) → L (x ⊕ y) ≡ L x ⊕ L y) (i n : ℕ) (rows sums : List ℕ) (l : i < n) (lr : n ≤ length rows) (ls : n ≤ length sums)
+    (t : Tied L add i (take (n - i) (drop i rows)) (take (n - i) (drop i sums))) where
+  parts : Tied L add i (getD rows i 0 ∷ take (n - (i + 1)) (drop (i + 1) rows)) (getD sums i 0 ∷ take (n - (i + 1)) (drop (i + 1) sums))
+  parts = rw (part-cons i n rows l lr, part-cons i n sums l ls) at t
+
+  pub sum-before : getD sums i 0 < 2 ^ i
+  sum-before = parts .0
+
+  pub row-value : L (2 ^ i ⊕ getD sums i 0) ≡ getD rows i 0
+  row-value = parts .1
+
+  pub new-degree : Degree (2 ^ i ⊕ getD sums i 0) i
+  new-degree = deg-⊕ (2 ^ i) (getD sums i 0) i (div-self (pow-pos i)) sum-before
+
+  pub tied-turn : (c : ℕ) (ys zs : List ℕ) → ys ≡ map (clear c (getD rows i 0)) (take (n - (i + 1)) (drop (i + 1) rows))
+      → zs ≡ addWhere c (2 ^ i ⊕ getD sums i 0) (take (n - (i + 1)) (drop (i + 1) rows)) (take (n - (i + 1)) (drop (i + 1) sums))
+      → Tied L add (i + 1) (take (n - (i + 1)) (drop (i + 1) (putMid (i + 1) (n - (i + 1)) rows ys))) (take (n - (i + 1)) (drop (i + 1) (putMid (i + 1) (n - (i + 1)) sums zs)))
+  tied-turn c ys zs ey ez =
+      rw (put-part (i + 1) (n - (i + 1)) rows ys (omega arith) ly, put-part (i + 1) (n - (i + 1)) sums zs (omega arith) lz, ey, ez, add-one i)
+      (tied-cleared L add c (getD rows i 0) (2 ^ i ⊕ getD sums i 0) row-value (suc i) (take (n - suc i) (drop (suc i) rows)) (take (n - suc i) (drop (suc i) sums)) (deg-hi (2 ^ i ⊕ getD sums i 0) i new-degree) (rw (add-one i) at (parts .2)))
+    where
+      ly : length ys ≡ n - (i + 1)
+      ly = ap length ey ∙ length-map (take (n - (i + 1)) (drop (i + 1) rows)) (clear c (getD rows i 0)) ∙ mid-len (i + 1) n rows lr
+
+      lz : length zs ≡ n - (i + 1)
+      lz = ap length ez ∙ length-added c (2 ^ i ⊕ getD sums i 0) (take (n - (i + 1)) (drop (i + 1) rows)) (take (n - (i + 1)) (drop (i + 1) sums)) ∙ mid-len (i + 1) n sums ls
+
+-- ---- independence
+
+-- a row that is not independent by itself is 0
+pub last-row : (x : ℕ) → (Independent (x ∷ []) → ⊥) → x ≡ 0
+unfolding sumOf
+last-row x n = go (eq-zero-or-pos x)
+  where
+    go : (x ≡ 0) ⊎ (0 < x) → x ≡ 0
+    go (inl z) = z
+    go (inr p) = absurd (n (λ h l e. settle h (bit-cases h l) e))
+      where
+        settle : (h : ℕ) → (h ≡ 0) ⊎ (h ≡ 1) → h % 2 * x ⊕ 0 ≡ 0 → h ≡ 0
+        settle h (inl z) e = z
+        settle h (inr o) e = absurd (omega (arith, sym (one-mul x) ∙ sym (⊕-zero (1 * x)) ∙ (rw o at e)))
+
+pub independent-none : (n : ℕ) (rows : List ℕ) → n ≤ length rows → Independent (take n rows) → NoRelation n rows
+independent-none n rows l i x m e = i x (rw (length-take-le n rows l) m) (sum-take n rows x m ∙ e)
+
+-- ---- what the loop keeps
+
+zeros-at : (m n j : ℕ) → getD {A = ℕ} (take n (replicate m 0)) j 0 ≡ 0
+zeros-at m zero j = refl
+zeros-at zero (suc n) j = refl
+zeros-at (suc m) (suc n) zero = refl
+zeros-at (suc m) (suc n) (suc j) = zeros-at m n j
+
+module _ (rows : List ℕ) (k : ℕ) where
+  -- the rows before row i have cleared their columns: the rows from i to k are not independent, and each has its sum beside it
+  pub record Kept (i : ℕ) (work sums : List ℕ) : Type 0 where
+    pub reached : i ≤ k
+    pub work-length : length work ≡ 64
+    pub sums-length : length sums ≡ 64
+    pub dependent : Independent (take (k + 1 - i) (drop i work)) → ⊥
+    pub tied : Tied (λ x. sumOf x rows) (sum-⊕ rows) i (take (k + 1 - i) (drop i work)) (take (k + 1 - i) (drop i sums))
+
+  module _ (small : k < 64) where
+    pub kept-start : length rows ≡ 64 → (NoRelation (k + 1) rows → ⊥) → Kept 0 rows (replicate 64 0)
+    kept-start e d =
+        record {
+          reached = omega arith;
+          work-length = e;
+          sums-length = length-replicate {A = ℕ} 64 0;
+          dependent = λ i. d (independent-none (k + 1) rows (omega arith) (rw sub-zero at i));
+          tied =
+              rw sub-zero
+              (tied-start (λ x. sumOf x rows) (sum-⊕ rows) 0 (take (k + 1) rows) (take (k + 1) (replicate 64 0)) lengths
+              (λ j l. getD-take (k + 1) rows j 0 (omega (arith, own)) ∙ sym (ap (λ (n : ℕ). sumOf (2 ^ n) rows) (zero-add j) ∙ sum-place j rows)) (zeros-at 64 (k + 1)));
+        }
+      where
+        own : length (take (k + 1) rows) ≡ k + 1
+        own = length-take-le (k + 1) rows (omega arith)
+
+        lengths : length (take (k + 1) rows) ≤ length (take (k + 1) (replicate {A = ℕ} 64 0))
+        lengths = omega (arith, own, length-take-le (k + 1) (replicate {A = ℕ} 64 0) (omega (arith, length-replicate {A = ℕ} 64 0)))
+
+    module _ (i : ℕ) (work sums : List ℕ) (s : Kept i work sums) where
+      i-lt : i < k + 1
+      i-lt = omega (arith, s .reached)
+
+      rows-there : k + 1 ≤ length work
+      rows-there = omega (arith, s .work-length)
+
+      sums-there : k + 1 ≤ length sums
+      sums-there = omega (arith, s .sums-length)
+
+      -- while the first k rows are independent, something is left of each
+      pub pivot : i < k → NoRelation k rows → 0 < getD work i 0
+      pivot l none = go (eq-zero-or-pos (getD work i 0))
         where
-          c : ℕ
-          c = reduceBy b 64 x (2 ^ i) .combination
+          x : ℕ
+          x = 2 ^ i ⊕ getD sums i 0
 
-          go : (reduceBy b 64 x (2 ^ i) .row ≡ 0) ⊎ (0 < reduceBy b 64 x (2 ^ i) .row) → 0 < reduceBy b 64 x (2 ^ i) .row
+          d : Degree x i
+          d = new-degree (λ x. sumOf x rows) (sum-⊕ rows) i (k + 1) work sums i-lt rows-there sums-there (s .tied)
+
+          go : (getD work i 0 ≡ 0) ⊎ (0 < getD work i 0) → 0 < getD work i 0
           go (inr p) = p
           go (inl z) =
               absurd (omega (
                 arith,
-                no-smaller f k h e low high c (lt-of-lt-of-le (deg-hi c i (left .newest)) (pow-mono l)) (left .value ∙ z),
-                deg-pos c i (left .newest),
+                none x (lt-of-lt-of-le (deg-hi x i d) (pow-mono l)) (row-value (λ x. sumOf x rows) (sum-⊕ rows) i (k + 1) work sums i-lt rows-there sums-there (s .tied) ∙ z),
+                deg-pos x i d,
               ))
 
-      pub next-inserted : i < k → (y : ℕ) → y ≡ rem f (x ⊗ e) → Inserted (i + 1) (insertInto b (reduceBy b 64 x (2 ^ i))) y
-      unfolding mulmod
-      next-inserted l y q =
-          rw (add-one i) (record {
-            power = q ∙ ap (λ (z : ℕ). rem f (z ⊗ e)) (s .power) ∙ sym (ap (λ (z : ℕ). at f z e) (pow-suc 2 i) ∙ at-dbl pos (2 ^ i) e (rw full high));
-            holds = insert-holds (λ p. at f p e) value-⊕ i b (s .holds) (reduceBy b 64 x (2 ^ i)) left (something-left l);
-            free =
-                omega (
-                  arith,
-                  one-column-less (λ p. at f p e) value-⊕ i b (s .holds) (reduceBy b 64 x (2 ^ i)) left (something-left l) k
-                      (reduce-lt b (s .holds .leads) 64 x (2 ^ i) k power-lt),
-                );
-          })
+      pub kept-turn : i < k → NoRelation k rows → (ys zs : List ℕ)
+          → ys ≡ map (clear (degree (getD work i 0)) (getD work i 0)) (take (k + 1 - (i + 1)) (drop (i + 1) work))
+          → zs ≡ addWhere (degree (getD work i 0)) (2 ^ i ⊕ getD sums i 0) (take (k + 1 - (i + 1)) (drop (i + 1) work)) (take (k + 1 - (i + 1)) (drop (i + 1) sums))
+          → Kept (i + 1) (putMid (i + 1) (k + 1 - (i + 1)) work ys) (putMid (i + 1) (k + 1 - (i + 1)) sums zs)
+      kept-turn l none ys zs ey ez =
+          record {
+            reached = omega arith;
+            work-length = same-len-mid (i + 1) (k + 1 - (i + 1)) work ys (ap length ey ∙ length-map (take (k + 1 - (i + 1)) (drop (i + 1) work)) (clear c (getD work i 0))) ∙ s .work-length;
+            sums-length = same-len-mid (i + 1) (k + 1 - (i + 1)) sums zs (ap length ez ∙ length-added c (2 ^ i ⊕ getD sums i 0) (take (k + 1 - (i + 1)) (drop (i + 1) work)) (take (k + 1 - (i + 1)) (drop (i + 1) sums))) ∙ s .sums-length;
+            dependent = λ j. s .dependent (turn i (k + 1) c work ys i-lt rows-there one ey .1 j);
+            tied = tied-turn (λ x. sumOf x rows) (sum-⊕ rows) i (k + 1) work sums i-lt rows-there sums-there (s .tied) c ys zs ey ez;
+          }
+        where
+          c : ℕ
+          c = degree (getD work i 0)
 
-    -- the relation among k + 1 powers is the key
-    pub relation-drawn : (b : Basis) (x : ℕ) → Inserted k b x → reduceBy b 64 x (2 ^ k) .combination ≡ drawn f k e
-    relation-drawn b x s = sym (drawn-is f k h e low high c (draws-by-root f k h e low high c (deg-pos c k a) (deg-hi c k a) (left k b x s .value ∙ nothing)))
+          one : getD work i 0 / 2 ^ c % 2 ≡ 1
+          one = ap (λ (x : ℕ). x % 2) (degree-is (getD work i 0) (pivot l none))
+
+    -- of the last row nothing is left: t^k with its sum is the relation
+    pub relation-found : (work sums : List ℕ) → Kept k work sums → (place : ℕ) → place ≡ 2 ^ k
+        → Degree (place ⊕ getD sums k 0) k × (sumOf (place ⊕ getD sums k 0) rows ≡ 0)
+    relation-found work sums s place e =
+        rw e (
+          new-degree (λ x. sumOf x rows) (sum-⊕ rows) k (k + 1) work sums (i-lt k work sums s) (rows-there k work sums s) (sums-there k work sums s) (s .tied),
+          row-value (λ x. sumOf x rows) (sum-⊕ rows) k (k + 1) work sums (i-lt k work sums s) (rows-there k work sums s) (sums-there k work sums s) (s .tied)
+              ∙ last-row (getD work k 0) (λ j. s .dependent (rw (part-cons k (k + 1) work (i-lt k work sums s) (rows-there k work sums s), none-left) j)),
+        )
       where
-        c : ℕ
-        c = reduceBy b 64 x (2 ^ k) .combination
-
-        a : Degree c k
-        a = left k b x s .newest
-
-        nothing : reduceBy b 64 x (2 ^ k) .row ≡ 0
-        nothing = all-columns b k (s .holds .leads) small (omega (arith, s .free)) x (2 ^ k) (power-lt k b x s)
+        none-left : k + 1 - (k + 1) ≡ 0
+        none-left = omega arith

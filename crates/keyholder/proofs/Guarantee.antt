@@ -1,24 +1,22 @@
 -- The Keyholder level: the claims of specs/Claims.antt, proved.
-use mathlib.Core.Path.{_≡_, refl, sym, ap, _∙_}
-use mathlib.Core.Bool.{Bool, true, false, _&&_}
+use mathlib.Core.Path.{_≡_, sym, ap, _∙_}
+use mathlib.Core.Bool.{true}
 use mathlib.Core.List.{List}
-use Prim.Native.Nat.{ℕ, _*_, _^_, _≤_, _<_}
+use Prim.Native.Nat.{ℕ, _*_, _^_}
 use native.Mathlib.Nat.{zero-mul, two-pow-succ}
 use native.Mathlib.Omega.{arith}
-use lib.Dec.{eqb, ltb, leb}
+use lib.Dec.{eqb}
 use borrow.Author.Tests.{le-ltb, lt-leb}
 use Rattle.gf2.proofs.Degrees.{deg-lo, deg-hi}
 use Rattle.acceptance.specs.Keys.{accepted}
 use Rattle.acceptance.proofs.Laws.{and-both}
 use Rattle.files.specs.Files.{fingerprint}
 use Rattle.book.specs.Confusions.{confused, countFrom}
-use Rattle.book.specs.Claims.{Counted}
 use Rattle.site.specs.Book.{Route}
 use Rattle.site.proofs.Guarantee as site-level
-use Rattle.stock.specs.Stock.{stockKey}
-use Rattle.draw.specs.Drawing.{degrees, among, drawn, draw}
+use Rattle.draw.specs.Drawing.{draw}
 use Rattle.draw.proofs.Fairness.{key-drawn, key-degree, key-accepted, key-only, drawers-count, elements-count, keys-count}
-use Rattle.keyholder.specs.Claims.{Listed, Element, keyOf, elements, Answered, One, Accepted, Fair, Number, Risk, ByRoutes, NoBurst}
+use Rattle.keyholder.specs.Claims.{Listed, keyOf, elements, Answered, One, Accepted, Fair, Number, Risk, ByRoutes, NoBurst}
 
 -- ---- the key
 

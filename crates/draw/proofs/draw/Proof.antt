@@ -1,6 +1,6 @@
-use mathlib.Core.Path.{_≡_, refl, sym, ap, _∙_}
-use mathlib.Core.Bool.{Bool, true, false, _||_}
-use Prim.Native.Nat.{ℕ, _%_, _≤_, _<_, _^_}
+use mathlib.Core.Path.{_≡_, sym, ap, _∙_}
+use mathlib.Core.Bool.{true, false, _||_}
+use Prim.Native.Nat.{ℕ, _%_, _^_}
 use native.Mathlib.Nat.{mod-lt}
 use native.Mathlib.Omega.{arith}
 use borrow.Author.Needs.{needs}
@@ -11,7 +11,6 @@ use Rattle.gf2.specs.Polynomials.{monic, Modulus}
 use Rattle.gf2.proofs.Monics.{monic-of}
 use Rattle.refusals.specs.Refusals.{Done}
 use Rattle.acceptance.proofs.Laws.{or-neither}
-use Rattle.fields.specs.Fields.{Field}
 use Rattle.stock.specs.Stock.{stockKey}
 use Rattle.draw.specs.Drawing.{degrees, among, drawn, draw}
 use Rattle.draw.proofs.Fairness.{range, field}

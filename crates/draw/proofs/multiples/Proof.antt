@@ -1,24 +1,21 @@
--- The loop's invariant: the rows before j are the residues of a·t^i, and x is that of a·t^j. The measure is the number of rows that are left.
-use mathlib.Core.Path.{_≡_, refl, sym, ap, _∙_}
-use Prim.Native.Nat.{ℕ, _+_, _-_, _*_, _^_, _≤_, _<_}
-use native.Mathlib.Nat.{mul-one}
-use native.Mathlib.Numerals.{add-one}
+-- The loop's invariant: the rows before j are in, and x is row j. The measure is the number of rows that are left.
+use mathlib.Core.Path.{_≡_, sym, ap, _∙_}
+use Prim.Native.Nat.{ℕ, _-_, _^_, _≤_, _<_}
 use native.Mathlib.Omega.{arith}
 use borrow.Author.Needs.{needs}
 use lib.ListN.{length, getD, length-set}
 use Rattle.gf2.specs.Polynomials.{_⊗_, monic, rem}
+use Rattle.gf2.proofs.Products.{one-⊗}
 use Rattle.gf2.proofs.Monics.{monic-pos}
-use Rattle.gf2.proofs.Steps.{residue-lt, residue-small, shift-next}
-use Rattle.draw.proofs.Matrices.{Rows, rows-more, rows-multiply}
+use Rattle.gf2.proofs.Steps.{residue-lt, residue-small}
+use Rattle.draw.proofs.Matrices.{times-⊕, times-next, filled-more, filled-matrix}
 use Rattle.draw.proofs.multiples.Statement.{statement}
 use Rattle.draw.proofs.multiples.Tie as tie
-use Rattle.draw.proofs.multiples.Reads as reads
-use Rattle.draw.proofs.multiples.Lts as lts
-use Rattle.gf2.proofs.step.Reads as step-reads
 
 abbrev Inv-loop : tie.InvT-loop
 Inv-loop k low a rows₀ x₀ j₀ rows x j =
-    (j ≤ 64) × (length rows ≡ 64) × (x ≡ rem (monic k low) (a * 2 ^ j)) × Rows (monic k low) a j rows
+    (j ≤ 64) × (length rows ≡ 64) × (x ≡ rem (monic k low) (2 ^ j ⊗ a))
+    × ((j' : ℕ) → j' < j → getD rows j' 0 ≡ rem (monic k low) (2 ^ j' ⊗ a))
 
 abbrev μ-loop : tie.MeasureT-loop
 μ-loop k low a rows₀ x₀ j₀ rows x j = 64 - j
@@ -28,7 +25,7 @@ loop-holds c =
     let a = c .args in (
       omega arith,
       search needs,
-      sym (ap (rem (monic (a .k) (a .low))) (mul-one (a .a)) ∙ residue-small (a .k) (a .low) (c .pre .0 .2) (a .a) (c .pre .1)),
+      sym (ap (rem (monic (a .k) (a .low))) (one-⊗ (a .a)) ∙ residue-small (a .k) (a .low) (c .pre .0 .2) (a .a) (c .pre .1)),
       λ i l. absurd (omega arith),
     )
 
@@ -42,7 +39,7 @@ step-requires : tie.Need-step-requires Inv-loop μ-loop
 step-requires c κs =
     let s = c .before .before in
     let l = c .before .loop in
-    (s .pre .0, rw (l .inv .2) (residue-lt (s .args .k) (s .args .low) (s .pre .0 .2) (s .args .a * 2 ^ (l .j))), omega arith)
+    (s .pre .0, rw (l .inv .2) (residue-lt (s .args .k) (s .args .low) (s .pre .0 .2) (2 ^ (l .j) ⊗ s .args .a)), omega arith)
 
 add-j : tie.Need-add-j Inv-loop μ-loop
 add-j c = omega arith
@@ -59,8 +56,8 @@ loop-again c =
     let pos = monic-pos (a .k) (a .low) (s .pre .0 .2) in (
       omega arith,
       length-set (l .rows) (l .j) (l .x) ∙ l .inv .1,
-      rw add-one (c .step .ensures ∙ ap (λ (x : ℕ). rem p (x * 2 + 0)) (l .inv .2) ∙ shift-next pos (a .a) (l .j)),
-      rows-more p (a .a) (l .j) (l .rows) (l .x) (omega arith) (l .inv .2) (l .inv .3),
+      c .step .ensures ∙ times-next pos (a .a) (l .j) (l .x) (l .inv .2),
+      filled-more (λ x. rem p (x ⊗ a .a)) (times-⊕ pos (a .a)) (l .j) (l .rows) (l .x) (omega arith) (l .inv .2) (l .inv .3),
     )
 
 returns : tie.Need-returns Inv-loop μ-loop
@@ -68,7 +65,8 @@ returns c =
     let s = c .before .before in
     let l = c .before .loop in
     let e : l .j ≡ 64 = omega arith in
-    rows-multiply (monic-pos (s .args .k) (s .args .low) (s .pre .0 .2)) (s .args .a) (l .rows) (l .inv .1) (rw e at (l .inv .3))
+    let pos = monic-pos (s .args .k) (s .args .low) (s .pre .0 .2) in
+    filled-matrix (λ x. rem (monic (s .args .k) (s .args .low)) (x ⊗ s .args .a)) (times-⊕ pos (s .args .a)) (l .rows) (l .inv .1) (rw e at (l .inv .3))
 
 pub multiples-spec : {M : Type 1} → statement M
 multiples-spec =

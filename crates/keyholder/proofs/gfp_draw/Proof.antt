@@ -1,5 +1,5 @@
 -- The key that was drawn is stored; on refusal nothing is.
-use mathlib.Core.Path.{_≡_, sym, ap, _∙_}
+use mathlib.Core.Path.{sym, ap, _∙_}
 use borrow.Author.Needs.{needs}
 use Rattle.refusals.specs.Refusals.{numberOf, valueOr}
 use Rattle.draw.specs.declared.Drawn.{Drawn}

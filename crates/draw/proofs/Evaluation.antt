@@ -1,0 +1,57 @@
+-- Values of polynomials at e, modulo a polynomial as the code holds it: the powers of e, and the relation among them that e draws.
+use mathlib.Core.Path.{_≡_, sym, ap, _∙_}
+use mathlib.Core.List.{List}
+use Prim.Native.Nat.{ℕ, suc, _+_, _^_, _≤_, _<_}
+use native.Mathlib.Nat.{pow-suc, lt-of-lt-of-le}
+use native.Mathlib.Numerals.{add-one}
+use native.Mathlib.Omega.{arith}
+use lib.Pow.{pow-mono}
+use Rattle.gf2.specs.Polynomials.{_⊕_, _⊗_, Degree, rem, monic, Modulus}
+use Rattle.gf2.proofs.Degrees.{deg-hi, deg-pos}
+use Rattle.gf2.proofs.Monics.{monic-pos, monic-degree}
+use Rattle.gf2.proofs.Steps.{residue-word}
+use Rattle.basis.specs.Rows.{sumOf}
+use Rattle.fields.specs.Fields.{compose, at, Field}
+use Rattle.fields.proofs.Values.{mulmod, at-⊕, at-one, at-dbl}
+use Rattle.draw.specs.Drawing.{Draws, drawn}
+use Rattle.draw.specs.Matrices.{Matrix, NoRelation}
+use Rattle.draw.proofs.Draws.{no-smaller, draw, drawn-is}
+
+module _ (k low : ℕ) (m : Modulus k low) (e : ℕ) where
+  pub value-⊕ : (p q : ℕ) → at (monic k low) (p ⊕ q) e ≡ at (monic k low) p e ⊕ at (monic k low) q e
+  value-⊕ p q = at-⊕ (monic-pos k low (m .2)) p q e
+
+  pub first-power : at (monic k low) 1 e ≡ 1
+  first-power = at-one (monic-pos k low (m .2)) e (rw (monic-degree k low (m .2)) (pow-mono {i = 1} {j = k} (m .0)))
+
+  pub next-power : e < 2 ^ k → (i x : ℕ) → x ≡ at (monic k low) (2 ^ i) e → rem (monic k low) (x ⊗ e) ≡ at (monic k low) (2 ^ (i + 1)) e
+  unfolding mulmod
+  next-power l i x q =
+      ap (λ (y : ℕ). rem (monic k low) (y ⊗ e)) q
+      ∙ sym (ap (λ (y : ℕ). at (monic k low) y e) (ap (λ (n : ℕ). 2 ^ n) (add-one i) ∙ pow-suc 2 i)
+      ∙ at-dbl (monic-pos k low (m .2)) (2 ^ i) e (rw (monic-degree k low (m .2)) l))
+
+  pub value-word : (p : ℕ) → at (monic k low) p e < 2 ^ 64
+  unfolding at
+  value-word p = residue-word k low (m .2) (m .1) (compose p e)
+
+-- ---- the relation among the powers
+
+module _ (f k : ℕ) (h : Field f k) (e : ℕ) (low : 1 < e) (high : e < 2 ^ k) (l : k < 64) (rows : List ℕ) (is : Matrix (λ p. at f p e) rows) where
+  value : (n x : ℕ) → n ≤ 64 → x < 2 ^ n → sumOf x rows ≡ at f x e
+  value n x m b = is x (lt-of-lt-of-le b (pow-mono m))
+
+  pub none-smaller : NoRelation k rows
+  none-smaller x b z = no-smaller f k h e low high x b (sym (value k x (omega arith) b) ∙ z)
+
+  pub one-there : NoRelation (k + 1) rows → ⊥
+  one-there none = found (draw f k h e low high)
+    where
+      found : (p : ℕ) × Draws f k e p → ⊥
+      found d =
+          let b : d .0 < 2 ^ (k + 1) = rw (add-one k) (deg-hi (d .0) k (d .1 .of-degree)) in
+          omega (arith, none (d .0) b (value (k + 1) (d .0) (omega arith) b ∙ d .1 .root), deg-pos (d .0) k (d .1 .of-degree))
+
+  pub relation-drawn : (r : ℕ) → Degree r k → sumOf r rows ≡ 0 → r ≡ drawn f k e
+  relation-drawn r d z =
+      sym (drawn-is f k h e low high r (record { of-degree = d; root = sym (value (suc k) r (omega arith) (deg-hi r k d)) ∙ z }))

@@ -1,0 +1,16 @@
+use native.Mathlib.Nat.{div-one}
+use borrow.Author.Needs.{needs}
+use Rattle.basis.proofs.Elimination.{masked}
+use Rattle.draw.proofs.chosen.Statement.{statement}
+use Rattle.draw.proofs.chosen.Tie as tie
+
+wrapping-sub-u64-requires : tie.Need-wrapping-sub-u64-requires
+wrapping-sub-u64-requires c κs = search needs
+
+returns : tie.Need-returns
+returns c =
+    let a = c .before .args in
+    rw (div-one (a .x)) at (masked 0 (a .v) (a .x) (c .wrapping-sub-u64 .result) (search needs) (search needs) (rw (div-one (a .x)) (c .wrapping-sub-u64 .ensures)))
+
+pub chosen-spec : {M : Type 1} → statement M
+chosen-spec = tie.close (tie.spec wrapping-sub-u64-requires returns)
