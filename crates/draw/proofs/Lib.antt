@@ -1,3 +1,4 @@
+pub mod Parts
 pub mod Draws
 pub mod Drawers
 pub mod Sums

@@ -15,7 +15,7 @@ use Rattle.gf2.proofs.Sums.{⊕-left-comm, ⊕-lt, ⊕-zero}
 use Rattle.gf2.proofs.Products.{by-bit, bit-cases}
 use Rattle.gf2.proofs.Degrees.{degree-is, deg-hi, deg-pos, deg-⊕}
 use Rattle.basis.specs.Rows.{sumOf, Independent, clear}
-use Rattle.basis.proofs.Parts.{part-cons, turn}
+use Rattle.draw.proofs.Parts.{part-cons, turn}
 use Rattle.basis.proofs.Insertion.{sum-⊕}
 use Rattle.draw.specs.Matrices.{NoRelation, addWhere}
 use Rattle.draw.proofs.Matrices.{sum-take, sum-place, bit-value}
