@@ -5,11 +5,11 @@ use Rattle.acceptance.specs.Keys.{anyBelow, reducible}
 use Rattle.keys.specs.Testing.{testKey}
 use Rattle.files.specs.Files.{lowBits, bits, valueFrom, value, fingerprint}
 use Rattle.compose.specs.Composing.{joined, joinBehind}
-use Rattle.search.specs.Searching.{window, windows, same, isPlace, alike, isAlarm, passing, places, alarms, counts, search}
+use Rattle.search.proofs.Readings.{collision-reading}
 use Rattle.readings.specs.Readings.{Readings}
 use Rattle.readings.proofs.Drawing.{drawn-by-3}
 use Rattle.readings.proofs.Apart.{nine-bits, not-eight}
 
 pub readings : Readings
-unfolding testKey window windows same isPlace alike isAlarm passing places alarms counts search reducible anyBelow fingerprint value valueFrom bits lowBits joinBehind joined rem longDivision reduce degree halvings _⊕_
-readings = (refl, refl, refl, drawn-by-3, refl, refl, refl, refl, refl, refl, refl, refl, nine-bits, not-eight)
+unfolding testKey reducible anyBelow fingerprint value valueFrom bits lowBits joinBehind joined rem longDivision reduce degree halvings _⊕_
+readings = (refl, refl, refl, drawn-by-3, refl, refl, refl, refl, refl, refl, collision-reading, refl, nine-bits, not-eight)
