@@ -1,4 +1,6 @@
-.PHONY: run test conformance benchmark fmt libraries
+.PHONY: run test conformance benchmark fmt libraries install
+
+PREFIX = /usr/local
 
 LIBRARIES = bench site keyholder
 ROUNDS = 1
@@ -17,21 +19,32 @@ test:
 libraries:
 	@for name in $(LIBRARIES); do rt staticlib $$name > /dev/null || exit 1; done
 
+# The libraries, the header, the Rust wrapper and the printing program, where a C or Rust project finds them.
+install: libraries
+	@rt check mark > /dev/null
+	@mkdir -p $(PREFIX)/lib/pkgconfig $(PREFIX)/include $(PREFIX)/bin $(PREFIX)/share/gfp
+	@cp $(LIBRARIES:%=target/staticlib/lib%.a) $(PREFIX)/lib/
+	@cp include/gfp.h $(PREFIX)/include/
+	@cp bindings/rust/gfp.rs $(PREFIX)/share/gfp/
+	@cp target/bin/mark $(PREFIX)/bin/
+	@sed 's,@PREFIX@,$(PREFIX),' tools/gfp.pc.in > $(PREFIX)/lib/pkgconfig/gfp.pc
+
 # The C interface against a second implementation in Rust. More rounds compare more: make conformance ROUNDS=20
 conformance: libraries
 	@mkdir -p target/conformance
 	@rustc --edition 2021 -O conformance/main.rs -o target/conformance/conformance -L target/staticlib $(LIBRARIES:%=-l static=%)
 	@target/conformance/conformance $(ROUNDS)
 
-# Ours beside the peers, in one run. The peers are Debian packages: libntl-dev libflint-dev golang-go golang-github-restic-chunker-dev
+# Ours beside the peers, in one run. The peers are Debian packages: libntl-dev libflint-dev libpari-dev golang-go golang-github-restic-chunker-dev
 benchmark: libraries
 	@rt staticlib gf2_measured > /dev/null
 	@mkdir -p target/benchmark
 	@cd benchmark && GO111MODULE=off GOPATH=/usr/share/gocode go build -buildmode=c-archive -o ../target/benchmark/librestic.a restic.go
 	@gcc -O3 -c benchmark/peers.c -o target/benchmark/peers.o
 	@g++ -O3 -Itarget/benchmark benchmark/main.cpp target/benchmark/peers.o $(LIBRARIES:%=target/staticlib/lib%.a) \
-		target/staticlib/libgf2_measured.a target/benchmark/librestic.a -lntl -lflint -lgmp -lpthread -o target/benchmark/benchmark
+		target/staticlib/libgf2_measured.a target/benchmark/librestic.a -lntl -lflint -lpari -lgmp -lpthread -o target/benchmark/benchmark
 	@target/benchmark/benchmark
+	@tools/benchmark-program
 
 # Lays every .rt and .antt file out.
 fmt:

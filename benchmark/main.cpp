@@ -9,6 +9,7 @@
 #include <cstring>
 #include <flint/nmod_poly.h>
 #include <functional>
+#include <pari/pari.h>
 #include <vector>
 
 extern "C" {
@@ -54,7 +55,7 @@ static Pair measure(const Call &ours, const Call &theirs) {
 }
 
 static void print(const char *what, Pair p, const char *peer) {
-    printf("%-44s ours %11.1f ns   %-20s %11.1f ns   %8.2f times as fast\n", what, p.ours, peer, p.theirs, p.theirs / p.ours);
+    printf("%-52s ours %11.1f ns   %-22s %11.1f ns   %8.2f times as fast\n", what, p.ours, peer, p.theirs, p.theirs / p.ours);
 }
 
 static void compare(const char *what, const Call &ours, const char *peer, const Call &theirs) { print(what, measure(ours, theirs), peer); }
@@ -107,6 +108,13 @@ static void key_tests() {
     compare("test of an accepted key of degree 61", ours, "NTL IterIrredTest", [&] { sink = IterIrredTest(f); });
     compare("", ours, "restic's chunker", [&] { sink = restic_irreducible(p); });
     compare("", ours, "FLINT", [&] { sink = nmod_poly_is_irreducible(g); });
+    GEN coefficients = cgetg(62 + 2, t_VECSMALL);
+    coefficients[1] = 0;
+    for (int i = 0; i < 62; i++)
+        coefficients[i + 2] = long(p >> i & 1);
+    GEN q = Flx_to_F2x(coefficients);
+    pari_sp stack = avma;
+    compare("", ours, "PARI", [&] { sink = uint64_t(F2x_is_irred(q)), avma = stack; });
     compare("test of the house key", [&] { sink = gfp_test_key(HOUSE); }, "NTL IterIrredTest", [&] { sink = IterIrredTest(h); });
     nmod_poly_clear(g);
 }
@@ -137,22 +145,74 @@ static void feeding(uint64_t key, int degree, size_t n) {
 }
 
 static void joining() {
-    uint64_t key = random_key(), f = 1, length = 0;
-    NTL::GF2XModulus modulus(polynomial(key));
-    NTL::GF2X x = polynomial(0x1234567890abcdefu), power, product;
-    NTL::ZZ n = NTL::ZZ(4294967295) * 8;
-    Pair p = measure([&] { f = 5, length = 0, gfp_join_behind(key, &f, &length, 3, 4294967295), sink = f; },
-                     [&] { PowerXMod(power, n, modulus), MulMod(product, x, power, modulus); });
-    print("join with 2^32 - 1 bytes, key test included", p, "NTL PowerXMod, MulMod");
-    print("  less the key's test", {p.ours - measure([&] { sink = gfp_test_key(key); }, [] {}).ours, p.theirs}, "NTL PowerXMod, MulMod");
+    for (uint64_t key : {HOUSE, random_key()}) {
+        uint64_t f, length;
+        NTL::GF2XModulus modulus(polynomial(key));
+        NTL::GF2X x = polynomial(0x1234567890abcdefu), power, product;
+        NTL::ZZ n = NTL::ZZ(4294967295) * 8;
+        compare(key == HOUSE ? "join with 2^32 - 1 bytes, house key" : "join with 2^32 - 1 bytes, random key, with its test",
+                [&] { f = 5, length = 0, gfp_join_behind(key, &f, &length, 3, 4294967295), sink = f; }, "NTL PowerXMod, MulMod",
+                [&] { PowerXMod(power, n, modulus), MulMod(product, x, power, modulus); });
+    }
+}
+
+static void searching() {
+    size_t n = 1 << 20;
+    std::vector<uint8_t> random = random_bytes(n), log(n);
+    const char *line = "2026-11-15T04:12:07Z gauge 0417 tilt +0.0125 mrad, pore pressure 183.2 kPa, ok\n";
+    for (size_t i = 0; i < n; i++)
+        log[i] = uint8_t(line[i % strlen(line)] + (random[i] < 8));
+    static uint32_t words[64];
+    uint32_t places, alarms;
+    for (auto *text : {&random, &log}) {
+        std::vector<uint8_t> pattern(text->begin() + 500000, text->begin() + 500016);
+        Call ours = [&] { gfp_search(HOUSE, text->data(), n, pattern.data(), 16, words, 64, &places, &alarms), sink = places; };
+        const char *what = text == &random ? "search, 1 MiB random, pattern 16, degree 61" : "search, 1 MiB log-like, pattern 16, degree 61";
+        compare(what, ours, "C Rabin-Karp 2^32", [&] { sink = peer_rabin_karp(text->data(), n, pattern.data(), 16, words, 64); });
+        compare("", ours, "memmem", [&] { sink = peer_memmem(text->data(), n, pattern.data(), 16, words, 64); });
+    }
+}
+
+static void sheets() {
+    size_t n = size_t(16) << 20;
+    std::vector<uint8_t> file = random_bytes(n);
+    static uint64_t words[1024];
+    gfp_make_table(HOUSE, words, 1024);
+    uint64_t f, length;
+    uint32_t outcome, page;
+    Call feed = [&] { f = 1, length = 0, gfp_feed_table(HOUSE, &f, &length, words, 1024, file.data(), n), sink = f; };
+    Call slicing = [&] { sink = peer_slicing_by_4(HOUSE, 1, words, file.data(), n); };
+    for (uint64_t size : {16, 4096}) {
+        std::vector<uint8_t> sheet(GFP_SHEET_BYTES + 8 * ((n + size - 1) / size));
+        char what[80];
+        snprintf(what, sizeof what, "write a sheet, 16 MiB, pages of %d bytes", int(size));
+        Call write = [&] { sink = gfp_write_sheet(HOUSE, size, file.data(), n, sheet.data(), sheet.size()); };
+        compare(what, write, "our feed by table", feed);
+        compare("", write, "C slicing by 4", slicing);
+        snprintf(what, sizeof what, "check a file, 16 MiB, pages of %d bytes", int(size));
+        Call check = [&] { sink = gfp_check_file(sheet.data(), sheet.size(), file.data(), n, &outcome, &page); };
+        compare(what, check, "our feed by table", feed);
+        compare("", check, "C slicing by 4", slicing);
+    }
+}
+
+static void drawing() {
+    NTL::GF2XModulus modulus(polynomial(HOUSE));
+    uint64_t e = 0x1234567890abcdefu, key;
+    NTL::GF2X x = polynomial(e), z;
+    compare("draw a key of degree 61", [&] { gfp_draw(61, e, &key), sink = key; }, "NTL MinPolyMod", [&] { MinPolyMod(z, x, modulus); });
 }
 
 int main() {
+    pari_init(1 << 26, 0);
     printf("Times are the least of several runs on this machine, both sides by turns.\n");
     arithmetic();
     key_tests();
     tables();
     joining();
+    drawing();
+    searching();
+    sheets();
     struct {
         uint64_t key;
         int degree;

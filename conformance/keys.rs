@@ -63,7 +63,7 @@ pub fn run(tally: &mut Tally, rounds: u64) {
         tally.same(&format!("every key below 2^16, {key:#x}"), number(key), second);
     }
     let mut generator = Generator::new(3);
-    for round in 0..rounds * 56 * 200 {
+    for round in 0..rounds * 56 * 400 {
         let k = 8 + (round % 56) as u32;
         let random = generator.of_degree(k);
         tally.same(&format!("random key {random:#x}"), number(random), reference::test_key(random).err().unwrap_or(0));
