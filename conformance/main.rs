@@ -7,6 +7,7 @@ mod generator;
 mod gfp;
 mod keys;
 mod marks;
+mod orders;
 mod reference;
 mod search;
 mod sheets;
@@ -33,13 +34,14 @@ impl Tally {
 fn main() {
     let rounds = std::env::args().nth(1).map_or(1, |n| n.parse().expect("a number of rounds"));
     let mut tally = Tally { passed: 0, failed: 0 };
-    let suites: [(&str, fn(&mut Tally, u64)); 6] = [
+    let suites: [(&str, fn(&mut Tally, u64)); 7] = [
         ("keys", keys::run),
         ("marks and tables", marks::run),
         ("joining, page change, lists of calls", compose::run),
         ("search", search::run),
         ("page sheets", sheets::run),
         ("drawing", draw::run),
+        ("the order of refusals", orders::run),
     ];
     for (name, suite) in suites {
         let before = tally.passed + tally.failed;
