@@ -4,8 +4,7 @@ use mathlib.Core.List.{[]}
 use Prim.Native.Nat.{ℕ}
 use lib.Dec.{T}
 use Rattle.gf2.proofs.Lists.{rising}
-use Rattle.refusals.specs.Refusals.{Answer, Done, valueOr}
-use Rattle.refusals.proofs.Laws.{numbers}
+use Rattle.refusals.specs.Refusals.{Answer, Done, valueOr, numbers}
 use Rattle.files.specs.declared.Mark.{Mark}
 use Rattle.files.specs.Files.{fingerprint, markOf}
 use Rattle.marks.specs.Feeding.{begin}

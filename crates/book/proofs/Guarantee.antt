@@ -6,7 +6,8 @@ use Prim.Native.Nat.{ℕ, _<_}
 use lib.Dec.{T}
 use lib.ListN.{length}
 use Rattle.gf2.proofs.Lists.{rising, all-map}
-use Rattle.refusals.proofs.Laws.{numbers, first-is-lowest}
+use Rattle.refusals.specs.Refusals.{numbers}
+use Rattle.refusals.proofs.Laws.{first-is-lowest}
 use Rattle.acceptance.specs.Keys.{accepted}
 use Rattle.acceptance.proofs.Laws.{accepted-pos}
 use Rattle.files.specs.declared.Mark.{Mark}

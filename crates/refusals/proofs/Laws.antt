@@ -3,7 +3,7 @@
 use mathlib.Core.Path.{_≡_, refl, sym, ap, _∙_}
 use mathlib.Core.Bool.{Bool, true, false, _||_}
 use mathlib.Core.List.{List, [], _∷_, _++_}
-use Prim.Native.Nat.{ℕ, _<_, min}
+use Prim.Native.Nat.{ℕ, _<_}
 use native.Mathlib.Nat.{lt-trans}
 use native.Mathlib.Omega.{arith}
 use lib.Dec.{T, ltb, ltb→lt}
@@ -11,28 +11,9 @@ use Rattle.gf2.specs.Lists.{All}
 use Rattle.gf2.proofs.Lists.{all-map, rising, and-left, and-right}
 use Rattle.refusals.specs.declared.Refusal.{Refusal}
 use Rattle.refusals.specs.declared.Refusal.the-variants.{KeyBelow256, KeyReducible, DegreeNotListed, ElementOutOfRange, TableSize, TableWord, TooLong, MarkNotReduced, PageLengthsDiffer, PagePastEnd, EmptyPattern, PageSize, BufferShort, SheetMalformed}
-use Rattle.refusals.specs.Refusals.{number, Answer, Done, numberOf, stateOf, Test, _⇒_, firstOf}
+use Rattle.refusals.specs.Refusals.{number, Answer, Done, numberOf, stateOf, Test, _⇒_, firstOf, numbers, applying, least, lowest}
 
 -- ---- the lowest number that applies
-
--- the numbers of all tests, and of those that hold
-abbrev pub numbers : List Test → List ℕ
-numbers [] = []
-numbers (b ⇒ r ∷ ts) = number r ∷ numbers ts
-
-abbrev pub applying : List Test → List ℕ
-applying [] = []
-applying (true ⇒ r ∷ ts) = number r ∷ applying ts
-applying (false ⇒ r ∷ ts) = applying ts
-
--- the lowest of a list, 0 where it has none
-abbrev pub least : ℕ → List ℕ → ℕ
-least n [] = n
-least n (m ∷ ns) = least (min n m) ns
-
-abbrev pub lowest : List ℕ → ℕ
-lowest [] = 0
-lowest (n ∷ ns) = least n ns
 
 above : (b : ℕ) (ts : List Test) → T (rising b (numbers ts)) → All (λ n. b < n) (applying ts)
 unfolding rising

@@ -2,7 +2,7 @@
 -- applies is given.
 use mathlib.Core.Bool.{Bool, true, false, _||_}
 use mathlib.Core.List.{List, [], _∷_}
-use Prim.Native.Nat.{ℕ, _<_}
+use Prim.Native.Nat.{ℕ, min}
 use lib.Dec.{ltb}
 use Rattle.refusals.specs.declared.Refusal.{Refusal}
 use Rattle.refusals.specs.declared.Refusal.the-variants.{KeyBelow256, KeyReducible, DegreeNotListed, ElementOutOfRange, TableSize, TableWord, TooLong, MarkNotReduced, PageLengthsDiffer, PagePastEnd, EmptyPattern, PageSize, BufferShort, SheetMalformed}
@@ -57,6 +57,25 @@ abbrev pub firstOf : {S A : Type 0} → List Test → S → A → Answer S A
 firstOf [] kept value = Done value
 firstOf (true ⇒ r ∷ ts) kept value = Refused r kept
 firstOf (false ⇒ r ∷ ts) kept value = firstOf ts kept value
+
+-- the numbers of all tests, and of those that hold
+abbrev pub numbers : List Test → List ℕ
+numbers [] = []
+numbers (b ⇒ r ∷ ts) = number r ∷ numbers ts
+
+abbrev pub applying : List Test → List ℕ
+applying [] = []
+applying (true ⇒ r ∷ ts) = number r ∷ applying ts
+applying (false ⇒ r ∷ ts) = applying ts
+
+-- the lowest of a list, 0 where it has none
+abbrev pub least : ℕ → List ℕ → ℕ
+least n [] = n
+least n (m ∷ ns) = least (min n m) ns
+
+abbrev pub lowest : List ℕ → ℕ
+lowest [] = 0
+lowest (n ∷ ns) = least n ns
 
 -- ---- number 7: one of the lengths passes the limit of 4,294,967,295
 

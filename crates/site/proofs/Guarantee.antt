@@ -4,7 +4,7 @@ use mathlib.Core.List.{List, map}
 use Prim.Native.Nat.{ℕ}
 use lib.Dec.{T}
 use Rattle.gf2.proofs.Lists.{rising}
-use Rattle.refusals.proofs.Laws.{numbers}
+use Rattle.refusals.specs.Refusals.{numbers}
 use Rattle.files.specs.declared.Mark.{Mark}
 use Rattle.book.specs.Runs.{run}
 use Rattle.book.specs.Claims.{Lists, Lowest, Confusions, Counted, ConfusionsCount, Bursts, BurstsCount}
