@@ -2,7 +2,7 @@
 // A modulus is its degree k, from 1 to 64, and its low word: the coefficients below t^k. These functions are for the project's own crates:
 // what they require, every caller proves.
 ghost use mathlib.Core.Path.{_≡_};
-ghost use Prim.Native.Nat.{_+_, _*_, _%_, _^_, _<_};
+ghost use Prim.Native.Nat.{_+_, _*_, _/_, _%_, _^_, _≤_, _<_};
 ghost use Rattle.gf2.specs.Polynomials.{_⊗_, _⊗^_, degree, monic, rem, Modulus};
 
 // The degree of a nonzero polynomial: the place of its highest one bit.
@@ -28,7 +28,7 @@ pub fn step(k: u32, low: u64, f: u64, bit: u64) -> u64
     ensures { λ r. ⌜ r ≡ rem (monic k low) (f * 2 + bit) ⌝ }
 {
     let cut = k - 1;
-    let top = f >> cut;
+    let top = (f >> cut) % 2;
     let rest = low_bits(f, cut);
     let reduced = low * top;
     (rest * 2 + bit) ^ reduced
@@ -68,13 +68,39 @@ pub fn power(k: u32, low: u64, a: u64, n: u64) -> u64
     x
 }
 
-// The power t^n, likewise: a step where the bit is one.
+// How many of the low bits of n to leave, so that the bits above them name a power of t below t^k.
+fn low_places(k: u32, n: u64) -> u32
+    requires { ⌜ 0 < k ⌝ }
+    ensures { λ r. ⌜ (r ≤ 64) × (n / 2 ^ r < k) ⌝ }
+{
+    let mut i = 64 - u64::leading_zeros(n);
+    while 0 < i {
+        if k as u64 <= n >> (i - 1) {
+            return i;
+        }
+        i -= 1;
+    }
+    i
+}
+
+// The power of t that the bits of n from place i on name: no division is needed yet.
+fn first_power(n: u64, i: u32) -> u64
+    requires { ⌜ (i ≤ 64) × (n / 2 ^ i < 64) ⌝ }
+    ensures { λ r. ⌜ r ≡ 2 ^ (n / 2 ^ i) ⌝ }
+{
+    if i == 64 {
+        return 1;
+    }
+    1 << (n >> i)
+}
+
+// The power t^n, likewise: a step where the bit is one. It begins with the highest bits, as far as they name a power below t^k.
 pub fn power_of_t(k: u32, low: u64, n: u64) -> u64
     requires { ⌜ Modulus k low ⌝ }
     ensures { λ r. ⌜ r ≡ rem (monic k low) (2 ^ n) ⌝ }
 {
-    let mut x: u64 = 1;
-    let mut i = 64 - u64::leading_zeros(n);
+    let mut i = low_places(k, n);
+    let mut x = first_power(n, i);
     while 0 < i {
         i -= 1;
         x = product(k, low, x, x);

@@ -3,13 +3,13 @@ use mathlib.Core.Path.{_≡_, sym, ap, _∙_}
 use Prim.Native.Nat.{ℕ, _+_, _-_, _*_, _/_, _%_, _^_, _≤_, _<_}
 use native.Mathlib.Nat.{add-zero, div-one}
 use native.Mathlib.Omega.{arith}
-use lib.Count.{leadingZeros, leading-le}
+use lib.Pow.{pow-lt}
 use borrow.Author.Needs.{needs}
 use Rattle.gf2.specs.Polynomials.{_⊗_, _⊗^_, monic, rem}
 use Rattle.gf2.proofs.Products.{⊗-pow}
-use Rattle.gf2.proofs.Powers.{pow-zero, pow-t}
+use Rattle.gf2.proofs.Powers.{pow-t}
 use Rattle.gf2.proofs.Monics.{monic-pos}
-use Rattle.gf2.proofs.Steps.{residue-lt, residue-one, power-even, power-odd, next-bits, no-bits}
+use Rattle.gf2.proofs.Steps.{residue-lt, residue-small, power-even, power-odd, next-bits}
 use Rattle.gf2.proofs.power_of_t.Statement.{statement}
 use Rattle.gf2.proofs.power_of_t.Tie as tie
 
@@ -17,25 +17,32 @@ double : (x : ℕ) → x * 2 + 0 ≡ x ⊗ 2
 double x = add-zero (x * 2) ∙ sym (⊗-pow 1 x)
 
 abbrev Inv-loop : tie.InvT-loop
-Inv-loop k low n x₀ i₀ x i = (i ≤ 64) × (x ≡ rem (monic k low) (2 ⊗^ (n / 2 ^ i)))
+Inv-loop k low n i₀ x₀ i x = (i ≤ 64) × (x ≡ rem (monic k low) (2 ⊗^ (n / 2 ^ i)))
 
 abbrev μ-loop : tie.MeasureT-loop
-μ-loop k low n x₀ i₀ x i = i
+μ-loop k low n i₀ x₀ i x = i
 
-sub-i : tie.Need-sub-i Inv-loop μ-loop
-sub-i c = leading-le 64 (c .args .n)
+low-places-requires : tie.Need-low-places-requires Inv-loop μ-loop
+low-places-requires c κs = c .pre .0
+
+first-power-requires : tie.Need-first-power-requires Inv-loop μ-loop
+first-power-requires c κs = let e = c .low-places .ensures in (e .0, omega (arith, e .1, c .before .pre .1))
 
 loop-holds : tie.Need-loop-holds Inv-loop μ-loop
 loop-holds c =
-    let a = c .args in
-    (omega arith, sym (rw (no-bits (a .n) (c .fits .n .fits), pow-zero) (residue-one (a .k) (a .low) (c .pre))))
+    let s = c .before .before in
+    let e = c .before .low-places .ensures in (
+      e .0,
+      c .first-power .ensures ∙ sym (ap (rem (monic (s .args .k) (s .args .low))) (pow-t (s .args .n / 2 ^ (c .before .low-places .result)))
+          ∙ residue-small (s .args .k) (s .args .low) (s .pre .2) (2 ^ (s .args .n / 2 ^ (c .before .low-places .result))) (pow-lt (e .1))),
+    )
 
-sub-i-2 : tie.Need-sub-i-2 Inv-loop μ-loop
-sub-i-2 c = omega arith
+sub-i : tie.Need-sub-i Inv-loop μ-loop
+sub-i c = omega arith
 
 product-requires : tie.Need-product-requires Inv-loop μ-loop
 product-requires c κs =
-    let s = c .before .before in
+    let s = c .before .before .before .before in
     let l = c .before .loop in
     let h = rw (← (l .inv .1)) at (residue-lt (s .args .k) (s .args .low) (s .pre .2) (2 ⊗^ (s .args .n / 2 ^ (l .i)))) in
     (s .pre, h, h)
@@ -48,7 +55,7 @@ shr-if1 c = omega arith
 
 step-requires : tie.Need-step-requires Inv-loop μ-loop
 step-requires c κs =
-    let s = c .before .before .before .before in
+    let s = c .before .before .before .before .before .before in
     let x = c .before .before .before .loop .x in
     (s .pre, rw (c .before .product .ensures) (residue-lt (s .args .k) (s .args .low) (s .pre .2) (x ⊗ x)), omega arith)
 
@@ -57,7 +64,7 @@ loop-less c = omega arith
 
 loop-again : tie.Need-loop-again Inv-loop μ-loop
 loop-again c =
-    let s = c .before .before .before .before .before in
+    let s = c .before .before .before .before .before .before .before in
     let a = s .args in
     let l = c .before .before .before .before .loop in
     let pos = monic-pos (a .k) (a .low) (s .pre .2) in
@@ -72,7 +79,7 @@ loop-less-2 c = omega arith
 
 loop-again-2 : tie.Need-loop-again-2 Inv-loop μ-loop
 loop-again-2 c =
-    let s = c .before .before .before .before in
+    let s = c .before .before .before .before .before .before in
     let a = s .args in
     let l = c .before .before .before .loop in
     let pos = monic-pos (a .k) (a .low) (s .pre .2) in
@@ -83,7 +90,7 @@ loop-again-2 c =
 
 returns : tie.Need-returns Inv-loop μ-loop
 returns c =
-    let a = c .before .before .args in
+    let a = c .before .before .before .before .args in
     let l = c .before .loop in
     let e : l .i ≡ 0 = omega arith in
     l .inv .1 ∙ ap (λ (i : ℕ). rem (monic (a .k) (a .low)) (2 ⊗^ (a .n / 2 ^ i))) e ∙ ap (λ (m : ℕ). rem (monic (a .k) (a .low)) (2 ⊗^ m)) (div-one (a .n)) ∙ ap (rem (monic (a .k) (a .low))) (pow-t (a .n))
@@ -94,9 +101,10 @@ power-of-t-spec =
     (tie.spec
     Inv-loop
     μ-loop
-    sub-i
+    low-places-requires
+    first-power-requires
     loop-holds
-    sub-i-2
+    sub-i
     product-requires
     cast-if1
     shr-if1

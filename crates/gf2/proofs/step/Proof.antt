@@ -1,11 +1,12 @@
 -- `gf2::step` meets its contract: `step-is`.
-use mathlib.Core.Path.{sym}
+use mathlib.Core.Path.{_≡_, sym}
 use Prim.Native.Nat.{ℕ, _+_, _-_, _*_, _/_, _%_, _^_, _≤_, _<_}
-use native.Mathlib.Nat.{lt-of-lt-of-le}
+use native.Mathlib.Nat.{lt-of-lt-of-le, mod-eq-of-lt}
 use lib.Pow.{pow-mono}
 use borrow.Author.Needs.{needs}
 use native.Mathlib.Omega.{arith}
 use Rattle.gf2.specs.Polynomials.{_⊕_}
+use Rattle.gf2.proofs.Products.{mod-2}
 use Rattle.gf2.proofs.Steps.{step-is, top-bit, append-lt, bit-mul-le}
 use Rattle.gf2.proofs.step.Statement.{statement}
 use Rattle.gf2.proofs.step.Tie as tie
@@ -22,11 +23,15 @@ shr-top c = search needs
 low-bits-requires : tie.Need-low-bits-requires
 low-bits-requires c κs = search needs
 
+-- the coefficient that falls out is a bit already; the remainder only tells the compiler so
+one-bit : (k f : ℕ) → 0 < k → f < 2 ^ k → f / 2 ^ (k - 1) % 2 ≡ f / 2 ^ (k - 1)
+one-bit k f p l = mod-eq-of-lt (top-bit k f p l)
+
 mul-reduced : tie.Need-mul-reduced
 mul-reduced c =
     let a = c .before .args in
     let p = c .before .pre in
-    record { fits = omega (arith, bit-mul-le (a .low) (a .f / 2 ^ (a .k - 1)) (top-bit (a .k) (a .f) (p .0 .0) (p .1))) }
+    record { fits = omega (arith, bit-mul-le (a .low) (a .f / 2 ^ (a .k - 1) % 2) (mod-2 (a .f / 2 ^ (a .k - 1)))) }
 
 -- the residue with the bit behind it, less the coefficient that falls out, is below 2 ^ k
 rest-fits : (k f b : ℕ) → 0 < k → k ≤ 64 → b < 2 → f % 2 ^ (k - 1) * 2 + b < 2 ^ 64
@@ -49,7 +54,7 @@ unfolding _⊕_
 returns c =
     let a = c .before .args in
     let p = c .before .pre in
-    rw (c .low-bits .ensures) (sym (step-is (a .k) (a .low) (a .f) (a .bit) (p .0 .0) (p .0 .2) (p .1) (p .2)))
+    rw (c .low-bits .ensures, one-bit (a .k) (a .f) (p .0 .0) (p .1)) (sym (step-is (a .k) (a .low) (a .f) (a .bit) (p .0 .0) (p .0 .2) (p .1) (p .2)))
 
 pub step-spec : {M : Type 1} → statement M
 step-spec = tie.close (tie.spec sub-cut cast-top shr-top low-bits-requires mul-reduced mul-result add-result returns)
