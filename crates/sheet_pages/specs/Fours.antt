@@ -1,0 +1,32 @@
+-- What the inner functions promise of four pages or four runs of fields at once: a reader of the promises need not read this page.
+use mathlib.Core.Path.{_≡_}
+use mathlib.Core.List.{List, [], _∷_}
+use Prim.Native.Nat.{ℕ, _+_, _*_, _^_}
+use lib.ListN.{take, drop}
+use Rattle.gf2.specs.Polynomials.{_⊕_, rem}
+use Rattle.files.specs.Files.{fingerprint}
+use Rattle.lookups.specs.declared.Runs.{Runs}
+use Rattle.sheets.specs.Layout.{numbersAt}
+
+-- the page that begins at a place
+abbrev pub pageFrom : ℕ → List ℕ → ℕ → List ℕ
+pageFrom s file at = take s (drop at file)
+
+-- the fingerprints of the four whole pages from a place on
+pub record FourMarks (key s : ℕ) (file : List ℕ) (at : ℕ) (m : Runs) : Type 0 where
+  pub a : m .a ≡ fingerprint key (pageFrom s file at)
+  pub b : m .b ≡ fingerprint key (pageFrom s file (at + s))
+  pub c : m .c ≡ fingerprint key (pageFrom s file (at + s + s))
+  pub d : m .d ≡ fingerprint key (pageFrom s file (at + s + s + s))
+
+-- page marks joined behind the residue f, each page shifting by t^e
+unfoldable pub chained : ℕ → ℕ → ℕ → List ℕ → ℕ
+chained key e f [] = f
+chained key e f (g ∷ gs) = chained key e (rem key (f * 2 ^ e ⊕ g ⊕ 2 ^ e)) gs
+
+-- four runs of q fields from place 19 on, the first behind 1 and the others behind 0
+pub record FourChains (key e q : ℕ) (sheet : List ℕ) (r : Runs) : Type 0 where
+  pub a : r .a ≡ chained key e 1 (numbersAt 19 8 q sheet)
+  pub b : r .b ≡ chained key e 0 (numbersAt (19 + 8 * q) 8 q sheet)
+  pub c : r .c ≡ chained key e 0 (numbersAt (19 + 8 * (2 * q)) 8 q sheet)
+  pub d : r .d ≡ chained key e 0 (numbersAt (19 + 8 * (3 * q)) 8 q sheet)
