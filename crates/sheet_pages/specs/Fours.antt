@@ -2,10 +2,11 @@
 use mathlib.Core.Path.{_≡_}
 use mathlib.Core.List.{List, [], _∷_}
 use Prim.Native.Nat.{ℕ, _+_, _*_, _^_}
-use lib.ListN.{take, drop}
+use lib.ListN.{getD, take, drop}
 use Rattle.gf2.specs.Polynomials.{_⊕_, rem}
 use Rattle.files.specs.Files.{fingerprint}
 use Rattle.lookups.specs.declared.Runs.{Runs}
+use Rattle.lookups.specs.Groups.{looked}
 use Rattle.sheets.specs.Layout.{numbersAt}
 
 -- the page that begins at a place
@@ -19,14 +20,18 @@ pub record FourMarks (key s : ℕ) (file : List ℕ) (at : ℕ) (m : Runs) : Typ
   pub c : m .c ≡ fingerprint key (pageFrom s file (at + s + s))
   pub d : m .d ≡ fingerprint key (pageFrom s file (at + s + s + s))
 
--- page marks joined behind the residue f, each page shifting by t^e
+-- page marks joined behind the residue f, each page shifting by t^e; and the same by the table of that shift
 unfoldable pub chained : ℕ → ℕ → ℕ → List ℕ → ℕ
 chained key e f [] = f
 chained key e f (g ∷ gs) = chained key e (rem key (f * 2 ^ e ⊕ g ⊕ 2 ^ e)) gs
 
--- four runs of q fields from place 19 on, the first behind 1 and the others behind 0
-pub record FourChains (key e q : ℕ) (sheet : List ℕ) (r : Runs) : Type 0 where
-  pub a : r .a ≡ chained key e 1 (numbersAt 19 8 q sheet)
-  pub b : r .b ≡ chained key e 0 (numbersAt (19 + 8 * q) 8 q sheet)
-  pub c : r .c ≡ chained key e 0 (numbersAt (19 + 8 * (2 * q)) 8 q sheet)
-  pub d : r .d ≡ chained key e 0 (numbersAt (19 + 8 * (3 * q)) 8 q sheet)
+unfoldable pub looping : List ℕ → ℕ → List ℕ → ℕ
+looping words f [] = f
+looping words f (g ∷ gs) = looping words (looked 8 words 8 0 f ⊕ g ⊕ getD words 1 0) gs
+
+-- four runs of q fields from a place on, the first behind 1 and the others behind 0
+pub record FourChains (words : List ℕ) (q : ℕ) (sheet : List ℕ) (r : Runs) : Type 0 where
+  pub a : r .a ≡ looping words 1 (numbersAt 19 8 q sheet)
+  pub b : r .b ≡ looping words 0 (numbersAt (19 + 8 * q) 8 q sheet)
+  pub c : r .c ≡ looping words 0 (numbersAt (19 + 8 * q + 8 * q) 8 q sheet)
+  pub d : r .d ≡ looping words 0 (numbersAt (19 + 8 * q + 8 * q + 8 * q) 8 q sheet)

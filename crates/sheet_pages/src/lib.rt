@@ -9,6 +9,8 @@ ghost use Rattle.tables.specs.Tables.{TableOf};
 ghost use Rattle.sheets.specs.Sheets.{filled};
 ghost use Rattle.sheet_pages.specs.Fours.{FourMarks};
 
+pub mod joining;
+
 // The fingerprint of a page, filled up with zero bytes.
 pub fn page_mark(words: &[u64], k: u32, low: u64, size: usize, page: &[u8]) -> u64
     requires { ⌜ TableOf k low (now words) × (size ≤ 4096) × (length (now page) ≤ size) ⌝ }
