@@ -1,6 +1,6 @@
 -- Laws of page marks joined: one field a turn, and in runs.
 use mathlib.Core.Path.{_≡_, refl, sym, ap, ap₂, _∙_}
-use mathlib.Core.Bool.{Bool, true, false, _||_}
+use mathlib.Core.Bool.{false}
 use mathlib.Core.List.{List, [], _∷_, _++_, append-assoc}
 use Prim.Native.Nat.{ℕ, zero, suc, _+_, _-_, _*_, _^_, _≤_, _<_}
 use native.Mathlib.Nat.{lt-of-lt-of-le, suc-add, add-comm, add-zero, zero-add, mul-assoc, mul-zero, mul-one, mul-suc, zero-mul}
@@ -10,9 +10,9 @@ use lib.ListN.{length, getD}
 use lib.Pow.{pow-pos, pow-mono, pow-lt, pow-add}
 use borrow.Author.Tests.{leb-false}
 use Rattle.gf2.specs.Polynomials.{_⊕_, _⊗_, rem, monic, degree, Modulus}
-use Rattle.gf2.proofs.Sums.{zero-⊕, ⊕-zero, ⊕-assoc, ⊕-shl, xor}
-use Rattle.gf2.proofs.Residues.{rem-lt, rem-small, rem-zero, rem-⊕}
-use Rattle.gf2.proofs.Powers.{rem-rem, rem-shl}
+use Rattle.gf2.proofs.Sums.{zero-⊕, ⊕-zero, ⊕-assoc, ⊕-shl}
+use Rattle.gf2.proofs.Residues.{rem-lt, rem-small, rem-⊕}
+use Rattle.gf2.proofs.Powers.{rem-shl}
 use Rattle.gf2.proofs.Monics.{monic-pos, monic-degree}
 use Rattle.acceptance.proofs.Laws.{or-neither}
 use Rattle.files.specs.declared.Mark.{Mark}

@@ -44,7 +44,11 @@ fn join_runs(shift: &[u64], sheet: &[u8], q: u64) -> Runs
         a = shifts::join(shift, a, fields::number_at(sheet, place, 8));
         b = shifts::join(shift, b, fields::number_at(sheet, place + run, 8));
         c = shifts::join(shift, c, fields::number_at(sheet, place + run + run, 8));
-        d = shifts::join(shift, d, fields::number_at(sheet, place + run + run + run, 8));
+        d = shifts::join(
+            shift,
+            d,
+            fields::number_at(sheet, place + run + run + run, 8),
+        );
         place += 8;
         left -= 1;
     }
@@ -61,12 +65,8 @@ fn behind(k: u32, low: u64, x: u64, t: u64, y: u64) -> u64
 
 // The first n page marks of a sheet joined. Many of them in four runs, which cost a power of t and three products.
 pub fn pages_joined(sheet: &[u8], k: u32, low: u64, size: u64, n: u64) -> u64
-    requires {
-        ⌜ Modulus k low × (size ≤ 4096) × (n < 2 ^ 29) × (19 + 8 * n ≤ length (now sheet)) × (someUnreduced k (numbersAt 19 8 n (now sheet)) ≡ false) ⌝
-    }
-    ensures {
-        λ r. ⌜ r ≡ joinedPages (monic k low) size (markOf (monic k low) []) (numbersAt 19 8 n (now (sheet .entry))) .fingerprint ⌝
-    }
+    requires { ⌜ Modulus k low × (size ≤ 4096) × (n < 2 ^ 29) × (19 + 8 * n ≤ length (now sheet)) × (someUnreduced k (numbersAt 19 8 n (now sheet)) ≡ false) ⌝ }
+    ensures { λ r. ⌜ r ≡ joinedPages (monic k low) size (markOf (monic k low) []) (numbersAt 19 8 n (now (sheet .entry))) .fingerprint ⌝ }
 {
     let mut shift = [0u64; 2048];
     shifts::fill(&mut shift, k, low, size);

@@ -1,6 +1,6 @@
 -- The stores of a sheet's fields, one behind the other.
-use mathlib.Core.Path.{_≡_, refl, sym, ap, ap₂, _∙_}
-use mathlib.Core.List.{List, [], _∷_, _++_}
+use mathlib.Core.Path.{_≡_, refl, ap, ap₂, _∙_}
+use mathlib.Core.List.{List, [], _++_}
 use Prim.Native.Nat.{ℕ, _+_, _*_, _≤_}
 use native.Mathlib.Omega.{arith}
 use lib.ListN.{length, drop, length-append}
@@ -8,7 +8,6 @@ use lib.Seq.{sets}
 use Rattle.sheets.specs.Layout.{version1, bytesOf, fieldsOf, sheetSize, Contents, sheetBytes}
 use Rattle.sheets.specs.Parts.{headBytes}
 use Rattle.sheets.proofs.Numbers.{length-bytesOf, length-fieldsOf, sets-behind, sets-front}
-use Rattle.sheets.proofs.Layouts.{length-sheet}
 
 -- b' is b with u at its front, n bytes
 abbrev Front : List ℕ → List ℕ → ℕ → List ℕ → Type 0

@@ -1,14 +1,14 @@
 -- Laws of numbers as bytes: what is written in w bytes reads back, and bytes that are read are what the number is written as.
 use mathlib.Core.Path.{_≡_, refl, sym, ap, ap₂, _∙_}
-use mathlib.Core.List.{List, [], _∷_, _++_, append-assoc, append-nil}
+use mathlib.Core.List.{List, [], _∷_, _++_, append-assoc}
 use Prim.Native.Nat.{ℕ, zero, suc, _+_, _-_, _*_, _/_, _%_, _^_, _≤_, _<_}
 use native.Mathlib.Nat.{suc-add, add-suc, mul-one, zero-mul, mul-zero, mul-assoc, zero-add, mul-add-div-right, mul-add-mod-self-right, add-zero, mod-one, mod-mod, mod-eq-of-lt, mul-suc, add-comm, mul-comm}
 use native.Mathlib.Numerals.{add-one}
 use native.Mathlib.Omega.{arith}
 use lib.Arith.{digits-lt, digits-div}
-use lib.ListN.{length, getD, set, take, drop, length-append, length-take, length-drop}
+use lib.ListN.{length, getD, set, take, drop, length-append, length-drop}
 use lib.Pow.{pow-pos, mod-pow-add, pow-add}
-use lib.Seq.{sets, sets-eq, drop-cons, take-at, drop-at, take-add, drop-drop, drop-append-add, length-take-le}
+use lib.Seq.{sets, sets-eq, drop-cons, take-at, drop-at, take-add, drop-drop, length-take-le}
 use Rattle.gf2.specs.Lists.{All}
 use Rattle.files.specs.Files.{bits, valueFrom, Bytes}
 use Rattle.files.proofs.Values.{value-byte, value-split, value-lt, length-bits}

@@ -1,14 +1,13 @@
 -- Laws of the pages of a file: their count, and that their marks joined are the mark of the file filled up with zero bytes.
-use mathlib.Core.Path.{_≡_, refl, sym, ap, ap₂, _∙_}
+use mathlib.Core.Path.{_≡_, refl, sym, ap, _∙_}
 use mathlib.Core.List.{List, [], _∷_, _++_, append-assoc, append-nil}
-use Prim.Native.Nat.{ℕ, zero, suc, _+_, _-_, _*_, _/_, _%_, _^_, _≤_, _<_, min}
-use native.Mathlib.Nat.{one-mul, mul-le-mul-left, add-div-right, div-eq-of-lt, sub-zero, mul-zero, zero-mul, mul-one, mul-suc, suc-mul, add-zero, zero-add, mul-assoc, div-add-mod', mod-lt, add-comm}
+use Prim.Native.Nat.{ℕ, zero, suc, _+_, _-_, _*_, _/_, _^_, _≤_, _<_, min}
+use native.Mathlib.Nat.{one-mul, mul-le-mul-left, add-div-right, div-eq-of-lt, sub-zero, zero-mul, mul-one, div-add-mod', mod-lt}
 use native.Mathlib.Decide.{decLe}
 use native.Mathlib.Numerals.{add-one}
 use native.Mathlib.Omega.{arith}
 use lib.ListN.{length, take, drop, replicate, length-append, length-replicate, length-drop, length-take, drop-of-length-le, take-append-drop, replicate-append-replicate}
-use lib.Pow.{pow-add}
-use lib.Seq.{drop-drop, take-all, length-take-le, take-nil}
+use lib.Seq.{drop-drop, take-all, length-take-le}
 use Rattle.gf2.specs.Polynomials.{_⊕_, rem, degree}
 use Rattle.gf2.specs.Lists.{All}
 use Rattle.gf2.proofs.Residues.{rem-lt, rem-small, rem-⊕}

@@ -1,5 +1,5 @@
 use mathlib.Core.Path.{_≡_, sym, ap, _∙_}
-use Prim.Native.Nat.{ℕ, _+_, _-_, _*_, _^_, _≤_, _<_}
+use Prim.Native.Nat.{ℕ, _+_, _-_, _*_, _^_, _≤_}
 use native.Mathlib.Nat.{lt-of-lt-of-le}
 use native.Mathlib.Omega.{arith}
 use lib.ListN.{length, take, drop}
@@ -10,105 +10,77 @@ use Rattle.files.specs.Files.{bits, valueFrom}
 use Rattle.lookups.proofs.Parts.{run-length}
 use Rattle.tables.specs.Tables.{word}
 use Rattle.tables.proofs.Rule.{table-length, table-rows}
-use Rattle.sheet_pages.specs.Fours.{FourMarks}
 use Rattle.sheet_pages.proofs.Laws.{mark-from}
 use borrow.Author.Needs.{needs}
 use Rattle.sheet_pages.proofs.four_marks.Statement.{statement}
 use Rattle.sheet_pages.proofs.four_marks.Tie as tie
-use Rattle.sheet_pages.proofs.four_marks.Reads as reads
-use Rattle.sheet_pages.proofs.four_marks.Lts as lts
-use Rattle.lookups.proofs.feed_runs.Reads as feed-runs-reads
-use Rattle.sheet_pages.proofs.first_four.Reads as first-four-reads
 
--- src/lib.rt:50:15
 mul-two : tie.Need-mul-two
 mul-two c = search needs
 
--- src/lib.rt:51:17
 mul-three : tie.Need-mul-three
 mul-three c = search needs
 
--- src/lib.rt:52:16
 mul-four : tie.Need-mul-four
 mul-four c = search needs
 
--- src/lib.rt:54:12
 first-four-requires : tie.Need-first-four-requires
 first-four-requires c κs = search needs
 
--- src/lib.rt:55:12
 first-four-requires-2 : tie.Need-first-four-requires-2
 first-four-requires-2 c κs = search needs
 
--- src/lib.rt:56:12
 first-four-requires-3 : tie.Need-first-four-requires-3
 first-four-requires-3 c κs = search needs
 
--- src/lib.rt:57:12
 first-four-requires-4 : tie.Need-first-four-requires-4
 first-four-requires-4 c κs = search needs
 
--- src/lib.rt:59:17
 add-size4 : tie.Need-add-size4
 add-size4 c = search needs
 
--- src/lib.rt:60:16
 add-two4 : tie.Need-add-two4
 add-two4 c = search needs
 
--- src/lib.rt:61:18
 add-three4 : tie.Need-add-three4
 add-three4 c = search needs
 
--- src/lib.rt:67:9
 sub-feed-runs : tie.Need-sub-feed-runs
 sub-feed-runs c = search needs
 
--- src/lib.rt:67:9
 part-feed-runs-start : tie.Need-part-feed-runs-start
 part-feed-runs-start c = search needs
 
--- src/lib.rt:67:9
 part-feed-runs-end : tie.Need-part-feed-runs-end
 part-feed-runs-end c = search needs
 
--- src/lib.rt:68:9
 sub-feed-runs-2 : tie.Need-sub-feed-runs-2
 sub-feed-runs-2 c = search needs
 
--- src/lib.rt:68:9
 part-feed-runs-start-2 : tie.Need-part-feed-runs-start-2
 part-feed-runs-start-2 c = search needs
 
--- src/lib.rt:68:9
 part-feed-runs-end-2 : tie.Need-part-feed-runs-end-2
 part-feed-runs-end-2 c = search needs
 
--- src/lib.rt:69:9
 sub-feed-runs-3 : tie.Need-sub-feed-runs-3
 sub-feed-runs-3 c = search needs
 
--- src/lib.rt:69:9
 part-feed-runs-start-3 : tie.Need-part-feed-runs-start-3
 part-feed-runs-start-3 c = search needs
 
--- src/lib.rt:69:9
 part-feed-runs-end-3 : tie.Need-part-feed-runs-end-3
 part-feed-runs-end-3 c = search needs
 
--- src/lib.rt:70:9
 sub-feed-runs-4 : tie.Need-sub-feed-runs-4
 sub-feed-runs-4 c = search needs
 
--- src/lib.rt:70:9
 part-feed-runs-start-4 : tie.Need-part-feed-runs-start-4
 part-feed-runs-start-4 c = search needs
 
--- src/lib.rt:70:9
 part-feed-runs-end-4 : tie.Need-part-feed-runs-end-4
 part-feed-runs-end-4 c = search needs
 
--- src/lib.rt:62:5
 feed-runs-requires : tie.Need-feed-runs-requires
 feed-runs-requires c κs =
     let s = c .before .before .before .before .before .before .before .before .before .before in
@@ -130,7 +102,6 @@ feed-runs-requires c κs =
       run-length p (3 * n + 4) (4 * n) (n - 4) (omega arith) (omega arith) ∙ sym one,
     )
 
--- src/lib.rt:46:1
 returns : tie.Need-returns
 returns c =
     let s = c .before .before .before .before .before .before .before .before .before .before .before in

@@ -1,26 +1,20 @@
-use mathlib.Core.Path.{_≡_, refl, sym, ap, ap₂, _∙_}
-use mathlib.Core.List.{List, _∷_, _++_}
-use Prim.Native.Nat.{ℕ, _+_, _-_, _*_, _^_, _≤_, _<_, min}
+use mathlib.Core.Path.{_≡_, refl, sym, ap, _∙_}
+use mathlib.Core.List.{List, _∷_}
+use Prim.Native.Nat.{ℕ, _+_, _-_, _*_, _^_, _≤_, _<_}
 use native.Mathlib.Omega.{arith}
 use lib.ListN.{length, take, drop, length-take}
-use lib.Seq.{sets, length-sets}
+use lib.Seq.{sets}
 use Rattle.gf2.specs.Polynomials.{rem, monic}
 use Rattle.gf2.proofs.Monics.{monic-pos, monic-degree}
 use Rattle.multiples.proofs.Doubling.{rem-below}
 use Rattle.files.specs.Files.{bits, valueFrom, fingerprint}
-use Rattle.sheets.specs.Layout.{bytesOf, fieldsOf}
+use Rattle.sheets.specs.Layout.{fieldsOf}
 use Rattle.sheets.specs.Sheets.{filled}
 use Rattle.sheets.specs.Parts.{pagesLeft, fingerprintsFrom}
 use Rattle.sheets.proofs.Numbers.{fields-behind}
 use Rattle.sheets.proofs.Pages.{left-next, from-next, from-none, page-cut, residue-next, residue-done}
 use Rattle.sheet_writing.proofs.put_from.Statement.{statement}
 use Rattle.sheet_writing.proofs.put_from.Tie as tie
-use Rattle.sheet_writing.proofs.put_from.Reads as reads
-use Rattle.sheet_writing.proofs.put_from.Lts as lts
-use Rattle.sheet_pages.proofs.behind.Reads as behind-reads
-use Rattle.sheet_pages.proofs.page_end.Reads as page-end-reads
-use Rattle.sheet_pages.proofs.page_mark.Reads as page-mark-reads
-use Rattle.sheets.proofs.fields.put.Reads as put-reads
 
 abbrev Inv-loop : tie.InvT-loop
 Inv-loop buffer₀ words shift k low size file from first f at₀ place₀ x₀ buffer at place x =
@@ -31,82 +25,65 @@ Inv-loop buffer₀ words shift k low size file from first f at₀ place₀ x₀ 
 abbrev μ-loop : tie.MeasureT-loop
 μ-loop buffer₀ words shift k low size file from first f at₀ place₀ x₀ buffer at place x = length file - at
 
--- src/lib.rt:43:26
 mul-place : tie.Need-mul-place Inv-loop μ-loop
 mul-place c = omega arith
 
--- src/lib.rt:43:21
 add-place : tie.Need-add-place Inv-loop μ-loop
 add-place c = omega arith
 
--- src/lib.rt:45:5
 loop-holds : tie.Need-loop-holds Inv-loop μ-loop
 loop-holds c = let p = c .before .before .before .before .pre in (p .5, p .6, refl, p .7, refl, refl)
 
--- src/lib.rt:46:13
 page-end-requires : tie.Need-page-end-requires Inv-loop μ-loop
 page-end-requires c κs = omega arith
 
--- src/lib.rt:47:61
 sub-page-mark : tie.Need-sub-page-mark Inv-loop μ-loop
 sub-page-mark c = omega (arith, c .page-end .ensures)
 
--- src/lib.rt:47:61
 part-page-mark-start : tie.Need-part-page-mark-start Inv-loop μ-loop
 part-page-mark-start c = omega (arith, c .page-end .ensures)
 
--- src/lib.rt:47:61
 part-page-mark-end : tie.Need-part-page-mark-end Inv-loop μ-loop
 part-page-mark-end c = omega (arith, c .page-end .ensures)
 
--- src/lib.rt:47:13
 page-mark-requires : tie.Need-page-mark-requires Inv-loop μ-loop
 page-mark-requires c κs =
     let s = c .before .before .before .before .before .before .before .before in
     let l = c .before .before .before .loop in
     (s .pre .0, s .pre .3, rw (length-take (c .before .page-end .result - l .at) (drop (l .at) (s .args .file .now))) (omega (arith, c .before .page-end .ensures)))
 
--- src/lib.rt:48:9
 put-requires : tie.Need-put-requires Inv-loop μ-loop
 put-requires c κs =
     let a = c .before .before .before .before .before .before .before .before .before .before .args in
     let l = c .before .before .before .before .before .loop in
     omega (arith, left-next (a .size) (a .file .now) (l .at) (omega arith) (omega arith))
 
--- src/lib.rt:49:67
 sub-behind : tie.Need-sub-behind Inv-loop μ-loop
 sub-behind c = omega (arith, c .before .before .before .before .before .before .page-end .ensures)
 
--- src/lib.rt:49:67
 part-behind-start : tie.Need-part-behind-start Inv-loop μ-loop
 part-behind-start c = omega (arith, c .before .before .before .before .before .before .page-end .ensures)
 
--- src/lib.rt:49:67
 part-behind-end : tie.Need-part-behind-end Inv-loop μ-loop
 part-behind-end c = omega (arith, c .before .before .before .before .before .before .page-end .ensures)
 
--- src/lib.rt:49:9
 behind-requires : tie.Need-behind-requires Inv-loop μ-loop
 behind-requires c κs =
     let s = c .before .before .before .before .before .before .before .before .before .before .before .before .before .before in
     (s .pre .0, s .pre .1, c .before .before .before .before .before .before .before .before .before .loop .inv .3, c .before .before .before .before .before .page-mark .ensures)
 
--- src/lib.rt:50:9
 add-at : tie.Need-add-at Inv-loop μ-loop
 add-at c = omega arith
 
--- src/lib.rt:51:9
 add-place-2 : tie.Need-add-place-2 Inv-loop μ-loop
 add-place-2 c =
     let a = c .before .before .before .before .before .before .before .before .before .before .before .before .before .before .before .args in
     let l = c .before .before .before .before .before .before .before .before .before .before .loop in
     omega (arith, left-next (a .size) (a .file .now) (l .at) (omega arith) (omega arith))
 
--- src/lib.rt:45:5
 loop-less : tie.Need-loop-less Inv-loop μ-loop
 loop-less c = omega arith
 
--- src/lib.rt:45:5
 loop-again : tie.Need-loop-again Inv-loop μ-loop
 loop-again c =
     let s = c .before .before .before .before .before .before .before .before .before .before .before .before .before .before .before in
@@ -137,11 +114,9 @@ loop-again c =
       ap (λ (y : ℕ). rem key (valueFrom y (bits (drop (l .at + a .size) (a .file .now))))) x ∙ residue-next pos (a .file .now) (a .size) (l .at) (l .x) ∙ l .inv .5,
     )
 
--- src/lib.rt:32:1
 same-length : tie.Need-same-length Inv-loop μ-loop
 same-length c = c .before .loop .inv .2
 
--- src/lib.rt:32:1
 returns : tie.Need-returns Inv-loop μ-loop
 unfolding fieldsOf
 returns c =

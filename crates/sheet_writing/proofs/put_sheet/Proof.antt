@@ -1,8 +1,8 @@
-use mathlib.Core.Path.{_≡_, refl, sym, ap, ap₂, _∙_}
-use Prim.Native.Nat.{ℕ, _+_, _*_, _^_}
+use mathlib.Core.Path.{_≡_, refl, ap, ap₂, _∙_}
+use Prim.Native.Nat.{ℕ, _+_, _*_}
 use native.Mathlib.Nat.{sub-zero}
 use native.Mathlib.Omega.{arith}
-use lib.ListN.{length, drop}
+use lib.ListN.{length}
 use lib.Pow.{pow-lt}
 use lib.Seq.{sets}
 use Rattle.gf2.specs.Polynomials.{rem}
@@ -17,61 +17,41 @@ use Rattle.sheet_writing.proofs.Stores.{sheet-stores}
 use borrow.Author.Needs.{needs}
 use Rattle.sheet_writing.proofs.put_sheet.Statement.{statement}
 use Rattle.sheet_writing.proofs.put_sheet.Tie as tie
-use Rattle.sheet_writing.proofs.put_sheet.Reads as reads
-use Rattle.sheet_writing.proofs.put_sheet.Lts as lts
-use Rattle.gf2.proofs.degree.Reads as degree-reads
-use Rattle.gf2.proofs.low_bits.Reads as low-bits-reads
-use Rattle.sheet_writing.proofs.put_from.Reads as put-from-reads
-use Rattle.sheet_writing.proofs.put_head.Reads as put-head-reads
-use Rattle.sheets.proofs.fields.page_count.Reads as page-count-reads
-use Rattle.sheets.proofs.fields.put.Reads as put-reads
-use Rattle.shifts.proofs.fill.Reads as fill-reads
-use Rattle.tables.proofs.rows.fill.Reads as rows-fill-reads
 
 key-held : (c : tie.After-low-bits) → Held (c .before .before .before .before .args .key) (c .before .degree .result) (c .low-bits .result)
 key-held c =
     let s = c .before .before .before .before in
     held (s .args .key) (c .before .degree .result) (c .low-bits .result) (s .pre .0) (s .fits .key .fits) (c .before .degree .ensures) (c .low-bits .ensures)
 
--- src/lib.rt:68:9
 degree-requires : tie.Need-degree-requires
 degree-requires c κs = search needs
 
--- src/lib.rt:69:9
 low-bits-requires : tie.Need-low-bits-requires
 low-bits-requires c κs =
     let s = c .before .before .before in
     rw (c .degree .ensures) (degree-word (s .args .key) (omega arith) (s .fits .key .fits))
 
--- src/lib.rt:72:24
 slice-aggregate-fill : tie.Need-slice-aggregate-fill
 slice-aggregate-fill c = search needs
 
--- src/lib.rt:72:5
 fill-requires : tie.Need-fill-requires
 fill-requires c κs = (key-held (c .before) .modulus, refl)
 
--- src/lib.rt:73:18
 slice-aggregate-fill-2 : tie.Need-slice-aggregate-fill-2
 slice-aggregate-fill-2 c = search needs
 
--- src/lib.rt:73:5
 fill-requires-2 : tie.Need-fill-requires-2
 fill-requires-2 c κs = (key-held (c .before .before .before .before) .modulus, c .before .before .before .before .before .before .before .before .pre .2, refl)
 
--- src/lib.rt:74:5
 put-head-requires : tie.Need-put-head-requires
 put-head-requires c κs = search needs
 
--- src/lib.rt:75:30
 slice-aggregate-put-from : tie.Need-slice-aggregate-put-from
 slice-aggregate-put-from c = search needs
 
--- src/lib.rt:75:38
 slice-aggregate-put-from-2 : tie.Need-slice-aggregate-put-from-2
 slice-aggregate-put-from-2 c = search needs
 
--- src/lib.rt:75:9
 put-from-requires : tie.Need-put-from-requires
 put-from-requires c κs =
     let s = c .before .before .before .before .before .before .before .before .before .before .before .before .before .before .before .before .before in
@@ -80,27 +60,21 @@ put-from-requires c κs =
     let e = sub-zero (length (a .file .now)) in
     ((h .modulus, h .eight, c .before .before .before .before .before .before .before .before .before .before .before .fill .ensures), c .before .before .before .before .before .before .before .before .fill2 .ensures, s .pre .1, s .pre .2, s .pre .3, omega arith, rw e (omega (arith, c .before .before .before .before .before .put-head .kept .0)), pow-lt {i = 0} (h .modulus .0))
 
--- src/lib.rt:76:9
 page-count-requires : tie.Need-page-count-requires
 page-count-requires c κs = search needs
 
--- src/lib.rt:77:31
 mul-put : tie.Need-mul-put
 mul-put c = search needs
 
--- src/lib.rt:77:26
 add-put : tie.Need-add-put
 add-put c = search needs
 
--- src/lib.rt:77:5
 put-requires : tie.Need-put-requires
 put-requires c κs = search needs
 
--- src/lib.rt:57:1
 same-length : tie.Need-same-length
 same-length c = search needs
 
--- src/lib.rt:57:1
 returns : tie.Need-returns
 unfolding contentsOf fingerprint value
 returns c =

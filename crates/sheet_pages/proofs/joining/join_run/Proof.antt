@@ -1,16 +1,12 @@
-use mathlib.Core.Path.{_≡_, refl, sym, ap, _∙_}
-use Prim.Native.Nat.{ℕ, _+_, _-_, _*_, _^_, _≤_, _<_}
+use mathlib.Core.Path.{_≡_, refl, sym, _∙_}
+use Prim.Native.Nat.{_+_, _-_, _*_, _≤_}
 use native.Mathlib.Omega.{arith}
-use lib.ListN.{length, getD}
-use Rattle.sheets.specs.Layout.{numberAt, numbersAt}
-use Rattle.sheet_pages.specs.Fours.{looping, FourChains}
+use lib.ListN.{length}
+use Rattle.sheets.specs.Layout.{numbersAt}
+use Rattle.sheet_pages.specs.Fours.{looping}
 use Rattle.sheet_pages.proofs.Chains.{looping-next, looping-done}
 use Rattle.sheet_pages.proofs.joining.join_run.Statement.{statement}
 use Rattle.sheet_pages.proofs.joining.join_run.Tie as tie
-use Rattle.sheet_pages.proofs.joining.join_run.Reads as reads
-use Rattle.sheet_pages.proofs.joining.join_run.Lts as lts
-use Rattle.sheets.proofs.fields.number_at.Reads as number-at-reads
-use Rattle.shifts.proofs.join.Reads as join-reads
 
 abbrev Inv-loop : tie.InvT-loop
 Inv-loop shift sheet from n f x₀ place₀ left₀ x place left = (place + 8 * left ≤ length sheet) × (looping shift x (numbersAt place 8 left sheet) ≡ looping shift f (numbersAt from 8 n sheet))
@@ -18,38 +14,30 @@ Inv-loop shift sheet from n f x₀ place₀ left₀ x place left = (place + 8 * 
 abbrev μ-loop : tie.MeasureT-loop
 μ-loop shift sheet from n f x₀ place₀ left₀ x place left = left
 
--- src/joining.rt:23:5
 loop-holds : tie.Need-loop-holds Inv-loop μ-loop
 loop-holds c = (c .before .before .pre .1, refl)
 
--- src/joining.rt:24:36
 number-at-requires : tie.Need-number-at-requires Inv-loop μ-loop
 number-at-requires c κs = omega arith
 
--- src/joining.rt:24:9
 join-requires : tie.Need-join-requires Inv-loop μ-loop
 join-requires c κs = c .before .before .before .before .before .pre .0
 
--- src/joining.rt:25:9
 add-place : tie.Need-add-place Inv-loop μ-loop
 add-place c = omega arith
 
--- src/joining.rt:26:9
 sub-left : tie.Need-sub-left Inv-loop μ-loop
 sub-left c = omega arith
 
--- src/joining.rt:23:5
 loop-less : tie.Need-loop-less Inv-loop μ-loop
 loop-less c = omega arith
 
--- src/joining.rt:23:5
 loop-again : tie.Need-loop-again Inv-loop μ-loop
 loop-again c =
     let a = c .before .before .before .before .before .before .args in
     let l = c .before .before .before .loop in
     (omega arith, sym (looping-next (a .shift .now) (l .x) (l .place) (l .left) (c .before .number-at .result) (c .join .result) (a .sheet .now) (omega arith) (c .before .number-at .ensures .0) (c .join .ensures)) ∙ l .inv .1)
 
--- src/joining.rt:16:1
 returns : tie.Need-returns Inv-loop μ-loop
 returns c =
     let a = c .before .before .before .before .args in

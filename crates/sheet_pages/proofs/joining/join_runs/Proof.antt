@@ -1,19 +1,15 @@
-use mathlib.Core.Path.{_≡_, refl, sym, ap, _∙_}
-use Prim.Native.Nat.{ℕ, _+_, _-_, _*_, _^_, _≤_, _<_}
+use mathlib.Core.Path.{_≡_, refl, sym, _∙_}
+use Prim.Native.Nat.{_+_, _-_, _*_, _≤_}
 use native.Mathlib.Omega.{arith}
-use lib.ListN.{length, getD}
-use Rattle.sheets.specs.Layout.{numberAt, numbersAt}
-use Rattle.sheet_pages.specs.Fours.{looping, FourChains}
+use lib.ListN.{length}
+use Rattle.sheets.specs.Layout.{numbersAt}
+use Rattle.sheet_pages.specs.Fours.{looping}
 use Rattle.sheet_pages.proofs.Chains.{looping-next, looping-done}
 use Rattle.sheet_pages.proofs.joining.join_runs.Statement.{statement}
 use Rattle.sheet_pages.proofs.joining.join_runs.Tie as tie
-use Rattle.sheet_pages.proofs.joining.join_runs.Reads as reads
-use Rattle.sheet_pages.proofs.joining.join_runs.Lts as lts
-use Rattle.sheets.proofs.fields.number_at.Reads as number-at-reads
-use Rattle.shifts.proofs.join.Reads as join-reads
 
 abbrev Inv-loop : tie.InvT-loop
-Inv-loop shift sheet q run a₀ b₀ c₀ d₀ place₀ left₀ a b c d place left = 
+Inv-loop shift sheet q run a₀ b₀ c₀ d₀ place₀ left₀ a b c d place left =
     (run ≡ 8 * q) × (place + run + run + run + 8 * left ≤ length sheet)
     × (looping shift a (numbersAt place 8 left sheet) ≡ looping shift 1 (numbersAt 19 8 q sheet))
     × (looping shift b (numbersAt (place + run) 8 left sheet) ≡ looping shift 0 (numbersAt (19 + 8 * q) 8 q sheet))
@@ -23,83 +19,63 @@ Inv-loop shift sheet q run a₀ b₀ c₀ d₀ place₀ left₀ a b c d place le
 abbrev μ-loop : tie.MeasureT-loop
 μ-loop shift sheet q run a₀ b₀ c₀ d₀ place₀ left₀ a b c d place left = left
 
--- src/joining.rt:36:16
 mul-run : tie.Need-mul-run Inv-loop μ-loop
 mul-run c = omega arith
 
--- src/joining.rt:43:5
 loop-holds : tie.Need-loop-holds Inv-loop μ-loop
 loop-holds c = (refl, omega arith, refl, refl, refl, refl)
 
--- src/joining.rt:44:36
 number-at-requires : tie.Need-number-at-requires Inv-loop μ-loop
 number-at-requires c κs = omega arith
 
--- src/joining.rt:44:9
 join-requires : tie.Need-join-requires Inv-loop μ-loop
 join-requires c κs = c .before .before .before .before .before .pre .0
 
--- src/joining.rt:45:61
 add-number-at : tie.Need-add-number-at Inv-loop μ-loop
 add-number-at c = omega arith
 
--- src/joining.rt:45:36
 number-at-requires-2 : tie.Need-number-at-requires-2 Inv-loop μ-loop
 number-at-requires-2 c κs = omega arith
 
--- src/joining.rt:45:9
 join-requires-2 : tie.Need-join-requires-2 Inv-loop μ-loop
 join-requires-2 c κs = c .before .before .before .before .before .before .before .pre .0
 
--- src/joining.rt:46:61
 add-number-at-2 : tie.Need-add-number-at-2 Inv-loop μ-loop
 add-number-at-2 c = omega arith
 
--- src/joining.rt:46:61
 add-number-at-3 : tie.Need-add-number-at-3 Inv-loop μ-loop
 add-number-at-3 c = omega arith
 
--- src/joining.rt:46:36
 number-at-requires-3 : tie.Need-number-at-requires-3 Inv-loop μ-loop
 number-at-requires-3 c κs = omega arith
 
--- src/joining.rt:46:9
 join-requires-3 : tie.Need-join-requires-3 Inv-loop μ-loop
 join-requires-3 c κs = c .before .before .before .before .before .before .before .before .before .pre .0
 
--- src/joining.rt:47:61
 add-number-at-4 : tie.Need-add-number-at-4 Inv-loop μ-loop
 add-number-at-4 c = omega arith
 
--- src/joining.rt:47:61
 add-number-at-5 : tie.Need-add-number-at-5 Inv-loop μ-loop
 add-number-at-5 c = omega arith
 
--- src/joining.rt:47:61
 add-number-at-6 : tie.Need-add-number-at-6 Inv-loop μ-loop
 add-number-at-6 c = omega arith
 
--- src/joining.rt:47:36
 number-at-requires-4 : tie.Need-number-at-requires-4 Inv-loop μ-loop
 number-at-requires-4 c κs = omega arith
 
--- src/joining.rt:47:9
 join-requires-4 : tie.Need-join-requires-4 Inv-loop μ-loop
 join-requires-4 c κs = c .before .before .before .before .before .before .before .before .before .before .before .pre .0
 
--- src/joining.rt:48:9
 add-place : tie.Need-add-place Inv-loop μ-loop
 add-place c = omega arith
 
--- src/joining.rt:49:9
 sub-left : tie.Need-sub-left Inv-loop μ-loop
 sub-left c = omega arith
 
--- src/joining.rt:43:5
 loop-less : tie.Need-loop-less Inv-loop μ-loop
 loop-less c = omega arith
 
--- src/joining.rt:43:5
 loop-again : tie.Need-loop-again Inv-loop μ-loop
 loop-again c =
     let a = c .before .before .before .before .before .before .before .before .before .before .before .before .args in
@@ -117,7 +93,6 @@ loop-again c =
       rw e3 (sym (looping-next (a .shift .now) (l .d) (i + run + run + run) (l .left) (c .before .number-at4 .result) (c .join4 .result) (a .sheet .now) (omega arith) (c .before .number-at4 .ensures .0) (c .join4 .ensures)) ∙ l .inv .5),
     )
 
--- src/joining.rt:32:1
 returns : tie.Need-returns Inv-loop μ-loop
 returns c =
     let a = c .before .before .before .before .args in

@@ -1,5 +1,5 @@
-use mathlib.Core.Path.{_≡_, sym, ap, _∙_}
-use Prim.Native.Nat.{ℕ, _+_, _-_, _*_, _/_, _^_, _≤_, _<_}
+use mathlib.Core.Path.{_∙_}
+use Prim.Native.Nat.{_-_, _/_}
 use native.Mathlib.Nat.{mul-le-mul-right}
 use native.Mathlib.Omega.{arith}
 use Rattle.multiples.proofs.Doubling.{rem-below}
@@ -7,109 +7,91 @@ use Rattle.sheet_pages.proofs.Chains.{few-joined, a-lt, ab-lt, abc-lt, 
 use borrow.Author.Needs.{needs}
 use Rattle.sheet_pages.proofs.joining.pages_joined.Statement.{statement}
 use Rattle.sheet_pages.proofs.joining.pages_joined.Tie as tie
-use Rattle.sheet_pages.proofs.joining.pages_joined.Reads as reads
-use Rattle.sheet_pages.proofs.joining.pages_joined.Lts as lts
-use Rattle.gf2.proofs.power_of_t.Reads as power-of-t-reads
-use Rattle.sheet_pages.proofs.joining.behind.Reads as behind-reads
-use Rattle.sheet_pages.proofs.joining.join_run.Reads as join-run-reads
-use Rattle.sheet_pages.proofs.joining.join_runs.Reads as join-runs-reads
-use Rattle.shifts.proofs.fill.Reads as fill-reads
 
--- src/joining.rt:72:18
 slice-aggregate-fill : tie.Need-slice-aggregate-fill
 slice-aggregate-fill c = search needs
 
--- src/joining.rt:72:5
 fill-requires : tie.Need-fill-requires
 fill-requires c κs = search needs
 
--- src/joining.rt:74:25
 slice-aggregate-join-run : tie.Need-slice-aggregate-join-run
 slice-aggregate-join-run c = search needs
 
--- src/joining.rt:74:9
 join-run-requires : tie.Need-join-run-requires
 join-run-requires c κs = search needs
 
--- src/joining.rt:74:9
 returns : tie.Need-returns
 returns c =
     let s = c .before .before .before .before .before .before .before in
     let a = s .args in
     c .join-run .ensures ∙ few-joined (a .k) (a .low) (s .pre .0) (a .size) (a .n) (a .sheet .now) (c .before .before .before .before .fill .last .0) (c .before .before .before .before .fill .ensures) (s .pre .4)
 
--- src/joining.rt:77:23
 slice-aggregate-join-runs : tie.Need-slice-aggregate-join-runs
 slice-aggregate-join-runs c = search needs
 
--- src/joining.rt:77:9
 join-runs-requires : tie.Need-join-runs-requires
 join-runs-requires c κs = search needs
 
--- src/joining.rt:78:37
 mul-power-of-t : tie.Need-mul-power-of-t
 mul-power-of-t c = search needs
 
--- src/joining.rt:78:37
 mul-power-of-t-2 : tie.Need-mul-power-of-t-2
 mul-power-of-t-2 c =
     let s = c .before .before .before .before .before .before .before in
     let a = s .args in
     omega (arith, mul-le-mul-right (a .n / 4) (s .pre .1))
 
--- src/joining.rt:78:9
 power-of-t-requires : tie.Need-power-of-t-requires
 power-of-t-requires c κs = search needs
 
--- src/joining.rt:79:9
 behind-requires : tie.Need-behind-requires
 behind-requires c κs =
     let s = c .before .before .before .before .before .before .before .before in
-    let a = s .args in
-    (s .pre .0, a-lt (a .k) (a .low) (s .pre .0) (a .size) (a .n) (a .n / 4) (omega arith) (a .sheet .now) (c .before .before .before .before .before .fill .last .0) (c .before .before .before .before .before .fill .ensures) (s .pre .4) (c .before .join-runs .result)
-    (c .before .join-runs .ensures) (c .power-of-t .result) (c .power-of-t .ensures), rw (c .power-of-t .ensures) (rem-below (a .k) (a .low) (s .pre .0 .2) _))
+    let a = s .args in (
+      s .pre .0,
+      a-lt (a .k) (a .low) (s .pre .0) (a .size) (a .n) (a .n / 4) (omega arith) (a .sheet .now) (c .before .before .before .before .before .fill .last .0) (c .before .before .before .before .before .fill .ensures) (s .pre .4) (c .before .join-runs .result)
+          (c .before .join-runs .ensures) (c .power-of-t .result) (c .power-of-t .ensures),
+      rw (c .power-of-t .ensures) (rem-below (a .k) (a .low) (s .pre .0 .2) _),
+    )
 
--- src/joining.rt:80:9
 behind-requires-2 : tie.Need-behind-requires-2
 behind-requires-2 c κs =
     let s = c .before .before .before .before .before .before .before .before .before in
-    let a = s .args in
-    (s .pre .0, ab-lt (a .k) (a .low) (s .pre .0) (a .size) (a .n) (a .n / 4) (omega arith) (a .sheet .now) (c .before .before .before .before .before .before .fill .last .0) (c .before .before .before .before .before .before .fill .ensures) (s .pre .4) (c .before .before .join-runs .result)
-    (c .before .before .join-runs .ensures) (c .before .power-of-t .result) (c .before .power-of-t .ensures) (c .behind .result) (c .behind .ensures), rw (c .before .power-of-t .ensures) (rem-below (a .k) (a .low) (s .pre .0 .2) _))
+    let a = s .args in (
+      s .pre .0,
+      ab-lt (a .k) (a .low) (s .pre .0) (a .size) (a .n) (a .n / 4) (omega arith) (a .sheet .now) (c .before .before .before .before .before .before .fill .last .0) (c .before .before .before .before .before .before .fill .ensures) (s .pre .4) (c .before .before .join-runs .result)
+          (c .before .before .join-runs .ensures) (c .before .power-of-t .result) (c .before .power-of-t .ensures) (c .behind .result) (c .behind .ensures),
+      rw (c .before .power-of-t .ensures) (rem-below (a .k) (a .low) (s .pre .0 .2) _),
+    )
 
--- src/joining.rt:81:9
 behind-requires-3 : tie.Need-behind-requires-3
 behind-requires-3 c κs =
     let s = c .before .before .before .before .before .before .before .before .before .before in
-    let a = s .args in
-    (s .pre .0, abc-lt (a .k) (a .low) (s .pre .0) (a .size) (a .n) (a .n / 4) (omega arith) (a .sheet .now) (c .before .before .before .before .before .before .before .fill .last .0) (c .before .before .before .before .before .before .before .fill .ensures) (s .pre .4) (c .before .before .before .join-runs .result)
-    (c .before .before .before .join-runs .ensures) (c .before .before .power-of-t .result) (c .before .before .power-of-t .ensures) (c .before .behind .result) (c .behind2 .result) (c .before .behind .ensures) (c .behind2 .ensures), rw (c .before .before .power-of-t .ensures) (rem-below (a .k) (a .low) (s .pre .0 .2) _))
+    let a = s .args in (
+      s .pre .0,
+      abc-lt (a .k) (a .low) (s .pre .0) (a .size) (a .n) (a .n / 4) (omega arith) (a .sheet .now) (c .before .before .before .before .before .before .before .fill .last .0) (c .before .before .before .before .before .before .before .fill .ensures) (s .pre .4) (c .before .before .before .join-runs .result)
+          (c .before .before .before .join-runs .ensures) (c .before .before .power-of-t .result) (c .before .before .power-of-t .ensures) (c .before .behind .result) (c .behind2 .result) (c .before .behind .ensures) (c .behind2 .ensures),
+      rw (c .before .before .power-of-t .ensures) (rem-below (a .k) (a .low) (s .pre .0 .2) _),
+    )
 
--- src/joining.rt:82:14
 slice-aggregate-join-run-2 : tie.Need-slice-aggregate-join-run-2
 slice-aggregate-join-run-2 c = search needs
 
--- src/joining.rt:82:35
 mul-join-run : tie.Need-mul-join-run
 mul-join-run c = search needs
 
--- src/joining.rt:82:30
 add-join-run : tie.Need-add-join-run
 add-join-run c = search needs
 
--- src/joining.rt:82:57
 mul-join-run-2 : tie.Need-mul-join-run-2
 mul-join-run-2 c = search needs
 
--- src/joining.rt:82:53
 sub-join-run : tie.Need-sub-join-run
 sub-join-run c = search needs
 
--- src/joining.rt:82:5
 join-run-requires-2 : tie.Need-join-run-requires-2
 join-run-requires-2 c κs = search needs
 
--- src/joining.rt:63:1
 returns-2 : tie.Need-returns-2
 returns-2 c =
     let s = c .before .before .before .before .before .before .before .before .before .before .before .before .before in
