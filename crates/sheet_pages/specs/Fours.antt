@@ -3,11 +3,12 @@ use mathlib.Core.Path.{_≡_}
 use mathlib.Core.List.{List, [], _∷_}
 use Prim.Native.Nat.{ℕ, _+_, _*_, _^_}
 use lib.ListN.{getD, take, drop}
+use lib.Seq.{sets}
 use Rattle.gf2.specs.Polynomials.{_⊕_, rem}
 use Rattle.files.specs.Files.{fingerprint}
 use Rattle.lookups.specs.declared.Runs.{Runs}
 use Rattle.lookups.specs.Groups.{looked}
-use Rattle.sheets.specs.Layout.{numbersAt}
+use Rattle.sheets.specs.Layout.{bytesOf, numbersAt}
 
 -- the page that begins at a place
 abbrev pub pageFrom : ℕ → List ℕ → ℕ → List ℕ
@@ -35,3 +36,8 @@ pub record FourChains (words : List ℕ) (q : ℕ) (sheet : List ℕ) (r : Runs)
   pub b : r .b ≡ looping words 0 (numbersAt (19 + 8 * q) 8 q sheet)
   pub c : r .c ≡ looping words 0 (numbersAt (19 + 8 * q + 8 * q) 8 q sheet)
   pub d : r .d ≡ looping words 0 (numbersAt (19 + 8 * q + 8 * q + 8 * q) 8 q sheet)
+
+-- a buffer with four fields stored from a place on
+unfoldable pub fourStored : List ℕ → ℕ → Runs → List ℕ
+fourStored buffer place m =
+    sets (sets (sets (sets buffer place (bytesOf 8 (m .a))) (place + 8) (bytesOf 8 (m .b))) (place + 8 + 8) (bytesOf 8 (m .c))) (place + 8 + 8 + 8) (bytesOf 8 (m .d))

@@ -1,94 +1,101 @@
-use mathlib.Core.Path.{_≡_, refl, ap, ap₂, _∙_}
-use Prim.Native.Nat.{ℕ, _+_, _*_}
-use native.Mathlib.Nat.{sub-zero}
-use native.Mathlib.Omega.{arith}
-use lib.ListN.{length}
-use lib.Pow.{pow-lt}
-use lib.Seq.{sets}
-use Rattle.gf2.specs.Polynomials.{rem}
-use Rattle.keys.proofs.Laws.{degree-word}
-use Rattle.files.specs.Files.{bits, valueFrom, value, fingerprint}
-use Rattle.sheets.specs.Layout.{bytesOf, fieldsOf, pageCount}
-use Rattle.sheets.specs.Sheets.{pageFingerprints, contentsOf}
-use Rattle.sheets.specs.Parts.{pagesLeft}
-use Rattle.sheets.proofs.Moduli.{Held, held}
-use Rattle.sheets.proofs.Pages.{length-pages}
-use Rattle.sheet_writing.proofs.Stores.{sheet-stores}
 use borrow.Author.Needs.{needs}
 use Rattle.sheet_writing.proofs.put_sheet.Statement.{statement}
 use Rattle.sheet_writing.proofs.put_sheet.Tie as tie
+use Rattle.sheet_writing.proofs.put_sheet.Reads as reads
+use Rattle.sheet_writing.proofs.put_sheet.Lts as lts
+use Rattle.gf2.proofs.degree.Reads as degree-reads
+use Rattle.gf2.proofs.low_bits.Reads as low-bits-reads
+use Rattle.sheet_pages.proofs.joining.pages_joined.Reads as pages-joined-reads
+use Rattle.sheet_writing.proofs.put_head.Reads as put-head-reads
+use Rattle.sheet_writing.proofs.put_pages.Reads as put-pages-reads
+use Rattle.sheets.proofs.fields.page_count.Reads as page-count-reads
+use Rattle.sheets.proofs.fields.put.Reads as put-reads
+use Rattle.tables.proofs.feeding.fed.Reads as fed-reads
+use Rattle.tables.proofs.rows.fill.Reads as fill-reads
 
-key-held : (c : tie.After-low-bits) → Held (c .before .before .before .before .args .key) (c .before .degree .result) (c .low-bits .result)
-key-held c =
-    let s = c .before .before .before .before in
-    held (s .args .key) (c .before .degree .result) (c .low-bits .result) (s .pre .0) (s .fits .key .fits) (c .before .degree .ensures) (c .low-bits .ensures)
-
+-- src/lib.rt:110:9
 degree-requires : tie.Need-degree-requires
 degree-requires c κs = search needs
 
+-- src/lib.rt:111:9
 low-bits-requires : tie.Need-low-bits-requires
-low-bits-requires c κs =
-    let s = c .before .before .before in
-    rw (c .degree .ensures) (degree-word (s .args .key) (omega arith) (s .fits .key .fits))
+low-bits-requires c κs = ?
 
+-- src/lib.rt:113:24
 slice-aggregate-fill : tie.Need-slice-aggregate-fill
 slice-aggregate-fill c = search needs
 
+-- src/lib.rt:113:5
 fill-requires : tie.Need-fill-requires
-fill-requires c κs = (key-held (c .before) .modulus, refl)
+fill-requires c κs = ?
 
-slice-aggregate-fill-2 : tie.Need-slice-aggregate-fill-2
-slice-aggregate-fill-2 c = search needs
-
-fill-requires-2 : tie.Need-fill-requires-2
-fill-requires-2 c κs = (key-held (c .before .before .before .before) .modulus, c .before .before .before .before .before .before .before .before .pre .2, refl)
-
+-- src/lib.rt:114:5
 put-head-requires : tie.Need-put-head-requires
 put-head-requires c κs = search needs
 
-slice-aggregate-put-from : tie.Need-slice-aggregate-put-from
-slice-aggregate-put-from c = search needs
+-- src/lib.rt:115:23
+slice-aggregate-put-pages : tie.Need-slice-aggregate-put-pages
+slice-aggregate-put-pages c = search needs
 
-slice-aggregate-put-from-2 : tie.Need-slice-aggregate-put-from-2
-slice-aggregate-put-from-2 c = search needs
+-- src/lib.rt:115:5
+put-pages-requires : tie.Need-put-pages-requires
+put-pages-requires c κs = ?
 
-put-from-requires : tie.Need-put-from-requires
-put-from-requires c κs =
-    let s = c .before .before .before .before .before .before .before .before .before .before .before .before .before .before .before .before .before in
-    let a = s .args in
-    let h = key-held (c .before .before .before .before .before .before .before .before .before .before .before .before .before) in
-    let e = sub-zero (length (a .file .now)) in
-    ((h .modulus, h .eight, c .before .before .before .before .before .before .before .before .before .before .before .fill .ensures), c .before .before .before .before .before .before .before .before .fill2 .ensures, s .pre .1, s .pre .2, s .pre .3, omega arith, rw e (omega (arith, c .before .before .before .before .before .put-head .kept .0)), pow-lt {i = 0} (h .modulus .0))
+-- src/lib.rt:116:17
+div-whole : tie.Need-div-whole
+div-whole c = search needs
 
+-- src/lib.rt:117:9
+pages-joined-requires : tie.Need-pages-joined-requires
+pages-joined-requires c κs = ?
+
+-- src/lib.rt:118:17
+mul-from : tie.Need-mul-from
+mul-from c = ?
+
+-- src/lib.rt:119:34
+slice-aggregate-fed : tie.Need-slice-aggregate-fed
+slice-aggregate-fed c = search needs
+
+-- src/lib.rt:119:58
+sub-fed : tie.Need-sub-fed
+sub-fed c = ?
+
+-- src/lib.rt:119:58
+part-fed-start : tie.Need-part-fed-start
+part-fed-start c = ?
+
+-- src/lib.rt:119:58
+part-fed-end : tie.Need-part-fed-end
+part-fed-end c = search needs
+
+-- src/lib.rt:119:9
+fed-requires : tie.Need-fed-requires
+fed-requires c κs = ?
+
+-- src/lib.rt:120:9
 page-count-requires : tie.Need-page-count-requires
 page-count-requires c κs = search needs
 
+-- src/lib.rt:121:31
 mul-put : tie.Need-mul-put
 mul-put c = search needs
 
+-- src/lib.rt:121:26
 add-put : tie.Need-add-put
 add-put c = search needs
 
+-- src/lib.rt:121:5
 put-requires : tie.Need-put-requires
 put-requires c κs = search needs
 
+-- src/lib.rt:103:1
 same-length : tie.Need-same-length
 same-length c = search needs
 
+-- src/lib.rt:103:1
 returns : tie.Need-returns
-unfolding contentsOf fingerprint value
-returns c =
-    let s = c .before .before .before .before .before .before .before .before .before .before .before .before .before .before .before .before .before .before .before .before .before .before .before .before .before in
-    let a = s .args in
-    let h = key-held (c .before .before .before .before .before .before .before .before .before .before .before .before .before .before .before .before .before .before .before .before .before) in
-    let file = a .file .now in
-    let count = pageCount (a .size) (length file) in
-    let from = c .before .before .before .before .before .before .before .put-from .ensures in
-    let left : pagesLeft (a .size) file 0 ≡ count = ap (pageCount (a .size)) (sub-zero (length file)) in
-    sheet-stores (contentsOf (a .key) (a .size) file) count (a .buffer .now) _ _ _ (length-pages (a .key) count (a .size) file) (s .pre .4) (c .before .before .before .before .before .before .before .before .before .before .before .before .before .put-head .ensures)
-    (from .0 ∙ ap₂ (λ (m n : ℕ). sets (c .before .before .before .before .before .before .before .before .before .before .before .before .before .put-head .last .0) 19 (fieldsOf 8 (pageFingerprints m (a .size) n file))) (h .whole) left)
-    (c .before .before .put .ensures ∙ ap₂ (λ (n f : ℕ). sets (c .before .before .before .before .before .before .before .put-from .last .0) (19 + 8 * n) (bytesOf 8 f)) (c .before .before .before .before .page-count .ensures)
-    (from .1 ∙ ap (λ (m : ℕ). rem m (valueFrom 1 (bits file))) (h .whole)))
+returns c = ?
 
 pub put-sheet-spec : {M : Type 1} → statement M
 put-sheet-spec =
@@ -98,12 +105,17 @@ put-sheet-spec =
     low-bits-requires
     slice-aggregate-fill
     fill-requires
-    slice-aggregate-fill-2
-    fill-requires-2
     put-head-requires
-    slice-aggregate-put-from
-    slice-aggregate-put-from-2
-    put-from-requires
+    slice-aggregate-put-pages
+    put-pages-requires
+    div-whole
+    pages-joined-requires
+    mul-from
+    slice-aggregate-fed
+    sub-fed
+    part-fed-start
+    part-fed-end
+    fed-requires
     page-count-requires
     mul-put
     add-put
