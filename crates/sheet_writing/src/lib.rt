@@ -6,13 +6,14 @@ use sheets::Written;
 use sheets::fields;
 ghost use mathlib.Core.Path.{_≡_};
 ghost use mathlib.Core.List.{_++_};
-ghost use Prim.Native.Nat.{_+_, _*_, _%_, _≤_, _<_, _^_};
+ghost use Prim.Native.Nat.{_+_, _*_, _/_, _%_, _≤_, _<_, _^_};
 ghost use lib.ListN.{length, drop};
 ghost use lib.Seq.{sets};
 ghost use Rattle.gf2.specs.Polynomials.{monic};
+ghost use Rattle.files.specs.Files.{fingerprint};
 ghost use Rattle.tables.specs.Tables.{TableOf};
-ghost use Rattle.sheets.specs.Layout.{version1, fieldsOf, sheetSize, pageCount, sheetBytes};
-ghost use Rattle.sheets.specs.Sheets.{contentsOf, writeSheet, written};
+ghost use Rattle.sheets.specs.Layout.{version1, fieldsOf, numbersAt, sheetSize, pageCount, sheetBytes};
+ghost use Rattle.sheets.specs.Sheets.{pageFingerprints, contentsOf, writeSheet, written};
 ghost use Rattle.sheets.specs.Parts.{pagesLeft, fingerprintsFrom, headBytes};
 ghost use Rattle.sheet_pages.specs.Fours.{fourStored};
 
@@ -29,20 +30,30 @@ fn put_head(buffer: &mut [u8], key: u64, n: u64, size: u64)
 }
 
 // Writes the fingerprints of the pages from a place on, where page `first` begins, one at a time.
-fn put_from(buffer: &mut [u8], words: &[u64], k: u32, low: u64, size: usize, file: &[u8], from: usize, first: usize)
-    requires {
-        ⌜ TableOf k low (now words) × (16 ≤ size) × (size ≤ 4096) × (length (now file) < 2 ^ 32) × (from ≤ length (now file) + 4096)
-        × (19 + 8 * first + 8 * pagesLeft size (now file) from ≤ length (now buffer)) ⌝
-    }
-    ensures {
-        λ r. ⌜ now (buffer .exit) ≡ sets (now (buffer .entry)) (19 + 8 * first) (fieldsOf 8 (fingerprintsFrom (monic k low) size (now (file .entry)) from)) ⌝
-    }
+fn put_from(
+    buffer: &mut [u8],
+    words: &[u64],
+    k: u32,
+    low: u64,
+    size: usize,
+    file: &[u8],
+    from: usize,
+    first: usize,
+)
+    requires { ⌜ TableOf k low (now words) × (16 ≤ size) × (size ≤ 4096) × (length (now file) < 2 ^ 32) × (from ≤ length (now file) + 4096)
+        × (19 + 8 * first + 8 * pagesLeft size (now file) from ≤ length (now buffer)) ⌝ }
+    ensures { λ r. ⌜ now (buffer .exit) ≡ sets (now (buffer .entry)) (19 + 8 * first) (fieldsOf 8 (fingerprintsFrom (monic k low) size (now (file .entry)) from)) ⌝ }
 {
     let mut at = from;
     let mut place = 19 + 8 * first;
     while at < file.len() {
         let end = sheet_pages::page_end(file.len(), at, size);
-        fields::put(buffer, place, 8, sheet_pages::page_mark(words, k, low, size, &file[at..end]));
+        fields::put(
+            buffer,
+            place,
+            8,
+            sheet_pages::page_mark(words, k, low, size, &file[at..end]),
+        );
         at += size;
         place += 8;
     }
@@ -61,10 +72,8 @@ fn put_four(buffer: &mut [u8], place: usize, m: Runs)
 
 // Writes the fingerprints of all pages, four whole pages at a time.
 fn put_fours(buffer: &mut [u8], words: &[u64], k: u32, low: u64, size: usize, file: &[u8])
-    requires {
-        ⌜ TableOf k low (now words) × (32 < k) × (16 ≤ size) × (size ≤ 4096) × (size % 4 ≡ 0) × (length (now file) < 2 ^ 32)
-        × (19 + 8 * pagesLeft size (now file) 0 ≤ length (now buffer)) ⌝
-    }
+    requires { ⌜ TableOf k low (now words) × (32 < k) × (16 ≤ size) × (size ≤ 4096) × (size % 4 ≡ 0) × (length (now file) < 2 ^ 32)
+        × (19 + 8 * pagesLeft size (now file) 0 ≤ length (now buffer)) ⌝ }
     ensures { λ r. ⌜ now (buffer .exit) ≡ sets (now (buffer .entry)) 19 (fieldsOf 8 (fingerprintsFrom (monic k low) size (now (file .entry)) 0)) ⌝ }
 {
     let four = 4 * size;
@@ -82,10 +91,8 @@ fn put_fours(buffer: &mut [u8], words: &[u64], k: u32, low: u64, size: usize, fi
 
 // Writes the fingerprints of all pages.
 fn put_pages(buffer: &mut [u8], words: &[u64], k: u32, low: u64, size: usize, file: &[u8])
-    requires {
-        ⌜ TableOf k low (now words) × (16 ≤ size) × (size ≤ 4096) × (length (now file) < 2 ^ 32)
-        × (19 + 8 * pagesLeft size (now file) 0 ≤ length (now buffer)) ⌝
-    }
+    requires { ⌜ TableOf k low (now words) × (16 ≤ size) × (size ≤ 4096) × (length (now file) < 2 ^ 32)
+        × (19 + 8 * pagesLeft size (now file) 0 ≤ length (now buffer)) ⌝ }
     ensures { λ r. ⌜ now (buffer .exit) ≡ sets (now (buffer .entry)) 19 (fieldsOf 8 (fingerprintsFrom (monic k low) size (now (file .entry)) 0)) ⌝ }
 {
     if k <= 32 {
@@ -97,6 +104,18 @@ fn put_pages(buffer: &mut [u8], words: &[u64], k: u32, low: u64, size: usize, fi
         return;
     }
     put_fours(buffer, words, k, low, size, file);
+}
+
+// The file's fingerprint: those of its whole pages, which a sheet holds, joined, and what is behind them fed.
+fn file_mark(sheet: &[u8], words: &[u64], k: u32, low: u64, size: u64, file: &[u8]) -> u64
+    requires { ⌜ TableOf k low (now words) × (16 ≤ size) × (size ≤ 4096) × (length (now file) < 2 ^ 32) × (19 + 8 * (length (now file) / size) ≤ length (now sheet))
+        × (numbersAt 19 8 (length (now file) / size) (now sheet) ≡ pageFingerprints (monic k low) size (length (now file) / size) (now file)) ⌝ }
+    ensures { λ r. ⌜ r ≡ fingerprint (monic k low) (now (file .entry)) ⌝ }
+{
+    let whole = file.len() as u64 / size;
+    let joined = sheet_pages::joining::pages_joined(sheet, k, low, size, whole);
+    let from = (whole * size) as usize;
+    tables::feeding::fed(words, k, low, joined, &file[from..])
 }
 
 // Writes the sheet; the buffer's further bytes keep their value.
@@ -113,10 +132,7 @@ fn put_sheet(buffer: &mut [u8], key: u64, size: u64, file: &[u8])
     tables::rows::fill(&mut words, k, low);
     put_head(buffer, key, n, size);
     put_pages(buffer, &words, k, low, size as usize, file);
-    let whole = n / size;
-    let joined = sheet_pages::joining::pages_joined(buffer, k, low, size, whole);
-    let from = (whole * size) as usize;
-    let f = tables::feeding::fed(&words, k, low, joined, &file[from..]);
+    let f = file_mark(buffer, &words, k, low, size, file);
     let count = fields::page_count(size, n);
     fields::put(buffer, (19 + 8 * count) as usize, 8, f);
 }

@@ -45,6 +45,11 @@ clear-append (b ⇒ r ∷ ts) us h k = (h .0, clear-append ts us (h .1) k)
 
 -- ---- reduced fingerprints
 
+pub list-reduced : (k : ℕ) (fs : List ℕ) → All (λ g. g < 2 ^ k) fs → someUnreduced k fs ≡ false
+unfolding someUnreduced
+list-reduced k [] h = refl
+list-reduced k (g ∷ fs) h = rw (lt-leb (2 ^ k) g (h .0)) (list-reduced k fs (h .1))
+
 pub all-reduced : (k : ℕ) (fs : List ℕ) (f : ℕ) → All (λ g. g < 2 ^ k) fs → f < 2 ^ k → someUnreduced k (fs ++ f ∷ []) ≡ false
 unfolding someUnreduced
 all-reduced k [] f h l = rw (lt-leb (2 ^ k) f l)

@@ -19,7 +19,7 @@ use Rattle.sheet_writing.proofs.put_four.Reads as put-four-reads
 use Rattle.sheet_writing.proofs.put_from.Reads as put-from-reads
 
 abbrev Inv-loop : tie.InvT-loop
-Inv-loop buffer₀ words k low size file four at₀ i₀ buffer at i = 
+Inv-loop buffer₀ words k low size file four at₀ i₀ buffer at i =
     (four ≡ 4 * size) × (at ≤ length file) × (19 + 8 * i + 8 * pagesLeft size file at ≤ length buffer) × (length buffer ≡ length buffer₀)
     × (sets buffer (19 + 8 * i) (fieldsOf 8 (fingerprintsFrom (monic k low) size file at)) ≡ sets buffer₀ 19 (fieldsOf 8 (fingerprintsFrom (monic k low) size file 0)))
 
@@ -102,9 +102,9 @@ loop-again c =
       omega (arith, left, put .kept .0),
       put .kept .0 ∙ l .inv .3,
       ap₂ (λ (b : List ℕ) (n : ℕ). sets b n (fieldsOf 8 (fingerprintsFrom key (a .size) file (l .at + 4 * a .size)))) (put .ensures) place
-      ∙ stored-behind m (fingerprintsFrom key (a .size) file (l .at + 4 * a .size)) (l .buffer) (19 + 8 * l .i)
-      ∙ ap (λ (fs : List ℕ). sets (l .buffer) (19 + 8 * l .i) (fieldsOf 8 fs)) (sym (four-next key (a .size) file (l .at) (omega arith) (omega arith) m marks))
-      ∙ l .inv .4,
+          ∙ stored-behind m (fingerprintsFrom key (a .size) file (l .at + 4 * a .size)) (l .buffer) (19 + 8 * l .i)
+          ∙ ap (λ (fs : List ℕ). sets (l .buffer) (19 + 8 * l .i) (fieldsOf 8 fs)) (sym (four-next key (a .size) file (l .at) (omega arith) (omega arith) m marks))
+          ∙ l .inv .4,
     )
 
 -- src/lib.rt:80:5

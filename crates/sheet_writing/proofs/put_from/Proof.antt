@@ -20,7 +20,7 @@ use Rattle.sheet_pages.proofs.page_mark.Reads as page-mark-reads
 use Rattle.sheets.proofs.fields.put.Reads as put-reads
 
 abbrev Inv-loop : tie.InvT-loop
-Inv-loop buffer₀ words k low size file from first at₀ place₀ buffer at place = 
+Inv-loop buffer₀ words k low size file from first at₀ place₀ buffer at place =
     (at ≤ length file + 4096) × (place + 8 * pagesLeft size file at ≤ length buffer) × (length buffer ≡ length buffer₀)
     × (sets buffer place (fieldsOf 8 (fingerprintsFrom (monic k low) size file at)) ≡ sets buffer₀ (19 + 8 * first) (fieldsOf 8 (fingerprintsFrom (monic k low) size file from)))
 
@@ -94,17 +94,17 @@ loop-again c =
     let put = c .before .before .put in
     let g = c .before .before .before .page-mark in
     let mark : g .result ≡ fingerprint key (filled (a .size) (take (a .size) (drop (l .at) (a .file .now)))) =
-        g .ensures
-        ∙ ap (λ (p : List ℕ). fingerprint key (filled (a .size) p))
-        (ap (λ (n : ℕ). take (n - l .at) (drop (l .at) (a .file .now))) (c .before .before .before .before .before .before .page-end .ensures) ∙ page-cut (a .size) (a .file .now) (l .at)) in (
+    g .ensures
+    ∙ ap (λ (p : List ℕ). fingerprint key (filled (a .size) p))
+    (ap (λ (n : ℕ). take (n - l .at) (drop (l .at) (a .file .now))) (c .before .before .before .before .before .before .page-end .ensures) ∙ page-cut (a .size) (a .file .now) (l .at)) in (
       omega arith,
       omega (arith, put .kept .0),
       put .kept .0 ∙ l .inv .2,
       ap (λ (b : List ℕ). sets b (l .place + 8) (fieldsOf 8 (fingerprintsFrom key (a .size) (a .file .now) (l .at + a .size)))) (put .ensures)
-      ∙ fields-behind 8 (g .result) (fingerprintsFrom key (a .size) (a .file .now) (l .at + a .size)) (l .buffer) (l .place)
-      ∙ ap (λ (fs : List ℕ). sets (l .buffer) (l .place) (fieldsOf 8 fs))
-      (ap (λ (f : ℕ). f ∷ fingerprintsFrom key (a .size) (a .file .now) (l .at + a .size)) mark ∙ sym (from-next (a .size) (a .file .now) (l .at) (omega arith) key (omega arith)))
-      ∙ l .inv .3,
+          ∙ fields-behind 8 (g .result) (fingerprintsFrom key (a .size) (a .file .now) (l .at + a .size)) (l .buffer) (l .place)
+          ∙ ap (λ (fs : List ℕ). sets (l .buffer) (l .place) (fieldsOf 8 fs))
+          (ap (λ (f : ℕ). f ∷ fingerprintsFrom key (a .size) (a .file .now) (l .at + a .size)) mark ∙ sym (from-next (a .size) (a .file .now) (l .at) (omega arith) key (omega arith)))
+          ∙ l .inv .3,
     )
 
 -- src/lib.rt:32:1
