@@ -14,7 +14,7 @@ fn wide(x: u8) -> u64
 }
 
 // Four bytes as one number, the first highest.
-fn four_at(part: &[u8], i: usize) -> u64
+pub fn four_at(part: &[u8], i: usize) -> u64
     requires { ⌜ i + 4 ≤ length (now part) ⌝ }
     ensures { λ r. ⌜ r ≡ valueFrom 0 (bits (take 4 (drop i (now (part .entry))))) ⌝ }
 {
@@ -91,31 +91,32 @@ fn feed_run(words: &[u64], k: u32, low: u64, f: u64, part: &[u8]) -> u64
     feed_tail(words, k, low, x, part, i)
 }
 
-// Four runs of equal length side by side, the first behind f and the others behind 0: four chains of look-ups that do not wait for each other.
-struct Runs {
-    a: u64,
-    b: u64,
-    c: u64,
-    d: u64,
+// Four residues.
+pub struct Runs {
+    pub a: u64,
+    pub b: u64,
+    pub c: u64,
+    pub d: u64,
 }
 
-fn feed_runs(
+// Four runs of equal length side by side, each behind its own residue: four chains of look-ups that do not wait for each other.
+pub fn feed_runs(
     words: &[u64],
     k: u32,
     low: u64,
-    f: u64,
+    f: Runs,
     p: &[u8],
     q: &[u8],
     r: &[u8],
     s: &[u8],
 ) -> Runs
-    requires { ⌜ Reduces k low (now words) × (f < 2 ^ k) × (length (now p) % 4 ≡ 0) × (length (now q) ≡ length (now p)) × (length (now r) ≡ length (now p)) × (length (now s) ≡ length (now p)) ⌝ }
-    ensures { λ x. ⌜ (x .a ≡ rem (monic k low) (valueFrom f (bits (now (p .entry))))) × (x .b ≡ rem (monic k low) (valueFrom 0 (bits (now (q .entry))))) × (x .c ≡ rem (monic k low) (valueFrom 0 (bits (now (r .entry))))) × (x .d ≡ rem (monic k low) (valueFrom 0 (bits (now (s .entry))))) ⌝ }
+    requires { ⌜ Reduces k low (now words) × (f .a < 2 ^ k) × (f .b < 2 ^ k) × (f .c < 2 ^ k) × (f .d < 2 ^ k) × (length (now p) % 4 ≡ 0) × (length (now q) ≡ length (now p)) × (length (now r) ≡ length (now p)) × (length (now s) ≡ length (now p)) ⌝ }
+    ensures { λ x. ⌜ (x .a ≡ rem (monic k low) (valueFrom (f .a) (bits (now (p .entry))))) × (x .b ≡ rem (monic k low) (valueFrom (f .b) (bits (now (q .entry))))) × (x .c ≡ rem (monic k low) (valueFrom (f .c) (bits (now (r .entry))))) × (x .d ≡ rem (monic k low) (valueFrom (f .d) (bits (now (s .entry))))) ⌝ }
 {
-    let mut a = f;
-    let mut b: u64 = 0;
-    let mut c: u64 = 0;
-    let mut d: u64 = 0;
+    let mut a = f.a;
+    let mut b = f.b;
+    let mut c = f.c;
+    let mut d = f.d;
     let mut i: usize = 0;
     while i < p.len() {
         a = feed_four(words, k, low, a, four_at(p, i));
@@ -144,11 +145,17 @@ fn feed_long(words: &[u64], k: u32, low: u64, f: u64, part: &[u8]) -> u64
     let two = 2 * one;
     let three = 3 * one;
     let four = 4 * one;
+    let start = Runs {
+        a: f,
+        b: 0,
+        c: 0,
+        d: 0,
+    };
     let x = feed_runs(
         words,
         k,
         low,
-        f,
+        start,
         &part[..one],
         &part[one..two],
         &part[two..three],

@@ -1,12 +1,15 @@
 // The fingerprints of a file's pages, by a table. These functions are for the project's own crates: what they require, every caller proves.
+use lookups::Runs;
 ghost use mathlib.Core.Path.{_≡_};
-ghost use Prim.Native.Nat.{_+_, _*_, _≤_, _<_, _^_, min};
-ghost use lib.ListN.{length};
-ghost use Rattle.gf2.specs.Polynomials.{rem, monic};
+ghost use Prim.Native.Nat.{_+_, _*_, _%_, _≤_, _<_, _^_, min};
+ghost use lib.ListN.{length, take, drop};
+ghost use Rattle.gf2.specs.Polynomials.{monic};
 ghost use Rattle.files.specs.Files.{bits, valueFrom, fingerprint};
 ghost use Rattle.tables.specs.Tables.{TableOf};
 ghost use Rattle.sheets.specs.Sheets.{filled};
-ghost use Rattle.shifts.specs.Shifts.{Shifts};
+ghost use Rattle.sheet_pages.specs.Fours.{FourMarks};
+
+pub mod joining;
 
 // The fingerprint of a page, filled up with zero bytes.
 pub fn page_mark(words: &[u64], k: u32, low: u64, size: usize, page: &[u8]) -> u64
@@ -33,22 +36,39 @@ pub fn page_end(n: usize, at: usize, size: usize) -> usize
     end
 }
 
-// The residue of what precedes a page with the page behind it: joined where the page is whole, g being its fingerprint, and fed where not.
-pub fn behind(
-    words: &[u64],
-    shift: &[u64],
-    k: u32,
-    low: u64,
-    size: usize,
-    f: u64,
-    g: u64,
-    page: &[u8],
-) -> u64
-    requires { ⌜ TableOf k low (now words) × Shifts (monic k low) (8 * size) (now shift) × (f < 2 ^ k) × (g ≡ fingerprint (monic k low) (filled size (now page))) ⌝ }
-    ensures { λ r. ⌜ r ≡ rem (monic k low) (valueFrom f (bits (now (page .entry)))) ⌝ }
+// The leading 1 and a page's first four bytes: reduced already where the degree is above 32.
+fn first_four(pages: &[u8], at: usize) -> u64
+    requires { ⌜ at + 4 ≤ length (now pages) ⌝ }
+    ensures { λ r. ⌜ (r ≡ valueFrom 1 (bits (take 4 (drop at (now (pages .entry)))))) × (r < 2 ^ 33) ⌝ }
 {
-    if page.len() == size {
-        return shifts::join(shift, f, g);
-    }
-    tables::feeding::fed(words, k, low, f, page)
+    4294967296 + lookups::four_at(pages, at)
+}
+
+// The fingerprints of four whole pages, side by side, by a key of degree above 32.
+pub fn four_marks(words: &[u64], k: u32, low: u64, size: usize, pages: &[u8]) -> Runs
+    requires { ⌜ TableOf k low (now words) × (32 < k) × (16 ≤ size) × (size ≤ 4096) × (size % 4 ≡ 0) × (length (now pages) ≡ 4 * size) ⌝ }
+    ensures { λ r. ⌜ FourMarks (monic k low) size (now (pages .entry)) 0 r ⌝ }
+{
+    let two = 2 * size;
+    let three = 3 * size;
+    let four = 4 * size;
+    let start = Runs {
+        a: first_four(pages, 0),
+        b: first_four(pages, size),
+        c: first_four(pages, two),
+        d: first_four(pages, three),
+    };
+    let size4 = size + 4;
+    let two4 = two + 4;
+    let three4 = three + 4;
+    lookups::feed_runs(
+        words,
+        k,
+        low,
+        start,
+        &pages[4..size],
+        &pages[size4..two],
+        &pages[two4..three],
+        &pages[three4..four],
+    )
 }

@@ -1,28 +1,27 @@
 -- How the calls answer, test by test.
-use mathlib.Core.Path.{_≡_, refl, sym, ap, _∙_}
+use mathlib.Core.Path.{_≡_, refl, _∙_}
 use mathlib.Core.Bool.{Bool, true, false, _&&_, _||_, not}
 use mathlib.Core.Logic.{_⊎_, inl, inr}
-use mathlib.Core.Option.{Option, none, some}
+use mathlib.Core.Option.{none, some}
 use mathlib.Core.List.{List, [], _∷_, _++_}
-use Prim.Native.Nat.{ℕ, _+_, _*_, _^_, _≤_, _<_}
+use Prim.Native.Nat.{ℕ, _+_, _*_, _≤_, _<_}
 use native.Mathlib.Omega.{arith}
 use lib.Dec.{ltb, eqb}
 use lib.ListN.{length}
-use borrow.Author.Tests.{lt-ltb, le-ltb, le-leb, lt-leb, eqb-true, ltb-false, not-true, not-false}
+use borrow.Author.Tests.{lt-ltb, le-ltb, le-leb, lt-leb, eqb-true, ltb-false, not-false}
 use Rattle.gf2.specs.Polynomials.{degree}
 use Rattle.refusals.specs.declared.Refusal.{Refusal}
-use Rattle.refusals.specs.declared.Refusal.the-variants.{TooLong, PageSize, BufferShort, SheetMalformed}
-use Rattle.refusals.specs.Refusals.{Answer, Done, Refused, Test, _⇒_, firstOf, passes}
+use Rattle.refusals.specs.declared.Refusal.the-variants.{PageSize, SheetMalformed}
+use Rattle.refusals.specs.Refusals.{Done, Refused, Test, _⇒_, firstOf}
 use Rattle.acceptance.specs.Keys.{keyTests}
-use Rattle.acceptance.proofs.Laws.{or-neither}
 use Rattle.keys.specs.Testing.{testKey}
 use Rattle.keys.proofs.Laws.{Passed, first-passed, first-refused}
 use Rattle.sheets.specs.declared.Sheet.{Sheet}
-use Rattle.sheets.specs.Layout.{version1, sheetSize, pageCount, numberAt, lengthIn, sizeIn, pagesIn, Contents, contentsIn}
-use Rattle.sheets.specs.Sheets.{someUnreduced, pagesJoined, fileFilled, headWrong, bodyWrong, readTests, readSheet, sheetRead, numbersOf, given, pageAt}
+use Rattle.sheets.specs.Layout.{version1, sheetSize, pageCount, numberAt, lengthIn, sizeIn, pagesIn, contentsIn}
+use Rattle.sheets.specs.Sheets.{someUnreduced, pagesJoined, fileFilled, headWrong, bodyWrong, readSheet, numbersOf, given, pageAt}
 use Rattle.sheets.proofs.Numbers.{length-numbersAt}
 use Rattle.sheets.proofs.Steps.{first-true, first-false}
-use Rattle.sheets.proofs.Sound.{neither, done-clear}
+use Rattle.sheets.proofs.Sound.{neither}
 
 -- ---- reading
 

@@ -1,13 +1,10 @@
 // Whether given bytes are a sheet: number 14. These functions are for this crate: what they require, every caller proves.
 ghost use mathlib.Core.Path.{_≡_};
-ghost use mathlib.Core.Bool.{false, not};
-ghost use mathlib.Core.List.{[]};
+ghost use mathlib.Core.Bool.{not};
 ghost use Prim.Native.Nat.{_+_, _*_, _≤_, _<_, _^_};
 ghost use lib.ListN.{length};
-ghost use Rattle.gf2.specs.Polynomials.{monic, Modulus};
-ghost use Rattle.files.specs.Files.{markOf};
 ghost use Rattle.sheets.specs.Layout.{version1, numberAt, numbersAt, lengthIn, sizeIn, contentsIn};
-ghost use Rattle.sheets.specs.Sheets.{headWrong, bodyWrong, someUnreduced, joinedPages};
+ghost use Rattle.sheets.specs.Sheets.{headWrong, bodyWrong, someUnreduced};
 use sheets::fields;
 
 // Are size, letters and version right?
@@ -40,24 +37,6 @@ fn fields_reduced(sheet: &[u8], k: u32, n: u64) -> bool
     true
 }
 
-// The first n page marks joined.
-fn pages_joined(sheet: &[u8], k: u32, low: u64, size: u64, n: u64) -> u64
-    requires { ⌜ Modulus k low × (size ≤ 4096) × (19 + 8 * n ≤ length (now sheet)) × (someUnreduced k (numbersAt 19 8 n (now sheet)) ≡ false) ⌝ }
-    ensures { λ r. ⌜ r ≡ joinedPages (monic k low) size (markOf (monic k low) []) (numbersAt 19 8 n (now (sheet .entry))) .fingerprint ⌝ }
-{
-    let mut words = [0u64; 2048];
-    shifts::fill(&mut words, k, low, size);
-    let mut f: u64 = 1;
-    let mut place: usize = 19;
-    let mut left = n;
-    while 0 < left {
-        f = shifts::join(&words, f, fields::number_at(sheet, place, 8));
-        place += 8;
-        left -= 1;
-    }
-    f
-}
-
 // Are total, fingerprints and joining right?
 pub fn body_right(sheet: &[u8], key: u64, n: u64, size: u64) -> bool
     requires { ⌜ (27 ≤ length (now sheet)) × (256 ≤ key) × (16 ≤ size) × (size ≤ 4096) × (n < 2 ^ 32)
@@ -73,7 +52,7 @@ pub fn body_right(sheet: &[u8], key: u64, n: u64, size: u64) -> bool
     if !fields_reduced(sheet, k, count + 1) {
         return false;
     }
-    let joined = pages_joined(sheet, k, low, size, count);
+    let joined = sheet_pages::joining::pages_joined(sheet, k, low, size, count);
     let file = fields::number_at(sheet, (19 + 8 * count) as usize, 8);
     let power = gf2::power_of_t(k, low, 8 * (count * size - n));
     joined == gf2::product(k, low, file, power)

@@ -1,14 +1,21 @@
 -- The stores of a sheet's fields, one behind the other.
 use mathlib.Core.Path.{_≡_, refl, sym, ap, ap₂, _∙_}
 use mathlib.Core.List.{List, [], _∷_, _++_}
-use Prim.Native.Nat.{ℕ, _+_, _*_, _≤_}
+use Prim.Native.Nat.{ℕ, _+_, _-_, _*_, _/_, _^_, _≤_, _<_}
+use native.Mathlib.Nat.{lt-of-lt-of-le}
 use native.Mathlib.Omega.{arith}
 use lib.ListN.{length, drop, length-append}
+use lib.Pow.{pow-mono}
 use lib.Seq.{sets}
-use Rattle.sheets.specs.Layout.{version1, bytesOf, fieldsOf, sheetSize, Contents, sheetBytes}
+use Rattle.gf2.specs.Polynomials.{degree, monic, Modulus}
+use Rattle.gf2.proofs.Lists.{all-map}
+use Rattle.gf2.proofs.Monics.{monic-pos, monic-degree}
+use Rattle.sheets.specs.Layout.{version1, bytesOf, fieldsOf, numbersAt, pageCount, sheetSize, Contents, sheetBytes}
+use Rattle.sheets.specs.Sheets.{pageFingerprints}
 use Rattle.sheets.specs.Parts.{headBytes}
-use Rattle.sheets.proofs.Numbers.{length-bytesOf, length-fieldsOf, sets-behind, sets-front}
+use Rattle.sheets.proofs.Numbers.{length-bytesOf, length-fieldsOf, sets-behind, sets-front, numbers-stored}
 use Rattle.sheets.proofs.Layouts.{length-sheet}
+use Rattle.sheets.proofs.Pages.{length-pages, fingerprints-lt, pages-split, count-whole}
 
 -- b' is b with u at its front, n bytes
 abbrev Front : List ℕ → List ℕ → ℕ → List ℕ → Type 0
@@ -48,3 +55,20 @@ sheet-stores x c b b1 b2 b3 ec h e1 e2 e3 =
     let f2 = store b head 19 b1 f1 (fieldsOf 8 (x .pages)) (8 * c) b2 (length-fieldsOf 8 (x .pages) ∙ ap (λ (m : ℕ). 8 * m) ec) e2 in
     let f3 = store b (head ++ fieldsOf 8 (x .pages)) (19 + 8 * c) b2 f2 (bytesOf 8 (x .fingerprint)) 8 b3 (length-bytesOf 8 (x .fingerprint)) e3 in
     f3 .1 ∙ sets-front (sheetBytes version1 x) b (sheetSize version1 c) (f3 .0) h
+
+-- the fields of the whole pages read back, after all pages' were stored
+pub whole-stored : (k low : ℕ) → Modulus k low → (s : ℕ) (file b : List ℕ) → 0 < s → 19 + 8 * pageCount s (length file) ≤ length b
+    → numbersAt 19 8 (length file / s) (sets b 19 (fieldsOf 8 (pageFingerprints (monic k low) s (pageCount s (length file)) file)))
+    ≡ pageFingerprints (monic k low) s (length file / s) file
+whole-stored k low m s file b pos h =
+    let key = monic k low in
+    let w = length file / s in
+    let n = pageCount s (length file) in
+    let e : w + (n - w) ≡ n = omega (arith, count-whole s (length file) pos) in
+    let us = pageFingerprints key s w file in
+    let vs = pageFingerprints key s (n - w) (drop (w * s) file) in
+    let all : pageFingerprints key s n file ≡ us ++ vs = ap (λ (c : ℕ). pageFingerprints key s c file) (sym e) ∙ pages-split key s w (n - w) file in
+    let word : 2 ^ degree key ≤ 2 ^ 64 = rw (monic-degree k low (m .2)) (pow-mono {i = k} {j = 64} (m .1)) in
+    let small = all-map (λ f (l : f < 2 ^ degree key). lt-of-lt-of-le l word) us (fingerprints-lt (monic-pos k low (m .2)) w s file) in
+    ap₂ (λ (c : ℕ) (fs : List ℕ). numbersAt 19 8 c (sets b 19 (fieldsOf 8 fs))) (sym (length-pages key w s file)) all
+    ∙ numbers-stored us vs b 19 8 (rw (← all, length-pages key n s file) h) small

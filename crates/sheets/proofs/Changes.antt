@@ -1,17 +1,15 @@
 -- Laws of the first place where two lists of fingerprints differ.
 use mathlib.Core.Path.{_≡_, refl, sym, ap, ap₂, _∙_}
 use mathlib.Core.Logic.{_≢_}
-use mathlib.Core.Bool.{Bool, true, false}
 use mathlib.Core.List.{List, [], _∷_}
-use Prim.Native.Nat.{ℕ, zero, suc, _+_, _≤_, _<_}
-use native.Mathlib.Nat.{add-zero, add-suc, suc-add, not-suc-le-zero, le-of-suc-le-suc}
+use Prim.Native.Nat.{ℕ, zero, suc, _+_, _<_}
+use native.Mathlib.Nat.{add-zero, not-suc-le-zero}
 use native.Mathlib.Decide.{ℕ-discrete}
 use native.Mathlib.Numerals.{add-one}
 use native.Mathlib.Omega.{arith}
-use lib.Dec.{eqb}
 use lib.ListN.{length, getD}
-use borrow.Author.Tests.{eq-eqb, ne-eqb, eqb-true, eqb-false}
-use Rattle.sheets.specs.Sheets.{Outcome, Same, Page, OtherLength, choose, firstChange}
+use borrow.Author.Tests.{eq-eqb, ne-eqb}
+use Rattle.sheets.specs.Sheets.{Same, Page, OtherLength, firstChange}
 
 -- the lists differ at place i and at no place before it
 pub record First (fs gs : List ℕ) (i : ℕ) : Type 0 where

@@ -21,7 +21,7 @@ use Rattle.book.specs.Confusions.{Burst}
 use Rattle.book.proofs.BurstLaws.{no-burst}
 use Rattle.book.proofs.ConfusionLaws.{no-equal-key}
 use Rattle.sheets.specs.Layout.{version1, pageCount, Contents, sheetBytes}
-use Rattle.sheets.specs.Sheets.{contentsOf, pageFingerprints, joinedPages, Sound, WellFormed, Same, pagesNow, compared, checkSheet}
+use Rattle.sheets.specs.Sheets.{contentsOf, joinedPages, WellFormed, Same, pagesNow, compared, checkSheet}
 use Rattle.sheets.proofs.Pages.{fingerprint-lt, pages-joined}
 use Rattle.sheets.proofs.Sound.{file-sound}
 use Rattle.sheets.proofs.Changes.{other-not-same}

@@ -1,28 +1,27 @@
 -- What the calls promise together, over the definitions that their contracts cite.
-use mathlib.Core.Path.{_≡_, refl, sym, ap, ap₂, _∙_}
+use mathlib.Core.Path.{_≡_, refl, sym, ap, _∙_}
 use mathlib.Core.Logic.{_≢_, _↔_}
-use mathlib.Core.Bool.{Bool, true, false, _||_, not}
+use mathlib.Core.Bool.{false}
 use mathlib.Core.List.{List, [], _∷_, _++_}
-use mathlib.Core.Option.{Option, none, some}
-use Prim.Native.Nat.{ℕ, zero, suc, _+_, _-_, _*_, _/_, _%_, _^_, _≤_, _<_}
+use mathlib.Core.Option.{some}
+use Prim.Native.Nat.{ℕ, _+_, _-_, _*_, _^_, _≤_, _<_}
 use native.Mathlib.Nat.{zero-add}
 use native.Mathlib.Omega.{arith}
-use lib.Dec.{ltb, eqb}
+use lib.Dec.{ltb}
 use lib.ListN.{length, getD, take, drop}
 use lib.Seq.{take-at}
 use borrow.Author.Tests.{eq-eqb, ne-eqb, lt-ltb, le-ltb, le-leb, ltb-false}
 use Rattle.refusals.specs.declared.Refusal.the-variants.{TooLong}
-use Rattle.refusals.specs.Refusals.{Answer, Done, Refused, numberOf, Test, _⇒_, firstOf, passes, longest}
-use Rattle.acceptance.specs.Keys.{accepted, keyTests}
+use Rattle.refusals.specs.Refusals.{Done, _⇒_, passes, longest}
 use Rattle.acceptance.proofs.Laws.{or-neither, key-iff}
 use Rattle.files.specs.Files.{Bytes, fingerprint}
 use Rattle.sheets.specs.Layout.{version1, numberAt, pagePlace, sheetSize, pageCount, pagesIn, Contents, sheetBytes, contentsIn}
-use Rattle.sheets.specs.Sheets.{contentsOf, pageFingerprints, sizeTest, writeTests, writeSheet, readTests, readSheet, Sound, WellFormed, Outcome, Same, Page, OtherLength, choose, firstChange, pagesNow, compared, checkSheet, numbersOf, pageAt}
+use Rattle.sheets.specs.Sheets.{contentsOf, writeTests, writeSheet, readTests, readSheet, Sound, WellFormed, Same, Page, OtherLength, firstChange, pagesNow, compared, checkSheet, numbersOf, pageAt}
 use Rattle.sheets.proofs.Numbers.{length-numbersAt, numbers-one}
 use Rattle.sheets.proofs.Layouts.{length-sheet, fingerprint-back, read-back}
 use Rattle.sheets.proofs.Pages.{length-pages}
 use Rattle.sheets.proofs.Sound.{Clear, clear-done, clear-append, done-clear, sound-fits, sound-clear, clear-sound, file-sound}
-use Rattle.sheets.proofs.Changes.{First, Later, page-inj, not-other, other-not-same, same-equal, equal-same, page-first, first-page}
+use Rattle.sheets.proofs.Changes.{First, same-equal, equal-same, page-first, first-page}
 
 -- ---- reading
 

@@ -1,14 +1,14 @@
 -- Laws of numbers as bytes: what is written in w bytes reads back, and bytes that are read are what the number is written as.
 use mathlib.Core.Path.{_≡_, refl, sym, ap, ap₂, _∙_}
-use mathlib.Core.List.{List, [], _∷_, _++_, append-assoc, append-nil}
+use mathlib.Core.List.{List, [], _∷_, _++_, append-assoc}
 use Prim.Native.Nat.{ℕ, zero, suc, _+_, _-_, _*_, _/_, _%_, _^_, _≤_, _<_}
 use native.Mathlib.Nat.{suc-add, add-suc, mul-one, zero-mul, mul-zero, mul-assoc, zero-add, mul-add-div-right, mul-add-mod-self-right, add-zero, mod-one, mod-mod, mod-eq-of-lt, mul-suc, add-comm, mul-comm}
 use native.Mathlib.Numerals.{add-one}
 use native.Mathlib.Omega.{arith}
 use lib.Arith.{digits-lt, digits-div}
-use lib.ListN.{length, getD, set, take, drop, length-append, length-take, length-drop}
+use lib.ListN.{length, getD, set, take, drop, length-append, length-drop}
 use lib.Pow.{pow-pos, mod-pow-add, pow-add}
-use lib.Seq.{sets, sets-eq, drop-cons, take-at, drop-at, take-add, drop-drop, drop-append-add, length-take-le}
+use lib.Seq.{sets, sets-eq, drop-cons, take-at, drop-at, take-add, drop-drop, length-take-le}
 use Rattle.gf2.specs.Lists.{All}
 use Rattle.files.specs.Files.{bits, valueFrom, Bytes}
 use Rattle.files.proofs.Values.{value-byte, value-split, value-lt, length-bits}
@@ -206,3 +206,20 @@ numbers-one zero place w i l h = absurd (omega arith)
 numbers-one (suc c) place w zero l h = ap (λ (n : ℕ). numberAt n w l) (sym (rw (mul-zero w) (add-zero place)))
 numbers-one (suc c) place w (suc i) l h =
     numbers-one c (place + w) w i l (omega arith) ∙ ap (λ (n : ℕ). numberAt n w l) (omega (arith, mul-suc w i))
+
+-- fields that were stored, read back
+fields-append : (w : ℕ) (us vs : List ℕ) → fieldsOf w (us ++ vs) ≡ fieldsOf w us ++ fieldsOf w vs
+unfolding fieldsOf
+fields-append w [] vs = refl
+fields-append w (u ∷ us) vs = ap (λ (l : List ℕ). bytesOf w u ++ l) (fields-append w us vs) ∙ sym (append-assoc (bytesOf w u) (fieldsOf w us) (fieldsOf w vs))
+
+pub numbers-stored : (us vs b : List ℕ) (place w : ℕ) → place + w * length (us ++ vs) ≤ length b → All (λ u. u < 2 ^ (8 * w)) us
+    → numbersAt place w (length us) (sets b place (fieldsOf w (us ++ vs))) ≡ us
+numbers-stored us vs b place w h small =
+    let long : length (fieldsOf w (us ++ vs)) ≡ w * length (us ++ vs) = length-fieldsOf w (us ++ vs) in
+    let rest = drop (place + length (fieldsOf w (us ++ vs))) b in
+    ap (numbersAt place w (length us))
+    (sets-eq (fieldsOf w (us ++ vs)) b place (omega arith)
+    ∙ append-assoc (take place b) (fieldsOf w (us ++ vs)) rest
+    ∙ ap (λ (l : List ℕ). take place b ++ l) (ap (λ (l : List ℕ). l ++ rest) (fields-append w us vs) ∙ append-assoc (fieldsOf w us) (fieldsOf w vs) rest))
+    ∙ numbers-seam us (take place b) (fieldsOf w vs ++ rest) place w (length-take-le place b (omega arith)) small

@@ -1,14 +1,13 @@
 -- Laws of the pages of a file: their count, and that their marks joined are the mark of the file filled up with zero bytes.
 use mathlib.Core.Path.{_≡_, refl, sym, ap, ap₂, _∙_}
 use mathlib.Core.List.{List, [], _∷_, _++_, append-assoc, append-nil}
-use Prim.Native.Nat.{ℕ, zero, suc, _+_, _-_, _*_, _/_, _%_, _^_, _≤_, _<_, min}
-use native.Mathlib.Nat.{one-mul, mul-le-mul-left, add-div-right, div-eq-of-lt, sub-zero, mul-zero, zero-mul, mul-one, mul-suc, suc-mul, add-zero, zero-add, mul-assoc, div-add-mod', mod-lt, add-comm}
+use Prim.Native.Nat.{ℕ, zero, suc, _+_, _-_, _*_, _/_, _^_, _≤_, _<_, min}
+use native.Mathlib.Nat.{add-div-right, div-add-mod', div-eq-of-lt, le-div-iff-mul-le, mod-lt, mul-le-mul-left, mul-one, one-mul, sub-zero, suc-add, suc-mul, zero-add, zero-mul}
 use native.Mathlib.Decide.{decLe}
 use native.Mathlib.Numerals.{add-one}
 use native.Mathlib.Omega.{arith}
 use lib.ListN.{length, take, drop, replicate, length-append, length-replicate, length-drop, length-take, drop-of-length-le, take-append-drop, replicate-append-replicate}
-use lib.Pow.{pow-add}
-use lib.Seq.{drop-drop, take-all, length-take-le, take-nil}
+use lib.Seq.{drop-drop, length-take-le, take-add, take-all}
 use Rattle.gf2.specs.Polynomials.{_⊕_, rem, degree}
 use Rattle.gf2.specs.Lists.{All}
 use Rattle.gf2.proofs.Residues.{rem-lt, rem-small, rem-⊕}
@@ -202,3 +201,38 @@ module _ {p : ℕ} (pos : 0 < p) (file : List ℕ) where
   pub residue-done : (at f : ℕ) → f < 2 ^ degree p → length file ≤ at → rem p (valueFrom f (bits (drop at file))) ≡ f
   unfolding valueFrom bits
   residue-done at f h l = rw (drop-of-length-le file {i = at} l) (rem-small pos f h)
+
+-- ---- the whole pages
+
+pub pages-split : (p s m n : ℕ) (file : List ℕ) → pageFingerprints p s (m + n) file ≡ pageFingerprints p s m file ++ pageFingerprints p s n (drop (m * s) file)
+unfolding pageFingerprints
+pages-split p s zero n file = ap₂ (λ (c : ℕ) (l : List ℕ). pageFingerprints p s c l) (zero-add n) (ap (λ (k : ℕ). drop k file) (sym (zero-mul s)))
+pages-split p s (suc m) n file =
+    let e : s + m * s ≡ suc m * s = omega (arith, suc-mul m s) in
+    ap (λ (c : ℕ). pageFingerprints p s c file) (suc-add m n)
+    ∙ ap (λ (l : List ℕ). fingerprint p (filled s (take s file)) ∷ l)
+    (pages-split p s m n (drop s file)
+    ∙ ap (λ (l : List ℕ). pageFingerprints p s m (drop s file) ++ pageFingerprints p s n l) (drop-drop (m * s) s file ∙ ap (λ (k : ℕ). drop k file) e))
+
+whole-pages : (s m : ℕ) (file : List ℕ) → m * s ≤ length file → filledPages s m file ≡ take (m * s) file
+unfolding filledPages
+whole-pages s zero file h = ap (λ (k : ℕ). take k file) (sym (zero-mul s))
+whole-pages s (suc m) file h =
+    let e : s + m * s ≡ suc m * s = omega (arith, suc-mul m s) in
+    ap₂ (λ (a b : List ℕ). a ++ b) (filled-whole s (take s file) (length-take-le s file (omega (arith, suc-mul m s))))
+    (whole-pages s m (drop s file) (rw (length-drop s file) (omega (arith, suc-mul m s))))
+    ∙ sym (take-add s (m * s) file)
+    ∙ ap (λ (k : ℕ). take k file) e
+
+-- their marks joined, and what is behind them fed, give the file's fingerprint
+pub whole-joined : {p : ℕ} (pos : 0 < p) (s m : ℕ) (file : List ℕ) → m * s ≤ length file
+    → joinedPages p s (markOf p []) (pageFingerprints p s m file) .fingerprint ≡ fingerprint p (take (m * s) file)
+unfolding markOf
+whole-joined {p} pos s m file h =
+    ap (λ (k : Mark). k .fingerprint) (joined-pages pos m s [] file) ∙ ap (fingerprint p) (whole-pages s m file h)
+
+pub whole-fed : {p : ℕ} (pos : 0 < p) (file : List ℕ) (n : ℕ) → rem p (valueFrom (fingerprint p (take n file)) (bits (drop n file))) ≡ fingerprint p file
+whole-fed {p} pos file n = fed pos (take n file) (drop n file) ∙ ap (fingerprint p) (take-append-drop n file)
+
+pub count-whole : (s n : ℕ) → 0 < s → n / s ≤ pageCount s n
+count-whole s n h = le-div-iff-mul-le h .1 (omega (arith, div-add-mod' n s))

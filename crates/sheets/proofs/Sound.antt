@@ -1,24 +1,23 @@
 -- When a sheet is read: no test of reading holds of the bytes exactly where they are a sheet's with sound fields.
-use mathlib.Core.Path.{_≡_, refl, sym, ap, ap₂, _∙_}
+use mathlib.Core.Path.{_≡_, refl, sym, ap, _∙_}
 use mathlib.Core.Bool.{Bool, true, false, _||_, not}
 use mathlib.Core.List.{List, [], _∷_, _++_}
-use Prim.Native.Nat.{ℕ, zero, suc, _+_, _-_, _*_, _/_, _%_, _^_, _≤_, _<_}
+use Prim.Native.Nat.{ℕ, _+_, _-_, _*_, _^_, _≤_, _<_}
 use native.Mathlib.Nat.{lt-of-lt-of-le}
 use native.Mathlib.Omega.{arith}
-use lib.Dec.{ltb, leb, eqb, lit<, lit≤}
+use lib.Dec.{ltb, leb, eqb, lit<}
 use lib.ListN.{length}
 use lib.Pow.{pow-mono}
-use borrow.Author.Tests.{eq-eqb, ne-eqb, lt-ltb, le-ltb, lt-leb, ltb-false, leb-false, eqb-true, not-false}
+use borrow.Author.Tests.{eq-eqb, le-ltb, lt-leb, ltb-false, leb-false, eqb-true, not-false}
 use Rattle.gf2.specs.Lists.{All}
 use Rattle.gf2.specs.Polynomials.{degree, rem}
 use Rattle.gf2.proofs.Lists.{all-map}
-use Rattle.gf2.proofs.Degrees.{degree-is, deg-hi}
-use Rattle.refusals.specs.Refusals.{Answer, Done, Refused, numberOf, Test, _⇒_, firstOf, longest}
-use Rattle.acceptance.specs.Keys.{accepted, reducible, keyTests}
+use Rattle.refusals.specs.Refusals.{Done, Test, _⇒_, firstOf, longest}
+use Rattle.acceptance.specs.Keys.{accepted}
 use Rattle.acceptance.proofs.Laws.{or-neither, accepted-iff, accepted-pos, key-iff}
-use Rattle.files.specs.Files.{Bytes, fingerprint, markOf}
-use Rattle.sheets.specs.Layout.{Layout, version1, numberAt, sheetSize, versionPlace, pageCount, lengthIn, sizeIn, pagesIn, Contents, sheetBytes, contentsIn}
-use Rattle.sheets.specs.Sheets.{contentsOf, pageFingerprints, someUnreduced, joinedPages, pagesJoined, fileFilled, readTests, readSheet, Sound, WellFormed}
+use Rattle.files.specs.Files.{Bytes, fingerprint}
+use Rattle.sheets.specs.Layout.{version1, numberAt, sheetSize, pageCount, pagesIn, Contents, sheetBytes, contentsIn}
+use Rattle.sheets.specs.Sheets.{contentsOf, someUnreduced, pagesJoined, fileFilled, readTests, Sound, WellFormed}
 use Rattle.sheets.proofs.Numbers.{number-lt, length-numbersAt}
 use Rattle.sheets.proofs.Layouts.{Fits, length-sheet, letters-back, version-back, read-back, write-back}
 use Rattle.sheets.proofs.Moduli.{key-lt}
@@ -45,6 +44,11 @@ clear-append [] us h k = k
 clear-append (b ⇒ r ∷ ts) us h k = (h .0, clear-append ts us (h .1) k)
 
 -- ---- reduced fingerprints
+
+pub list-reduced : (k : ℕ) (fs : List ℕ) → All (λ g. g < 2 ^ k) fs → someUnreduced k fs ≡ false
+unfolding someUnreduced
+list-reduced k [] h = refl
+list-reduced k (g ∷ fs) h = rw (lt-leb (2 ^ k) g (h .0)) (list-reduced k fs (h .1))
 
 pub all-reduced : (k : ℕ) (fs : List ℕ) (f : ℕ) → All (λ g. g < 2 ^ k) fs → f < 2 ^ k → someUnreduced k (fs ++ f ∷ []) ≡ false
 unfolding someUnreduced

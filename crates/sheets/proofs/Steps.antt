@@ -1,12 +1,12 @@
 -- One test of a call, by what the code finds.
-use mathlib.Core.Path.{_≡_, refl, sym, _∙_}
+use mathlib.Core.Path.{_≡_, sym, _∙_}
 use mathlib.Core.Bool.{Bool, true, false, _||_, not}
-use mathlib.Core.List.{List, [], _∷_}
+use mathlib.Core.List.{List, _∷_}
 use Prim.Native.Nat.{ℕ, _≤_}
 use lib.Dec.{ltb}
 use borrow.Author.Tests.{ltb-false, not-true, not-false}
 use Rattle.refusals.specs.declared.Refusal.{Refusal}
-use Rattle.refusals.specs.Refusals.{Done, Refused, Test, _⇒_, firstOf}
+use Rattle.refusals.specs.Refusals.{Refused, Test, _⇒_, firstOf}
 use Rattle.acceptance.proofs.Laws.{or-neither}
 
 module _ {S A : Type 0} (b : Bool) (r : Refusal) (ts : List Test) (s : S) (v : A) where

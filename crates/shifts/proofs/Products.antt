@@ -1,5 +1,5 @@
 -- Laws of the product of a residue and a power of t by a table.
-use mathlib.Core.Path.{_≡_, refl, sym, ap, ap₂, _∙_}
+use mathlib.Core.Path.{_≡_, sym, ap, ap₂, _∙_}
 use mathlib.Core.List.{List}
 use Prim.Native.Nat.{ℕ, zero, suc, _+_, _-_, _*_, _/_, _%_, _^_, _≤_, _<_}
 use native.Mathlib.Nat.{add-zero, mul-zero, mul-suc, mod-lt, zero-mul}
@@ -7,7 +7,7 @@ use native.Mathlib.Decide.{decLt}
 use native.Mathlib.Numerals.{add-one}
 use native.Mathlib.Omega.{arith}
 use lib.Arith.{lt-one, digits-lt}
-use lib.ListN.{length, getD}
+use lib.ListN.{getD}
 use lib.Pow.{pow-pos, pow-add, shr-lt, split}
 use Rattle.gf2.specs.Polynomials.{_⊕_, _⊗_, degree, rem}
 use Rattle.gf2.proofs.Sums.{⊕-append, ⊕-shl, ⊕-comm, ⊕-assoc, ⊕-zero}

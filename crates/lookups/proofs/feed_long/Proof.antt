@@ -3,6 +3,7 @@ use mathlib.Core.Path.{_≡_, sym, _∙_}
 use Prim.Native.Nat.{_-_, _*_, _/_}
 use native.Mathlib.Omega.{arith}
 use lib.ListN.{length, take}
+use lib.Pow.{pow-pos}
 use lib.Seq.{length-take-le}
 use Rattle.gf2.proofs.Monics.{monic-pos}
 use Rattle.multiples.proofs.Doubling.{rem-below}
@@ -59,9 +60,13 @@ feed-runs-requires c κs =
     let s = c .before .before .before .before .before .before in
     let p = s .args .part .now in
     let n = length p / 16 * 4 in
+    let z = pow-pos (s .args .k) in
     let one : length (take n p) ≡ n = length-take-le n p (omega arith) in (
       s .pre .0,
       s .pre .1,
+      z,
+      z,
+      z,
       rw one (omega arith),
       run-length p n (2 * n) n (omega arith) (omega arith) ∙ sym one,
       run-length p (2 * n) (3 * n) n (omega arith) (omega arith) ∙ sym one,

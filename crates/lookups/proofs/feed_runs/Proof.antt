@@ -3,23 +3,21 @@ use mathlib.Core.Path.{_≡_, refl}
 use Prim.Native.Nat.{_+_, _-_, _%_, _≤_}
 use native.Mathlib.Omega.{arith}
 use lib.ListN.{length}
-use lib.Pow.{pow-pos}
 use Rattle.lookups.proofs.Parts.{four-lt, Going, going-four, going-all}
 use Rattle.lookups.proofs.feed_runs.Statement.{statement}
 use Rattle.lookups.proofs.feed_runs.Tie as tie
 
 abbrev Inv-loop : tie.InvT-loop
-Inv-loop words k low f p q r s a₀ b₀ c₀ d₀ i₀ a b c d i =
-    (i ≤ length p) × (i % 4 ≡ 0) × Going k low f p i a × Going k low 0 q i b × Going k low 0 r i c × Going k low 0 s i d
+Inv-loop words k low p q r s a₀ b₀ c₀ d₀ i₀ a b c d i =
+    (i ≤ length p) × (i % 4 ≡ 0) × Going k low a₀ p i a × Going k low b₀ q i b × Going k low c₀ r i c × Going k low d₀ s i d
 
 abbrev μ-loop : tie.MeasureT-loop
-μ-loop words k low f p q r s a₀ b₀ c₀ d₀ i₀ a b c d i = length p - i
+μ-loop words k low p q r s a₀ b₀ c₀ d₀ i₀ a b c d i = length p - i
 
 loop-holds : tie.Need-loop-holds Inv-loop μ-loop
 loop-holds c =
     let s = c .before .before .before .before .before in
-    let z = pow-pos (s .args .k) in
-    (omega arith, refl, (s .pre .1, refl), (z, refl), (z, refl), (z, refl))
+    (omega arith, refl, (s .pre .1, refl), (s .pre .2, refl), (s .pre .3, refl), (s .pre .4, refl))
 
 four-at-requires : tie.Need-four-at-requires Inv-loop μ-loop
 four-at-requires c κs = omega arith
@@ -61,7 +59,7 @@ add-i : tie.Need-add-i Inv-loop μ-loop
 add-i c =
     let s = c .before .before .before .before .before .before .before .before .before .before .before .before .before .before .before in
     let l = c .before .before .before .before .before .before .before .before .before .loop in
-    omega (arith, l .inv .0, l .inv .1, s .pre .2)
+    omega (arith, l .inv .0, l .inv .1, s .pre .5)
 
 loop-less : tie.Need-loop-less Inv-loop μ-loop
 loop-less c = omega arith
@@ -73,7 +71,7 @@ loop-again c =
     let m = s .pre .0 .0 .2 in
     let l = c .before .before .before .before .before .before .before .before .before .loop in
     let p = s .pre in
-    let g : l .i + 4 ≤ length (a .p .now) = omega (arith, c .before .before .before .before .before .before .before .before .loop-test .taken, l .inv .1, p .2) in
+    let g : l .i + 4 ≤ length (a .p .now) = omega (arith, c .before .before .before .before .before .before .before .before .loop-test .taken, l .inv .1, p .5) in
     let v1 = c .before .before .before .before .before .before .before .four-at in
     let x1 = c .before .before .before .before .before .before .feed-four in
     let v2 = c .before .before .before .before .before .four-at2 in
@@ -84,10 +82,10 @@ loop-again c =
     let x4 = c .feed-four4 in (
       g,
       omega (arith, l .inv .1),
-      going-four (a .k) (a .low) m (a .f) (a .p .now) (l .i) (l .a) (l .inv .2) (v1 .result) (x1 .result) g (v1 .ensures) (x1 .ensures),
-      going-four (a .k) (a .low) m 0 (a .q .now) (l .i) (l .b) (l .inv .3) (v2 .result) (x2 .result) (omega (arith, g, p .3)) (v2 .ensures) (x2 .ensures),
-      going-four (a .k) (a .low) m 0 (a .r .now) (l .i) (l .c) (l .inv .4) (v3 .result) (x3 .result) (omega (arith, g, p .4)) (v3 .ensures) (x3 .ensures),
-      going-four (a .k) (a .low) m 0 (a .s .now) (l .i) (l .d) (l .inv .5) (v4 .result) (x4 .result) (omega (arith, g, p .5)) (v4 .ensures) (x4 .ensures),
+      going-four (a .k) (a .low) m (a .f .a) (a .p .now) (l .i) (l .a) (l .inv .2) (v1 .result) (x1 .result) g (v1 .ensures) (x1 .ensures),
+      going-four (a .k) (a .low) m (a .f .b) (a .q .now) (l .i) (l .b) (l .inv .3) (v2 .result) (x2 .result) (omega (arith, g, p .6)) (v2 .ensures) (x2 .ensures),
+      going-four (a .k) (a .low) m (a .f .c) (a .r .now) (l .i) (l .c) (l .inv .4) (v3 .result) (x3 .result) (omega (arith, g, p .7)) (v3 .ensures) (x3 .ensures),
+      going-four (a .k) (a .low) m (a .f .d) (a .s .now) (l .i) (l .d) (l .inv .5) (v4 .result) (x4 .result) (omega (arith, g, p .8)) (v4 .ensures) (x4 .ensures),
     )
 
 returns : tie.Need-returns Inv-loop μ-loop
@@ -96,10 +94,10 @@ returns c =
     let a = s .args in
     let m = s .pre .0 .0 .2 in
     let l = c .before .loop in (
-      going-all (a .k) (a .low) m (a .f) (a .p .now) (l .i) (l .a) (l .inv .2) (omega arith),
-      going-all (a .k) (a .low) m 0 (a .q .now) (l .i) (l .b) (l .inv .3) (omega arith),
-      going-all (a .k) (a .low) m 0 (a .r .now) (l .i) (l .c) (l .inv .4) (omega arith),
-      going-all (a .k) (a .low) m 0 (a .s .now) (l .i) (l .d) (l .inv .5) (omega arith),
+      going-all (a .k) (a .low) m (a .f .a) (a .p .now) (l .i) (l .a) (l .inv .2) (omega arith),
+      going-all (a .k) (a .low) m (a .f .b) (a .q .now) (l .i) (l .b) (l .inv .3) (omega arith),
+      going-all (a .k) (a .low) m (a .f .c) (a .r .now) (l .i) (l .c) (l .inv .4) (omega arith),
+      going-all (a .k) (a .low) m (a .f .d) (a .s .now) (l .i) (l .d) (l .inv .5) (omega arith),
     )
 
 pub feed-runs-spec : {M : Type 1} → statement M

@@ -1,5 +1,5 @@
 use mathlib.Core.Path.{_≡_, refl, sym, ap, _∙_}
-use Prim.Native.Nat.{ℕ, _+_, _-_, _*_, _^_, _≤_, _<_, min}
+use Prim.Native.Nat.{ℕ, _+_, _-_, _*_, _≤_}
 use native.Mathlib.Omega.{arith}
 use lib.ListN.{length, take, drop, length-take}
 use Rattle.gf2.specs.Polynomials.{monic}
@@ -12,11 +12,6 @@ use Rattle.sheets.proofs.Pages.{left-next, from-next, fields-next, fields-none,
 use Rattle.sheets.proofs.Changes.{changed-here, changed-later, changed-none}
 use Rattle.sheet_checking.proofs.change_from.Statement.{statement}
 use Rattle.sheet_checking.proofs.change_from.Tie as tie
-use Rattle.sheet_checking.proofs.change_from.Reads as reads
-use Rattle.sheet_checking.proofs.change_from.Lts as lts
-use Rattle.sheets.proofs.fields.number_at.Reads as number-at-reads
-use Rattle.sheet_pages.proofs.page_end.Reads as page-end-reads
-use Rattle.sheet_pages.proofs.page_mark.Reads as page-mark-reads
 
 abbrev Inv-loop : tie.InvT-loop
 Inv-loop sheet words k low size file from first at₀ i₀ place₀ at i place =
@@ -37,49 +32,39 @@ mark c =
     ∙ ap (λ (e : ℕ). fingerprint (monic (a .k) (a .low)) (filled (a .size) (take (e - at) (drop at (a .file .now))))) (c .before .before .page-end .ensures)
     ∙ ap (λ l. fingerprint (monic (a .k) (a .low)) (filled (a .size) l)) (page-cut (a .size) (a .file .now) at)
 
--- src/paging.rt:53:26
 mul-place : tie.Need-mul-place Inv-loop μ-loop
 mul-place c = omega arith
 
--- src/paging.rt:53:21
 add-place : tie.Need-add-place Inv-loop μ-loop
 add-place c = omega arith
 
--- src/paging.rt:54:5
 loop-holds : tie.Need-loop-holds Inv-loop μ-loop
 loop-holds c = let p = c .before .before .before .pre in (p .4, p .5, p .6, refl)
 
--- src/paging.rt:55:13
 page-end-requires : tie.Need-page-end-requires Inv-loop μ-loop
 page-end-requires c κs = omega arith
 
--- src/paging.rt:56:48
 sub-page-mark : tie.Need-sub-page-mark Inv-loop μ-loop
 sub-page-mark c = omega (arith, c .page-end .ensures)
 
--- src/paging.rt:56:48
 part-page-mark-start : tie.Need-part-page-mark-start Inv-loop μ-loop
 part-page-mark-start c = omega (arith, c .page-end .ensures)
 
--- src/paging.rt:56:48
 part-page-mark-end : tie.Need-part-page-mark-end Inv-loop μ-loop
 part-page-mark-end c = omega (arith, c .page-end .ensures)
 
--- src/paging.rt:56:13
 page-mark-requires : tie.Need-page-mark-requires Inv-loop μ-loop
 page-mark-requires c κs =
     let s = c .before .before .before .before .before .before .before in
     let l = c .before .before .before .loop in
     (s .pre .0, s .pre .2, rw (length-take (c .before .page-end .result - l .at) (drop (l .at) (s .args .file .now))) (omega (arith, c .before .page-end .ensures)))
 
--- src/paging.rt:57:12
 number-at-requires : tie.Need-number-at-requires Inv-loop μ-loop
 number-at-requires c κs =
     let s = c .before .before .before .before .before .before .before .before in
     let l = c .before .before .before .before .loop in
     omega (arith, left-next (s .args .size) (s .args .file .now) (l .at) (omega arith) (omega arith))
 
--- src/paging.rt:58:13
 returns : tie.Need-returns Inv-loop μ-loop
 returns c =
     let s = c .before .before .before .before .before .before .before .before .before .before in
@@ -90,26 +75,21 @@ returns c =
     (λ e. c .if1 .taken (c .before .number-at .ensures .0 ∙ e ∙ sym (mark (c .before .before)))) in
     ap Done (sym here ∙ l .inv .3)
 
--- src/paging.rt:60:9
 add-at : tie.Need-add-at Inv-loop μ-loop
 add-at c = omega arith
 
--- src/paging.rt:61:9
 add-place-2 : tie.Need-add-place-2 Inv-loop μ-loop
 add-place-2 c =
     let s = c .before .before .before .before .before .before .before .before .before .before in
     let l = c .before .before .before .before .before .before .loop in
     omega (arith, left-next (s .args .size) (s .args .file .now) (l .at) (omega arith) (omega arith))
 
--- src/paging.rt:62:9
 add-i : tie.Need-add-i Inv-loop μ-loop
 add-i c = omega arith
 
--- src/paging.rt:54:5
 loop-less : tie.Need-loop-less Inv-loop μ-loop
 loop-less c = omega arith
 
--- src/paging.rt:54:5
 loop-again : tie.Need-loop-again Inv-loop μ-loop
 loop-again c =
     let s = c .before .before .before .before .before .before .before .before .before .before in
@@ -121,7 +101,6 @@ loop-again c =
     (sym (c .before .number-at .ensures .0) ∙ c .if1 .left ∙ mark (c .before .before)) in
     (omega arith, omega arith, omega arith, sym later ∙ l .inv .3)
 
--- src/paging.rt:41:1
 returns-2 : tie.Need-returns-2 Inv-loop μ-loop
 returns-2 c =
     let a = c .before .before .before .before .before .args in

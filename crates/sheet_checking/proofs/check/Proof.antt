@@ -1,41 +1,31 @@
-use mathlib.Core.Path.{_≡_, sym, ap, _∙_}
+use mathlib.Core.Path.{sym, ap, _∙_}
 use Rattle.sheets.specs.Sheets.{reading}
 use Rattle.sheet_checking.proofs.Laws.{read-as, check-refused, check-done}
 use borrow.Author.Needs.{needs}
 use Rattle.sheet_checking.proofs.check.Statement.{statement}
 use Rattle.sheet_checking.proofs.check.Tie as tie
-use Rattle.sheet_checking.proofs.check.Reads as reads
-use Rattle.sheet_checking.proofs.check.Lts as lts
-use Rattle.sheet_checking.proofs.compare.Reads as compare-reads
-use Rattle.sheet_reading.proofs.read.Reads as read-reads
 
--- src/lib.rt:76:11
 read-requires : tie.Need-read-requires
 read-requires c κs = search needs
 
--- src/lib.rt:77:26
 enum-known-r : tie.Need-enum-known-r
 enum-known-r c = search needs
 
--- src/lib.rt:78:24
 enum-known-x : tie.Need-enum-known-x
 enum-known-x c = search needs
 
--- src/lib.rt:78:30
 compare-requires : tie.Need-compare-requires
 compare-requires c κs =
     let a = c .before .before .before .before .before .before .args in
     let r = c .before .before .before .read in
     read-as (a .sheet .now) (c .before .x .given .0 .0) (ap reading (sym (c .before .x .given .1)) ∙ r .ensures)
 
--- src/lib.rt:73:1
 returns : tie.Need-returns
 returns c =
     let a = c .before .before .before .before .before .before .args in
     let r = c .before .before .before .read in
     sym (check-refused (a .sheet .now) (c .before .r .given .0 .0) (a .file .now) (ap reading (sym (c .before .r .given .1)) ∙ r .ensures))
 
--- src/lib.rt:73:1
 returns-2 : tie.Need-returns-2
 returns-2 c =
     let a = c .before .before .before .before .before .before .before .args in

@@ -1,5 +1,5 @@
-use mathlib.Core.Path.{_≡_, refl, sym, ap, _∙_}
-use Prim.Native.Nat.{ℕ, _<_}
+use mathlib.Core.Path.{refl, sym, ap, _∙_}
+use Prim.Native.Nat.{ℕ}
 use native.Mathlib.Omega.{arith}
 use Rattle.refusals.specs.Refusals.{Done}
 use Rattle.acceptance.proofs.Laws.{accepted-pos}
@@ -12,12 +12,6 @@ use Rattle.sheet_checking.proofs.Laws.{compare-long, compare-other, com
 use borrow.Author.Needs.{needs}
 use Rattle.sheet_checking.proofs.compare.Statement.{statement}
 use Rattle.sheet_checking.proofs.compare.Tie as tie
-use Rattle.sheet_checking.proofs.compare.Reads as reads
-use Rattle.sheet_checking.proofs.compare.Lts as lts
-use Rattle.gf2.proofs.degree.Reads as degree-reads
-use Rattle.gf2.proofs.low_bits.Reads as low-bits-reads
-use Rattle.sheet_checking.proofs.change_from.Reads as change-from-reads
-use Rattle.tables.proofs.rows.fill.Reads as fill-reads
 
 key-held : (c : tie.After-low-bits) → Held (c .before .before .before .before .before .before .args .x .key) (c .before .degree .result) (c .low-bits .result)
 key-held c =
@@ -25,42 +19,34 @@ key-held c =
     let e = key-is (s .args .sheet .now) (s .pre) in
     accepted-held (s .args .x .key) (c .before .degree .result) (c .low-bits .result) (rw e (sound (s .args .sheet .now) (s .pre) .key)) (c .before .degree .ensures) (c .low-bits .ensures)
 
--- src/lib.rt:60:9
 returns : tie.Need-returns
 returns c = let a = c .before .before .before .args in sym (compare-long (a .sheet .now) (a .file .now) (omega arith))
 
--- src/lib.rt:63:9
 returns-2 : tie.Need-returns-2
 returns-2 c =
     let s = c .before .before .before .before in
     let a = s .args in
     sym (compare-other (a .sheet .now) (a .file .now) (omega arith) (λ e. c .if2 .taken (e ∙ sym (length-is (a .sheet .now) (s .pre)))))
 
--- src/lib.rt:65:9
 degree-requires : tie.Need-degree-requires
 degree-requires c κs =
     let s = c .before .before .before .before in
     rw (key-is (s .args .sheet .now) (s .pre)) (accepted-pos _ (sound (s .args .sheet .now) (s .pre) .key))
 
--- src/lib.rt:66:9
 low-bits-requires : tie.Need-low-bits-requires
 low-bits-requires c κs =
     let s = c .before .before .before .before .before in
     rw (c .degree .ensures) (rw (key-is (s .args .sheet .now) (s .pre)) (degree-word _ (accepted-pos _ (sound (s .args .sheet .now) (s .pre) .key)) (key-lt _ (sound (s .args .sheet .now) (s .pre) .key))))
 
--- src/lib.rt:68:24
 slice-aggregate-fill : tie.Need-slice-aggregate-fill
 slice-aggregate-fill c = search needs
 
--- src/lib.rt:68:5
 fill-requires : tie.Need-fill-requires
 fill-requires c κs = (key-held (c .before) .modulus, refl)
 
--- src/lib.rt:69:24
 slice-aggregate-change-from : tie.Need-slice-aggregate-change-from
 slice-aggregate-change-from c = search needs
 
--- src/lib.rt:69:5
 change-from-requires : tie.Need-change-from-requires
 change-from-requires c κs =
     let s = c .before .before .before .before .before .before .before .before .before .before in
@@ -70,7 +56,6 @@ change-from-requires c κs =
     let e = size-is (a .sheet .now) (s .pre) in
     ((h .modulus, h .eight, c .before .before .fill .ensures), rw e (z .0), rw e (z .1), omega arith, omega arith, omega arith, pages-there (a .sheet .now) (s .pre) (a .file .now) (c .before .before .before .before .before .before .if2 .left))
 
--- src/lib.rt:51:1
 returns-3 : tie.Need-returns-3
 returns-3 c =
     let s = c .before .before .before .before .before .before .before .before .before .before .before in

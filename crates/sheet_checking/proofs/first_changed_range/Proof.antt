@@ -1,7 +1,7 @@
-use mathlib.Core.Path.{_≡_, refl, sym, ap, ap₂, _∙_}
+use mathlib.Core.Path.{_≡_, refl, sym, ap, _∙_}
 use mathlib.Core.List.{[], _∷_}
-use mathlib.Core.Logic.{_⊎_, inl, inr}
-use Prim.Native.Nat.{ℕ, _+_, _*_, _^_, _≤_, _<_, min}
+use mathlib.Core.Logic.{inl, inr}
+use Prim.Native.Nat.{_+_, _*_, _^_, _<_}
 use native.Mathlib.Omega.{arith}
 use types.Run
 use denote.Enum.Declared
@@ -10,15 +10,11 @@ use Rattle.sheets.proofs.Checked as CheckedT
 use Rattle.sheets.specs.declared.Checked.{Checked}
 use Rattle.sheets.specs.declared.Checked.the-variants as cases
 use Rattle.sheets.specs.Layout.{version1, Contents, contentsIn}
-use Rattle.sheets.specs.Sheets.{Page, NoRange, FromTo, checkSheet, checked, rangeOf}
+use Rattle.sheets.specs.Sheets.{Page, NoRange, checkSheet, checked, rangeOf}
 use Rattle.sheet_checking.proofs.Laws.{named-long, named-range, range-fits}
 use borrow.Author.Needs.{needs}
 use Rattle.sheet_checking.proofs.first_changed_range.Statement.{statement}
 use Rattle.sheet_checking.proofs.first_changed_range.Tie as tie
-use Rattle.sheet_checking.proofs.first_changed_range.Reads as reads
-use Rattle.sheet_checking.proofs.first_changed_range.Lts as lts
-use Rattle.sheet_checking.proofs.check.Reads as check-reads
-use Rattle.sheets.proofs.fields.number_at.Reads as number-at-reads
 
 -- the answers that the `else` stands for
 other : (x : Contents) (o : Checked) → Run.OneOf (0 ∷ 2 ∷ 3 ∷ []) (Declared.tagOf CheckedT.the-type o) → rangeOf x (checked o) ≡ NoRange
@@ -35,47 +31,37 @@ page c = sym (c .before .before .before .check .ensures) ∙ ap checked (c .befo
 fits : (c : tie.After-number-at) → c .before .before .i .given .0 .0 * c .number-at .result + c .number-at .result < 2 ^ 64
 fits c = range-fits (c .before .before .i .given .0 .0) (c .number-at .result) (search needs) (c .number-at .ensures .1)
 
--- src/lib.rt:88:28
 check-requires : tie.Need-check-requires
 check-requires c κs = search needs
 
--- src/lib.rt:88:23
 enum-known-i : tie.Need-enum-known-i
 enum-known-i c = search needs
 
--- src/lib.rt:89:9
 returns : tie.Need-returns
 returns c =
     let a = c .before .before .before .before .args in
     sym (ap (rangeOf (contentsIn version1 (a .sheet .now))) (sym (c .before .check .ensures)) ∙ other (contentsIn version1 (a .sheet .now)) (c .before .check .result) (c .match .keys2))
 
--- src/lib.rt:91:9
 number-at-requires : tie.Need-number-at-requires
 number-at-requires c κs =
     omega (arith, named-long _ _ _ (page c))
 
--- src/lib.rt:93:16
 cast-from : tie.Need-cast-from
 cast-from c = search needs
 
--- src/lib.rt:93:16
 mul-from : tie.Need-mul-from
 mul-from c = omega (arith, fits c)
 
--- src/lib.rt:94:12
 add-if1 : tie.Need-add-if1
 add-if1 c = omega (arith, fits c)
 
--- src/lib.rt:95:9
 returns-2 : tie.Need-returns-2
 returns-2 c =
     named-range _ _ _ (page (c .before .before)) _ (c .before .number-at .result) _ (c .before .number-at .ensures .0) refl (omega arith)
 
--- src/lib.rt:97:26
 add-t9 : tie.Need-add-t9
 add-t9 c = search needs
 
--- src/lib.rt:83:1
 returns-3 : tie.Need-returns-3
 returns-3 c =
     named-range _ _ _ (page (c .before .before)) _ (c .before .number-at .result) _ (c .before .number-at .ensures .0) refl (omega arith)

@@ -1,5 +1,5 @@
-use mathlib.Core.Path.{_≡_, refl, sym, ap, ap₂, _∙_}
-use Prim.Native.Nat.{ℕ, _-_, _*_, _^_}
+use mathlib.Core.Path.{sym, ap, ap₂, _∙_}
+use Prim.Native.Nat.{ℕ, _-_, _*_}
 use lib.ListN.{length}
 use lib.Pow.{pow-lt}
 use Rattle.gf2.specs.Polynomials.{_⊗_, monic, rem}
@@ -12,43 +12,31 @@ use Rattle.sheets.proofs.Pages.{filled-whole, with-zeros}
 use borrow.Author.Needs.{needs}
 use Rattle.sheet_pages.proofs.page_mark.Statement.{statement}
 use Rattle.sheet_pages.proofs.page_mark.Tie as tie
-use Rattle.sheet_pages.proofs.page_mark.Reads as reads
-use Rattle.sheet_pages.proofs.page_mark.Lts as lts
-use Rattle.gf2.proofs.power_of_t.Reads as power-of-t-reads
-use Rattle.gf2.proofs.product.Reads as product-reads
-use Rattle.tables.proofs.feeding.fed.Reads as fed-reads
 
--- src/paging.rt:19:9
 fed-requires : tie.Need-fed-requires
 fed-requires c κs = let p = c .before .before .pre in (p .0, pow-lt {i = 0} {j = c .before .before .args .k} (p .0 .0 .0))
 
--- src/paging.rt:22:9
 returns : tie.Need-returns
 unfolding fingerprint value
 returns c =
     let a = c .before .before .before .before .args in
     c .before .fed .ensures ∙ ap (fingerprint (monic (a .k) (a .low))) (sym (filled-whole (a .size) (a .page .now) (c .if1 .taken)))
 
--- src/paging.rt:24:58
 sub-power-of-t : tie.Need-sub-power-of-t
 sub-power-of-t c = search needs
 
--- src/paging.rt:24:53
 mul-power-of-t : tie.Need-mul-power-of-t
 mul-power-of-t c = search needs
 
--- src/paging.rt:24:29
 power-of-t-requires : tie.Need-power-of-t-requires
 power-of-t-requires c κs = search needs
 
--- src/paging.rt:24:5
 product-requires : tie.Need-product-requires
 product-requires c κs =
     let s = c .before .before .before .before .before in
     let m = s .pre .0 .0 in
     (m, rw (c .before .before .fed .ensures) (rem-below (s .args .k) (s .args .low) (m .2) _), rw (c .power-of-t .ensures) (rem-below (s .args .k) (s .args .low) (m .2) _))
 
--- src/paging.rt:15:1
 returns-2 : tie.Need-returns-2
 unfolding fingerprint value filled
 returns-2 c =

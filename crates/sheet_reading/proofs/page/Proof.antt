@@ -6,35 +6,25 @@ use Rattle.sheet_reading.proofs.Answers.{page-none, page-some}
 use borrow.Author.Needs.{needs}
 use Rattle.sheet_reading.proofs.page.Statement.{statement}
 use Rattle.sheet_reading.proofs.page.Tie as tie
-use Rattle.sheet_reading.proofs.page.Reads as reads
-use Rattle.sheet_reading.proofs.page.Lts as lts
-use Rattle.sheets.proofs.fields.number_at.Reads as number-at-reads
 
--- src/lib.rt:51:9
 returns : tie.Need-returns
 returns c = let a = c .before .before .before .args in sym (page-none (a .x) (a .sheet .now) (a .i) (inl (c .if1 .taken)))
 
--- src/lib.rt:54:9
 returns-2 : tie.Need-returns-2
 returns-2 c = let a = c .before .before .before .before .args in sym (page-none (a .x) (a .sheet .now) (a .i) (inr (omega arith)))
 
--- src/lib.rt:57:9
 returns-3 : tie.Need-returns-3
 returns-3 c = let a = c .before .before .before .before .before .args in sym (page-none (a .x) (a .sheet .now) (a .i) (inr (omega arith)))
 
--- src/lib.rt:59:59
 mul-number-at : tie.Need-mul-number-at
 mul-number-at c = search needs
 
--- src/lib.rt:59:54
 add-number-at : tie.Need-add-number-at
 add-number-at c = search needs
 
--- src/lib.rt:59:28
 number-at-requires : tie.Need-number-at-requires
 number-at-requires c κs = search needs
 
--- src/lib.rt:46:1
 returns-4 : tie.Need-returns-4
 returns-4 c =
     let a = c .before .before .before .before .before .before .args in

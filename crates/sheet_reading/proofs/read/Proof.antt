@@ -1,28 +1,20 @@
-use mathlib.Core.Path.{_≡_, refl, sym, ap, ap₂, _∙_}
-use mathlib.Core.Bool.{Bool, true, false, _||_, not}
+use mathlib.Core.Path.{_≡_, sym, ap, ap₂, _∙_}
+use mathlib.Core.Bool.{false, _||_}
 use mathlib.Core.List.{List}
-use Prim.Native.Nat.{ℕ, _+_, _*_, _^_, _≤_, _<_}
+use Prim.Native.Nat.{ℕ, _+_, _*_, _≤_}
 use native.Mathlib.Omega.{arith}
 use lib.Dec.{ltb}
 use lib.ListN.{length}
 use Rattle.refusals.specs.Refusals.{Done}
 use Rattle.keys.specs.Testing.{testKey}
 use Rattle.keys.proofs.Laws.{Passed, passed, refused, passed-low}
-use Rattle.sheets.specs.Layout.{version1, numberAt, pageCount, sizeIn, pagesIn, contentsIn}
-use Rattle.sheets.specs.Sheets.{headWrong, bodyWrong, sheetRead, numbersOf}
+use Rattle.sheets.specs.Layout.{version1, numberAt, pageCount, sizeIn, pagesIn}
+use Rattle.sheets.specs.Sheets.{headWrong, sheetRead}
 use Rattle.sheets.proofs.Steps.{holds, fails, size-bounds}
 use Rattle.sheet_reading.proofs.Answers.{numbers-are, body-total, head-long, read-head, read-key, read-size, read-body, read-done}
 use borrow.Author.Needs.{needs}
 use Rattle.sheet_reading.proofs.read.Statement.{statement}
 use Rattle.sheet_reading.proofs.read.Tie as tie
-use Rattle.sheet_reading.proofs.read.Reads as reads
-use Rattle.sheet_reading.proofs.read.Lts as lts
-use Rattle.keys.proofs.test.Reads as test-reads
-use Rattle.sheets.proofs.fields.number_at.Reads as number-at-reads
-use Rattle.sheets.proofs.fields.page_count.Reads as page-count-reads
-use Rattle.sheets.proofs.fields.size_right.Reads as size-right-reads
-use Rattle.sheet_reading.proofs.wellformed.body_right.Reads as body-right-reads
-use Rattle.sheet_reading.proofs.wellformed.head_right.Reads as head-right-reads
 
 -- what is known after each test that failed
 abbrev sheet : tie.Else1 → List ℕ
@@ -50,27 +42,21 @@ total c =
     c .page-count .ensures ∙ ap₂ (λ (s n : ℕ). pageCount s n) (b .before .before .before .before .before .number-at2 .ensures .0) (b .before .before .number-at3 .ensures .0) in
     body-total l (fails _ _ (b .before .body-right .ensures) (b .if3 .left)) ∙ ap (λ (n : ℕ). 27 + 8 * n) (sym count)
 
--- src/lib.rt:55:9
 head-right-requires : tie.Need-head-right-requires
 head-right-requires c κs = search needs
 
--- src/lib.rt:56:9
 returns : tie.Need-returns
 returns c = sym (ap sheetRead (read-head (c .before .before .before .args .sheet .now) (holds _ _ (c .before .head-right .ensures) (c .if1 .taken))))
 
--- src/lib.rt:58:9
 number-at-requires : tie.Need-number-at-requires
 number-at-requires c κs = omega (arith, long c)
 
--- src/lib.rt:59:11
 test-requires : tie.Need-test-requires
 test-requires c κs = search needs
 
--- src/lib.rt:60:25
 enum-known-r : tie.Need-enum-known-r
 enum-known-r c = search needs
 
--- src/lib.rt:61:13
 returns-2 : tie.Need-returns-2
 returns-2 c =
     let e = c .before .before .before .before .before in
@@ -84,26 +70,21 @@ returns-2 c =
 enum-told : tie.Need-enum-told
 enum-told c = search needs
 
--- src/lib.rt:65:9
 number-at-requires-2 : tie.Need-number-at-requires-2
 number-at-requires-2 c κs = omega (arith, long (c .before .before .before .before))
 
--- src/lib.rt:66:9
 size-right-requires : tie.Need-size-right-requires
 size-right-requires c κs = search needs
 
--- src/lib.rt:67:9
 returns-3 : tie.Need-returns-3
 returns-3 c =
     let e = c .before .before .before in
     sym (ap sheetRead (read-size (sheet (e .before .before .before .before)) (head (e .before .before .before .before)) (key-passed e)
     (rw (← (c .before .before .number-at2 .ensures .0)) (holds _ _ (c .before .size-right .ensures) (c .if2 .taken)))))
 
--- src/lib.rt:69:9
 number-at-requires-3 : tie.Need-number-at-requires-3
 number-at-requires-3 c κs = omega (arith, long (c .before .before .before .before .before .before .before))
 
--- src/lib.rt:70:9
 body-right-requires : tie.Need-body-right-requires
 body-right-requires c κs =
     let e = c .before .before .before .before in
@@ -118,33 +99,27 @@ body-right-requires c κs =
       c .before .before .before .number-at2 .ensures .0,
     )
 
--- src/lib.rt:71:9
 returns-4 : tie.Need-returns-4
 returns-4 c =
     let e = c .before .before .before .before .before .before in
     sym (ap sheetRead (read-body (sheet (e .before .before .before .before)) (head (e .before .before .before .before)) (key-passed e) (size-passed (c .before .before .before))
     (holds _ _ (c .before .body-right .ensures) (c .if3 .taken))))
 
--- src/lib.rt:73:9
 page-count-requires : tie.Need-page-count-requires
 page-count-requires c κs =
     let b = c .before .before in
     let s = size-bounds (b .before .before .before .number-at2 .result) (fails _ _ (b .before .before .size-right .ensures) (b .before .if2 .left)) in
     (omega arith, s .1, omega (arith, b .number-at3 .ensures .1))
 
--- src/lib.rt:79:53
 mul-number-at : tie.Need-mul-number-at
 mul-number-at c = omega (arith, total c)
 
--- src/lib.rt:79:48
 add-number-at : tie.Need-add-number-at
 add-number-at c = omega (arith, total c)
 
--- src/lib.rt:79:22
 number-at-requires-4 : tie.Need-number-at-requires-4
 number-at-requires-4 c κs = omega (arith, total c)
 
--- src/lib.rt:52:1
 returns-5 : tie.Need-returns-5
 returns-5 c =
     let p = c .before in

@@ -1,140 +1,110 @@
 use mathlib.Core.Path.{_≡_, refl, sym, ap, ap₂, _∙_}
 use mathlib.Core.List.{List, _∷_, _++_}
-use Prim.Native.Nat.{ℕ, _+_, _-_, _*_, _^_, _≤_, _<_, min}
+use Prim.Native.Nat.{ℕ, _+_, _-_, _*_, _%_, _^_, _≤_, _<_, min}
 use native.Mathlib.Omega.{arith}
 use lib.ListN.{length, take, drop, length-take}
 use lib.Seq.{sets, length-sets}
 use Rattle.gf2.specs.Polynomials.{rem, monic}
-use Rattle.gf2.proofs.Monics.{monic-pos, monic-degree}
-use Rattle.multiples.proofs.Doubling.{rem-below}
-use Rattle.files.specs.Files.{bits, valueFrom, fingerprint}
+use Rattle.files.specs.Files.{fingerprint}
 use Rattle.sheets.specs.Layout.{bytesOf, fieldsOf}
 use Rattle.sheets.specs.Sheets.{filled}
 use Rattle.sheets.specs.Parts.{pagesLeft, fingerprintsFrom}
 use Rattle.sheets.proofs.Numbers.{fields-behind}
-use Rattle.sheets.proofs.Pages.{left-next, from-next, from-none, page-cut, residue-next, residue-done}
+use Rattle.sheets.proofs.Pages.{left-next, from-next, from-none, page-cut}
 use Rattle.sheet_writing.proofs.put_from.Statement.{statement}
 use Rattle.sheet_writing.proofs.put_from.Tie as tie
 use Rattle.sheet_writing.proofs.put_from.Reads as reads
 use Rattle.sheet_writing.proofs.put_from.Lts as lts
-use Rattle.sheet_pages.proofs.behind.Reads as behind-reads
 use Rattle.sheet_pages.proofs.page_end.Reads as page-end-reads
 use Rattle.sheet_pages.proofs.page_mark.Reads as page-mark-reads
 use Rattle.sheets.proofs.fields.put.Reads as put-reads
 
 abbrev Inv-loop : tie.InvT-loop
-Inv-loop buffer₀ words shift k low size file from first f at₀ place₀ x₀ buffer at place x =
-    (at ≤ length file + 4096) × (place + 8 * pagesLeft size file at ≤ length buffer) × (length buffer ≡ length buffer₀) × (x < 2 ^ k)
+Inv-loop buffer₀ words k low size file from first at₀ place₀ buffer at place =
+    (at ≤ length file + 4096) × (place + 8 * pagesLeft size file at ≤ length buffer) × (length buffer ≡ length buffer₀)
     × (sets buffer place (fieldsOf 8 (fingerprintsFrom (monic k low) size file at)) ≡ sets buffer₀ (19 + 8 * first) (fieldsOf 8 (fingerprintsFrom (monic k low) size file from)))
-    × (rem (monic k low) (valueFrom x (bits (drop at file))) ≡ rem (monic k low) (valueFrom f (bits (drop from file))))
 
 abbrev μ-loop : tie.MeasureT-loop
-μ-loop buffer₀ words shift k low size file from first f at₀ place₀ x₀ buffer at place x = length file - at
+μ-loop buffer₀ words k low size file from first at₀ place₀ buffer at place = length file - at
 
--- src/lib.rt:43:26
+-- src/lib.rt:42:26
 mul-place : tie.Need-mul-place Inv-loop μ-loop
 mul-place c = omega arith
 
--- src/lib.rt:43:21
+-- src/lib.rt:42:21
 add-place : tie.Need-add-place Inv-loop μ-loop
 add-place c = omega arith
 
--- src/lib.rt:45:5
+-- src/lib.rt:43:5
 loop-holds : tie.Need-loop-holds Inv-loop μ-loop
-loop-holds c = let p = c .before .before .before .before .pre in (p .5, p .6, refl, p .7, refl, refl)
+loop-holds c = let p = c .before .before .before .pre in (p .4, p .5, refl, refl)
 
--- src/lib.rt:46:13
+-- src/lib.rt:44:13
 page-end-requires : tie.Need-page-end-requires Inv-loop μ-loop
 page-end-requires c κs = omega arith
 
--- src/lib.rt:47:61
+-- src/lib.rt:45:83
 sub-page-mark : tie.Need-sub-page-mark Inv-loop μ-loop
-sub-page-mark c = omega (arith, c .page-end .ensures)
+sub-page-mark c = omega (arith, c .before .page-end .ensures)
 
--- src/lib.rt:47:61
+-- src/lib.rt:45:83
 part-page-mark-start : tie.Need-part-page-mark-start Inv-loop μ-loop
-part-page-mark-start c = omega (arith, c .page-end .ensures)
+part-page-mark-start c = omega (arith, c .before .page-end .ensures)
 
--- src/lib.rt:47:61
+-- src/lib.rt:45:83
 part-page-mark-end : tie.Need-part-page-mark-end Inv-loop μ-loop
-part-page-mark-end c = omega (arith, c .page-end .ensures)
+part-page-mark-end c = omega (arith, c .before .page-end .ensures)
 
--- src/lib.rt:47:13
+-- src/lib.rt:45:39
 page-mark-requires : tie.Need-page-mark-requires Inv-loop μ-loop
 page-mark-requires c κs =
     let s = c .before .before .before .before .before .before .before .before in
-    let l = c .before .before .before .loop in
-    (s .pre .0, s .pre .3, rw (length-take (c .before .page-end .result - l .at) (drop (l .at) (s .args .file .now))) (omega (arith, c .before .page-end .ensures)))
+    let l = c .before .before .before .before .loop in
+    (s .pre .0, s .pre .2, rw (length-take (c .before .before .page-end .result - l .at) (drop (l .at) (s .args .file .now))) (omega (arith, c .before .before .page-end .ensures)))
 
--- src/lib.rt:48:9
+-- src/lib.rt:45:9
 put-requires : tie.Need-put-requires Inv-loop μ-loop
 put-requires c κs =
-    let a = c .before .before .before .before .before .before .before .before .before .before .args in
+    let a = c .before .before .before .before .before .before .before .before .before .args in
     let l = c .before .before .before .before .before .loop in
     omega (arith, left-next (a .size) (a .file .now) (l .at) (omega arith) (omega arith))
 
--- src/lib.rt:49:67
-sub-behind : tie.Need-sub-behind Inv-loop μ-loop
-sub-behind c = omega (arith, c .before .before .before .before .before .before .page-end .ensures)
-
--- src/lib.rt:49:67
-part-behind-start : tie.Need-part-behind-start Inv-loop μ-loop
-part-behind-start c = omega (arith, c .before .before .before .before .before .before .page-end .ensures)
-
--- src/lib.rt:49:67
-part-behind-end : tie.Need-part-behind-end Inv-loop μ-loop
-part-behind-end c = omega (arith, c .before .before .before .before .before .before .page-end .ensures)
-
--- src/lib.rt:49:9
-behind-requires : tie.Need-behind-requires Inv-loop μ-loop
-behind-requires c κs =
-    let s = c .before .before .before .before .before .before .before .before .before .before .before .before .before .before in
-    (s .pre .0, s .pre .1, c .before .before .before .before .before .before .before .before .before .loop .inv .3, c .before .before .before .before .before .page-mark .ensures)
-
--- src/lib.rt:50:9
+-- src/lib.rt:46:9
 add-at : tie.Need-add-at Inv-loop μ-loop
 add-at c = omega arith
 
--- src/lib.rt:51:9
+-- src/lib.rt:47:9
 add-place-2 : tie.Need-add-place-2 Inv-loop μ-loop
 add-place-2 c =
-    let a = c .before .before .before .before .before .before .before .before .before .before .before .before .before .before .before .args in
-    let l = c .before .before .before .before .before .before .before .before .before .before .loop in
+    let a = c .before .before .before .before .before .before .before .before .before .before .before .before .args in
+    let l = c .before .before .before .before .before .before .before .before .loop in
     omega (arith, left-next (a .size) (a .file .now) (l .at) (omega arith) (omega arith))
 
--- src/lib.rt:45:5
+-- src/lib.rt:43:5
 loop-less : tie.Need-loop-less Inv-loop μ-loop
 loop-less c = omega arith
 
--- src/lib.rt:45:5
+-- src/lib.rt:43:5
 loop-again : tie.Need-loop-again Inv-loop μ-loop
 loop-again c =
-    let s = c .before .before .before .before .before .before .before .before .before .before .before .before .before .before .before in
-    let a = s .args in
-    let l = c .before .before .before .before .before .before .before .before .before .before .loop in
+    let a = c .before .before .before .before .before .before .before .before .before .before .before .before .args in
+    let l = c .before .before .before .before .before .before .before .before .loop in
     let key = monic (a .k) (a .low) in
-    let m = s .pre .0 .0 in
-    let pos = monic-pos (a .k) (a .low) (m .2) in
     let next = left-next (a .size) (a .file .now) (l .at) (omega arith) (omega arith) in
-    let e = c .before .before .before .before .before .before .before .before .page-end .ensures in
-    let put = c .before .before .before .before .put in
-    let g = c .before .before .before .before .before .before .page-mark .result in
-    let cut : take (c .before .before .before .before .before .before .before .before .page-end .result - l .at) (drop (l .at) (a .file .now)) ≡ take (a .size) (drop (l .at) (a .file .now)) =
-    ap (λ (n : ℕ). take (n - l .at) (drop (l .at) (a .file .now))) e ∙ page-cut (a .size) (a .file .now) (l .at) in
-    let mark : g ≡ fingerprint key (filled (a .size) (take (a .size) (drop (l .at) (a .file .now)))) =
-    c .before .before .before .before .before .before .page-mark .ensures ∙ ap (λ (p : List ℕ). fingerprint key (filled (a .size) p)) cut in
-    let x : c .behind .result ≡ rem key (valueFrom (l .x) (bits (take (a .size) (drop (l .at) (a .file .now))))) =
-    c .behind .ensures ∙ ap (λ (p : List ℕ). rem key (valueFrom (l .x) (bits p))) cut in (
+    let put = c .before .before .put in
+    let g = c .before .before .before .page-mark in
+    let mark : g .result ≡ fingerprint key (filled (a .size) (take (a .size) (drop (l .at) (a .file .now)))) =
+    g .ensures
+    ∙ ap (λ (p : List ℕ). fingerprint key (filled (a .size) p))
+    (ap (λ (n : ℕ). take (n - l .at) (drop (l .at) (a .file .now))) (c .before .before .before .before .before .before .page-end .ensures) ∙ page-cut (a .size) (a .file .now) (l .at)) in (
       omega arith,
       omega (arith, put .kept .0),
       put .kept .0 ∙ l .inv .2,
-      rw x (rem-below (a .k) (a .low) (m .2) _),
       ap (λ (b : List ℕ). sets b (l .place + 8) (fieldsOf 8 (fingerprintsFrom key (a .size) (a .file .now) (l .at + a .size)))) (put .ensures)
-          ∙ fields-behind 8 g (fingerprintsFrom key (a .size) (a .file .now) (l .at + a .size)) (l .buffer) (l .place)
+          ∙ fields-behind 8 (g .result) (fingerprintsFrom key (a .size) (a .file .now) (l .at + a .size)) (l .buffer) (l .place)
           ∙ ap (λ (fs : List ℕ). sets (l .buffer) (l .place) (fieldsOf 8 fs))
           (ap (λ (f : ℕ). f ∷ fingerprintsFrom key (a .size) (a .file .now) (l .at + a .size)) mark ∙ sym (from-next (a .size) (a .file .now) (l .at) (omega arith) key (omega arith)))
-          ∙ l .inv .4,
-      ap (λ (y : ℕ). rem key (valueFrom y (bits (drop (l .at + a .size) (a .file .now))))) x ∙ residue-next pos (a .file .now) (a .size) (l .at) (l .x) ∙ l .inv .5,
+          ∙ l .inv .3,
     )
 
 -- src/lib.rt:32:1
@@ -145,14 +115,9 @@ same-length c = c .before .loop .inv .2
 returns : tie.Need-returns Inv-loop μ-loop
 unfolding fieldsOf
 returns c =
-    let s = c .before .before .before .before .before .before in
-    let a = s .args in
+    let a = c .before .before .before .before .before .args in
     let l = c .before .loop in
-    let key = monic (a .k) (a .low) in
-    let low = s .pre .0 .0 .2 in (
-      sym (ap (λ (fs : List ℕ). sets (l .buffer) (l .place) (fieldsOf 8 fs)) (from-none (a .size) (a .file .now) (l .at) (omega arith) key (omega arith))) ∙ l .inv .4,
-      sym (residue-done (monic-pos (a .k) (a .low) low) (a .file .now) (l .at) (l .x) (rw (monic-degree (a .k) (a .low) low) (l .inv .3)) (omega arith)) ∙ l .inv .5,
-    )
+    sym (ap (λ (fs : List ℕ). sets (l .buffer) (l .place) (fieldsOf 8 fs)) (from-none (a .size) (a .file .now) (l .at) (omega arith) (monic (a .k) (a .low)) (omega arith))) ∙ l .inv .3
 
 pub put-from-spec : {M : Type 1} → statement M
 put-from-spec =
@@ -169,10 +134,6 @@ put-from-spec =
     part-page-mark-end
     page-mark-requires
     put-requires
-    sub-behind
-    part-behind-start
-    part-behind-end
-    behind-requires
     add-at
     add-place-2
     loop-less

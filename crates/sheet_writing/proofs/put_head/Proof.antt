@@ -2,35 +2,25 @@ use Rattle.sheet_writing.proofs.Stores.{head-stores}
 use borrow.Author.Needs.{needs}
 use Rattle.sheet_writing.proofs.put_head.Statement.{statement}
 use Rattle.sheet_writing.proofs.put_head.Tie as tie
-use Rattle.sheet_writing.proofs.put_head.Reads as reads
-use Rattle.sheet_writing.proofs.put_head.Lts as lts
-use Rattle.sheets.proofs.fields.put.Reads as put-reads
 
--- src/lib.rt:24:5
 put-requires : tie.Need-put-requires
 put-requires c κs = search needs
 
--- src/lib.rt:25:5
 put-requires-2 : tie.Need-put-requires-2
 put-requires-2 c κs = search needs
 
--- src/lib.rt:26:5
 put-requires-3 : tie.Need-put-requires-3
 put-requires-3 c κs = search needs
 
--- src/lib.rt:27:5
 put-requires-4 : tie.Need-put-requires-4
 put-requires-4 c κs = search needs
 
--- src/lib.rt:28:5
 put-requires-5 : tie.Need-put-requires-5
 put-requires-5 c κs = search needs
 
--- src/lib.rt:20:1
 same-length : tie.Need-same-length
 same-length c = search needs
 
--- src/lib.rt:20:1
 returns : tie.Need-returns
 returns c =
     let a = c .before .before .before .before .before .before .before .before .before .before .before .before .before .before .before .before .before .before .before .before .before .args in

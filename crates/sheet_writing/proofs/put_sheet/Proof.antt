@@ -1,19 +1,19 @@
 use mathlib.Core.Path.{_≡_, refl, sym, ap, ap₂, _∙_}
-use Prim.Native.Nat.{ℕ, _+_, _*_, _^_}
+use mathlib.Core.List.{List, _++_}
+use Prim.Native.Nat.{ℕ, _+_, _-_, _*_, _/_, _^_, _≤_}
 use native.Mathlib.Nat.{sub-zero}
 use native.Mathlib.Omega.{arith}
 use lib.ListN.{length, drop}
-use lib.Pow.{pow-lt}
 use lib.Seq.{sets}
-use Rattle.gf2.specs.Polynomials.{rem}
+use Rattle.gf2.specs.Polynomials.{monic}
 use Rattle.keys.proofs.Laws.{degree-word}
-use Rattle.files.specs.Files.{bits, valueFrom, value, fingerprint}
-use Rattle.sheets.specs.Layout.{bytesOf, fieldsOf, pageCount}
+use Rattle.files.specs.Files.{fingerprint}
+use Rattle.sheets.specs.Layout.{bytesOf, fieldsOf, numbersAt, pageCount}
 use Rattle.sheets.specs.Sheets.{pageFingerprints, contentsOf}
-use Rattle.sheets.specs.Parts.{pagesLeft}
+use Rattle.sheets.specs.Parts.{pagesLeft, fingerprintsFrom}
 use Rattle.sheets.proofs.Moduli.{Held, held}
-use Rattle.sheets.proofs.Pages.{length-pages}
-use Rattle.sheet_writing.proofs.Stores.{sheet-stores}
+use Rattle.sheets.proofs.Pages.{length-pages, count-whole}
+use Rattle.sheet_writing.proofs.Stores.{sheet-stores, whole-stored}
 use borrow.Author.Needs.{needs}
 use Rattle.sheet_writing.proofs.put_sheet.Statement.{statement}
 use Rattle.sheet_writing.proofs.put_sheet.Tie as tie
@@ -21,100 +21,116 @@ use Rattle.sheet_writing.proofs.put_sheet.Reads as reads
 use Rattle.sheet_writing.proofs.put_sheet.Lts as lts
 use Rattle.gf2.proofs.degree.Reads as degree-reads
 use Rattle.gf2.proofs.low_bits.Reads as low-bits-reads
-use Rattle.sheet_writing.proofs.put_from.Reads as put-from-reads
+use Rattle.sheet_writing.proofs.file_mark.Reads as file-mark-reads
 use Rattle.sheet_writing.proofs.put_head.Reads as put-head-reads
+use Rattle.sheet_writing.proofs.put_pages.Reads as put-pages-reads
 use Rattle.sheets.proofs.fields.page_count.Reads as page-count-reads
 use Rattle.sheets.proofs.fields.put.Reads as put-reads
-use Rattle.shifts.proofs.fill.Reads as fill-reads
-use Rattle.tables.proofs.rows.fill.Reads as rows-fill-reads
+use Rattle.tables.proofs.rows.fill.Reads as fill-reads
 
 key-held : (c : tie.After-low-bits) → Held (c .before .before .before .before .args .key) (c .before .degree .result) (c .low-bits .result)
 key-held c =
     let s = c .before .before .before .before in
     held (s .args .key) (c .before .degree .result) (c .low-bits .result) (s .pre .0) (s .fits .key .fits) (c .before .degree .ensures) (c .low-bits .ensures)
 
--- src/lib.rt:68:9
+-- the buffer with all pages' fingerprints
+pages : (c : tie.After-put-pages) → c .put-pages .last .0 ≡ sets (c .before .before .before .before .before .put-head .last .0) 19 (fieldsOf 8 (pageFingerprints (monic (c .before .before .before .before .before .before .before .before .before .before .before .degree .result) (c .before .before .before .before .before .before .before .before .before .before .low-bits .result)) (c .before .before .before .before .before .before .before .before .before .before .before .before .before .before .args .size)
+    (pageCount (c .before .before .before .before .before .before .before .before .before .before .before .before .before .before .args .size) (length (c .before .before .before .before .before .before .before .before .before .before .before .before .before .before .args .file .now))) (c .before .before .before .before .before .before .before .before .before .before .before .before .before .before .args .file .now)))
+pages c =
+    let a = c .before .before .before .before .before .before .before .before .before .before .before .before .before .before .args in
+    c .put-pages .ensures
+    ∙ ap (λ (n : ℕ). sets (c .before .before .before .before .before .put-head .last .0) 19 (fieldsOf 8 (pageFingerprints (monic (c .before .before .before .before .before .before .before .before .before .before .before .degree .result) (c .before .before .before .before .before .before .before .before .before .before .low-bits .result)) (a .size) (pageCount (a .size) n) (a .file .now)))) (sub-zero (length (a .file .now)))
+
+-- src/lib.rt:125:9
 degree-requires : tie.Need-degree-requires
 degree-requires c κs = search needs
 
--- src/lib.rt:69:9
+-- src/lib.rt:126:9
 low-bits-requires : tie.Need-low-bits-requires
 low-bits-requires c κs =
     let s = c .before .before .before in
     rw (c .degree .ensures) (degree-word (s .args .key) (omega arith) (s .fits .key .fits))
 
--- src/lib.rt:72:24
+-- src/lib.rt:128:24
 slice-aggregate-fill : tie.Need-slice-aggregate-fill
 slice-aggregate-fill c = search needs
 
--- src/lib.rt:72:5
+-- src/lib.rt:128:5
 fill-requires : tie.Need-fill-requires
 fill-requires c κs = (key-held (c .before) .modulus, refl)
 
--- src/lib.rt:73:18
-slice-aggregate-fill-2 : tie.Need-slice-aggregate-fill-2
-slice-aggregate-fill-2 c = search needs
-
--- src/lib.rt:73:5
-fill-requires-2 : tie.Need-fill-requires-2
-fill-requires-2 c κs = (key-held (c .before .before .before .before) .modulus, c .before .before .before .before .before .before .before .before .pre .2, refl)
-
--- src/lib.rt:74:5
+-- src/lib.rt:129:5
 put-head-requires : tie.Need-put-head-requires
 put-head-requires c κs = search needs
 
--- src/lib.rt:75:30
-slice-aggregate-put-from : tie.Need-slice-aggregate-put-from
-slice-aggregate-put-from c = search needs
+-- src/lib.rt:130:23
+slice-aggregate-put-pages : tie.Need-slice-aggregate-put-pages
+slice-aggregate-put-pages c = search needs
 
--- src/lib.rt:75:38
-slice-aggregate-put-from-2 : tie.Need-slice-aggregate-put-from-2
-slice-aggregate-put-from-2 c = search needs
-
--- src/lib.rt:75:9
-put-from-requires : tie.Need-put-from-requires
-put-from-requires c κs =
-    let s = c .before .before .before .before .before .before .before .before .before .before .before .before .before .before .before .before .before in
+-- src/lib.rt:130:5
+put-pages-requires : tie.Need-put-pages-requires
+put-pages-requires c κs =
+    let s = c .before .before .before .before .before .before .before .before .before .before .before .before .before in
     let a = s .args in
-    let h = key-held (c .before .before .before .before .before .before .before .before .before .before .before .before .before) in
-    let e = sub-zero (length (a .file .now)) in
-    ((h .modulus, h .eight, c .before .before .before .before .before .before .before .before .before .before .before .fill .ensures), c .before .before .before .before .before .before .before .before .fill2 .ensures, s .pre .1, s .pre .2, s .pre .3, omega arith, rw e (omega (arith, c .before .before .before .before .before .put-head .kept .0)), pow-lt {i = 0} (h .modulus .0))
+    let h = key-held (c .before .before .before .before .before .before .before .before .before) in
+    ((h .modulus, h .eight, c .before .before .before .before .before .before .before .fill .ensures), s .pre .1, s .pre .2, s .pre .3, rw (sub-zero (length (a .file .now))) (omega (arith, c .before .before .before .before .put-head .kept .0)))
 
--- src/lib.rt:76:9
+-- src/lib.rt:131:31
+slice-aggregate-file-mark : tie.Need-slice-aggregate-file-mark
+slice-aggregate-file-mark c = search needs
+
+-- src/lib.rt:131:9
+file-mark-requires : tie.Need-file-mark-requires
+file-mark-requires c κs =
+    let s = c .before .before .before .before .before .before .before .before .before .before .before .before .before .before .before .before .before .before in
+    let a = s .args in
+    let h = key-held (c .before .before .before .before .before .before .before .before .before .before .before .before .before .before) in
+    let file = a .file .now in
+    let b = c .before .before .before .before .before .before .before .before .before .put-head .last .0 in
+    let count = pageCount (a .size) (length file) in
+    let head = c .before .before .before .before .before .before .before .before .before .put-head .kept .0 in
+    let fits : 19 + 8 * count ≤ length b = omega (arith, head) in (
+      (h .modulus, h .eight, c .before .before .before .before .before .before .before .before .before .before .before .before .fill .ensures),
+      s .pre .1,
+      s .pre .2,
+      s .pre .3,
+      omega (arith, c .before .before .before .before .put-pages .kept .0, head, count-whole (a .size) (length file) (omega arith)),
+      ap (numbersAt 19 8 (length file / a .size)) (pages (c .before .before .before .before)) ∙ whole-stored _ _ (h .modulus) (a .size) file b (omega arith) fits,
+    )
+
+-- src/lib.rt:132:9
 page-count-requires : tie.Need-page-count-requires
 page-count-requires c κs = search needs
 
--- src/lib.rt:77:31
+-- src/lib.rt:133:31
 mul-put : tie.Need-mul-put
 mul-put c = search needs
 
--- src/lib.rt:77:26
+-- src/lib.rt:133:26
 add-put : tie.Need-add-put
 add-put c = search needs
 
--- src/lib.rt:77:5
+-- src/lib.rt:133:5
 put-requires : tie.Need-put-requires
 put-requires c κs = search needs
 
--- src/lib.rt:57:1
+-- src/lib.rt:118:1
 same-length : tie.Need-same-length
 same-length c = search needs
 
--- src/lib.rt:57:1
+-- src/lib.rt:118:1
 returns : tie.Need-returns
-unfolding contentsOf fingerprint value
+unfolding contentsOf
 returns c =
-    let s = c .before .before .before .before .before .before .before .before .before .before .before .before .before .before .before .before .before .before .before .before .before .before .before .before .before in
+    let s = c .before .before .before .before .before .before .before .before .before .before .before .before .before .before .before .before .before .before .before .before .before .before .before .before in
     let a = s .args in
-    let h = key-held (c .before .before .before .before .before .before .before .before .before .before .before .before .before .before .before .before .before .before .before .before .before) in
+    let h = key-held (c .before .before .before .before .before .before .before .before .before .before .before .before .before .before .before .before .before .before .before .before) in
     let file = a .file .now in
     let count = pageCount (a .size) (length file) in
-    let from = c .before .before .before .before .before .before .before .put-from .ensures in
-    let left : pagesLeft (a .size) file 0 ≡ count = ap (pageCount (a .size)) (sub-zero (length file)) in
-    sheet-stores (contentsOf (a .key) (a .size) file) count (a .buffer .now) _ _ _ (length-pages (a .key) count (a .size) file) (s .pre .4) (c .before .before .before .before .before .before .before .before .before .before .before .before .before .put-head .ensures)
-    (from .0 ∙ ap₂ (λ (m n : ℕ). sets (c .before .before .before .before .before .before .before .before .before .before .before .before .before .put-head .last .0) 19 (fieldsOf 8 (pageFingerprints m (a .size) n file))) (h .whole) left)
-    (c .before .before .put .ensures ∙ ap₂ (λ (n f : ℕ). sets (c .before .before .before .before .before .before .before .put-from .last .0) (19 + 8 * n) (bytesOf 8 f)) (c .before .before .before .before .page-count .ensures)
-    (from .1 ∙ ap (λ (m : ℕ). rem m (valueFrom 1 (bits file))) (h .whole)))
+    sheet-stores (contentsOf (a .key) (a .size) file) count (a .buffer .now) _ _ _ (length-pages (a .key) count (a .size) file) (s .pre .4) (c .before .before .before .before .before .before .before .before .before .before .before .before .before .before .before .put-head .ensures)
+    (pages (c .before .before .before .before .before .before .before .before .before .before) ∙ ap (λ (m : ℕ). sets (c .before .before .before .before .before .before .before .before .before .before .before .before .before .before .before .put-head .last .0) 19 (fieldsOf 8 (pageFingerprints m (a .size) count file))) (h .whole))
+    (c .before .before .put .ensures ∙ ap₂ (λ (n f : ℕ). sets (c .before .before .before .before .before .before .before .before .before .before .put-pages .last .0) (19 + 8 * n) (bytesOf 8 f)) (c .before .before .before .before .page-count .ensures)
+    (c .before .before .before .before .before .file-mark .ensures ∙ ap (λ (m : ℕ). fingerprint m file) (h .whole)))
 
 pub put-sheet-spec : {M : Type 1} → statement M
 put-sheet-spec =
@@ -124,12 +140,11 @@ put-sheet-spec =
     low-bits-requires
     slice-aggregate-fill
     fill-requires
-    slice-aggregate-fill-2
-    fill-requires-2
     put-head-requires
-    slice-aggregate-put-from
-    slice-aggregate-put-from-2
-    put-from-requires
+    slice-aggregate-put-pages
+    put-pages-requires
+    slice-aggregate-file-mark
+    file-mark-requires
     page-count-requires
     mul-put
     add-put

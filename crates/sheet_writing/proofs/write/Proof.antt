@@ -11,12 +11,6 @@ use Rattle.sheet_writing.proofs.Answers.{write-key, write-long, write-s
 use borrow.Author.Needs.{needs}
 use Rattle.sheet_writing.proofs.write.Statement.{statement}
 use Rattle.sheet_writing.proofs.write.Tie as tie
-use Rattle.sheet_writing.proofs.write.Reads as reads
-use Rattle.sheet_writing.proofs.write.Lts as lts
-use Rattle.keys.proofs.test.Reads as test-reads
-use Rattle.sheet_writing.proofs.put_sheet.Reads as put-sheet-reads
-use Rattle.sheets.proofs.fields.page_count.Reads as page-count-reads
-use Rattle.sheets.proofs.fields.size_right.Reads as size-right-reads
 
 -- what is known after each test that failed
 key-passed : (c : tie.After-enum-told) → Passed (c .before .before .before .before .before .args .key)
@@ -31,15 +25,12 @@ size c = size-bounds (c .before .before .before .before .before .before .before 
 small : (c : tie.After-page-count) → c .page-count .result < 2 ^ 29
 small c = let b = size (c .before) in rw (c .page-count .ensures) (count-small _ _ (b .0) (b .1) (omega arith))
 
--- src/lib.rt:86:11
 test-requires : tie.Need-test-requires
 test-requires c κs = search needs
 
--- src/lib.rt:87:25
 enum-known-r : tie.Need-enum-known-r
 enum-known-r c = search needs
 
--- src/lib.rt:88:13
 returns : tie.Need-returns
 returns c =
     let a = c .before .before .before .before .before .before .args in
@@ -50,51 +41,41 @@ returns c =
 enum-told : tie.Need-enum-told
 enum-told c = search needs
 
--- src/lib.rt:94:9
 returns-2 : tie.Need-returns-2
 returns-2 c =
     let a = c .before .before .before .before .before .before .args in
     sym (write-long (a .key) (a .size) (a .file .now) (a .buffer .now) (key-passed (c .before)) (omega arith))
 
--- src/lib.rt:96:9
 size-right-requires : tie.Need-size-right-requires
 size-right-requires c κs = search needs
 
--- src/lib.rt:97:9
 returns-3 : tie.Need-returns-3
 returns-3 c =
     let a = c .before .before .before .before .before .before .before .before .args in
     sym (write-size (a .key) (a .size) (a .file .now) (a .buffer .now) (key-passed (c .before .before .before)) (omega arith) (holds _ _ (c .before .size-right .ensures) (c .if2 .taken)))
 
--- src/lib.rt:99:41
 page-count-requires : tie.Need-page-count-requires
 page-count-requires c κs = let b = size c in (omega arith, b .1, omega arith)
 
--- src/lib.rt:99:37
 mul-if3 : tie.Need-mul-if3
 mul-if3 c = omega (arith, small c)
 
--- src/lib.rt:99:32
 add-if3 : tie.Need-add-if3
 add-if3 c = omega (arith, small c)
 
--- src/lib.rt:100:9
 returns-4 : tie.Need-returns-4
 returns-4 c =
     let a = c .before .before .before .before .before .before .before .before .before .before .args in
     sym (write-short (a .key) (a .size) (a .file .now) (a .buffer .now) (key-passed (c .before .before .before .before .before)) (omega arith) (right (c .before .before)) (omega (arith, c .before .page-count .ensures)))
 
--- src/lib.rt:102:5
 put-sheet-requires : tie.Need-put-sheet-requires
 put-sheet-requires c κs =
     let b = size (c .before .before .before) in
     (passed-low (key-passed (c .before .before .before .before .before .before)), b .0, b .1, omega arith, omega (arith, c .before .before .page-count .ensures))
 
--- src/lib.rt:81:1
 same-length : tie.Need-same-length
 same-length c = search needs
 
--- src/lib.rt:81:1
 returns-5 : tie.Need-returns-5
 returns-5 c =
     let a = c .before .before .before .before .before .before .before .before .before .before .before .before .before .before .args in

@@ -1,22 +1,16 @@
-use mathlib.Core.Path.{_≡_, refl, sym, ap, _∙_}
-use Prim.Native.Nat.{ℕ, _+_, _-_, _*_, _/_, _%_, _^_, _≤_, _<_}
+use mathlib.Core.Path.{_≡_, sym, ap, _∙_}
+use Prim.Native.Nat.{ℕ, _+_, _-_, _*_, _^_, _≤_}
 use native.Mathlib.Nat.{add-zero}
 use native.Mathlib.Omega.{arith}
-use lib.ListN.{length, getD}
-use Rattle.gf2.specs.Polynomials.{_⊗_, monic, rem}
+use lib.ListN.{length}
+use Rattle.gf2.specs.Polynomials.{monic, rem}
 use Rattle.gf2.proofs.Monics.{monic-pos}
-use Rattle.multiples.specs.Rows.{Multiples, SameBefore}
+use Rattle.multiples.specs.Rows.{Multiples}
 use Rattle.multiples.proofs.Doubling.{rem-below}
 use Rattle.tables.proofs.Rule.{power-next}
-use Rattle.shifts.specs.Shifts.{Shifts}
 use Rattle.shifts.proofs.Products.{Rows, row-more}
 use Rattle.shifts.proofs.fill.Statement.{statement}
 use Rattle.shifts.proofs.fill.Tie as tie
-use Rattle.shifts.proofs.fill.Reads as reads
-use Rattle.shifts.proofs.fill.Lts as lts
-use Rattle.gf2.proofs.power_of_t.Reads as power-of-t-reads
-use Rattle.gf2.proofs.step.Reads as step-reads
-use Rattle.multiples.proofs.fill_row.Reads as fill-row-reads
 
 abbrev Inv-loop : tie.InvT-loop
 Inv-loop words₀ k low n x₀ j₀ words x j = (j ≤ 8) × (length words ≡ 2048) × (x ≡ rem (monic k low) (2 ^ (8 * n + 8 * j))) × Rows 8 (8 * n) (monic k low) j words
@@ -24,25 +18,20 @@ Inv-loop words₀ k low n x₀ j₀ words x j = (j ≤ 8) × (length words ≡ 2
 abbrev μ-loop : tie.MeasureT-loop
 μ-loop words₀ k low n x₀ j₀ words x j = 8 - j
 
--- src/shifts.rt:15:41
 mul-power-of-t : tie.Need-mul-power-of-t Inv-loop μ-loop
 mul-power-of-t c = omega arith
 
--- src/shifts.rt:15:9
 power-of-t-requires : tie.Need-power-of-t-requires Inv-loop μ-loop
 power-of-t-requires c κs = c .before .pre .0
 
--- src/shifts.rt:17:5
 loop-holds : tie.Need-loop-holds Inv-loop μ-loop
 loop-holds c =
     let s = c .before .before in
     (omega arith, s .pre .2, c .power-of-t .ensures ∙ ap (λ (n : ℕ). rem (monic (s .args .k) (s .args .low)) (2 ^ n)) (sym (add-zero (8 * s .args .n))), λ j l. absurd (omega arith))
 
--- src/shifts.rt:18:18
 mul-at : tie.Need-mul-at Inv-loop μ-loop
 mul-at c = omega arith
 
--- src/shifts.rt:19:9
 fill-row-requires : tie.Need-fill-row-requires Inv-loop μ-loop
 fill-row-requires c κs =
     let s = c .before .before .before .before .before in
@@ -50,35 +39,28 @@ fill-row-requires c κs =
     let l = c .before .before .loop in
     (s .pre .0, rw (l .inv .2) (rem-below (a .k) (a .low) (s .pre .0 .2) (2 ^ (8 * a .n + 8 * l .j))), omega arith)
 
--- src/shifts.rt:20:37
 add-step : tie.Need-add-step Inv-loop μ-loop
 add-step c = omega arith
 
--- src/shifts.rt:20:31
 mul-step : tie.Need-mul-step Inv-loop μ-loop
 mul-step c = omega arith
 
--- src/shifts.rt:20:31
 slice-read-step : tie.Need-slice-read-step Inv-loop μ-loop
 slice-read-step c =
     omega (arith, c .before .before .before .fill-row .kept .0, c .before .before .before .before .before .before .loop .inv .1)
 
--- src/shifts.rt:20:9
 step-requires : tie.Need-step-requires Inv-loop μ-loop
 step-requires c κs =
     let s = c .before .before .before .before .before .before .before .before .before in
     let e = c .before .before .before .fill-row .ensures .0 128 (omega arith) in
     (s .pre .0, rw e (rem-below (s .args .k) (s .args .low) (s .pre .0 .2) _), omega arith)
 
--- src/shifts.rt:21:9
 add-j : tie.Need-add-j Inv-loop μ-loop
 add-j c = omega arith
 
--- src/shifts.rt:17:5
 loop-less : tie.Need-loop-less Inv-loop μ-loop
 loop-less c = omega arith
 
--- src/shifts.rt:17:5
 loop-again : tie.Need-loop-again Inv-loop μ-loop
 loop-again c =
     let s = c .before .before .before .before .before .before .before .before .before .before in
@@ -95,11 +77,9 @@ loop-again c =
       row-more 8 (8 * a .n) key (l .j) (l .words) (r .last .0) (l .inv .3) (r .ensures .1) row,
     )
 
--- src/shifts.rt:11:1
 same-length : tie.Need-same-length Inv-loop μ-loop
 same-length c = c .before .loop .inv .1 ∙ sym (c .before .before .before .before .pre .2)
 
--- src/shifts.rt:11:1
 returns : tie.Need-returns Inv-loop μ-loop
 returns c =
     let v = c .before .loop .inv in

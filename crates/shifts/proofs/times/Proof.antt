@@ -1,15 +1,12 @@
-use mathlib.Core.Path.{_≡_, refl, sym, ap, _∙_}
-use Prim.Native.Nat.{ℕ, _+_, _-_, _*_, _/_, _%_, _^_, _≤_, _<_}
+use mathlib.Core.Path.{_≡_, sym, _∙_}
+use Prim.Native.Nat.{_+_, _-_, _≤_}
 use native.Mathlib.Omega.{arith}
-use lib.ListN.{length, getD}
 use Rattle.gf2.specs.Polynomials.{_⊕_}
 use Rattle.gf2.proofs.Sums.{zero-⊕}
 use Rattle.lookups.specs.Groups.{looked}
 use Rattle.shifts.proofs.Products.{look-next, look-done}
 use Rattle.shifts.proofs.times.Statement.{statement}
 use Rattle.shifts.proofs.times.Tie as tie
-use Rattle.shifts.proofs.times.Reads as reads
-use Rattle.shifts.proofs.times.Lts as lts
 
 abbrev Inv-loop : tie.InvT-loop
 Inv-loop words f sum₀ rest₀ j₀ sum rest j = (j ≤ 8) × (sum ⊕ looked 8 words (8 - j) j rest ≡ looked 8 words 8 0 f)
@@ -17,35 +14,27 @@ Inv-loop words f sum₀ rest₀ j₀ sum rest j = (j ≤ 8) × (sum ⊕ looked 8
 abbrev μ-loop : tie.MeasureT-loop
 μ-loop words f sum₀ rest₀ j₀ sum rest j = 8 - j
 
--- src/shifts.rt:33:5
 loop-holds : tie.Need-loop-holds Inv-loop μ-loop
 loop-holds c = (omega arith, zero-⊕ (looked 8 (c .args .words .now) 8 0 (c .args .f)))
 
--- src/shifts.rt:34:27
 mul-sum : tie.Need-mul-sum Inv-loop μ-loop
 mul-sum c = omega arith
 
--- src/shifts.rt:34:27
 add-sum : tie.Need-add-sum Inv-loop μ-loop
 add-sum c = omega arith
 
--- src/shifts.rt:34:21
 mul-sum-2 : tie.Need-mul-sum-2 Inv-loop μ-loop
 mul-sum-2 c = omega arith
 
--- src/shifts.rt:34:21
 shared-slice-read-sum : tie.Need-shared-slice-read-sum Inv-loop μ-loop
 shared-slice-read-sum c = omega arith
 
--- src/shifts.rt:36:9
 add-j : tie.Need-add-j Inv-loop μ-loop
 add-j c = omega arith
 
--- src/shifts.rt:33:5
 loop-less : tie.Need-loop-less Inv-loop μ-loop
 loop-less c = omega arith
 
--- src/shifts.rt:33:5
 loop-again : tie.Need-loop-again Inv-loop μ-loop
 unfolding _⊕_
 loop-again c =
@@ -54,7 +43,6 @@ loop-again c =
     let e : 8 - (l .j + 1) ≡ 8 - l .j - 1 = omega arith in
     (omega arith, rw e (sym (look-next (a .words .now) (l .sum) (l .rest) (8 - l .j) (l .j) (omega arith)) ∙ l .inv .1))
 
--- src/shifts.rt:26:1
 returns : tie.Need-returns Inv-loop μ-loop
 returns c =
     let l = c .before .loop in

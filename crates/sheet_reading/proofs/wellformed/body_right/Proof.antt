@@ -1,15 +1,15 @@
-use mathlib.Core.Path.{_≡_, refl, sym, ap, ap₂, _∙_}
-use mathlib.Core.Bool.{Bool, true, false, not}
-use mathlib.Core.List.{List, []}
-use Prim.Native.Nat.{ℕ, _+_, _-_, _*_, _/_, _%_, _^_, _≤_, _<_}
+use mathlib.Core.Path.{_≡_, sym, ap, ap₂, _∙_}
+use mathlib.Core.Bool.{true, false}
+use mathlib.Core.List.{[]}
+use Prim.Native.Nat.{ℕ, _+_, _-_, _*_, _^_, _≤_, _<_}
 use native.Mathlib.Omega.{arith}
 use lib.ListN.{length}
 use borrow.Author.Tests.{eq-eqb, ne-eqb, not-true, not-false}
 use Rattle.gf2.specs.Polynomials.{_⊗_, monic, degree, rem}
 use Rattle.multiples.proofs.Doubling.{rem-below}
-use Rattle.keys.proofs.Laws.{degree-from, degree-word}
+use Rattle.keys.proofs.Laws.{degree-word}
 use Rattle.files.specs.Files.{markOf}
-use Rattle.sheets.specs.Layout.{version1, numberAt, numbersAt, lengthIn, sizeIn, pageCount}
+use Rattle.sheets.specs.Layout.{numberAt, numbersAt}
 use Rattle.sheets.specs.Sheets.{someUnreduced, joinedPages}
 use Rattle.sheets.proofs.Numbers.{numbers-last}
 use Rattle.sheets.proofs.Pages.{count-covers, count-tight, count-small}
@@ -19,16 +19,6 @@ use Rattle.sheets.proofs.Moduli.{Held, held}
 use borrow.Author.Needs.{needs}
 use Rattle.sheet_reading.proofs.wellformed.body_right.Statement.{statement}
 use Rattle.sheet_reading.proofs.wellformed.body_right.Tie as tie
-use Rattle.sheet_reading.proofs.wellformed.body_right.Reads as reads
-use Rattle.sheet_reading.proofs.wellformed.body_right.Lts as lts
-use Rattle.gf2.proofs.degree.Reads as degree-reads
-use Rattle.gf2.proofs.low_bits.Reads as low-bits-reads
-use Rattle.gf2.proofs.power_of_t.Reads as power-of-t-reads
-use Rattle.gf2.proofs.product.Reads as product-reads
-use Rattle.sheets.proofs.fields.number_at.Reads as number-at-reads
-use Rattle.sheets.proofs.fields.page_count.Reads as page-count-reads
-use Rattle.sheet_reading.proofs.wellformed.fields_reduced.Reads as fields-reduced-reads
-use Rattle.sheet_reading.proofs.wellformed.pages_joined.Reads as pages-joined-reads
 
 small : (c : tie.After-page-count) → c .page-count .result < 2 ^ 29
 small c =
@@ -56,19 +46,15 @@ fields c =
     let none : someUnreduced k (numbersAt 19 8 (n + 1) l) ≡ false = not-true _ (sym (c .before .fields-reduced .ensures) ∙ not-false _ (c .if2 .left)) in
     reduced-last k (numbersAt 19 8 n l) (numberAt (19 + 8 * n) 8 l) (rw (numbers-last 19 8 n l) at none)
 
--- src/wellformed.rt:74:9
 page-count-requires : tie.Need-page-count-requires
 page-count-requires c κs = search needs
 
--- src/wellformed.rt:75:35
 mul-if1 : tie.Need-mul-if1
 mul-if1 c = omega (arith, small c)
 
--- src/wellformed.rt:75:30
 add-if1 : tie.Need-add-if1
 add-if1 c = omega (arith, small c)
 
--- src/wellformed.rt:76:9
 returns : tie.Need-returns
 returns c =
     let s = c .before .before .before in
@@ -76,25 +62,20 @@ returns c =
     let n = c .before .page-count .result in
     rw (body-is (s .args .sheet .now) (s .args .key) (s .args .n) (s .args .size) n (q .5) (q .6) (q .7) (c .before .page-count .ensures), ne-eqb (length (s .args .sheet .now)) (27 + 8 * n) (c .if1 .taken))
 
--- src/wellformed.rt:78:9
 degree-requires : tie.Need-degree-requires
 degree-requires c κs = search needs
 
--- src/wellformed.rt:79:9
 low-bits-requires : tie.Need-low-bits-requires
 low-bits-requires c κs =
     let s = c .before .before .before .before in
     rw (c .degree .ensures) (degree-word (s .args .key) (omega arith) (s .fits .key .fits))
 
--- src/wellformed.rt:80:34
 add-fields-reduced : tie.Need-add-fields-reduced
 add-fields-reduced c = search needs
 
--- src/wellformed.rt:80:9
 fields-reduced-requires : tie.Need-fields-reduced-requires
 fields-reduced-requires c κs = (key-held c .word, omega arith)
 
--- src/wellformed.rt:81:9
 returns-2 : tie.Need-returns-2
 returns-2 c =
     let s = c .before .before .before .before .before .before .before in
@@ -105,48 +86,38 @@ returns-2 c =
     rw (← (c .before .before .before .degree .ensures)) (not-false _ (sym (c .before .fields-reduced .ensures) ∙ not-true _ (c .if2 .taken))) in
     rw (body-is l (s .args .key) (s .args .n) (s .args .size) n (q .5) (q .6) (q .7) (c .before .before .before .before .before .page-count .ensures), eq-eqb (length l) (27 + 8 * n) (c .before .before .before .before .if1 .left), t)
 
--- src/wellformed.rt:83:9
 pages-joined-requires : tie.Need-pages-joined-requires
 pages-joined-requires c κs =
     let h = key-held (c .before .before) in
-    (h .modulus, c .before .before .before .before .before .before .before .pre .3, omega arith, fields c .0)
+    (h .modulus, c .before .before .before .before .before .before .before .pre .3, small (c .before .before .before .before .before), omega arith, fields c .0)
 
--- src/wellformed.rt:84:47
 mul-number-at : tie.Need-mul-number-at
 mul-number-at c = search needs
 
--- src/wellformed.rt:84:42
 add-number-at : tie.Need-add-number-at
 add-number-at c = search needs
 
--- src/wellformed.rt:84:9
 number-at-requires : tie.Need-number-at-requires
 number-at-requires c κs = search needs
 
--- src/wellformed.rt:85:46
 mul-power-of-t : tie.Need-mul-power-of-t
 mul-power-of-t c = omega (arith, tight (c .before .before .before .before .before .before .before))
 
--- src/wellformed.rt:85:46
 sub-power-of-t : tie.Need-sub-power-of-t
 sub-power-of-t c = covered (c .before .before .before .before .before .before .before)
 
--- src/wellformed.rt:85:41
 mul-power-of-t-2 : tie.Need-mul-power-of-t-2
 mul-power-of-t-2 c = omega (arith, tight (c .before .before .before .before .before .before .before))
 
--- src/wellformed.rt:85:9
 power-of-t-requires : tie.Need-power-of-t-requires
 power-of-t-requires c κs = key-held (c .before .before .before .before) .modulus
 
--- src/wellformed.rt:86:15
 product-requires : tie.Need-product-requires
 product-requires c κs =
     let h = key-held (c .before .before .before .before .before) in
     let k = c .before .before .before .before .before .before .degree .result in
     (h .modulus, rw (c .before .number-at .ensures .0) (fields (c .before .before .before) .1), rw (c .power-of-t .ensures) (rem-below k (c .before .before .before .before .before .low-bits .result) (h .modulus .2) _))
 
--- src/wellformed.rt:67:1
 returns-3 : tie.Need-returns-3
 returns-3 c =
     let s = c .before .before .before .before .before .before .before .before .before .before .before in

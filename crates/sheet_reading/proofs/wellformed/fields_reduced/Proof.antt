@@ -1,17 +1,14 @@
 use mathlib.Core.Path.{_≡_, refl, sym, ap, _∙_}
-use mathlib.Core.Bool.{Bool, true, false, not}
-use Prim.Native.Nat.{ℕ, _+_, _-_, _*_, _/_, _%_, _^_, _≤_, _<_}
+use mathlib.Core.Bool.{not}
+use Prim.Native.Nat.{_+_, _-_, _*_, _≤_}
 use native.Mathlib.Omega.{arith}
-use lib.ListN.{length, getD}
+use lib.ListN.{length}
 use Rattle.sheets.specs.Layout.{numberAt, numbersAt}
 use Rattle.sheets.specs.Sheets.{someUnreduced}
 use Rattle.sheets.proofs.Numbers.{numbers-next, numbers-done}
 use Rattle.sheet_reading.proofs.Joining.{unreduced-here, unreduced-later, unreduced-none}
 use Rattle.sheet_reading.proofs.wellformed.fields_reduced.Statement.{statement}
 use Rattle.sheet_reading.proofs.wellformed.fields_reduced.Tie as tie
-use Rattle.sheet_reading.proofs.wellformed.fields_reduced.Reads as reads
-use Rattle.sheet_reading.proofs.wellformed.fields_reduced.Lts as lts
-use Rattle.sheets.proofs.fields.number_at.Reads as number-at-reads
 
 abbrev Inv-loop : tie.InvT-loop
 Inv-loop sheet k n place₀ left₀ place left = (place + 8 * left ≤ length sheet) × (someUnreduced k (numbersAt place 8 left sheet) ≡ someUnreduced k (numbersAt 19 8 n sheet))
@@ -19,19 +16,15 @@ Inv-loop sheet k n place₀ left₀ place left = (place + 8 * left ≤ length sh
 abbrev μ-loop : tie.MeasureT-loop
 μ-loop sheet k n place₀ left₀ place left = left
 
--- src/wellformed.rt:34:5
 loop-holds : tie.Need-loop-holds Inv-loop μ-loop
 loop-holds c = (c .before .pre .1, refl)
 
--- src/wellformed.rt:35:12
 number-at-requires : tie.Need-number-at-requires Inv-loop μ-loop
 number-at-requires c κs = omega arith
 
--- src/wellformed.rt:35:12
 shr-if1 : tie.Need-shr-if1 Inv-loop μ-loop
 shr-if1 c = omega arith
 
--- src/wellformed.rt:36:13
 returns : tie.Need-returns Inv-loop μ-loop
 returns c =
     let a = c .before .before .before .before .before .args in
@@ -42,19 +35,15 @@ returns c =
     (rw (c .before .number-at .ensures .0) at (c .if1 .taken)) in
     sym (ap not (sym (l .inv .1) ∙ ap (someUnreduced (a .k)) next ∙ here))
 
--- src/wellformed.rt:38:9
 add-place : tie.Need-add-place Inv-loop μ-loop
 add-place c = omega arith
 
--- src/wellformed.rt:39:9
 sub-left : tie.Need-sub-left Inv-loop μ-loop
 sub-left c = omega arith
 
--- src/wellformed.rt:34:5
 loop-less : tie.Need-loop-less Inv-loop μ-loop
 loop-less c = omega arith
 
--- src/wellformed.rt:34:5
 loop-again : tie.Need-loop-again Inv-loop μ-loop
 loop-again c =
     let a = c .before .before .before .before .before .args in
@@ -65,7 +54,6 @@ loop-again c =
     (rw (c .before .number-at .ensures .0) at (c .if1 .left)) in
     (omega arith, sym later ∙ ap (someUnreduced (a .k)) (sym next) ∙ l .inv .1)
 
--- src/wellformed.rt:28:1
 returns-2 : tie.Need-returns-2 Inv-loop μ-loop
 returns-2 c =
     let a = c .before .before .before .args in

@@ -1,5 +1,4 @@
-use mathlib.Core.Path.{_≡_, refl, sym, ap, _∙_}
-use mathlib.Core.Bool.{Bool, true, false, not}
+use mathlib.Core.Path.{sym, _∙_}
 use native.Mathlib.Omega.{arith}
 use lib.Dec.{eqb}
 use lib.ListN.{length}
@@ -9,29 +8,21 @@ use Rattle.sheet_reading.proofs.Joining.{twice}
 use borrow.Author.Needs.{needs}
 use Rattle.sheet_reading.proofs.wellformed.head_right.Statement.{statement}
 use Rattle.sheet_reading.proofs.wellformed.head_right.Tie as tie
-use Rattle.sheet_reading.proofs.wellformed.head_right.Reads as reads
-use Rattle.sheet_reading.proofs.wellformed.head_right.Lts as lts
-use Rattle.sheets.proofs.fields.number_at.Reads as number-at-reads
 
--- src/wellformed.rt:19:9
 returns : tie.Need-returns
 returns c = rw (lt-ltb (length (c .before .before .args .sheet .now)) 27 (c .if1 .taken))
 
--- src/wellformed.rt:21:8
 number-at-requires : tie.Need-number-at-requires
 number-at-requires c κs = search needs
 
--- src/wellformed.rt:22:9
 returns-2 : tie.Need-returns-2
 returns-2 c =
     let sheet = c .before .before .before .before .args .sheet .now in
     rw (le-ltb (length sheet) 27 (omega arith), ne-eqb (numberAt 0 3 sheet) 0x474650 (λ e. c .if2 .taken (c .before .number-at .ensures .0 ∙ e)))
 
--- src/wellformed.rt:24:5
 number-at-requires-2 : tie.Need-number-at-requires-2
 number-at-requires-2 c κs = search needs
 
--- src/wellformed.rt:15:1
 returns-3 : tie.Need-returns-3
 returns-3 c =
     let sheet = c .before .before .before .before .before .args .sheet .now in

@@ -1,17 +1,14 @@
-use mathlib.Core.Path.{_≡_, refl, sym, ap, _∙_}
+use mathlib.Core.Path.{_≡_, sym, ap, _∙_}
 use Prim.Native.Nat.{ℕ, _+_, _-_, _*_, _^_, _≤_, _<_}
 use native.Mathlib.Omega.{arith}
 use native.Mathlib.Nat.{sub-zero}
-use lib.ListN.{length, getD, take, drop}
+use lib.ListN.{getD, take, drop}
 use lib.Pow.{pow-mono}
 use Rattle.files.specs.Files.{bits, valueFrom}
 use Rattle.sheets.specs.Layout.{numberAt}
 use Rattle.sheets.proofs.Numbers.{load-next, load-done, load-lt}
 use Rattle.sheets.proofs.fields.number_at.Statement.{statement}
 use Rattle.sheets.proofs.fields.number_at.Tie as tie
-use Rattle.sheets.proofs.fields.number_at.Reads as reads
-use Rattle.sheets.proofs.fields.number_at.Lts as lts
-use Rattle.sheets.proofs.fields.wide.Reads as wide-reads
 
 abbrev Inv-loop : tie.InvT-loop
 Inv-loop bytes at w x₀ n₀ i₀ x n i = (n ≤ w) × (i ≡ at + n) × (x < 2 ^ (8 * n)) × (valueFrom x (bits (take (w - n) (drop i bytes))) ≡ numberAt at w bytes)
@@ -19,47 +16,38 @@ Inv-loop bytes at w x₀ n₀ i₀ x n i = (n ≤ w) × (i ≡ at + n) × (x < 2
 abbrev μ-loop : tie.MeasureT-loop
 μ-loop bytes at w x₀ n₀ i₀ x n i = w - n
 
--- src/fields.rt:36:5
 loop-holds : tie.Need-loop-holds Inv-loop μ-loop
 unfolding numberAt
 loop-holds c =
     (omega arith, omega arith, omega arith, ap (λ (m : ℕ). valueFrom 0 (bits (take m (drop (c .before .args .at) (c .before .args .bytes .now))))) (sub-zero (c .before .args .w)))
 
--- src/fields.rt:37:13
 mul-x : tie.Need-mul-x Inv-loop μ-loop
 mul-x c =
     let l = c .before .loop in
     let m : 2 ^ (8 * l .n) ≤ 2 ^ 56 = pow-mono {i = 8 * l .n} {j = 56} (omega arith) in
     omega arith
 
--- src/fields.rt:37:28
 shared-slice-read-wide : tie.Need-shared-slice-read-wide Inv-loop μ-loop
 shared-slice-read-wide c = omega arith
 
--- src/fields.rt:37:23
 wide-requires : tie.Need-wide-requires Inv-loop μ-loop
 wide-requires c κs = tt
 
--- src/fields.rt:37:13
 add-x : tie.Need-add-x Inv-loop μ-loop
 add-x c =
     let l = c .before .before .before .loop in
     let m : 2 ^ (8 * l .n) ≤ 2 ^ 56 = pow-mono {i = 8 * l .n} {j = 56} (omega arith) in
     omega arith
 
--- src/fields.rt:38:9
 add-n : tie.Need-add-n Inv-loop μ-loop
 add-n c = omega arith
 
--- src/fields.rt:39:9
 add-i : tie.Need-add-i Inv-loop μ-loop
 add-i c = omega arith
 
--- src/fields.rt:36:5
 loop-less : tie.Need-loop-less Inv-loop μ-loop
 loop-less c = omega arith
 
--- src/fields.rt:36:5
 loop-again : tie.Need-loop-again Inv-loop μ-loop
 loop-again c =
     let a = c .before .before .before .before .before .args in
@@ -72,7 +60,6 @@ loop-again c =
       rw (e, c .wide .ensures .0) (sym (load-next (a .bytes .now) (l .i) (l .x) (a .w - l .n) (omega arith) (omega arith) b) ∙ l .inv .3),
     )
 
--- src/fields.rt:29:1
 returns : tie.Need-returns Inv-loop μ-loop
 returns c =
     let l = c .before .loop in

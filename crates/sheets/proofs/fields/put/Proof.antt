@@ -7,8 +7,6 @@ use Rattle.sheets.specs.Layout.{bytesOf}
 use Rattle.sheets.proofs.Numbers.{store-next, store-done}
 use Rattle.sheets.proofs.fields.put.Statement.{statement}
 use Rattle.sheets.proofs.fields.put.Tie as tie
-use Rattle.sheets.proofs.fields.put.Reads as reads
-use Rattle.sheets.proofs.fields.put.Lts as lts
 
 abbrev Inv-loop : tie.InvT-loop
 Inv-loop bytes₀ at w x left₀ i₀ bytes left i = (left ≤ 8) × (i + left ≤ length bytes) × (length bytes ≡ length bytes₀) × (sets bytes i (bytesOf left x) ≡ sets bytes₀ at (bytesOf w x))

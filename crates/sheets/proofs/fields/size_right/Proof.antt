@@ -1,20 +1,14 @@
-use mathlib.Core.Path.{refl}
 use native.Mathlib.Omega.{arith}
 use borrow.Author.Tests.{lt-ltb, le-ltb}
 use Rattle.sheets.proofs.fields.size_right.Statement.{statement}
 use Rattle.sheets.proofs.fields.size_right.Tie as tie
-use Rattle.sheets.proofs.fields.size_right.Reads as reads
-use Rattle.sheets.proofs.fields.size_right.Lts as lts
 
--- src/fields.rt:59:9
 returns : tie.Need-returns
 returns c = rw (lt-ltb (c .before .args .s) 16 (c .if1 .taken))
 
--- src/fields.rt:62:9
 returns-2 : tie.Need-returns-2
 returns-2 c = rw (le-ltb (c .before .before .args .s) 16 (omega arith), lt-ltb 4096 (c .before .before .args .s) (c .if2 .taken))
 
--- src/fields.rt:55:1
 returns-3 : tie.Need-returns-3
 returns-3 c = rw (le-ltb (c .before .before .args .s) 16 (omega arith), le-ltb 4096 (c .before .before .args .s) (omega arith))
 

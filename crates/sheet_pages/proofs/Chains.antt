@@ -1,0 +1,247 @@
+-- Laws of page marks joined: one field a turn, and in runs.
+use mathlib.Core.Path.{_≡_, refl, sym, ap, ap₂, _∙_}
+use mathlib.Core.Bool.{false}
+use mathlib.Core.List.{List, [], _∷_, _++_, append-assoc}
+use Prim.Native.Nat.{ℕ, zero, suc, _+_, _-_, _*_, _^_, _≤_, _<_}
+use native.Mathlib.Nat.{lt-of-lt-of-le, suc-add, add-comm, add-zero, zero-add, mul-assoc, mul-zero, mul-one, mul-suc, zero-mul}
+use native.Mathlib.Omega.{arith}
+use lib.Dec.{leb}
+use lib.ListN.{length, getD}
+use lib.Pow.{pow-pos, pow-mono, pow-lt, pow-add}
+use borrow.Author.Tests.{leb-false}
+use Rattle.gf2.specs.Polynomials.{_⊕_, _⊗_, rem, monic, degree, Modulus}
+use Rattle.gf2.proofs.Sums.{zero-⊕, ⊕-zero, ⊕-assoc, ⊕-shl}
+use Rattle.gf2.proofs.Residues.{rem-lt, rem-small, rem-⊕}
+use Rattle.gf2.proofs.Powers.{rem-shl}
+use Rattle.gf2.proofs.Monics.{monic-pos, monic-degree}
+use Rattle.acceptance.proofs.Laws.{or-neither}
+use Rattle.files.specs.declared.Mark.{Mark}
+use Rattle.files.specs.Files.{bits, valueFrom, value, fingerprint, markOf}
+use Rattle.compose.specs.Composing.{joined}
+use Rattle.lookups.specs.declared.Runs.{Runs}
+use Rattle.lookups.specs.Groups.{looked}
+use Rattle.shifts.specs.Shifts.{Shifts}
+use Rattle.shifts.proofs.Products.{product-shift, joined-by-table}
+use Rattle.sheets.specs.Layout.{numberAt, numbersAt}
+use Rattle.sheets.specs.Sheets.{someUnreduced, joinedPages}
+use Rattle.sheets.proofs.Numbers.{numbers-next, numbers-done, length-numbersAt}
+use Rattle.sheet_pages.specs.Fours.{chained, looping, FourChains}
+
+-- ---- as the code goes: one field a turn
+
+pub looping-next : (words : List ℕ) (x place n g y : ℕ) (l : List ℕ) → 0 < n → g ≡ numberAt place 8 l → y ≡ looked 8 words 8 0 x ⊕ g ⊕ getD words 1 0
+    → looping words x (numbersAt place 8 n l) ≡ looping words y (numbersAt (place + 8) 8 (n - 1) l)
+unfolding looping
+looping-next words x place n g y l h eg ey = rw (numbers-next place 8 n l h, ey, eg)
+
+pub looping-done : (words : List ℕ) (x place n : ℕ) (l : List ℕ) → n ≡ 0 → looping words x (numbersAt place 8 n l) ≡ x
+unfolding looping
+looping-done words x place n l e = rw (numbers-done place 8 n l e)
+
+-- ---- reduced fields
+
+pub reduced-first : (k f : ℕ) (fs : List ℕ) → someUnreduced k (f ∷ fs) ≡ false → (f < 2 ^ k) × (someUnreduced k fs ≡ false)
+unfolding someUnreduced
+reduced-first k f fs e = let o = or-neither (leb (2 ^ k) f) (someUnreduced k fs) e in (leb-false (2 ^ k) f (o .0), o .1)
+
+pub reduced-split : (k : ℕ) (fs gs : List ℕ) → someUnreduced k (fs ++ gs) ≡ false → (someUnreduced k fs ≡ false) × (someUnreduced k gs ≡ false)
+unfolding someUnreduced
+reduced-split k [] gs e = (refl, e)
+reduced-split k (f ∷ fs) gs e =
+    let o = or-neither (leb (2 ^ k) f) (someUnreduced k (fs ++ gs)) e in
+    let i = reduced-split k fs gs (o .1) in
+    (rw (o .0) (i .0), i .1)
+
+pub numbers-split : (m n place w : ℕ) (l : List ℕ) → numbersAt place w (m + n) l ≡ numbersAt place w m l ++ numbersAt (place + w * m) w n l
+unfolding numbersAt
+numbers-split zero n place w l = ap₂ (λ (c p : ℕ). numbersAt p w c l) (zero-add n) (sym (rw (mul-zero w) (add-zero place)))
+numbers-split (suc m) n place w l =
+    let e : place + w + w * m ≡ place + w * suc m = omega (arith, mul-suc w m) in
+    ap (λ (c : ℕ). numbersAt place w c l) (suc-add m n)
+    ∙ ap (λ (r : List ℕ). numberAt place w l ∷ r) (numbers-split m n (place + w) w l ∙ ap (λ (p : ℕ). numbersAt (place + w) w m l ++ numbersAt p w n l) e)
+
+-- ---- the chain
+
+module _ {key : ℕ} (pos : 0 < key) (e : ℕ) where
+  pub chained-append : (f : ℕ) (u v : List ℕ) → chained key e f (u ++ v) ≡ chained key e (chained key e f u) v
+  unfolding chained
+  chained-append f [] v = refl
+  chained-append f (g ∷ u) v = chained-append (rem key (f * 2 ^ e ⊕ g ⊕ 2 ^ e)) u v
+
+  pub chained-lt : (f : ℕ) (gs : List ℕ) → f < 2 ^ degree key → chained key e f gs < 2 ^ degree key
+  unfolding chained
+  chained-lt f [] h = h
+  chained-lt f (g ∷ gs) h = chained-lt (rem key (f * 2 ^ e ⊕ g ⊕ 2 ^ e)) gs (rem-lt pos (f * 2 ^ e ⊕ g ⊕ 2 ^ e))
+
+  shifted-sum : (a b w : ℕ) → rem key ((a ⊕ b) * 2 ^ w) ≡ rem key (a * 2 ^ w) ⊕ rem key (b * 2 ^ w)
+  shifted-sum a b w = ap (rem key) (⊕-shl w a b) ∙ rem-⊕ pos (a * 2 ^ w) (b * 2 ^ w)
+
+  -- what stands in front of a run is shifted by it
+  pub chained-start : (f : ℕ) (gs : List ℕ) → f < 2 ^ degree key → chained key e f gs ≡ rem key (f * 2 ^ (e * length gs)) ⊕ chained key e 0 gs
+  unfolding chained
+  chained-start f [] h = sym (⊕-zero (rem key (f * 2 ^ (e * 0))) ∙ rw (mul-zero e, mul-one) (rem-small pos f h))
+  chained-start f (g ∷ gs) h =
+      let n = length gs in
+      let c = g ⊕ 2 ^ e in
+      let none : 0 * 2 ^ e ⊕ g ⊕ 2 ^ e ≡ c = rw (zero-mul, zero-⊕) in
+      let up : f * 2 ^ e * 2 ^ (e * n) ≡ f * 2 ^ (e * suc n) = rw (mul-suc e n, add-comm (e * n) e, pow-add 2 e (e * n)) (mul-assoc f (2 ^ e) (2 ^ (e * n))) in
+      chained-start (rem key (f * 2 ^ e ⊕ g ⊕ 2 ^ e)) gs (rem-lt pos (f * 2 ^ e ⊕ g ⊕ 2 ^ e))
+      ∙ ap (λ (x : ℕ). x ⊕ chained key e 0 gs)
+      (rem-shl pos (f * 2 ^ e ⊕ g ⊕ 2 ^ e) (e * n)
+      ∙ ap (λ (x : ℕ). rem key (x * 2 ^ (e * n))) (⊕-assoc (f * 2 ^ e) g (2 ^ e))
+      ∙ shifted-sum (f * 2 ^ e) c (e * n)
+      ∙ ap (λ (x : ℕ). rem key x ⊕ rem key (c * 2 ^ (e * n))) up)
+      ∙ ⊕-assoc (rem key (f * 2 ^ (e * suc n))) (rem key (c * 2 ^ (e * n))) (chained key e 0 gs)
+      ∙ ap (λ (x : ℕ). rem key (f * 2 ^ (e * suc n)) ⊕ x)
+      (sym
+      (chained-start (rem key (0 * 2 ^ e ⊕ g ⊕ 2 ^ e)) gs (rem-lt pos (0 * 2 ^ e ⊕ g ⊕ 2 ^ e))
+      ∙ ap (λ (x : ℕ). x ⊕ chained key e 0 gs) (rem-shl pos (0 * 2 ^ e ⊕ g ⊕ 2 ^ e) (e * n) ∙ ap (λ (x : ℕ). rem key (x * 2 ^ (e * n))) none)))
+
+  -- by the table
+  pub looping-chained : (words : List ℕ) → Shifts key e words → degree key ≤ 64 → (f : ℕ) (gs : List ℕ) → f < 2 ^ degree key → someUnreduced (degree key) gs ≡ false
+      → looping words f gs ≡ chained key e f gs
+  unfolding looping chained
+  looping-chained words s d f [] h r = refl
+  looping-chained words s d f (g ∷ gs) h r =
+      let o = reduced-first (degree key) g gs r in
+      let step = joined-by-table pos e words s f g (lt-of-lt-of-le h (pow-mono {i = degree key} {j = 64} d)) (o .0) in
+      ap (λ (x : ℕ). looping words x gs) step ∙ looping-chained words s d (rem key (f * 2 ^ e ⊕ g ⊕ 2 ^ e)) gs (rem-lt pos (f * 2 ^ e ⊕ g ⊕ 2 ^ e)) (o .1)
+
+pub joined-chained : (key s : ℕ) (m : Mark) (fs : List ℕ) → joinedPages key s m fs .fingerprint ≡ chained key (8 * s) (m .fingerprint) fs
+unfolding joinedPages joined chained
+joined-chained key s m [] = refl
+joined-chained key s m (f ∷ fs) = joined-chained key s (joined key m (record { fingerprint = f; length = s })) fs
+
+pub empty-print : (k low : ℕ) → 0 < k → low < 2 ^ k → markOf (monic k low) [] .fingerprint ≡ 1
+unfolding markOf fingerprint value valueFrom bits
+empty-print k low p h = rem-small (monic-pos k low h) 1 (rw (monic-degree k low h) (pow-lt {i = 0} {j = k} p))
+
+-- ---- runs
+
+-- a run of q fields, each for itself behind 0, joined behind what has the residue x
+module _ (k low : ℕ) (m : low < 2 ^ k) (e q : ℕ) where
+  pub run-behind : (u v : List ℕ) (x y t r : ℕ) → length v ≡ q → x ≡ chained (monic k low) e 1 u → y ≡ chained (monic k low) e 0 v → t ≡ rem (monic k low) (2 ^ (e * q))
+      → 0 < k → r ≡ rem (monic k low) (x ⊗ t) ⊕ y → r ≡ chained (monic k low) e 1 (u ++ v)
+  run-behind u v x y t r l ex ey et p er =
+      let pos = monic-pos k low m in
+      let small : 1 < 2 ^ degree (monic k low) = rw (monic-degree k low m) (pow-lt {i = 0} {j = k} p) in
+      er
+      ∙ ap₂ (λ (a b : ℕ). a ⊕ b) (ap₂ (λ (a b : ℕ). rem (monic k low) (a ⊗ b)) ex et ∙ product-shift pos (chained (monic k low) e 1 u) (e * q)) ey
+      ∙ ap (λ (n : ℕ). rem (monic k low) (chained (monic k low) e 1 u * 2 ^ (e * n)) ⊕ chained (monic k low) e 0 v) (sym l)
+      ∙ sym (chained-start pos e (chained (monic k low) e 1 u) v (chained-lt pos e 1 u small))
+      ∙ sym (chained-append pos e 1 u v)
+
+-- four runs of q fields and the rest, n fields in all
+module _ (k low : ℕ) (md : Modulus k low) (s n q : ℕ) (fits : 4 * q ≤ n) (sheet words : List ℕ) (sh : Shifts (monic k low) (8 * s) words)
+    (r : someUnreduced k (numbersAt 19 8 n sheet) ≡ false) (x : Runs) (four : FourChains words q sheet x) (t : ℕ) (et : t ≡ rem (monic k low) (2 ^ (8 * s * q))) where
+  runA : List ℕ
+  runA = numbersAt 19 8 q sheet
+
+  runB : List ℕ
+  runB = numbersAt (19 + 8 * q) 8 q sheet
+
+  runC : List ℕ
+  runC = numbersAt (19 + 8 * q + 8 * q) 8 q sheet
+
+  runD : List ℕ
+  runD = numbersAt (19 + 8 * q + 8 * q + 8 * q) 8 q sheet
+
+  rest : List ℕ
+  rest = numbersAt (19 + 32 * q) 8 (n - 4 * q) sheet
+
+  all-fields : numbersAt 19 8 n sheet ≡ runA ++ (runB ++ (runC ++ (runD ++ rest)))
+  unfolding runA runB runC runD rest
+  all-fields =
+      let e : q + (q + (q + (q + (n - 4 * q)))) ≡ n = omega arith in
+      let p : 19 + 8 * q + 8 * q + 8 * q + 8 * q ≡ 19 + 32 * q = omega arith in
+      ap (λ (m : ℕ). numbersAt 19 8 m sheet) (sym e)
+      ∙ numbers-split q (q + (q + (q + (n - 4 * q)))) 19 8 sheet
+      ∙ ap (λ (l : List ℕ). numbersAt 19 8 q sheet ++ l)
+      (numbers-split q (q + (q + (n - 4 * q))) (19 + 8 * q) 8 sheet
+      ∙ ap (λ (l : List ℕ). numbersAt (19 + 8 * q) 8 q sheet ++ l)
+      (numbers-split q (q + (n - 4 * q)) (19 + 8 * q + 8 * q) 8 sheet
+      ∙ ap (λ (l : List ℕ). numbersAt (19 + 8 * q + 8 * q) 8 q sheet ++ l)
+      (numbers-split q (n - 4 * q) (19 + 8 * q + 8 * q + 8 * q) 8 sheet
+      ∙ ap (λ (i : ℕ). numbersAt (19 + 8 * q + 8 * q + 8 * q) 8 q sheet ++ numbersAt i 8 (n - 4 * q) sheet) p)))
+
+  pos : 0 < monic k low
+  pos = monic-pos k low (md .2)
+
+  deg : degree (monic k low) ≡ k
+  deg = monic-degree k low (md .2)
+
+  -- by the table is as by the residues, where the fields are reduced
+  by-table : (f : ℕ) (gs : List ℕ) → f < 2 ^ k → someUnreduced k gs ≡ false → looping words f gs ≡ chained (monic k low) (8 * s) f gs
+  by-table f gs h u = looping-chained pos (8 * s) words sh (rw deg (md .1)) f gs (rw deg h) (rw deg u)
+
+  reduced : (someUnreduced k runA ≡ false) × (someUnreduced k runB ≡ false) × (someUnreduced k runC ≡ false) × (someUnreduced k runD ≡ false) × (someUnreduced k rest ≡ false)
+  reduced =
+      let a = reduced-split k runA (runB ++ (runC ++ (runD ++ rest))) (rw all-fields at r) in
+      let b = reduced-split k runB (runC ++ (runD ++ rest)) (a .1) in
+      let c = reduced-split k runC (runD ++ rest) (b .1) in
+      let d = reduced-split k runD rest (c .1) in
+      (a .0, b .0, c .0, d .0, d .1)
+
+  one-lt : 1 < 2 ^ k
+  one-lt = pow-lt {i = 0} {j = k} (md .0)
+
+  is-a : x .a ≡ chained (monic k low) (8 * s) 1 runA
+  unfolding runA
+  is-a = four .a ∙ by-table 1 runA one-lt (reduced .0)
+
+  is-ab : (ab : ℕ) → ab ≡ rem (monic k low) (x .a ⊗ t) ⊕ x .b → ab ≡ chained (monic k low) (8 * s) 1 (runA ++ runB)
+  unfolding runB
+  is-ab ab e =
+      run-behind k low (md .2) (8 * s) q runA runB (x .a) (x .b) t ab (length-numbersAt (19 + 8 * q) 8 q sheet) is-a (four .b ∙ by-table 0 runB (pow-pos k) (reduced .1)) et (md .0) e
+
+  is-abc : (ab abc : ℕ) → ab ≡ rem (monic k low) (x .a ⊗ t) ⊕ x .b → abc ≡ rem (monic k low) (ab ⊗ t) ⊕ x .c → abc ≡ chained (monic k low) (8 * s) 1 (runA ++ runB ++ runC)
+  unfolding runC
+  is-abc ab abc e f =
+      run-behind k low (md .2) (8 * s) q (runA ++ runB) runC ab (x .c) t abc (length-numbersAt (19 + 8 * q + 8 * q) 8 q sheet) (is-ab ab e)
+      (four .c ∙ by-table 0 runC (pow-pos k) (reduced .2)) et (md .0) f
+
+  is-abcd : (ab abc abcd : ℕ) → ab ≡ rem (monic k low) (x .a ⊗ t) ⊕ x .b → abc ≡ rem (monic k low) (ab ⊗ t) ⊕ x .c → abcd ≡ rem (monic k low) (abc ⊗ t) ⊕ x .d
+      → abcd ≡ chained (monic k low) (8 * s) 1 (runA ++ runB ++ runC ++ runD)
+  unfolding runD
+  is-abcd ab abc abcd e f g =
+      run-behind k low (md .2) (8 * s) q (runA ++ runB ++ runC) runD abc (x .d) t abcd (length-numbersAt (19 + 8 * q + 8 * q + 8 * q) 8 q sheet) (is-abc ab abc e f)
+      (four .d ∙ by-table 0 runD (pow-pos k) (reduced .3)) et (md .0) g
+
+  -- every such chain is reduced
+  chain-lt : (y : ℕ) (u : List ℕ) → y ≡ chained (monic k low) (8 * s) 1 u → y < 2 ^ k
+  chain-lt y u e = rw e (rw deg at (chained-lt pos (8 * s) 1 u (rw deg one-lt)))
+
+  pub a-lt : x .a < 2 ^ k
+  a-lt = chain-lt (x .a) runA is-a
+
+  pub ab-lt : (ab : ℕ) → ab ≡ rem (monic k low) (x .a ⊗ t) ⊕ x .b → ab < 2 ^ k
+  ab-lt ab e = chain-lt ab (runA ++ runB) (is-ab ab e)
+
+  pub abc-lt : (ab abc : ℕ) → ab ≡ rem (monic k low) (x .a ⊗ t) ⊕ x .b → abc ≡ rem (monic k low) (ab ⊗ t) ⊕ x .c → abc < 2 ^ k
+  abc-lt ab abc e f = chain-lt abc (runA ++ runB ++ runC) (is-abc ab abc e f)
+
+  pub all-joined : (ab abc abcd y : ℕ) → ab ≡ rem (monic k low) (x .a ⊗ t) ⊕ x .b → abc ≡ rem (monic k low) (ab ⊗ t) ⊕ x .c → abcd ≡ rem (monic k low) (abc ⊗ t) ⊕ x .d
+      → y ≡ looping words abcd (numbersAt (19 + 32 * q) 8 (n - 4 * q) sheet)
+      → y ≡ joinedPages (monic k low) s (markOf (monic k low) []) (numbersAt 19 8 n sheet) .fingerprint
+  unfolding rest
+  all-joined ab abc abcd y e f g h =
+      let d = is-abcd ab abc abcd e f g in
+      h
+      ∙ by-table abcd rest (chain-lt abcd (runA ++ runB ++ runC ++ runD) d) (reduced .4)
+      ∙ ap (λ (z : ℕ). chained (monic k low) (8 * s) z rest) d
+      ∙ sym (chained-append pos (8 * s) 1 (runA ++ runB ++ runC ++ runD) rest)
+      ∙ ap (chained (monic k low) (8 * s) 1) (regroup ∙ sym all-fields)
+      ∙ ap (λ (z : ℕ). chained (monic k low) (8 * s) z (numbersAt 19 8 n sheet)) (sym (empty-print k low (md .0) (md .2)))
+      ∙ sym (joined-chained (monic k low) s (markOf (monic k low) []) (numbersAt 19 8 n sheet))
+    where
+      regroup : runA ++ runB ++ runC ++ runD ++ rest ≡ runA ++ (runB ++ (runC ++ (runD ++ rest)))
+      regroup = simp append-assoc
+
+-- few fields: one run
+pub few-joined : (k low : ℕ) → Modulus k low → (s n : ℕ) (sheet words : List ℕ) → Shifts (monic k low) (8 * s) words → someUnreduced k (numbersAt 19 8 n sheet) ≡ false
+    → looping words 1 (numbersAt 19 8 n sheet) ≡ joinedPages (monic k low) s (markOf (monic k low) []) (numbersAt 19 8 n sheet) .fingerprint
+few-joined k low md s n sheet words sh r =
+    let deg = monic-degree k low (md .2) in
+    looping-chained (monic-pos k low (md .2)) (8 * s) words sh (rw deg (md .1)) 1 (numbersAt 19 8 n sheet) (rw deg (pow-lt {i = 0} {j = k} (md .0))) (rw deg r)
+    ∙ ap (λ (z : ℕ). chained (monic k low) (8 * s) z (numbersAt 19 8 n sheet)) (sym (empty-print k low (md .0) (md .2)))
+    ∙ sym (joined-chained (monic k low) s (markOf (monic k low) []) (numbersAt 19 8 n sheet))

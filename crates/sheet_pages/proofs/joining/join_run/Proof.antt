@@ -1,0 +1,60 @@
+use mathlib.Core.Path.{_≡_, refl, sym, _∙_}
+use Prim.Native.Nat.{_+_, _-_, _*_, _≤_}
+use native.Mathlib.Omega.{arith}
+use lib.ListN.{length}
+use Rattle.sheets.specs.Layout.{numbersAt}
+use Rattle.sheet_pages.specs.Fours.{looping}
+use Rattle.sheet_pages.proofs.Chains.{looping-next, looping-done}
+use Rattle.sheet_pages.proofs.joining.join_run.Statement.{statement}
+use Rattle.sheet_pages.proofs.joining.join_run.Tie as tie
+
+abbrev Inv-loop : tie.InvT-loop
+Inv-loop shift sheet from n f x₀ place₀ left₀ x place left = (place + 8 * left ≤ length sheet) × (looping shift x (numbersAt place 8 left sheet) ≡ looping shift f (numbersAt from 8 n sheet))
+
+abbrev μ-loop : tie.MeasureT-loop
+μ-loop shift sheet from n f x₀ place₀ left₀ x place left = left
+
+loop-holds : tie.Need-loop-holds Inv-loop μ-loop
+loop-holds c = (c .before .before .pre .1, refl)
+
+number-at-requires : tie.Need-number-at-requires Inv-loop μ-loop
+number-at-requires c κs = omega arith
+
+join-requires : tie.Need-join-requires Inv-loop μ-loop
+join-requires c κs = c .before .before .before .before .before .pre .0
+
+add-place : tie.Need-add-place Inv-loop μ-loop
+add-place c = omega arith
+
+sub-left : tie.Need-sub-left Inv-loop μ-loop
+sub-left c = omega arith
+
+loop-less : tie.Need-loop-less Inv-loop μ-loop
+loop-less c = omega arith
+
+loop-again : tie.Need-loop-again Inv-loop μ-loop
+loop-again c =
+    let a = c .before .before .before .before .before .before .args in
+    let l = c .before .before .before .loop in
+    (omega arith, sym (looping-next (a .shift .now) (l .x) (l .place) (l .left) (c .before .number-at .result) (c .join .result) (a .sheet .now) (omega arith) (c .before .number-at .ensures .0) (c .join .ensures)) ∙ l .inv .1)
+
+returns : tie.Need-returns Inv-loop μ-loop
+returns c =
+    let a = c .before .before .before .before .args in
+    let l = c .before .loop in
+    sym (looping-done (a .shift .now) (l .x) (l .place) (l .left) (a .sheet .now) (omega arith)) ∙ l .inv .1
+
+pub join-run-spec : {M : Type 1} → statement M
+join-run-spec =
+    tie.close
+    (tie.spec
+    Inv-loop
+    μ-loop
+    loop-holds
+    number-at-requires
+    join-requires
+    add-place
+    sub-left
+    loop-less
+    loop-again
+    returns)
