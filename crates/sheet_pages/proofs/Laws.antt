@@ -1,7 +1,7 @@
 -- Laws of four whole pages at once.
 use mathlib.Core.Path.{_≡_, refl, sym, ap, ap₂, _∙_}
 use mathlib.Core.List.{List, [], _∷_, _++_}
-use Prim.Native.Nat.{ℕ, zero, suc, _+_, _-_, _*_, _^_, _≤_, _<_}
+use Prim.Native.Nat.{ℕ, zero, suc, _+_, _-_, _*_, _≤_, _<_}
 use native.Mathlib.Omega.{arith}
 use lib.ListN.{length, take, drop, length-drop}
 use lib.Seq.{sets, take-add, take-take, drop-drop, length-take-le}
@@ -9,7 +9,7 @@ use Rattle.gf2.specs.Polynomials.{rem}
 use Rattle.files.specs.Files.{bits, valueFrom, value, fingerprint}
 use Rattle.files.proofs.Values.{value-append, value-split, length-bits, bits-append}
 use Rattle.lookups.specs.declared.Runs.{Runs}
-use Rattle.sheets.specs.Layout.{bytesOf, fieldsOf, numberAt, numbersAt}
+use Rattle.sheets.specs.Layout.{fieldsOf, numberAt, numbersAt}
 use Rattle.sheets.specs.Sheets.{filled}
 use Rattle.sheets.specs.Parts.{pagesLeft, fingerprintsFrom}
 use Rattle.sheets.proofs.Numbers.{fields-behind}

@@ -1,6 +1,6 @@
 -- The stores of a sheet's fields, one behind the other.
 use mathlib.Core.Path.{_≡_, refl, sym, ap, ap₂, _∙_}
-use mathlib.Core.List.{List, [], _∷_, _++_}
+use mathlib.Core.List.{List, [], _++_}
 use Prim.Native.Nat.{ℕ, _+_, _-_, _*_, _/_, _^_, _≤_, _<_}
 use native.Mathlib.Nat.{lt-of-lt-of-le}
 use native.Mathlib.Omega.{arith}
@@ -14,7 +14,6 @@ use Rattle.sheets.specs.Layout.{version1, bytesOf, fieldsOf, numbersAt, pageCou
 use Rattle.sheets.specs.Sheets.{pageFingerprints}
 use Rattle.sheets.specs.Parts.{headBytes}
 use Rattle.sheets.proofs.Numbers.{length-bytesOf, length-fieldsOf, sets-behind, sets-front, numbers-stored}
-use Rattle.sheets.proofs.Layouts.{length-sheet}
 use Rattle.sheets.proofs.Pages.{length-pages, fingerprints-lt, pages-split, count-whole}
 
 -- b' is b with u at its front, n bytes

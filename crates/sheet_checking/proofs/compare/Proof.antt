@@ -44,24 +44,24 @@ slice-aggregate-fill c = search needs
 fill-requires : tie.Need-fill-requires
 fill-requires c κs = (key-held (c .before) .modulus, refl)
 
-slice-aggregate-change-from : tie.Need-slice-aggregate-change-from
-slice-aggregate-change-from c = search needs
+slice-aggregate-first-change : tie.Need-slice-aggregate-first-change
+slice-aggregate-first-change c = search needs
 
-change-from-requires : tie.Need-change-from-requires
-change-from-requires c κs =
+first-change-requires : tie.Need-first-change-requires
+first-change-requires c κs =
     let s = c .before .before .before .before .before .before .before .before .before .before in
     let h = key-held (c .before .before .before .before) in
     let a = s .args in
     let z = sound (a .sheet .now) (s .pre) .pageSize in
     let e = size-is (a .sheet .now) (s .pre) in
-    ((h .modulus, h .eight, c .before .before .fill .ensures), rw e (z .0), rw e (z .1), omega arith, omega arith, omega arith, pages-there (a .sheet .now) (s .pre) (a .file .now) (c .before .before .before .before .before .before .if2 .left))
+    ((h .modulus, h .eight, c .before .before .fill .ensures), rw e (z .0), rw e (z .1), omega arith, pages-there (a .sheet .now) (s .pre) (a .file .now) (c .before .before .before .before .before .before .if2 .left))
 
 returns-3 : tie.Need-returns-3
 returns-3 c =
     let s = c .before .before .before .before .before .before .before .before .before .before .before in
     let a = s .args in
     let h = key-held (c .before .before .before .before .before) in
-    c .change-from .ensures
+    c .first-change .ensures
     ∙ ap (λ (m : ℕ). Done (firstChange 0 (numbersAt 19 8 (pagesLeft (a .x .size) (a .file .now) 0) (a .sheet .now)) (fingerprintsFrom m (a .x .size) (a .file .now) 0))) (h .whole)
     ∙ sym (compare-pages (a .sheet .now) (a .file .now) (omega arith) (a .x .key) (a .x .size) (key-is (a .sheet .now) (s .pre)) (size-is (a .sheet .now) (s .pre))
     (c .before .before .before .before .before .before .before .if2 .left ∙ length-is (a .sheet .now) (s .pre)))
@@ -76,6 +76,6 @@ compare-spec =
     low-bits-requires
     slice-aggregate-fill
     fill-requires
-    slice-aggregate-change-from
-    change-from-requires
+    slice-aggregate-first-change
+    first-change-requires
     returns-3)

@@ -1,6 +1,6 @@
-use mathlib.Core.Path.{_≡_, sym, ap, ap₂, _∙_}
+use mathlib.Core.Path.{_≡_, ap, ap₂, _∙_}
 use mathlib.Core.List.{List, []}
-use Prim.Native.Nat.{ℕ, _+_, _-_, _*_, _/_, _^_, _≤_, _<_}
+use Prim.Native.Nat.{ℕ, _-_, _*_, _/_, _^_, _≤_, _<_}
 use native.Mathlib.Nat.{mul-le-mul-left, div-add-mod'}
 use native.Mathlib.Omega.{arith}
 use lib.ListN.{length, take, drop, length-drop}
@@ -14,10 +14,6 @@ use Rattle.sheets.proofs.Sound.{list-reduced}
 use borrow.Author.Needs.{needs}
 use Rattle.sheet_writing.proofs.file_mark.Statement.{statement}
 use Rattle.sheet_writing.proofs.file_mark.Tie as tie
-use Rattle.sheet_writing.proofs.file_mark.Reads as reads
-use Rattle.sheet_writing.proofs.file_mark.Lts as lts
-use Rattle.sheet_pages.proofs.joining.pages_joined.Reads as pages-joined-reads
-use Rattle.tables.proofs.feeding.fed.Reads as fed-reads
 
 whole : (n s : ℕ) → n / s * s ≤ n
 whole n s = omega (arith, div-add-mod' n s)
@@ -37,11 +33,9 @@ joined c =
     ∙ ap (λ (fs : List ℕ). joinedPages key (a .size) (markOf key []) fs .fingerprint) (s .pre .5)
     ∙ whole-joined (monic-pos (a .k) (a .low) (s .pre .0 .0 .2)) (a .size) w (a .file .now) (whole (length (a .file .now)) (a .size))
 
--- src/lib.rt:111:17
 div-whole : tie.Need-div-whole
 div-whole c = search needs
 
--- src/lib.rt:112:9
 pages-joined-requires : tie.Need-pages-joined-requires
 pages-joined-requires c κs =
     let s = c .before .before .before in
@@ -52,30 +46,24 @@ pages-joined-requires c κs =
     let small = rw deg at (fingerprints-lt (monic-pos (a .k) (a .low) (m .2)) w (a .size) (a .file .now)) in
     (m, s .pre .2, omega (arith, whole (length (a .file .now)) (a .size), mul-le-mul-left w (s .pre .1)), s .pre .4, rw (s .pre .5) (list-reduced (a .k) (pageFingerprints (monic (a .k) (a .low)) (a .size) w (a .file .now)) small))
 
--- src/lib.rt:113:17
 mul-from : tie.Need-mul-from
 mul-from c = let a = c .before .before .before .before .args in omega (arith, whole (length (a .file .now)) (a .size))
 
--- src/lib.rt:114:49
 sub-fed : tie.Need-sub-fed
 sub-fed c = let a = c .before .before .before .before .args in omega (arith, whole (length (a .file .now)) (a .size))
 
--- src/lib.rt:114:49
 part-fed-start : tie.Need-part-fed-start
 part-fed-start c = let a = c .before .before .before .before .args in omega (arith, whole (length (a .file .now)) (a .size))
 
--- src/lib.rt:114:49
 part-fed-end : tie.Need-part-fed-end
 part-fed-end c = search needs
 
--- src/lib.rt:114:5
 fed-requires : tie.Need-fed-requires
 fed-requires c κs =
     let s = c .before .before .before .before .before in
     let a = s .args in
     (s .pre .0, rw (joined (c .before)) (mark-below (a .k) (a .low) (s .pre .0 .0 .2) _))
 
--- src/lib.rt:104:1
 returns : tie.Need-returns
 returns c =
     let s = c .before .before .before .before .before .before in

@@ -7,55 +7,40 @@ use Rattle.sheet_pages.specs.Fours.{fourStored}
 use borrow.Author.Needs.{needs}
 use Rattle.sheet_writing.proofs.put_four.Statement.{statement}
 use Rattle.sheet_writing.proofs.put_four.Tie as tie
-use Rattle.sheet_writing.proofs.put_four.Reads as reads
-use Rattle.sheet_writing.proofs.put_four.Lts as lts
-use Rattle.sheets.proofs.fields.put.Reads as put-reads
 
--- src/lib.rt:56:5
 put-requires : tie.Need-put-requires
 put-requires c κs = search needs
 
--- src/lib.rt:57:25
 add-put : tie.Need-add-put
 add-put c = search needs
 
--- src/lib.rt:57:5
 put-requires-2 : tie.Need-put-requires-2
 put-requires-2 c κs = search needs
 
--- src/lib.rt:58:25
 add-put-2 : tie.Need-add-put-2
 add-put-2 c = search needs
 
--- src/lib.rt:58:25
 add-put-3 : tie.Need-add-put-3
 add-put-3 c = search needs
 
--- src/lib.rt:58:5
 put-requires-3 : tie.Need-put-requires-3
 put-requires-3 c κs = search needs
 
--- src/lib.rt:59:25
 add-put-4 : tie.Need-add-put-4
 add-put-4 c = search needs
 
--- src/lib.rt:59:25
 add-put-5 : tie.Need-add-put-5
 add-put-5 c = search needs
 
--- src/lib.rt:59:25
 add-put-6 : tie.Need-add-put-6
 add-put-6 c = search needs
 
--- src/lib.rt:59:5
 put-requires-4 : tie.Need-put-requires-4
 put-requires-4 c κs = search needs
 
--- src/lib.rt:52:1
 same-length : tie.Need-same-length
 same-length c = search needs
 
--- src/lib.rt:52:1
 returns : tie.Need-returns
 unfolding fourStored
 returns c =

@@ -1,22 +1,15 @@
 use mathlib.Core.Path.{_≡_, refl, sym, ap, ap₂, _∙_}
-use mathlib.Core.List.{List, _∷_, _++_}
-use Prim.Native.Nat.{ℕ, _+_, _-_, _*_, _%_, _^_, _≤_, _<_, min}
+use mathlib.Core.List.{List}
+use Prim.Native.Nat.{ℕ, _+_, _-_, _*_, _≤_}
 use native.Mathlib.Omega.{arith}
-use lib.ListN.{length, take, drop, length-drop}
-use lib.Seq.{sets, length-take-le}
+use lib.ListN.{length}
+use lib.Seq.{sets}
 use Rattle.gf2.specs.Polynomials.{monic}
-use Rattle.lookups.specs.declared.Runs.{Runs}
 use Rattle.sheets.specs.Layout.{fieldsOf}
 use Rattle.sheets.specs.Parts.{pagesLeft, fingerprintsFrom}
-use Rattle.sheet_pages.specs.Fours.{FourMarks, fourStored}
 use Rattle.sheet_pages.proofs.Laws.{part-length, part-marks, four-left, four-next, stored-behind}
 use Rattle.sheet_writing.proofs.put_fours.Statement.{statement}
 use Rattle.sheet_writing.proofs.put_fours.Tie as tie
-use Rattle.sheet_writing.proofs.put_fours.Reads as reads
-use Rattle.sheet_writing.proofs.put_fours.Lts as lts
-use Rattle.sheet_pages.proofs.four_marks.Reads as four-marks-reads
-use Rattle.sheet_writing.proofs.put_four.Reads as put-four-reads
-use Rattle.sheet_writing.proofs.put_from.Reads as put-from-reads
 
 abbrev Inv-loop : tie.InvT-loop
 Inv-loop buffer₀ words k low size file four at₀ i₀ buffer at i =
@@ -26,35 +19,27 @@ Inv-loop buffer₀ words k low size file four at₀ i₀ buffer at i =
 abbrev μ-loop : tie.MeasureT-loop
 μ-loop buffer₀ words k low size file four at₀ i₀ buffer at i = length file - at
 
--- src/lib.rt:70:16
 mul-four : tie.Need-mul-four Inv-loop μ-loop
 mul-four c = omega arith
 
--- src/lib.rt:73:5
 loop-holds : tie.Need-loop-holds Inv-loop μ-loop
 loop-holds c = (refl, omega arith, c .before .before .before .pre .6, refl, refl)
 
--- src/lib.rt:73:19
 sub-loop : tie.Need-sub-loop Inv-loop μ-loop
 sub-loop c = omega arith
 
--- src/lib.rt:74:19
 add-end : tie.Need-add-end Inv-loop μ-loop
 add-end c = omega arith
 
--- src/lib.rt:75:62
 sub-four-marks : tie.Need-sub-four-marks Inv-loop μ-loop
 sub-four-marks c = omega arith
 
--- src/lib.rt:75:62
 part-four-marks-start : tie.Need-part-four-marks-start Inv-loop μ-loop
 part-four-marks-start c = omega arith
 
--- src/lib.rt:75:62
 part-four-marks-end : tie.Need-part-four-marks-end Inv-loop μ-loop
 part-four-marks-end c = omega arith
 
--- src/lib.rt:75:13
 four-marks-requires : tie.Need-four-marks-requires Inv-loop μ-loop
 four-marks-requires c κs =
     let s = c .before .before .before .before .before .before in
@@ -62,30 +47,24 @@ four-marks-requires c κs =
     let p = s .pre in
     (p .0, p .1, p .2, p .3, p .4, part-length (s .args .file .now) (l .at) (4 * s .args .size) (omega arith))
 
--- src/lib.rt:76:31
 mul-put-four : tie.Need-mul-put-four Inv-loop μ-loop
 mul-put-four c = omega arith
 
--- src/lib.rt:76:26
 add-put-four : tie.Need-add-put-four Inv-loop μ-loop
 add-put-four c = omega arith
 
--- src/lib.rt:76:9
 put-four-requires : tie.Need-put-four-requires Inv-loop μ-loop
 put-four-requires c κs =
     let a = c .before .before .before .before .before .before .before .before .args in
     let l = c .before .before .before .before .loop in
     omega (arith, four-left (monic (a .k) (a .low)) (a .size) (a .file .now) (l .at) (omega arith) (omega arith))
 
--- src/lib.rt:78:9
 add-i : tie.Need-add-i Inv-loop μ-loop
 add-i c = omega arith
 
--- src/lib.rt:73:5
 loop-less : tie.Need-loop-less Inv-loop μ-loop
 loop-less c = omega arith
 
--- src/lib.rt:73:5
 loop-again : tie.Need-loop-again Inv-loop μ-loop
 loop-again c =
     let a = c .before .before .before .before .before .before .before .before .before .before .before .args in
@@ -107,18 +86,15 @@ loop-again c =
           ∙ l .inv .4,
     )
 
--- src/lib.rt:80:5
 put-from-requires : tie.Need-put-from-requires Inv-loop μ-loop
 put-from-requires c κs =
     let s = c .before .before .before .before .before .before in
     let l = c .before .before .loop in
     (s .pre .0, s .pre .2, s .pre .3, s .pre .5, omega arith, l .inv .2)
 
--- src/lib.rt:63:1
 same-length : tie.Need-same-length Inv-loop μ-loop
 same-length c = c .before .before .put-from .kept .0 ∙ c .before .before .before .before .before .loop .inv .3
 
--- src/lib.rt:63:1
 returns : tie.Need-returns Inv-loop μ-loop
 returns c = c .before .before .put-from .ensures ∙ c .before .before .before .before .before .loop .inv .4
 

@@ -1,23 +1,18 @@
-use mathlib.Core.Path.{_≡_, refl, sym, ap, ap₂, _∙_}
-use mathlib.Core.List.{List, _∷_, _++_}
-use Prim.Native.Nat.{ℕ, _+_, _-_, _*_, _%_, _^_, _≤_, _<_, min}
+use mathlib.Core.Path.{_≡_, refl, sym, ap, _∙_}
+use mathlib.Core.List.{List, _∷_}
+use Prim.Native.Nat.{ℕ, _+_, _-_, _*_, _≤_}
 use native.Mathlib.Omega.{arith}
 use lib.ListN.{length, take, drop, length-take}
-use lib.Seq.{sets, length-sets}
-use Rattle.gf2.specs.Polynomials.{rem, monic}
+use lib.Seq.{sets}
+use Rattle.gf2.specs.Polynomials.{monic}
 use Rattle.files.specs.Files.{fingerprint}
-use Rattle.sheets.specs.Layout.{bytesOf, fieldsOf}
+use Rattle.sheets.specs.Layout.{fieldsOf}
 use Rattle.sheets.specs.Sheets.{filled}
 use Rattle.sheets.specs.Parts.{pagesLeft, fingerprintsFrom}
 use Rattle.sheets.proofs.Numbers.{fields-behind}
 use Rattle.sheets.proofs.Pages.{left-next, from-next, from-none, page-cut}
 use Rattle.sheet_writing.proofs.put_from.Statement.{statement}
 use Rattle.sheet_writing.proofs.put_from.Tie as tie
-use Rattle.sheet_writing.proofs.put_from.Reads as reads
-use Rattle.sheet_writing.proofs.put_from.Lts as lts
-use Rattle.sheet_pages.proofs.page_end.Reads as page-end-reads
-use Rattle.sheet_pages.proofs.page_mark.Reads as page-mark-reads
-use Rattle.sheets.proofs.fields.put.Reads as put-reads
 
 abbrev Inv-loop : tie.InvT-loop
 Inv-loop buffer₀ words k low size file from first at₀ place₀ buffer at place =
@@ -27,64 +22,51 @@ Inv-loop buffer₀ words k low size file from first at₀ place₀ buffer at pla
 abbrev μ-loop : tie.MeasureT-loop
 μ-loop buffer₀ words k low size file from first at₀ place₀ buffer at place = length file - at
 
--- src/lib.rt:42:26
 mul-place : tie.Need-mul-place Inv-loop μ-loop
 mul-place c = omega arith
 
--- src/lib.rt:42:21
 add-place : tie.Need-add-place Inv-loop μ-loop
 add-place c = omega arith
 
--- src/lib.rt:43:5
 loop-holds : tie.Need-loop-holds Inv-loop μ-loop
 loop-holds c = let p = c .before .before .before .pre in (p .4, p .5, refl, refl)
 
--- src/lib.rt:44:13
 page-end-requires : tie.Need-page-end-requires Inv-loop μ-loop
 page-end-requires c κs = omega arith
 
--- src/lib.rt:45:83
 sub-page-mark : tie.Need-sub-page-mark Inv-loop μ-loop
 sub-page-mark c = omega (arith, c .before .page-end .ensures)
 
--- src/lib.rt:45:83
 part-page-mark-start : tie.Need-part-page-mark-start Inv-loop μ-loop
 part-page-mark-start c = omega (arith, c .before .page-end .ensures)
 
--- src/lib.rt:45:83
 part-page-mark-end : tie.Need-part-page-mark-end Inv-loop μ-loop
 part-page-mark-end c = omega (arith, c .before .page-end .ensures)
 
--- src/lib.rt:45:39
 page-mark-requires : tie.Need-page-mark-requires Inv-loop μ-loop
 page-mark-requires c κs =
     let s = c .before .before .before .before .before .before .before .before in
     let l = c .before .before .before .before .loop in
     (s .pre .0, s .pre .2, rw (length-take (c .before .before .page-end .result - l .at) (drop (l .at) (s .args .file .now))) (omega (arith, c .before .before .page-end .ensures)))
 
--- src/lib.rt:45:9
 put-requires : tie.Need-put-requires Inv-loop μ-loop
 put-requires c κs =
     let a = c .before .before .before .before .before .before .before .before .before .args in
     let l = c .before .before .before .before .before .loop in
     omega (arith, left-next (a .size) (a .file .now) (l .at) (omega arith) (omega arith))
 
--- src/lib.rt:46:9
 add-at : tie.Need-add-at Inv-loop μ-loop
 add-at c = omega arith
 
--- src/lib.rt:47:9
 add-place-2 : tie.Need-add-place-2 Inv-loop μ-loop
 add-place-2 c =
     let a = c .before .before .before .before .before .before .before .before .before .before .before .before .args in
     let l = c .before .before .before .before .before .before .before .before .loop in
     omega (arith, left-next (a .size) (a .file .now) (l .at) (omega arith) (omega arith))
 
--- src/lib.rt:43:5
 loop-less : tie.Need-loop-less Inv-loop μ-loop
 loop-less c = omega arith
 
--- src/lib.rt:43:5
 loop-again : tie.Need-loop-again Inv-loop μ-loop
 loop-again c =
     let a = c .before .before .before .before .before .before .before .before .before .before .before .before .args in
@@ -107,11 +89,9 @@ loop-again c =
           ∙ l .inv .3,
     )
 
--- src/lib.rt:32:1
 same-length : tie.Need-same-length Inv-loop μ-loop
 same-length c = c .before .loop .inv .2
 
--- src/lib.rt:32:1
 returns : tie.Need-returns Inv-loop μ-loop
 unfolding fieldsOf
 returns c =

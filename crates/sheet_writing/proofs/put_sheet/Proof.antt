@@ -1,32 +1,20 @@
-use mathlib.Core.Path.{_≡_, refl, sym, ap, ap₂, _∙_}
-use mathlib.Core.List.{List, _++_}
-use Prim.Native.Nat.{ℕ, _+_, _-_, _*_, _/_, _^_, _≤_}
+use mathlib.Core.Path.{_≡_, refl, ap, ap₂, _∙_}
+use Prim.Native.Nat.{ℕ, _+_, _-_, _*_, _/_, _≤_}
 use native.Mathlib.Nat.{sub-zero}
 use native.Mathlib.Omega.{arith}
-use lib.ListN.{length, drop}
+use lib.ListN.{length}
 use lib.Seq.{sets}
 use Rattle.gf2.specs.Polynomials.{monic}
 use Rattle.keys.proofs.Laws.{degree-word}
 use Rattle.files.specs.Files.{fingerprint}
 use Rattle.sheets.specs.Layout.{bytesOf, fieldsOf, numbersAt, pageCount}
 use Rattle.sheets.specs.Sheets.{pageFingerprints, contentsOf}
-use Rattle.sheets.specs.Parts.{pagesLeft, fingerprintsFrom}
 use Rattle.sheets.proofs.Moduli.{Held, held}
 use Rattle.sheets.proofs.Pages.{length-pages, count-whole}
 use Rattle.sheet_writing.proofs.Stores.{sheet-stores, whole-stored}
 use borrow.Author.Needs.{needs}
 use Rattle.sheet_writing.proofs.put_sheet.Statement.{statement}
 use Rattle.sheet_writing.proofs.put_sheet.Tie as tie
-use Rattle.sheet_writing.proofs.put_sheet.Reads as reads
-use Rattle.sheet_writing.proofs.put_sheet.Lts as lts
-use Rattle.gf2.proofs.degree.Reads as degree-reads
-use Rattle.gf2.proofs.low_bits.Reads as low-bits-reads
-use Rattle.sheet_writing.proofs.file_mark.Reads as file-mark-reads
-use Rattle.sheet_writing.proofs.put_head.Reads as put-head-reads
-use Rattle.sheet_writing.proofs.put_pages.Reads as put-pages-reads
-use Rattle.sheets.proofs.fields.page_count.Reads as page-count-reads
-use Rattle.sheets.proofs.fields.put.Reads as put-reads
-use Rattle.tables.proofs.rows.fill.Reads as fill-reads
 
 key-held : (c : tie.After-low-bits) → Held (c .before .before .before .before .args .key) (c .before .degree .result) (c .low-bits .result)
 key-held c =
@@ -41,33 +29,26 @@ pages c =
     c .put-pages .ensures
     ∙ ap (λ (n : ℕ). sets (c .before .before .before .before .before .put-head .last .0) 19 (fieldsOf 8 (pageFingerprints (monic (c .before .before .before .before .before .before .before .before .before .before .before .degree .result) (c .before .before .before .before .before .before .before .before .before .before .low-bits .result)) (a .size) (pageCount (a .size) n) (a .file .now)))) (sub-zero (length (a .file .now)))
 
--- src/lib.rt:125:9
 degree-requires : tie.Need-degree-requires
 degree-requires c κs = search needs
 
--- src/lib.rt:126:9
 low-bits-requires : tie.Need-low-bits-requires
 low-bits-requires c κs =
     let s = c .before .before .before in
     rw (c .degree .ensures) (degree-word (s .args .key) (omega arith) (s .fits .key .fits))
 
--- src/lib.rt:128:24
 slice-aggregate-fill : tie.Need-slice-aggregate-fill
 slice-aggregate-fill c = search needs
 
--- src/lib.rt:128:5
 fill-requires : tie.Need-fill-requires
 fill-requires c κs = (key-held (c .before) .modulus, refl)
 
--- src/lib.rt:129:5
 put-head-requires : tie.Need-put-head-requires
 put-head-requires c κs = search needs
 
--- src/lib.rt:130:23
 slice-aggregate-put-pages : tie.Need-slice-aggregate-put-pages
 slice-aggregate-put-pages c = search needs
 
--- src/lib.rt:130:5
 put-pages-requires : tie.Need-put-pages-requires
 put-pages-requires c κs =
     let s = c .before .before .before .before .before .before .before .before .before .before .before .before .before in
@@ -75,11 +56,9 @@ put-pages-requires c κs =
     let h = key-held (c .before .before .before .before .before .before .before .before .before) in
     ((h .modulus, h .eight, c .before .before .before .before .before .before .before .fill .ensures), s .pre .1, s .pre .2, s .pre .3, rw (sub-zero (length (a .file .now))) (omega (arith, c .before .before .before .before .put-head .kept .0)))
 
--- src/lib.rt:131:31
 slice-aggregate-file-mark : tie.Need-slice-aggregate-file-mark
 slice-aggregate-file-mark c = search needs
 
--- src/lib.rt:131:9
 file-mark-requires : tie.Need-file-mark-requires
 file-mark-requires c κs =
     let s = c .before .before .before .before .before .before .before .before .before .before .before .before .before .before .before .before .before .before in
@@ -98,27 +77,21 @@ file-mark-requires c κs =
       ap (numbersAt 19 8 (length file / a .size)) (pages (c .before .before .before .before)) ∙ whole-stored _ _ (h .modulus) (a .size) file b (omega arith) fits,
     )
 
--- src/lib.rt:132:9
 page-count-requires : tie.Need-page-count-requires
 page-count-requires c κs = search needs
 
--- src/lib.rt:133:31
 mul-put : tie.Need-mul-put
 mul-put c = search needs
 
--- src/lib.rt:133:26
 add-put : tie.Need-add-put
 add-put c = search needs
 
--- src/lib.rt:133:5
 put-requires : tie.Need-put-requires
 put-requires c κs = search needs
 
--- src/lib.rt:118:1
 same-length : tie.Need-same-length
 same-length c = search needs
 
--- src/lib.rt:118:1
 returns : tie.Need-returns
 unfolding contentsOf
 returns c =
