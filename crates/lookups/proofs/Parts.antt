@@ -87,6 +87,18 @@ fed-four {key} pos p i x v y l ev ey = fed-piece p i 4 l pos x y (ey ∙ ap (λ 
 pub four-lt : (p : List ℕ) (i v : ℕ) → i + 4 ≤ length p → v ≡ valueFrom 0 (bits (take 4 (drop i p))) → v < 2 ^ 32
 four-lt p i v l e = rw e (value-piece-lt p i 4 l)
 
+-- eight bytes as one number: four, and four behind them
+pub value-eight : (p : List ℕ) (i v w : ℕ) → i + 8 ≤ length p → v ≡ valueFrom 0 (bits (take 4 (drop i p))) → w ≡ valueFrom 0 (bits (take 4 (drop (i + 4) p)))
+    → v * 4294967296 + w ≡ valueFrom 0 (bits (take 8 (drop i p)))
+value-eight p i v w l ev ew =
+    ap₂ (λ (x y : ℕ). x * 4294967296 + y) ev ew
+    ∙ sym
+    (ap (λ (q : List ℕ). valueFrom 0 (bits q)) (take-add 4 4 (drop i p) ∙ ap (λ (q : List ℕ). take 4 (drop i p) ++ take 4 q) (drop-drop 4 i p))
+    ∙ ap (valueFrom 0) (bits-append (take 4 (drop i p)) (take 4 (drop (i + 4) p)))
+    ∙ value-append 0 (bits (take 4 (drop i p))) (bits (take 4 (drop (i + 4) p)))
+    ∙ value-split (valueFrom 0 (bits (take 4 (drop i p)))) (bits (take 4 (drop (i + 4) p)))
+    ∙ ap (λ (n : ℕ). valueFrom 0 (bits (take 4 (drop i p))) * 2 ^ n + valueFrom 0 (bits (take 4 (drop (i + 4) p)))) (length-piece p (i + 4) 4 (omega arith)))
+
 -- nothing is left
 pub fed-all : {key : ℕ} (pos : 0 < key) (p : List ℕ) (i x : ℕ) → length p ≤ i → x < 2 ^ degree key → rem key (valueFrom x (bits (drop i p))) ≡ x
 fed-all {key} pos p i x l h = rw (drop-of-length-le p {i = i} l) (unfold valueFrom bits in (rem-small pos x h))

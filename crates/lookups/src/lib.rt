@@ -25,6 +25,14 @@ pub fn four_at(part: &[u8], i: usize) -> u64
     ((a * 256 + b) * 256 + c) * 256 + d
 }
 
+// Eight bytes as one number, the first highest.
+pub fn eight_at(part: &[u8], i: usize) -> u64
+    requires { ⌜ i + 8 ≤ length (now part) ⌝ }
+    ensures { λ r. ⌜ r ≡ valueFrom 0 (bits (take 8 (drop i (now (part .entry))))) ⌝ }
+{
+    four_at(part, i) * 4294967296 + four_at(part, i + 4)
+}
+
 // The words of the four bytes of `above`, added to `below`.
 fn look_up(words: &[u64], below: u64, above: u64) -> u64
     requires { ⌜ length (now words) ≡ 1024 ⌝ }
@@ -61,6 +69,24 @@ fn feed_one(words: &[u64], k: u32, low: u64, f: u64, b: u8) -> u64
     let rest = gf2::low_bits(f, cut);
     let top = (f >> cut) as usize;
     (rest * 256 + wide(b)) ^ words[top]
+}
+
+// The residue of a number of 64 bits: its last byte, or its last four, behind the bytes in front, which are a residue already where the
+// degree is large enough.
+pub fn reduced(words: &[u64], k: u32, low: u64, x: u64) -> u64
+    requires { ⌜ Reduces k low (now words) ⌝ }
+    ensures { λ r. ⌜ r ≡ rem (monic k low) x ⌝ }
+{
+    if 56 <= k {
+        return feed_one(words, k, low, x / 256, (x % 256) as u8);
+    }
+    let high = x / 4294967296;
+    let rest = x % 4294967296;
+    if 32 <= k {
+        return feed_four(words, k, low, high, rest);
+    }
+    let f = feed_four(words, k, low, 0, high);
+    feed_four(words, k, low, f, rest)
 }
 
 // The bytes from place `from` on, one at a time.

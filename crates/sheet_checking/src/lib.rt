@@ -1,5 +1,4 @@
 // Checking a file against a page sheet.
-use lookups::Runs;
 use refusals::Refusal;
 use sheets::Changed;
 use sheets::Checked;
@@ -7,112 +6,51 @@ use sheets::Reading;
 use sheets::Sheet;
 use sheets::fields;
 ghost use mathlib.Core.Path.{_≡_};
-ghost use Prim.Native.Nat.{_+_, _*_, _%_, _≤_, _<_, _^_};
+ghost use Prim.Native.Nat.{_+_, _*_, _≤_, _<_, _^_};
 ghost use lib.ListN.{length};
 ghost use Rattle.gf2.specs.Polynomials.{monic};
 ghost use Rattle.refusals.specs.Refusals.{Answer};
 ghost use Rattle.tables.specs.Tables.{TableOf};
+ghost use Rattle.shifts.specs.Shifts.{Shifts};
 ghost use Rattle.sheets.specs.Layout.{version1, numbersAt, contentsIn};
 ghost use Rattle.sheets.specs.Sheets.{firstChange, checkSheet, checked, rangeOf, changed};
 ghost use Rattle.sheets.specs.Parts.{pagesLeft, fingerprintsFrom, ReadAs, comparison};
-ghost use Rattle.sheet_checking.specs.Agreeing.{Agree};
 
-// The first page whose fingerprint differs from the sheet's, of those from a place on, where page `first` begins.
-fn change_from(
+// The first page whose fingerprint differs from the sheet's.
+fn first_change(
     sheet: &[u8],
     words: &[u64],
+    eights: &[u64],
     k: u32,
     low: u64,
     size: usize,
     file: &[u8],
-    from: usize,
-    first: u32,
 ) -> Checked
-    requires { ⌜ TableOf k low (now words) × (16 ≤ size) × (size ≤ 4096) × (length (now file) < 2 ^ 32) × (first * 16 ≤ from) × (from ≤ length (now file) + 4096)
-        × (19 + 8 * first + 8 * pagesLeft size (now file) from ≤ length (now sheet)) ⌝ }
-    ensures { λ r. ⌜ checked r ≡ Answer.Done (firstChange first (numbersAt (19 + 8 * first) 8 (pagesLeft size (now (file .entry)) from) (now (sheet .entry)))
-        (fingerprintsFrom (monic k low) size (now (file .entry)) from)) ⌝ }
+    requires { ⌜ TableOf k low (now words) × Shifts (monic k low) 64 (now eights) × (16 ≤ size) × (size ≤ 4096) × (length (now file) < 2 ^ 32)
+        × (19 + 8 * pagesLeft size (now file) 0 ≤ length (now sheet)) ⌝ }
+    ensures { λ r. ⌜ checked r ≡ Answer.Done (firstChange 0 (numbersAt 19 8 (pagesLeft size (now (file .entry)) 0) (now (sheet .entry)))
+        (fingerprintsFrom (monic k low) size (now (file .entry)) 0)) ⌝ }
 {
-    let mut at = from;
-    let mut i = first;
-    let mut place = 19 + 8 * first as usize;
-    while at < file.len() {
-        let end = sheet_pages::page_end(file.len(), at, size);
-        let f = sheet_pages::page_mark(words, k, low, size, &file[at..end]);
+    let mut at: usize = 0;
+    let mut i: u32 = 0;
+    let mut place: usize = 19;
+    while size <= file.len() - at {
+        let end = at + size;
+        let f = sheet_pages::whole_mark(words, eights, k, low, &file[at..end]);
         if fields::number_at(sheet, place, 8) != f {
             return Checked::Page(i);
         }
-        at += size;
+        at = end;
         place += 8;
         i += 1;
     }
-    Checked::Same
-}
-
-// How many of the four fields from a place on agree with four fingerprints, up to the first that does not.
-fn agreeing(sheet: &[u8], place: usize, m: Runs) -> u32
-    requires { ⌜ place + 32 ≤ length (now sheet) ⌝ }
-    ensures { λ r. ⌜ Agree (now (sheet .entry)) place m r ⌝ }
-{
-    if fields::number_at(sheet, place, 8) != m.a {
-        return 0;
-    }
-    if fields::number_at(sheet, place + 8, 8) != m.b {
-        return 1;
-    }
-    if fields::number_at(sheet, place + 8 + 8, 8) != m.c {
-        return 2;
-    }
-    if fields::number_at(sheet, place + 8 + 8 + 8, 8) != m.d {
-        return 3;
-    }
-    4
-}
-
-// The first page whose fingerprint differs from the sheet's, four whole pages at a time.
-fn change_in_fours(
-    sheet: &[u8],
-    words: &[u64],
-    k: u32,
-    low: u64,
-    size: usize,
-    file: &[u8],
-) -> Checked
-    requires { ⌜ TableOf k low (now words) × (32 < k) × (16 ≤ size) × (size ≤ 4096) × (size % 4 ≡ 0) × (length (now file) < 2 ^ 32)
-        × (19 + 8 * pagesLeft size (now file) 0 ≤ length (now sheet)) ⌝ }
-    ensures { λ r. ⌜ checked r ≡ Answer.Done (firstChange 0 (numbersAt 19 8 (pagesLeft size (now (file .entry)) 0) (now (sheet .entry)))
-        (fingerprintsFrom (monic k low) size (now (file .entry)) 0)) ⌝ }
-{
-    let four = 4 * size;
-    let mut at: usize = 0;
-    let mut i: u32 = 0;
-    while four <= file.len() - at {
-        let end = at + four;
-        let m = sheet_pages::four_marks(words, k, low, size, &file[at..end]);
-        let r = agreeing(sheet, 19 + 8 * i as usize, m);
-        if r < 4 {
-            return Checked::Page(i + r);
+    if at < file.len() {
+        let last = sheet_pages::filled_mark(words, k, low, size, &file[at..]);
+        if fields::number_at(sheet, place, 8) != last {
+            return Checked::Page(i);
         }
-        at = end;
-        i += 4;
     }
-    change_from(sheet, words, k, low, size, file, at, i)
-}
-
-// The first page whose fingerprint differs from the sheet's.
-fn first_change(sheet: &[u8], words: &[u64], k: u32, low: u64, size: usize, file: &[u8]) -> Checked
-    requires { ⌜ TableOf k low (now words) × (16 ≤ size) × (size ≤ 4096) × (length (now file) < 2 ^ 32)
-        × (19 + 8 * pagesLeft size (now file) 0 ≤ length (now sheet)) ⌝ }
-    ensures { λ r. ⌜ checked r ≡ Answer.Done (firstChange 0 (numbersAt 19 8 (pagesLeft size (now (file .entry)) 0) (now (sheet .entry)))
-        (fingerprintsFrom (monic k low) size (now (file .entry)) 0)) ⌝ }
-{
-    if k <= 32 {
-        return change_from(sheet, words, k, low, size, file, 0, 0);
-    }
-    if size % 4 != 0 {
-        return change_from(sheet, words, k, low, size, file, 0, 0);
-    }
-    change_in_fours(sheet, words, k, low, size, file)
+    Checked::Same
 }
 
 // A file against a sheet that was read as x. Number 7.
@@ -134,7 +72,9 @@ fn compare(sheet: &[u8], x: Sheet, file: &[u8]) -> Checked
     let low = gf2::low_bits(key, k);
     let mut words = [0u64; 1024];
     tables::rows::fill(&mut words, k, low);
-    first_change(sheet, &words, k, low, size as usize, file)
+    let mut eights = [0u64; 2048];
+    shifts::fill(&mut eights, k, low, 8);
+    first_change(sheet, &words, &eights, k, low, size as usize, file)
 }
 
 // Checks a file against a sheet. All of reading's numbers, then 7.

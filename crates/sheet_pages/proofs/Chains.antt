@@ -25,7 +25,7 @@ use Rattle.shifts.proofs.Products.{product-shift, joined-by-table}
 use Rattle.sheets.specs.Layout.{numberAt, numbersAt}
 use Rattle.sheets.specs.Sheets.{someUnreduced, joinedPages}
 use Rattle.sheets.proofs.Numbers.{numbers-next, numbers-done, length-numbersAt}
-use Rattle.sheet_pages.specs.Fours.{chained, looping, FourChains}
+use Rattle.sheet_pages.specs.Chains.{chained, looping, FourChains}
 
 -- ---- as the code goes: one field a turn
 

@@ -1,1 +1,1 @@
-pub mod Fours
+pub mod Chains

@@ -10,7 +10,7 @@ ghost use Rattle.gf2.specs.Polynomials.{_⊕_, _⊗_, rem, monic, Modulus};
 ghost use Rattle.files.specs.Files.{markOf};
 ghost use Rattle.sheets.specs.Layout.{numbersAt};
 ghost use Rattle.sheets.specs.Sheets.{someUnreduced, joinedPages};
-ghost use Rattle.sheet_pages.specs.Fours.{looping, FourChains};
+ghost use Rattle.sheet_pages.specs.Chains.{looping, FourChains};
 
 // n fields from a place on, behind f, by the table of the shift by a page.
 fn join_run(shift: &[u64], sheet: &[u8], from: usize, n: u64, f: u64) -> u64

@@ -2,7 +2,7 @@
 use mathlib.Core.Path.{_≡_, refl}
 use mathlib.Core.Bool.{Bool, true, false, _||_, not}
 use mathlib.Core.List.{List, [], _∷_, _++_}
-use Prim.Native.Nat.{ℕ, _+_, _-_, _*_, _/_, _^_, _<_}
+use Prim.Native.Nat.{ℕ, _+_, _-_, _*_, _/_, _^_, _≤_, _<_}
 use native.Mathlib.Nat.{div-eq-of-lt}
 use native.Mathlib.Decide.{decLt}
 use native.Mathlib.Omega.{arith}
@@ -19,17 +19,13 @@ use Rattle.sheets.proofs.Numbers.{length-numbersAt, numbers-last}
 
 -- ---- reduced fields
 
-pub unreduced-here : (k f : ℕ) (fs : List ℕ) → (f / 2 ^ k ≡ 0 → ⊥) → someUnreduced k (f ∷ fs) ≡ true
+pub unreduced-here : (k f : ℕ) (fs : List ℕ) → 2 ^ k ≤ f → someUnreduced k (f ∷ fs) ≡ true
 unfolding someUnreduced
-unreduced-here k f fs n = go (decLt f (2 ^ k))
-  where
-    go : Dec (f < 2 ^ k) → (leb (2 ^ k) f || someUnreduced k fs) ≡ true
-    go (yes h) = absurd (n (div-eq-of-lt h))
-    go (no h) = rw (le-leb (2 ^ k) f (omega arith))
+unreduced-here k f fs l = rw (le-leb (2 ^ k) f l)
 
-pub unreduced-later : (k f : ℕ) (fs : List ℕ) → f / 2 ^ k ≡ 0 → someUnreduced k (f ∷ fs) ≡ someUnreduced k fs
+pub unreduced-later : (k f : ℕ) (fs : List ℕ) → f < 2 ^ k → someUnreduced k (f ∷ fs) ≡ someUnreduced k fs
 unfolding someUnreduced
-unreduced-later k f fs e = rw (lt-leb (2 ^ k) f (lt-of-high f k e))
+unreduced-later k f fs l = rw (lt-leb (2 ^ k) f l)
 
 pub unreduced-none : (k : ℕ) (fs : List ℕ) → fs ≡ [] → someUnreduced k fs ≡ false
 unfolding someUnreduced

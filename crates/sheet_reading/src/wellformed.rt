@@ -25,10 +25,11 @@ fn fields_reduced(sheet: &[u8], k: u32, n: u64) -> bool
     requires { ⌜ (k < 64) × (19 + 8 * n ≤ length (now sheet)) ⌝ }
     ensures { λ r. ⌜ r ≡ not (someUnreduced k (numbersAt 19 8 n (now (sheet .entry)))) ⌝ }
 {
+    let limit: u64 = 1 << k;
     let mut place: usize = 19;
     let mut left = n;
     while 0 < left {
-        if fields::number_at(sheet, place, 8) >> k != 0 {
+        if limit <= fields::number_at(sheet, place, 8) {
             return false;
         }
         place += 8;

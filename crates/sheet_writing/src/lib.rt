@@ -1,21 +1,20 @@
 // Writing a page sheet.
 use keys::Tested;
-use lookups::Runs;
 use refusals::Refusal;
 use sheets::Written;
 use sheets::fields;
 ghost use mathlib.Core.Path.{_≡_};
 ghost use mathlib.Core.List.{_++_};
-ghost use Prim.Native.Nat.{_+_, _*_, _/_, _%_, _≤_, _<_, _^_};
+ghost use Prim.Native.Nat.{_+_, _*_, _/_, _≤_, _<_, _^_};
 ghost use lib.ListN.{length, drop};
 ghost use lib.Seq.{sets};
 ghost use Rattle.gf2.specs.Polynomials.{monic};
 ghost use Rattle.files.specs.Files.{fingerprint};
 ghost use Rattle.tables.specs.Tables.{TableOf};
+ghost use Rattle.shifts.specs.Shifts.{Shifts};
 ghost use Rattle.sheets.specs.Layout.{version1, fieldsOf, numbersAt, sheetSize, pageCount, sheetBytes};
 ghost use Rattle.sheets.specs.Sheets.{pageFingerprints, contentsOf, writeSheet, written};
 ghost use Rattle.sheets.specs.Parts.{pagesLeft, fingerprintsFrom, headBytes};
-ghost use Rattle.sheet_pages.specs.Fours.{fourStored};
 
 // Writes what stands in front of the pages' fingerprints.
 fn put_head(buffer: &mut [u8], key: u64, n: u64, size: u64)
@@ -29,81 +28,33 @@ fn put_head(buffer: &mut [u8], key: u64, n: u64, size: u64)
     fields::put(buffer, 17, 2, size);
 }
 
-// Writes the fingerprints of the pages from a place on, where page `first` begins, one at a time.
-fn put_from(
+// Writes the fingerprints of all pages.
+fn put_pages(
     buffer: &mut [u8],
     words: &[u64],
+    eights: &[u64],
     k: u32,
     low: u64,
     size: usize,
     file: &[u8],
-    from: usize,
-    first: usize,
 )
-    requires { ⌜ TableOf k low (now words) × (16 ≤ size) × (size ≤ 4096) × (length (now file) < 2 ^ 32) × (from ≤ length (now file) + 4096)
-        × (19 + 8 * first + 8 * pagesLeft size (now file) from ≤ length (now buffer)) ⌝ }
-    ensures { λ r. ⌜ now (buffer .exit) ≡ sets (now (buffer .entry)) (19 + 8 * first) (fieldsOf 8 (fingerprintsFrom (monic k low) size (now (file .entry)) from)) ⌝ }
+    requires { ⌜ TableOf k low (now words) × Shifts (monic k low) 64 (now eights) × (16 ≤ size) × (size ≤ 4096) × (length (now file) < 2 ^ 32)
+        × (19 + 8 * pagesLeft size (now file) 0 ≤ length (now buffer)) ⌝ }
+    ensures { λ r. ⌜ now (buffer .exit) ≡ sets (now (buffer .entry)) 19 (fieldsOf 8 (fingerprintsFrom (monic k low) size (now (file .entry)) 0)) ⌝ }
 {
-    let mut at = from;
-    let mut place = 19 + 8 * first;
-    while at < file.len() {
-        let end = sheet_pages::page_end(file.len(), at, size);
-        fields::put(
-            buffer,
-            place,
-            8,
-            sheet_pages::page_mark(words, k, low, size, &file[at..end]),
-        );
-        at += size;
+    let mut at: usize = 0;
+    let mut place: usize = 19;
+    while size <= file.len() - at {
+        let end = at + size;
+        let f = sheet_pages::whole_mark(words, eights, k, low, &file[at..end]);
+        fields::put(buffer, place, 8, f);
+        at = end;
         place += 8;
     }
-}
-
-// Writes four fingerprints.
-fn put_four(buffer: &mut [u8], place: usize, m: Runs)
-    requires { ⌜ place + 32 ≤ length (now buffer) ⌝ }
-    ensures { λ r. ⌜ now (buffer .exit) ≡ fourStored (now (buffer .entry)) place m ⌝ }
-{
-    fields::put(buffer, place, 8, m.a);
-    fields::put(buffer, place + 8, 8, m.b);
-    fields::put(buffer, place + 8 + 8, 8, m.c);
-    fields::put(buffer, place + 8 + 8 + 8, 8, m.d);
-}
-
-// Writes the fingerprints of all pages, four whole pages at a time.
-fn put_fours(buffer: &mut [u8], words: &[u64], k: u32, low: u64, size: usize, file: &[u8])
-    requires { ⌜ TableOf k low (now words) × (32 < k) × (16 ≤ size) × (size ≤ 4096) × (size % 4 ≡ 0) × (length (now file) < 2 ^ 32)
-        × (19 + 8 * pagesLeft size (now file) 0 ≤ length (now buffer)) ⌝ }
-    ensures { λ r. ⌜ now (buffer .exit) ≡ sets (now (buffer .entry)) 19 (fieldsOf 8 (fingerprintsFrom (monic k low) size (now (file .entry)) 0)) ⌝ }
-{
-    let four = 4 * size;
-    let mut at: usize = 0;
-    let mut i: usize = 0;
-    while four <= file.len() - at {
-        let end = at + four;
-        let m = sheet_pages::four_marks(words, k, low, size, &file[at..end]);
-        put_four(buffer, 19 + 8 * i, m);
-        at = end;
-        i += 4;
+    if at < file.len() {
+        let last = sheet_pages::filled_mark(words, k, low, size, &file[at..]);
+        fields::put(buffer, place, 8, last);
     }
-    put_from(buffer, words, k, low, size, file, at, i);
-}
-
-// Writes the fingerprints of all pages.
-fn put_pages(buffer: &mut [u8], words: &[u64], k: u32, low: u64, size: usize, file: &[u8])
-    requires { ⌜ TableOf k low (now words) × (16 ≤ size) × (size ≤ 4096) × (length (now file) < 2 ^ 32)
-        × (19 + 8 * pagesLeft size (now file) 0 ≤ length (now buffer)) ⌝ }
-    ensures { λ r. ⌜ now (buffer .exit) ≡ sets (now (buffer .entry)) 19 (fieldsOf 8 (fingerprintsFrom (monic k low) size (now (file .entry)) 0)) ⌝ }
-{
-    if k <= 32 {
-        put_from(buffer, words, k, low, size, file, 0, 0);
-        return;
-    }
-    if size % 4 != 0 {
-        put_from(buffer, words, k, low, size, file, 0, 0);
-        return;
-    }
-    put_fours(buffer, words, k, low, size, file);
 }
 
 // The file's fingerprint: those of its whole pages, which a sheet holds, joined, and what is behind them fed.
@@ -126,15 +77,17 @@ fn put_sheet(buffer: &mut [u8], key: u64, size: u64, file: &[u8])
         ++ drop (sheetSize version1 (pageCount size (length (now (file .entry))))) (now (buffer .entry)) ⌝ }
 {
     let n = file.len() as u64;
+    let last = (19 + 8 * fields::page_count(size, n)) as usize;
     let k = gf2::degree(key);
     let low = gf2::low_bits(key, k);
     let mut words = [0u64; 1024];
     tables::rows::fill(&mut words, k, low);
+    let mut eights = [0u64; 2048];
+    shifts::fill(&mut eights, k, low, 8);
     put_head(buffer, key, n, size);
-    put_pages(buffer, &words, k, low, size as usize, file);
+    put_pages(buffer, &words, &eights, k, low, size as usize, file);
     let f = file_mark(buffer, &words, k, low, size, file);
-    let count = fields::page_count(size, n);
-    fields::put(buffer, (19 + 8 * count) as usize, 8, f);
+    fields::put(buffer, last, 8, f);
 }
 
 // Writes the sheet of a file. Numbers 1, 2, 7, 12, 13.

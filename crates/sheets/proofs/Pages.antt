@@ -177,15 +177,15 @@ module _ (s : ℕ) (file : List ℕ) (at : ℕ) (h : 0 < s) where
   unfolding numbersAt
   fields-none place w sheet l = rw (left-none l)
 
--- the page that the code cuts out
-pub page-cut : (s : ℕ) (file : List ℕ) (at : ℕ) → take (min (at + s) (length file) - at) (drop at file) ≡ take s (drop at file)
-page-cut s file at = go (decLe (at + s) (length file))
-  where
-    go : Dec (at + s ≤ length file) → take (min (at + s) (length file) - at) (drop at file) ≡ take s (drop at file)
-    go (yes l) = let e : min (at + s) (length file) - at ≡ s = omega arith in rw e
-    go (no l) =
-        let e : min (at + s) (length file) - at ≡ length file - at = omega arith in
-        rw e (take-all (length file - at) (drop at file) (rw (length-drop at file) (omega arith)) ∙ sym (take-all s (drop at file) (rw (length-drop at file) (omega arith))))
+-- the page that the code cuts out: a whole one, and the last
+pub whole-page : (s : ℕ) (file : List ℕ) (at : ℕ) → at + s ≤ length file → take (at + s - at) (drop at file) ≡ filled s (take s (drop at file))
+whole-page s file at l =
+    let e : at + s - at ≡ s = omega arith in
+    rw e (sym (filled-whole s (take s (drop at file)) (length-take-le s (drop at file) (rw (length-drop at file) (omega arith)))))
+
+pub last-page : (s : ℕ) (file : List ℕ) (at : ℕ) → length file ≤ at + s → take (length file - at) (drop at file) ≡ take s (drop at file)
+last-page s file at l =
+    take-all (length file - at) (drop at file) (rw (length-drop at file) (omega arith)) ∙ sym (take-all s (drop at file) (rw (length-drop at file) (omega arith)))
 
 -- the file's residue, one page more
 module _ {p : ℕ} (pos : 0 < p) (file : List ℕ) where

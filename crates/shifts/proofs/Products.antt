@@ -52,7 +52,7 @@ shifted {key} pos e words f s h = groups 8 e 8 pos words (s .rows) 8 0 f (omega 
 
 -- a mark joined behind another of residue f, by the table
 module _ {key : ℕ} (pos : 0 < key) (e : ℕ) (words : List ℕ) (s : Shifts key e words) where
-  word-one : getD words 1 0 ≡ rem key (2 ^ e)
+  pub word-one : getD words 1 0 ≡ rem key (2 ^ e)
   word-one =
       s .rows 0 (omega arith) 1 (omega arith)
       ∙ ap (rem key) (one-⊗ (rem key (2 ^ (e + 8 * 0))))

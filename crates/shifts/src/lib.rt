@@ -1,9 +1,10 @@
-// Multiplication of residues by one power of t, by a table of 2,048 words. These functions are for the project's own crates:
-// what they require, every caller proves.
+// Multiplication of residues by one power of t, by a table of 2,048 words, and feeding eight bytes at a time by it. These functions are
+// for the project's own crates: what they require, every caller proves.
 ghost use mathlib.Core.Path.{_≡_};
-ghost use Prim.Native.Nat.{_*_, _≤_, _<_};
+ghost use Prim.Native.Nat.{_*_, _%_, _≤_, _<_};
 ghost use lib.ListN.{length, getD};
-ghost use Rattle.gf2.specs.Polynomials.{_⊕_, monic, Modulus};
+ghost use Rattle.gf2.specs.Polynomials.{_⊕_, monic, rem, Modulus};
+ghost use Rattle.files.specs.Files.{bits, valueFrom};
 ghost use Rattle.lookups.specs.Groups.{looked};
 ghost use Rattle.shifts.specs.Shifts.{Shifts};
 
@@ -44,4 +45,18 @@ pub fn join(words: &[u64], f: u64, g: u64) -> u64
     ensures { λ r. ⌜ r ≡ looked 8 (now (words .entry)) 8 0 f ⊕ g ⊕ getD (now (words .entry)) 1 0 ⌝ }
 {
     times(words, f) ^ g ^ words[1]
+}
+
+// Groups of eight bytes behind a leading 1, by the table for the shift by eight bytes. The value is congruent to the residue, not reduced.
+pub fn feed_eights(words: &[u64], k: u32, low: u64, part: &[u8]) -> u64
+    requires { ⌜ Modulus k low × Shifts (monic k low) 64 (now words) × (8 ≤ length (now part)) × (length (now part) % 8 ≡ 0) ⌝ }
+    ensures { λ r. ⌜ rem (monic k low) r ≡ rem (monic k low) (valueFrom 1 (bits (now (part .entry)))) ⌝ }
+{
+    let mut x = words[1] ^ lookups::eight_at(part, 0);
+    let mut i: usize = 8;
+    while i < part.len() {
+        x = times(words, x) ^ lookups::eight_at(part, i);
+        i += 8;
+    }
+    x
 }

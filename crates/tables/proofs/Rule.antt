@@ -19,8 +19,8 @@ use Rattle.gf2.proofs.Residues.{rem-unique}
 use Rattle.gf2.proofs.Powers.{rem-⊗-right}
 use Rattle.gf2.proofs.Monics.{monic-⊕, monic-degree, monic-pos}
 use Rattle.acceptance.proofs.Laws.{or-neither}
-use Rattle.lookups.specs.Groups.{Rows}
-use Rattle.tables.specs.Tables.{word, differs, tableFrom, Table}
+use Rattle.lookups.specs.Groups.{Rows, Reduces}
+use Rattle.tables.specs.Tables.{word, differs, tableFrom, TableOf}
 use Rattle.multiples.specs.Rows.{Multiples}
 use Rattle.multiples.proofs.Doubling.{multiple-next}
 
@@ -147,6 +147,8 @@ module _ (w : ℕ) {key : ℕ} (pos : 0 < key) (words : List ℕ) where
   rows-follow (suc c) r =
       rw (← (add-one c)) (row-follows w (degree key) pos refl words c (rows-follow c (λ j l. r j (le-trans l (le-suc c)))) (r c (le-refl (suc c))))
 
-pub table-rows : {key : ℕ} (pos : 0 < key) (words : List ℕ) → Table key words → Rows 8 key 4 words
-table-rows {key} pos words e =
-    follows-rows 8 pos words 4 (λ n l. table-rule (word 8 key) 1024 words e n (rw (table-length (word 8 key) 1024 words e) l))
+pub table-reduces : {k low : ℕ} (words : List ℕ) → TableOf k low words → Reduces k low words
+table-reduces {k} {low} words t =
+    let rule = word 8 (monic k low) in
+    let long = table-length rule 1024 words (t .2) in
+    (t .0, t .1, long, follows-rows 8 (monic-pos k low (t .0 .2)) words 4 (λ n l. table-rule rule 1024 words (t .2) n (rw long l)))

@@ -44,27 +44,42 @@ slice-aggregate-fill c = search needs
 fill-requires : tie.Need-fill-requires
 fill-requires c κs = (key-held (c .before) .modulus, refl)
 
+slice-aggregate-fill-2 : tie.Need-slice-aggregate-fill-2
+slice-aggregate-fill-2 c = search needs
+
+fill-requires-2 : tie.Need-fill-requires-2
+fill-requires-2 c κs = (key-held (c .before .before .before .before) .modulus, omega arith, refl)
+
 slice-aggregate-first-change : tie.Need-slice-aggregate-first-change
 slice-aggregate-first-change c = search needs
 
+slice-aggregate-first-change-2 : tie.Need-slice-aggregate-first-change-2
+slice-aggregate-first-change-2 c = search needs
+
 first-change-requires : tie.Need-first-change-requires
 first-change-requires c κs =
-    let s = c .before .before .before .before .before .before .before .before .before .before in
-    let h = key-held (c .before .before .before .before) in
+    let s = c .before .before .before .before .before .before .before .before .before .before .before .before .before .before in
+    let h = key-held (c .before .before .before .before .before .before .before .before) in
     let a = s .args in
     let z = sound (a .sheet .now) (s .pre) .pageSize in
-    let e = size-is (a .sheet .now) (s .pre) in
-    ((h .modulus, h .eight, c .before .before .fill .ensures), rw e (z .0), rw e (z .1), omega arith, pages-there (a .sheet .now) (s .pre) (a .file .now) (c .before .before .before .before .before .before .if2 .left))
+    let e = size-is (a .sheet .now) (s .pre) in (
+      (h .modulus, h .eight, c .before .before .before .before .before .before .fill .ensures),
+      c .before .before .before .fill2 .ensures,
+      rw e (z .0),
+      rw e (z .1),
+      omega arith,
+      pages-there (a .sheet .now) (s .pre) (a .file .now) (c .before .before .before .before .before .before .before .before .before .before .if2 .left),
+    )
 
 returns-3 : tie.Need-returns-3
 returns-3 c =
-    let s = c .before .before .before .before .before .before .before .before .before .before .before in
+    let s = c .before .before .before .before .before .before .before .before .before .before .before .before .before .before .before in
     let a = s .args in
-    let h = key-held (c .before .before .before .before .before) in
+    let h = key-held (c .before .before .before .before .before .before .before .before .before) in
     c .first-change .ensures
     ∙ ap (λ (m : ℕ). Done (firstChange 0 (numbersAt 19 8 (pagesLeft (a .x .size) (a .file .now) 0) (a .sheet .now)) (fingerprintsFrom m (a .x .size) (a .file .now) 0))) (h .whole)
     ∙ sym (compare-pages (a .sheet .now) (a .file .now) (omega arith) (a .x .key) (a .x .size) (key-is (a .sheet .now) (s .pre)) (size-is (a .sheet .now) (s .pre))
-    (c .before .before .before .before .before .before .before .if2 .left ∙ length-is (a .sheet .now) (s .pre)))
+    (c .before .before .before .before .before .before .before .before .before .before .before .if2 .left ∙ length-is (a .sheet .now) (s .pre)))
 
 pub compare-spec : {M : Type 1} → statement M
 compare-spec =
@@ -76,6 +91,9 @@ compare-spec =
     low-bits-requires
     slice-aggregate-fill
     fill-requires
+    slice-aggregate-fill-2
+    fill-requires-2
     slice-aggregate-first-change
+    slice-aggregate-first-change-2
     first-change-requires
     returns-3)

@@ -3,7 +3,7 @@ use Prim.Native.Nat.{_+_, _-_, _*_, _≤_}
 use native.Mathlib.Omega.{arith}
 use lib.ListN.{length}
 use Rattle.sheets.specs.Layout.{numbersAt}
-use Rattle.sheet_pages.specs.Fours.{looping}
+use Rattle.sheet_pages.specs.Chains.{looping}
 use Rattle.sheet_pages.proofs.Chains.{looping-next, looping-done}
 use Rattle.sheet_pages.proofs.joining.join_runs.Statement.{statement}
 use Rattle.sheet_pages.proofs.joining.join_runs.Tie as tie

@@ -3,6 +3,7 @@ use mathlib.Core.Bool.{not}
 use Prim.Native.Nat.{_+_, _-_, _*_, _≤_}
 use native.Mathlib.Omega.{arith}
 use lib.ListN.{length}
+use Rattle.gf2.proofs.Steps.{shifted-one}
 use Rattle.sheets.specs.Layout.{numberAt, numbersAt}
 use Rattle.sheets.specs.Sheets.{someUnreduced}
 use Rattle.sheets.proofs.Numbers.{numbers-next, numbers-done}
@@ -11,19 +12,19 @@ use Rattle.sheet_reading.proofs.wellformed.fields_reduced.Statement.{st
 use Rattle.sheet_reading.proofs.wellformed.fields_reduced.Tie as tie
 
 abbrev Inv-loop : tie.InvT-loop
-Inv-loop sheet k n place₀ left₀ place left = (place + 8 * left ≤ length sheet) × (someUnreduced k (numbersAt place 8 left sheet) ≡ someUnreduced k (numbersAt 19 8 n sheet))
+Inv-loop sheet k n limit place₀ left₀ place left = (place + 8 * left ≤ length sheet) × (someUnreduced k (numbersAt place 8 left sheet) ≡ someUnreduced k (numbersAt 19 8 n sheet))
 
 abbrev μ-loop : tie.MeasureT-loop
-μ-loop sheet k n place₀ left₀ place left = left
+μ-loop sheet k n limit place₀ left₀ place left = left
+
+shl-limit : tie.Need-shl-limit Inv-loop μ-loop
+shl-limit c = omega arith
 
 loop-holds : tie.Need-loop-holds Inv-loop μ-loop
 loop-holds c = (c .before .pre .1, refl)
 
 number-at-requires : tie.Need-number-at-requires Inv-loop μ-loop
 number-at-requires c κs = omega arith
-
-shr-if1 : tie.Need-shr-if1 Inv-loop μ-loop
-shr-if1 c = omega arith
 
 returns : tie.Need-returns Inv-loop μ-loop
 returns c =
@@ -32,7 +33,7 @@ returns c =
     let next = numbers-next (l .place) 8 (l .left) (a .sheet .now) (omega arith) in
     let here =
     unreduced-here (a .k) (numberAt (l .place) 8 (a .sheet .now)) (numbersAt (l .place + 8) 8 (l .left - 1) (a .sheet .now))
-    (rw (c .before .number-at .ensures .0) at (c .if1 .taken)) in
+    (rw (← (c .before .number-at .ensures .0)) (omega (arith, c .if1 .taken, shifted-one (a .k) (c .before .before .before .before .before .pre .0)))) in
     sym (ap not (sym (l .inv .1) ∙ ap (someUnreduced (a .k)) next ∙ here))
 
 add-place : tie.Need-add-place Inv-loop μ-loop
@@ -51,7 +52,7 @@ loop-again c =
     let next = numbers-next (l .place) 8 (l .left) (a .sheet .now) (omega arith) in
     let later =
     unreduced-later (a .k) (numberAt (l .place) 8 (a .sheet .now)) (numbersAt (l .place + 8) 8 (l .left - 1) (a .sheet .now))
-    (rw (c .before .number-at .ensures .0) at (c .if1 .left)) in
+    (rw (← (c .before .number-at .ensures .0)) (omega (arith, c .if1 .left, shifted-one (a .k) (c .before .before .before .before .before .pre .0)))) in
     (omega arith, sym later ∙ ap (someUnreduced (a .k)) (sym next) ∙ l .inv .1)
 
 returns-2 : tie.Need-returns-2 Inv-loop μ-loop
@@ -66,9 +67,9 @@ fields-reduced-spec =
     (tie.spec
     Inv-loop
     μ-loop
+    shl-limit
     loop-holds
     number-at-requires
-    shr-if1
     returns
     add-place
     sub-left
