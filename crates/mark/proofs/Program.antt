@@ -9,22 +9,18 @@ use native.Mathlib.Omega.{arith}
 use lib.Dec.{leb, ltb, eqb}
 use lib.ListN.{length, take, drop, length-append, length-take, take-append-drop}
 use lib.Seq.{take-take, drop-append-le}
-use borrow.Author.Tests.{lt-ltb, le-ltb, lt-leb}
+use borrow.Author.Tests.{lt-ltb, le-ltb}
 use Rattle.bytes.specs.Bytes.{indexOf, indexAfter}
-use Rattle.gf2.specs.Polynomials.{degree}
-use Rattle.gf2.proofs.Residues.{rem-lt}
 use Rattle.refusals.specs.declared.Refusal.{Refusal}
 use Rattle.refusals.specs.declared.Refusal.the-variants.{KeyBelow256, KeyReducible, TooLong}
 use Rattle.refusals.specs.Refusals.{Answer, Done, Refused, Test, _⇒_, firstOf, passes, longest}
 use Rattle.acceptance.specs.Keys.{reducible, keyTests}
 use Rattle.files.specs.declared.Mark.{Mark}
-use Rattle.files.specs.Files.{markOf, value, fingerprint}
-use Rattle.files.proofs.Marks.{mark-eq}
-use Rattle.files.proofs.Marks as files
-use Rattle.keys.proofs.Laws.{Passed, first-passed, passed-pos}
+use Rattle.files.specs.Files.{markOf}
+use Rattle.keys.proofs.Laws.{Passed, passed-pos}
 use Rattle.marks.specs.declared.Running.{Running}
-use Rattle.marks.specs.Feeding.{begin, fedMark, feedTests, begunUnder, fedUnder, unreduced}
-use Rattle.marks.proofs.Laws.{sum-passes, sum-fits, feed-long, feed-passed}
+use Rattle.marks.specs.Feeding.{begin, fedMark, feedTests, begunUnder, fedUnder}
+use Rattle.marks.proofs.Laws.{sum-passes, sum-fits, feed-long, feed-passed, true-reduced, fed-true}
 use Rattle.tables.specs.Tables.{word, tableFrom, makeTable, feedTable}
 use Rattle.tables.proofs.Rule.{length-table, table-follows}
 use Rattle.tables.proofs.Calls.{make-done, feed-tested}
@@ -117,14 +113,6 @@ stopped key words r m [] = refl
 stopped key words r m (part ∷ parts) = refl
 
 module _ (key : ℕ) (h : Passed key) where
-  fed-is : (file part : List ℕ) → fedMark key (markOf key file) part ≡ markOf key (file ++ part)
-  unfolding fedMark markOf
-  fed-is file part = mark-eq (files.fed (passed-pos h) file part) (sym (length-append file part))
-
-  below : (file : List ℕ) → unreduced key (markOf key file) ≡ false
-  unfolding markOf fingerprint
-  below file = lt-leb (2 ^ degree key) (fingerprint key file) (rem-lt (passed-pos h) (value file))
-
   -- the table that was made passes its tests
   table : List ℕ
   table = tableFrom (word 8 key) 0 1024
@@ -137,8 +125,8 @@ module _ (key : ℕ) (h : Passed key) where
   unfolding markOf
   feed-goes file part l =
       tested (markOf key file) part
-      ∙ feed-passed key (markOf key file) part (markOf key file) (fedMark key (markOf key file) part) (sum-fits (length file) (length part) l) (below file)
-      ∙ ap Done (fed-is file part)
+      ∙ feed-passed key (markOf key file) part (markOf key file) (fedMark key (markOf key file) part) (sum-fits (length file) (length part) l) (true-reduced key (passed-pos h) file)
+      ∙ ap Done (fed-true key (passed-pos h) file part)
 
   feed-stops : (file part : List ℕ) → longest < length file + length part → feedTable key (markOf key file) table part ≡ Refused TooLong (markOf key file)
   unfolding markOf
