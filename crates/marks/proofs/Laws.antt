@@ -6,11 +6,9 @@ use mathlib.Core.List.{List, [], _∷_, _++_, append-assoc, append-nil}
 use Prim.Native.Nat.{ℕ, zero, suc, _+_, _-_, _*_, _/_, _%_, _^_, _≤_, _<_}
 use native.Mathlib.Nat.{not-le-of-lt, lt-of-not-le, div-eq-of-lt, mod-eq-of-lt}
 use native.Mathlib.Decide.{decLe}
-use native.Mathlib.Numerals.{add-one}
 use native.Mathlib.Omega.{arith}
 use lib.Pow.{pow-lt}
 use lib.ListN.{length, getD, drop, length-append}
-use lib.Seq.{drop-cons}
 use lib.Dec.{leb, ltb, eqb}
 use borrow.Author.Tests.{lt-ltb, le-ltb, ltb-false, le-leb, lt-leb, eq-eqb, ne-eqb}
 use Rattle.gf2.specs.Lists.{All, Some}
@@ -24,7 +22,7 @@ use Rattle.acceptance.specs.Keys.{accepted}
 use Rattle.acceptance.proofs.Laws.{or-neither}
 use Rattle.files.specs.declared.Mark.{Mark}
 use Rattle.files.specs.Files.{lowBits, bits, valueFrom, value, fingerprint, markOf}
-use Rattle.files.proofs.Values.{value-low, value-byte, rem-from}
+use Rattle.files.proofs.Values.{value-low, value-next, rem-from}
 use Rattle.files.proofs.Marks.{mark-eq, fed}
 use Rattle.keys.proofs.Laws.{Passed, accepted-passed, first-passed, passed-pos, passed-from}
 use Rattle.marks.specs.Feeding.{unreduced, begin, feedTests, fedMark}
@@ -113,8 +111,7 @@ module _ {p : ℕ} (pos : 0 < p) where
   pub next-byte : (x i : ℕ) (part : List ℕ) → i < length part → getD part i 0 < 256
       → rem p (valueFrom (rem p (x * 256 + getD part i 0)) (bits (drop (i + 1) part))) ≡ rem p (valueFrom x (bits (drop i part)))
   next-byte x i part h l =
-      rem-from pos (x * 256 + getD part i 0) (bits (drop (i + 1) part))
-      ∙ ap (rem p) (rw (drop-cons part i 0 h, add-one, value-byte x, mod-eq-of-lt l))
+      rem-from pos (x * 256 + getD part i 0) (bits (drop (i + 1) part)) ∙ ap (rem p) (sym (value-next x i part h l))
 
 -- ---- how the tests of a feed go on, behind those of the key and the table
 

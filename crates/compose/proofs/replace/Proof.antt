@@ -85,7 +85,7 @@ replaced-residue-requires c κs =
     let e = fails _ (passes (a .m .length ∷ length (a .old .now) ∷ length (a .new .now) ∷ [])) (d .before .before .within .ensures) (d .before .if1 .left) in
     let u = fails _ (leb (2 ^ d .degree .result) (a .m .fingerprint)) (c .before .before .before .before .before .reduced .ensures) (c .before .before .before .before .if2 .left) in
     let w = marks-laws.within (a .m .length ∷ length (a .old .now) ∷ length (a .new .now) ∷ []) e in
-    (rw (c .low-bits .ensures, d .degree .ensures) (word-modulus (a .m .key) (omega arith) (omega arith)), leb-false _ _ u, omega (arith, w .0))
+    (rw (c .low-bits .ensures, d .degree .ensures) (word-modulus (a .m .key) (omega arith) (omega arith)), leb-false _ _ u, c .before .before .before .if3 .left, omega (arith, w .0))
 
 returns-6 : tie.Need-returns-6
 unfolding replaced
