@@ -1,7 +1,7 @@
 -- What the code computes for two files joined and for a page changed, modulo t^k with the coefficients c below it: the power of t may be
 -- reduced first.
-use mathlib.Core.Path.{_≡_, refl, sym, ap, ap₂, _∙_}
-use mathlib.Core.Bool.{Bool, true, false, _||_}
+use mathlib.Core.Path.{_≡_, sym, ap, ap₂, _∙_}
+use mathlib.Core.Bool.{Bool, _||_, or-assoc, or-comm}
 use mathlib.Core.List.{List, [], _∷_}
 use Prim.Native.Nat.{ℕ, _+_, _*_, _^_, _<_}
 use native.Mathlib.Nat.{add-comm, zero-add, zero-mul}
@@ -85,16 +85,8 @@ module _ {p : ℕ} (pos : 0 < p) (old new : List ℕ) (e : length old ≡ length
 
 -- ---- the tests of two marks do not depend on their order
 
-or-comm : (x y : Bool) → (x || y) ≡ (y || x)
-or-comm true true = refl
-or-comm true false = refl
-or-comm false true = refl
-or-comm false false = refl
-
 or-left-comm : (x y z : Bool) → (x || (y || z)) ≡ (y || (x || z))
-or-left-comm true true z = refl
-or-left-comm true false z = refl
-or-left-comm false y z = refl
+or-left-comm x y z = sym (or-assoc x y z) ∙ ap (λ (b : Bool). b || z) (or-comm x y) ∙ or-assoc y x z
 
 pub marks-swap : (key : ℕ) (x y : Mark) → marksTests key x y ≡ marksTests key y x
 marks-swap key x y =

@@ -1,10 +1,10 @@
 -- Laws for callers: what numbers 7 and 8 come to in the comparisons that the code makes, and marks of files.
 use mathlib.Core.Path.{_≡_, refl, sym, ap, _∙_}
-use mathlib.Core.Logic.{_⊎_, inl, inr}
-use mathlib.Core.Bool.{Bool, true, false, _||_, not}
+use mathlib.Core.Logic.{inl, inr}
+use mathlib.Core.Bool.{Bool, true, false, not, or-true}
 use mathlib.Core.List.{List, [], _∷_, _++_, append-assoc, append-nil}
 use Prim.Native.Nat.{ℕ, zero, suc, _+_, _-_, _*_, _/_, _%_, _^_, _≤_, _<_}
-use native.Mathlib.Nat.{not-le-of-lt, lt-of-not-le, div-eq-of-lt, mod-eq-of-lt}
+use native.Mathlib.Nat.{not-le-of-lt, lt-of-not-le, div-eq-of-lt, mod-mod, mod-eq-of-lt}
 use native.Mathlib.Decide.{decLe}
 use native.Mathlib.Omega.{arith}
 use lib.Pow.{pow-lt}
@@ -16,7 +16,7 @@ use Rattle.gf2.specs.Polynomials.{degree, rem}
 use Rattle.gf2.proofs.Degrees.{lt-of-high}
 use Rattle.gf2.proofs.Residues.{rem-small, rem-lt}
 use Rattle.refusals.specs.declared.Refusal.the-variants.{TooLong, MarkNotReduced}
-use Rattle.refusals.specs.Refusals.{Answer, Done, Refused, Test, _⇒_, firstOf, longest, passes}
+use Rattle.refusals.specs.Refusals.{Done, Refused, Test, _⇒_, firstOf, longest, passes}
 use Rattle.refusals.proofs.Laws.{skip, holds, fails}
 use Rattle.acceptance.specs.Keys.{accepted}
 use Rattle.acceptance.proofs.Laws.{or-neither}
@@ -29,14 +29,10 @@ use Rattle.marks.specs.Feeding.{unreduced, begin, feedTests, fedMark}
 
 -- ---- number 7: of a list of lengths
 
-or-true : (a b : Bool) → b ≡ true → (a || b) ≡ true
-or-true true b e = refl
-or-true false b e = e
-
 pub passes-some : (ns : List ℕ) → Some (λ n. longest < n) ns → passes ns ≡ true
 passes-some [] s = absurd s
 passes-some (n ∷ ns) (inl l) = rw (lt-ltb longest n l)
-passes-some (n ∷ ns) (inr s) = or-true (ltb longest n) (passes ns) (passes-some ns s)
+passes-some (n ∷ ns) (inr s) = rw (passes-some ns s) (or-true (ltb longest n))
 
 pub passes-none : (ns : List ℕ) → All (λ n. n ≤ longest) ns → passes ns ≡ false
 passes-none [] h = refl
@@ -89,9 +85,6 @@ module _ (key k f : ℕ) (d : k ≡ degree key) (r : Bool) (e : r ≡ not (leb (
 
 -- ---- what is left to feed
 
-mod-twice : (x : ℕ) → x % 2 % 2 ≡ x % 2
-mod-twice x = omega arith
-
 -- all eight bits of a byte
 pub byte-behind : (x b : ℕ) → b < 256 → valueFrom x (lowBits 8 b) ≡ x * 256 + b
 unfolding valueFrom
@@ -105,7 +98,7 @@ module _ {p : ℕ} (pos : 0 < p) where
   next-bit x b zero h = absurd (omega arith)
   next-bit x b (suc n) h =
       let e : suc n - 1 ≡ n = omega arith in
-      rw e (rem-from pos (x * 2 + b / 2 ^ n % 2) (lowBits n b) ∙ ap (λ (y : ℕ). rem p (valueFrom (x * 2 + y) (lowBits n b))) (sym (mod-twice (b / 2 ^ n))))
+      rw e (rem-from pos (x * 2 + b / 2 ^ n % 2) (lowBits n b) ∙ ap (λ (y : ℕ). rem p (valueFrom (x * 2 + y) (lowBits n b))) (sym (mod-mod (b / 2 ^ n) 2)))
 
   -- the next byte of a part
   pub next-byte : (x i : ℕ) (part : List ℕ) → i < length part → getD part i 0 < 256

@@ -1,6 +1,6 @@
 -- Laws of the key's line: one digit more, which tests make it a key, and how many bytes decide it.
 use mathlib.Core.Path.{_≡_, refl, sym, ap, _∙_}
-use mathlib.Core.Bool.{Bool, true, false, cond, _&&_}
+use mathlib.Core.Bool.{Bool, true, false, cond, _&&_, and-false}
 use mathlib.Core.List.{List, [], _∷_, _++_}
 use Prim.Native.Nat.{ℕ, zero, suc, _+_, _-_, _*_, _/_, _%_, _^_, _≤_, _<_, min}
 use lib.Pow.{pow-add}
@@ -38,10 +38,6 @@ hex-lt s d i h l = let e : 4 * (i + 1) ≡ 4 * i + 4 = omega arith in rw (e, pow
 
 -- ---- the tests
 
-and-false : (a b : Bool) → b ≡ false → (a && b) ≡ false
-and-false true b e = e
-and-false false b e = refl
-
 pub line-at : (input : List ℕ) (r : ℕ) → r ≡ 0 + indexOf 10 (slice 0 (length input) input) → keyLine input ≡ keyBefore r input
 unfolding keyLine slice
 line-at input r e = ap (λ (n : ℕ). keyBefore n input) (sym (e ∙ zero-add (indexOf 10 (take (length input) input)) ∙ ap (indexOf 10) (take-length input)))
@@ -53,15 +49,15 @@ module _ (n : ℕ) (input : List ℕ) where
 
   pub empty-line : n < 1 → keyBefore n input ≡ NoKey
   unfolding keyBefore
-  empty-line h = rw (lt-leb 1 n h, and-false (ltb n (length input)) false refl)
+  empty-line h = rw (lt-leb 1 n h, and-false (ltb n (length input)))
 
   pub long-line : 16 < n → keyBefore n input ≡ NoKey
   unfolding keyBefore
-  long-line h = rw (lt-leb n 16 h, and-false (leb 1 n) false refl, and-false (ltb n (length input)) false refl)
+  long-line h = rw (lt-leb n 16 h, and-false (leb 1 n), and-false (ltb n (length input)))
 
   pub other-bytes : allDigits (take n input) ≡ false → keyBefore n input ≡ NoKey
   unfolding keyBefore
-  other-bytes e = rw (and-false (ltb n (length input) && (leb 1 n && leb n 16)) (allDigits (take n input)) e)
+  other-bytes e = rw (e, and-false (ltb n (length input) && (leb 1 n && leb n 16)))
 
   pub key-digits : n < length input → 1 ≤ n → n ≤ 16 → allDigits (take n input) ≡ true → keyBefore n input ≡ Key (hexFrom 0 (take n input)) (n + 1)
   unfolding keyBefore
