@@ -1,12 +1,8 @@
 -- An answer about running marks under one key, and the same answer about marks.
 use mathlib.Core.Path.{_≡_, refl, ap, _∙_}
-use mathlib.Core.List.{List}
 use Prim.Native.Nat.{ℕ}
 use Rattle.refusals.specs.Refusals.{Answer, Done, Refused, numberOf, stateOf, valueOr}
 use Rattle.files.specs.declared.Mark.{Mark}
-use Rattle.tables.specs.declared.Made.{Made}
-use Rattle.tables.specs.declared.Made.the-variants as made-cases
-use Rattle.tables.specs.Answers.{made}
 use Rattle.marks.specs.declared.Running.{Running}
 use Rattle.marks.specs.Feeding.{markIn, begunUnder, fedUnder}
 
@@ -36,8 +32,3 @@ markOr before (Refused r s) = before
 pub begun-value : (key : ℕ) (before : Mark) (a : Answer Unit Mark) → markOr before (begunUnder key a) ≡ valueOr before a
 begun-value key before (Done m) = refl
 begun-value key before (Refused r s) = refl
-
--- the words of an answer about a table are those that the buffer holds
-pub made-state : (words : List ℕ) (r : Made) → words ≡ stateOf (made words r)
-made-state words made-cases.Done = refl
-made-state words (made-cases.Refused q) = refl

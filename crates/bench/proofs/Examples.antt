@@ -11,15 +11,16 @@ use Rattle.refusals.specs.Refusals.{Done, Refused, longest}
 use Rattle.acceptance.specs.Keys.{anyBelow, reducible, accepted}
 use Rattle.files.specs.declared.Mark.{Mark}
 use Rattle.files.specs.Files.{lowBits, bits, valueFrom, value, fingerprint, markOf}
+use Rattle.keys.proofs.Laws.{accepted-passed, first-passed}
 use Rattle.marks.specs.Feeding.{sumTest}
+use Rattle.marks.proofs.Laws.{empty-mark}
 use Rattle.tables.specs.Tables.{word, differs, tableFrom, houseKey}
+use Rattle.house.proofs.House.{house-accepted}
 use Rattle.book.specs.Runs.{bookStep, run, Honest}
 use Rattle.book.specs.Confusions.{Confuses}
 use Rattle.bench.specs.Book.{Call, ByBits, ByTable, ByHouse, step, bookTests, written, bench, Route}
 use Rattle.bench.specs.Parts.{AllUsable}
-use Rattle.bench.proofs.KeyLaws.{key-passes, empty-mark}
 use Rattle.bench.proofs.Guarantee.{lists, reaches}
-use Rattle.bench.proofs.House.{house-accepted}
 use Rattle.bench.proofs.Parts.{taken, parts}
 
 pub accepted-11B : accepted 0x11B ≡ true
@@ -69,7 +70,7 @@ mark-41-42 = refl
 
 pub the-list : run (step 0x11B) (record { fingerprint = 0x01; length = 0 }) calls ≡ (record { fingerprint = 0x9D; length = 2 }, 0 ∷ 5 ∷ 6 ∷ 0 ∷ [])
 the-list =
-    let r = lists 0x11B [] (record { fingerprint = 0x01; length = 0 }) calls accepted-11B (sym (empty-mark 0x11B accepted-11B)) the-list-is-honest in
+    let r = lists 0x11B [] (record { fingerprint = 0x01; length = 0 }) calls accepted-11B (sym (empty-mark 0x11B (accepted-passed 0x11B accepted-11B))) the-list-is-honest in
     ap₂ {C = Mark × List ℕ} (λ (x : Mark) (ns : List ℕ). (x, ns)) (r .0 ∙ ap (λ (x : List ℕ × List ℕ). markOf 0x11B (x .0)) the-book ∙ mark-41-42) (r .1 ∙ ap (λ (x : List ℕ × List ℕ). x .1) the-book)
 
 -- ---- under the house key, from the empty file
@@ -89,7 +90,7 @@ mark-below-61 = refl
 pub the-house-list : run (step houseKey) (record { fingerprint = 0x1; length = 0 }) house-calls ≡ (record { fingerprint = 0x14142; length = 2 }, 0 ∷ 0 ∷ 0 ∷ [])
 unfolding house-calls
 the-house-list =
-    parts houseKey [] (record { fingerprint = 0x1; length = 0 }) house-calls house-accepted (sym (empty-mark houseKey house-accepted)) house-usable (omega arith)
+    parts houseKey [] (record { fingerprint = 0x1; length = 0 }) house-calls house-accepted (sym (empty-mark houseKey (accepted-passed houseKey house-accepted))) house-usable (omega arith)
     ∙ ap {B = Mark × List ℕ} (λ (x : Mark). (x, 0 ∷ 0 ∷ 0 ∷ [])) mark-below-61
 
 -- ---- "Length 4,294,967,295 plus one byte gives 7; plus none is accepted."
@@ -97,7 +98,7 @@ the-house-list =
 module _ (key : ℕ) (a : accepted key ≡ true) (file : List ℕ) (full : length file ≡ longest) where
   pub one-more : (b : ℕ) → bookStep bench key file (ByBits (b ∷ [])) ≡ Refused TooLong file
   unfolding bookStep bookTests written
-  one-more b = key-passes key a (sumTest (length file) 1 ∷ []) file (file ++ b ∷ []) ∙ rw full
+  one-more b = first-passed key (sumTest (length file) 1 ∷ []) file (file ++ b ∷ []) (accepted-passed key a) ∙ rw full
 
   pub one-more-by-house : (b : ℕ) → bookStep bench key file (ByHouse (b ∷ [])) ≡ Refused TooLong file
   unfolding bookStep bookTests

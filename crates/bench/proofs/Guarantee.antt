@@ -8,11 +8,10 @@ use Rattle.refusals.specs.Refusals.{Answer, Done, valueOr, numbers}
 use Rattle.files.specs.declared.Mark.{Mark}
 use Rattle.files.specs.Files.{fingerprint, markOf}
 use Rattle.marks.specs.Feeding.{begin}
-use Rattle.book.specs.Claims.{Lists, Lowest, Confusions, Counted, ConfusionsCount, Bursts, BurstsCount}
-use Rattle.book.proofs.ConfusionLaws as keys-equal
+use Rattle.marks.proofs.Laws.{begins}
+use Rattle.book.specs.Claims.{Lists, Lowest, Confusions, Counted, Bursts}
 use Rattle.book.proofs.Guarantee as any-level
 use Rattle.bench.specs.Book.{Call, ByBits, ByTable, ByHouse, bookTests, bench, Route, ByCalls, Beginning}
-use Rattle.bench.proofs.KeyLaws.{begins}
 use Rattle.bench.proofs.StepLaws.{keeps}
 
 -- the book's tests stand in the order of their numbers
@@ -50,11 +49,5 @@ confusions = any-level.confusions Route sound
 pub counted : Counted Route
 counted = any-level.counted Route sound reaches
 
-pub confusions-count : ConfusionsCount
-confusions-count = keys-equal.confusions-count
-
 pub bursts : Bursts Route
 bursts = any-level.bursts Route sound
-
-pub bursts-count : BurstsCount
-bursts-count = keys-equal.bursts-count

@@ -5,25 +5,21 @@ use mathlib.Core.List.{List, [], _∷_, _++_, append-assoc, append-nil}
 use Prim.Native.Nat.{ℕ, _+_, _≤_}
 use native.Mathlib.Omega.{arith}
 use lib.ListN.{length, length-append}
-use Rattle.refusals.specs.Refusals.{Done, stateOf, Test, firstOf, longest}
+use Rattle.refusals.specs.Refusals.{Done, stateOf, firstOf, longest}
 use Rattle.acceptance.specs.Keys.{accepted}
 use Rattle.files.specs.declared.Mark.{Mark}
 use Rattle.files.specs.Files.{markOf}
+use Rattle.keys.proofs.Laws.{accepted-passed, first-passed}
 use Rattle.marks.specs.Feeding.{sumTest}
 use Rattle.marks.proofs.Laws.{sum-fits}
 use Rattle.tables.specs.Tables.{word, tableFrom, tableTests}
 use Rattle.tables.proofs.Rule.{length-table, table-follows}
+use Rattle.tables.proofs.Calls.{table-passed}
 use Rattle.book.specs.Runs.{bookStep, run, Honest}
 use Rattle.book.proofs.RunLaws.{run-next}
 use Rattle.bench.specs.Book.{Call, ByBits, ByTable, ByHouse, bookTests, written, Brings, bench}
 use Rattle.bench.specs.Parts.{partOf, Usable, AllUsable, partsJoined, zeros, PartsJoined}
-use Rattle.bench.proofs.KeyLaws.{key-passes}
 use Rattle.bench.proofs.Guarantee.{lists}
-
--- numbers 5 and 6 do not apply
-table-passes : {S A : Type 0} (key : ℕ) (ts : List Test) (kept : S) (value : A)
-    → firstOf (tableTests key (tableFrom (word 8 key) 0 1024) ++ ts) kept value ≡ firstOf ts kept value
-table-passes key ts kept value = rw (length-table (word 8 key) 0 1024, table-follows (word 8 key) 0 1024)
 
 module _ (key : ℕ) (a : accepted key ≡ true) where
   -- number 7 does not apply
@@ -34,11 +30,11 @@ module _ (key : ℕ) (a : accepted key ≡ true) where
   -- the book takes the part
   pub taken : (file : List ℕ) (c : Call) → Usable key c → length file + length (partOf c) ≤ longest → bookStep bench key file c ≡ Done (file ++ partOf c)
   unfolding bookStep bookTests written
-  taken file (ByBits part) u l = key-passes key a (sumTest (length file) (length part) ∷ []) file (file ++ part) ∙ sum-passes file part l
+  taken file (ByBits part) u l = first-passed key (sumTest (length file) (length part) ∷ []) file (file ++ part) (accepted-passed key a) ∙ sum-passes file part l
   taken file (ByTable words part) u l =
-      key-passes key a (tableTests key words ++ sumTest (length file) (length part) ∷ []) file (file ++ part)
+      first-passed key (tableTests key words ++ sumTest (length file) (length part) ∷ []) file (file ++ part) (accepted-passed key a)
       ∙ ap (λ (ws : List ℕ). firstOf (tableTests key ws ++ sumTest (length file) (length part) ∷ []) file (file ++ part)) u
-      ∙ table-passes key (sumTest (length file) (length part) ∷ []) file (file ++ part)
+      ∙ table-passed key (tableFrom (word 8 key) 0 1024) (sumTest (length file) (length part) ∷ []) file (file ++ part) (length-table (word 8 key) 0 1024) (table-follows (word 8 key) 0 1024)
       ∙ sum-passes file part l
   taken file (ByHouse part) u l = sum-passes file part l
 

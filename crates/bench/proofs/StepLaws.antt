@@ -1,20 +1,17 @@
 -- One call of the Bench level beside one step of the book.
-use mathlib.Core.Path.{_≡_, refl, sym, ap, _∙_}
+use mathlib.Core.Path.{_≡_, refl}
 use mathlib.Core.Bool.{Bool, true, false}
-use mathlib.Core.List.{List, [], _∷_, _++_, append-assoc}
-use Prim.Native.Nat.{ℕ, _+_, _^_, _<_}
-use lib.ListN.{length, length-append}
-use borrow.Author.Tests.{lt-leb}
-use Rattle.gf2.specs.Polynomials.{degree, rem}
-use Rattle.gf2.proofs.Residues.{rem-lt}
+use mathlib.Core.List.{List, [], _∷_, _++_}
+use Prim.Native.Nat.{ℕ, _+_, _<_}
+use lib.ListN.{length}
 use Rattle.refusals.specs.declared.Refusal.the-variants.{TooLong, MarkNotReduced}
 use Rattle.refusals.specs.Refusals.{Answer, stateOf, numberOf, Test, _⇒_, firstOf, passes}
-use Rattle.refusals.proofs.Laws.{skip, agree}
+use Rattle.refusals.proofs.Laws.{agree}
 use Rattle.acceptance.specs.Keys.{keyTests}
 use Rattle.files.specs.declared.Mark.{Mark}
-use Rattle.files.specs.Files.{value, fingerprint, markOf}
-use Rattle.files.proofs.Marks.{mark-eq, fed}
+use Rattle.files.specs.Files.{markOf}
 use Rattle.marks.specs.Feeding.{unreduced, sumTest, feedTests, fedMark, feedBits}
+use Rattle.marks.proofs.Laws.{leave-out-8, fed-true}
 use Rattle.tables.specs.Tables.{tableTests, feedTable, houseKey, feedHouse}
 use Rattle.book.specs.Runs.{bookStep}
 use Rattle.book.proofs.RunLaws.{Keeps}
@@ -30,24 +27,6 @@ pub agrees-by : (key : ℕ) (s : Answer Mark Mark) (ts : List Test) (kept next :
 agrees-by key s ts kept next nxt e h = rw e (agree (markOf key) ts kept next nxt h)
 
 module _ (key : ℕ) (pos : 0 < key) (file : List ℕ) where
-  -- a true mark is reduced
-  pub reduced : unreduced key (markOf key file) ≡ false
-  unfolding markOf fingerprint
-  reduced = lt-leb (2 ^ degree key) (rem key (value file)) (rem-lt pos (value file))
-
-  -- so number 8 may be left out, wherever it stands
-  pub leave-out-8 : (ts us vs : List Test) (x y : Mark)
-      → firstOf (ts ++ (us ++ unreduced key (markOf key file) ⇒ MarkNotReduced ∷ vs)) x y ≡ firstOf (ts ++ (us ++ vs)) x y
-  leave-out-8 ts us vs x y =
-      ap (λ (l : List Test). firstOf l x y) (sym (append-assoc ts us (unreduced key (markOf key file) ⇒ MarkNotReduced ∷ vs)))
-      ∙ ap (λ (b : Bool). firstOf (ts ++ us ++ b ⇒ MarkNotReduced ∷ vs) x y) reduced
-      ∙ skip (ts ++ us) vs MarkNotReduced x y
-      ∙ ap (λ (l : List Test). firstOf l x y) (append-assoc ts us vs)
-
-  fed-mark : (part : List ℕ) → fedMark key (markOf key file) part ≡ markOf key (file ++ part)
-  unfolding fedMark markOf
-  fed-mark part = mark-eq (fed pos file part) (sym (length-append file part))
-
   -- feeding, whatever is tested before
   feed-agrees : (ts : List Test) (part : List ℕ)
       → Agrees key (firstOf (ts ++ feedTests key (markOf key file) part) (markOf key file) (fedMark key (markOf key file) part))
@@ -56,8 +35,8 @@ module _ (key : ℕ) (pos : 0 < key) (file : List ℕ) where
   feed-agrees ts part =
       agrees-by key (firstOf (ts ++ feedTests key (markOf key file) part) (markOf key file) (fedMark key (markOf key file) part))
       (ts ++ sumTest (length file) (length part) ∷ []) file (file ++ part) (fedMark key (markOf key file) part)
-      (leave-out-8 ts (sumTest (length file) (length part) ∷ []) [] (markOf key file) (fedMark key (markOf key file) part))
-      (λ e. fed-mark part)
+      (leave-out-8 key pos file ts (sumTest (length file) (length part) ∷ []) [] (markOf key file) (fedMark key (markOf key file) part))
+      (λ e. fed-true key pos file part)
 
   bits-agree : (part : List ℕ) → Agrees key (step key (markOf key file) (ByBits part)) (bookStep bench key file (ByBits part))
   unfolding step feedBits bookStep bookTests written
@@ -80,7 +59,7 @@ module _ (key : ℕ) (pos : 0 < key) (file : List ℕ) where
       go true h = (refl, refl)
       go false h =
           rw (← (h refl)) (agrees-by key (firstOf (unreduced key (markOf key file) ⇒ MarkNotReduced ∷ []) (markOf key file) (fedMark key (markOf key file) part)) [] file
-          (file ++ part) (fedMark key (markOf key file) part) (leave-out-8 [] [] [] (markOf key file) (fedMark key (markOf key file) part)) (λ e. fed-mark part))
+          (file ++ part) (fedMark key (markOf key file) part) (leave-out-8 key pos file [] [] [] (markOf key file) (fedMark key (markOf key file) part)) (λ e. fed-true key pos file part))
 
   house-agrees : (part : List ℕ) → (numberOf (bookStep bench key file (ByHouse part)) ≡ 0 → key ≡ houseKey)
       → Agrees key (step key (markOf key file) (ByHouse part)) (bookStep bench key file (ByHouse part))

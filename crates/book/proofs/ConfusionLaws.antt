@@ -1,5 +1,5 @@
 -- Keys under which two different files have equal fingerprints: such a key divides the difference of the files' polynomials.
-use mathlib.Core.Path.{_≡_, sym, ap, _∙_}
+use mathlib.Core.Path.{_≡_, ap, _∙_}
 use mathlib.Core.Logic.{_≢_, _↔_, _⊎_, inl, inr}
 use mathlib.Core.Bool.{true, _&&_}
 use mathlib.Core.List.{List}
@@ -23,7 +23,8 @@ use Rattle.files.specs.Files.{value, fingerprint, Bytes}
 use Rattle.files.proofs.Values.{value-degree, value-inj}
 use Rattle.book.specs.Confusions.{confused, Burst}
 use Rattle.book.specs.Claims.{ConfusionsCount, BurstsCount}
-use Rattle.book.proofs.CountLaws.{Chosen, chosen, length-chosen, all-chosen, distinct-chosen, none-long}
+use Rattle.book.proofs.CountLaws.{Chosen, chosen, length-chosen, all-chosen, distinct-chosen}
+use Rattle.book.proofs.Sums.{count-none}
 use Rattle.book.proofs.BurstLaws.{no-burst, burst-shifted}
 
 -- an accepted key of degree k under which the fingerprints are equal
@@ -107,6 +108,5 @@ confusions-count k a b ha hb ne n la lb =
     (equal-keys k a b ha hb ne n la lb (listed k a b) (distinct-chosen (confused a b) (2 ^ k) (2 ^ k)) (all-listed k a b))
 
 pub bursts-count : BurstsCount
-unfolding listed
 bursts-count k a b ha hb ne s =
-    sym (length-chosen (confused a b) (2 ^ k) (2 ^ k)) ∙ none-long (Equal k a b) (listed k a b) (all-listed k a b) (no-equal-key k a b ha hb ne s)
+    count-none (confused a b) (2 ^ k) (2 ^ k) (λ key l h e. no-equal-key k a b ha hb ne s key (equal-iff k a b key .1 (l, h, e)))

@@ -54,7 +54,3 @@ pub distinct-chosen : (f : ℕ → Bool) (x n : ℕ) → Distinct (chosen f x n)
 distinct-chosen f x zero = tt
 distinct-chosen f x (suc n) =
     distinct-keep (f x) x (chosen f (suc x) n) (all-map (λ y c. c .from) (chosen f (suc x) n) (all-chosen f (suc x) n)) (distinct-chosen f (suc x) n)
-
-pub none-long : (P : ℕ → Type 0) (xs : List ℕ) → All P xs → ((y : ℕ) → P y → ⊥) → length xs ≡ 0
-none-long P [] p h = refl
-none-long P (x ∷ xs) p h = absurd (h x (p .0))

@@ -1,5 +1,5 @@
 -- Demand 3 (document 01, "The plain book of demand 3") as it is claimed of a level and of its routes. Each level proves these claims
--- in its proofs/Guarantee.antt.
+-- in its proofs/Guarantee.antt; the counts name no level and are proved in proofs/ConfusionLaws.antt.
 use mathlib.Core.Path.{_≡_}
 use mathlib.Core.Logic.{_≢_, _↔_}
 use mathlib.Core.Bool.{true}

@@ -8,6 +8,7 @@ ghost use mathlib.Core.Path.{_≡_};
 ghost use mathlib.Core.Bool.{not};
 ghost use mathlib.Core.List.{[], _∷_};
 ghost use Prim.Native.Nat.{_+_, _*_, _^_, _≤_, _<_};
+ghost use lib.ListN.{length};
 ghost use Rattle.gf2.specs.Polynomials.{_⊕_, rem, monic, Modulus};
 ghost use Rattle.files.specs.Files.{fingerprint};
 ghost use Rattle.refusals.specs.Refusals.{firstOf, passes};
@@ -24,15 +25,28 @@ pub fn joined_residue(k: u32, low: u64, f: u64, g: u64, b: u64) -> u64
     gf2::product(k, low, f, shift) ^ g ^ shift
 }
 
+// The difference of the residues of two pages of one length: the residue of their difference, without the leading 1 of either.
+fn difference(k: u32, low: u64, old: &[u8], new: &[u8]) -> u64
+    requires { ⌜ Modulus k low × (length (now old) ≡ length (now new)) ⌝ }
+    ensures { λ r. ⌜ r ≡ fingerprint (monic k low) (now (old .entry)) ⊕ fingerprint (monic k low) (now (new .entry)) ⌝ }
+{
+    let mut x: u64 = 0;
+    let mut i = 0;
+    while i < old.len() {
+        x = marks::feed_byte(k, low, x, old[i] ^ new[i]);
+        i += 1;
+    }
+    x
+}
+
 // The residue of a file in which a page was changed: the difference of the pages' residues, times t^(8 × bytes after the page), is added.
 pub fn replaced_residue(k: u32, low: u64, f: u64, old: &[u8], new: &[u8], after: u64) -> u64
-    requires { ⌜ Modulus k low × (f < 2 ^ k) × (after < 2 ^ 32) ⌝ }
+    requires { ⌜ Modulus k low × (f < 2 ^ k) × (length (now old) ≡ length (now new)) × (after < 2 ^ 32) ⌝ }
     ensures { λ r. ⌜ r ≡ rem (monic k low) (f ⊕ (fingerprint (monic k low) (now (old .entry)) ⊕ fingerprint (monic k low) (now (new .entry))) * 2 ^ (8 * after)) ⌝ }
 {
-    let before = marks::feed_bytes(k, low, 1, old);
-    let now = marks::feed_bytes(k, low, 1, new);
+    let change = difference(k, low, old, new);
     let shift = gf2::power_of_t(k, low, 8 * after);
-    f ^ gf2::product(k, low, before ^ now, shift)
+    f ^ gf2::product(k, low, change, shift)
 }
 
 // Two marks joined, after the test of the key. The running mark m goes back where they are refused.

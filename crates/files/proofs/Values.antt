@@ -2,14 +2,15 @@
 use mathlib.Core.Path.{_≡_, refl, sym, ap, ap₂, _∙_}
 use mathlib.Core.List.{List, [], _∷_, _++_, append-assoc}
 use Prim.Native.Nat.{ℕ, zero, suc, _+_, _*_, _/_, _%_, _^_, _<_}
-use native.Mathlib.Nat.{mul-one, mul-comm, add-zero, mod-one, pow-suc}
-use native.Mathlib.Numerals.{one-add}
+use native.Mathlib.Nat.{mul-one, mul-comm, add-zero, mod-one, mod-mod, mod-eq-of-lt, pow-suc}
+use native.Mathlib.Numerals.{one-add, add-one}
 use native.Mathlib.Omega.{arith}
 use lib.Arith.{digits-lt, digits-div}
-use lib.ListN.{length, length-append}
+use lib.ListN.{length, getD, drop, length-append}
 use lib.Pow.{mod-pow-add}
+use lib.Seq.{drop-cons}
 use Rattle.gf2.specs.Polynomials.{_⊕_, Degree, rem}
-use Rattle.gf2.proofs.Sums.{⊕-append, ⊕-shl, xor}
+use Rattle.gf2.proofs.Sums.{⊕-self, ⊕-append, ⊕-shl, xor}
 use Rattle.gf2.proofs.Products.{shl-suc}
 use Rattle.gf2.proofs.Degrees.{deg-unique}
 use Rattle.gf2.proofs.Residues.{rem-lt, rem-small, rem-append}
@@ -57,9 +58,6 @@ bits-append (x ∷ a) b = ap (λ r. lowBits 8 x ++ r) (bits-append a b) ∙ sym 
 low-suc : (n b : ℕ) → b % 2 ^ suc n ≡ b / 2 ^ n % 2 * 2 ^ n + b % 2 ^ n
 low-suc n b = ap (λ (x : ℕ). b % 2 ^ x) (sym (one-add n)) ∙ mod-pow-add b 1 n
 
-mod-twice : (x : ℕ) → x % 2 % 2 ≡ x % 2
-mod-twice x = omega arith
-
 -- n low bits come in as one number
 pub value-low : (n s b : ℕ) (r : List ℕ) → valueFrom s (lowBits n b ++ r) ≡ valueFrom (s * 2 ^ n + b % 2 ^ n) r
 unfolding valueFrom lowBits
@@ -67,12 +65,17 @@ value-low zero s b r = simp (mul-one, mod-one, add-zero)
 value-low (suc n) s b r = value-low n (s * 2 + b / 2 ^ n % 2 % 2) b r ∙ ap (λ (x : ℕ). valueFrom x r) sum
   where
     sum : (s * 2 + b / 2 ^ n % 2 % 2) * 2 ^ n + b % 2 ^ n ≡ s * 2 ^ suc n + b % 2 ^ suc n
-    sum = rw (mod-twice, low-suc, shl-suc) (omega arith)
+    sum = rw (mod-mod, low-suc, shl-suc) (omega arith)
 
 -- the byte law
 pub value-byte : (s b : ℕ) (file : List ℕ) → valueFrom s (bits (b ∷ file)) ≡ valueFrom (s * 256 + b % 256) (bits file)
 unfolding bits
 value-byte s b file = value-low 8 s b (bits file)
+
+-- the byte at a place, and what is behind it
+pub value-next : (s i : ℕ) (file : List ℕ) → i < length file → getD file i 0 < 256
+    → valueFrom s (bits (drop i file)) ≡ valueFrom (s * 256 + getD file i 0) (bits (drop (i + 1) file))
+value-next s i file h l = rw (drop-cons file i 0 h, add-one, value-byte s, mod-eq-of-lt l)
 
 -- ---- appending and changing
 
@@ -89,8 +92,12 @@ module _ {p : ℕ} (pos : 0 < p) where
 same-end : (a b : ℕ) (post : List ℕ) → valueFrom a post ⊕ valueFrom b post ≡ (a ⊕ b) * 2 ^ length post
 same-end a b post = rw (value-⊕ a post, value-⊕ b post, ⊕-shl) (simp xor)
 
-start-free : (s t : ℕ) (x y : List ℕ) → length x ≡ length y → valueFrom s x ⊕ valueFrom s y ≡ valueFrom t x ⊕ valueFrom t y
-start-free s t x y e = rw (value-⊕ s x, value-⊕ s y, value-⊕ t x, value-⊕ t y, e) (simp xor)
+-- of two strings of one length only the sum of the starts matters
+pub value-starts : (s t u v : ℕ) (x y : List ℕ) → length x ≡ length y → s ⊕ t ≡ u ⊕ v → valueFrom s x ⊕ valueFrom t y ≡ valueFrom u x ⊕ valueFrom v y
+value-starts s t u v x y e h = apart s t ∙ ap (λ (c : ℕ). c * 2 ^ length y ⊕ (valueFrom 0 x ⊕ valueFrom 0 y)) h ∙ sym (apart u v)
+  where
+    apart : (c d : ℕ) → valueFrom c x ⊕ valueFrom d y ≡ (c ⊕ d) * 2 ^ length y ⊕ (valueFrom 0 x ⊕ valueFrom 0 y)
+    apart c d = rw (value-⊕ c x, value-⊕ d y, e, ⊕-shl) (simp xor)
 
 -- where only the middle differs, the difference of the values is the middles' difference, shifted
 pub value-change : (s u : ℕ) (pre x y post : List ℕ) → length x ≡ length y
@@ -98,7 +105,7 @@ pub value-change : (s u : ℕ) (pre x y post : List ℕ) → length x ≡ length
 value-change s u pre x y post e =
     ap₂ (λ (c d : ℕ). c ⊕ d) (parts x) (parts y)
     ∙ same-end (valueFrom (valueFrom s pre) x) (valueFrom (valueFrom s pre) y) post
-    ∙ ap (λ (c : ℕ). c * 2 ^ length post) (start-free (valueFrom s pre) u x y e)
+    ∙ ap (λ (c : ℕ). c * 2 ^ length post) (value-starts (valueFrom s pre) (valueFrom s pre) u u x y e (⊕-self (valueFrom s pre) ∙ sym (⊕-self u)))
   where
     parts : (z : List ℕ) → valueFrom s (pre ++ z ++ post) ≡ valueFrom (valueFrom (valueFrom s pre) z) post
     parts z = value-append s (pre ++ z) post ∙ ap (λ (c : ℕ). valueFrom c post) (value-append s pre z)

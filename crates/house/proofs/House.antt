@@ -8,18 +8,12 @@ use lib.Dec.{T}
 use Rattle.gf2.specs.Polynomials.{degree, monic}
 use Rattle.gf2.proofs.Degrees.{degree-eq}
 use Rattle.acceptance.specs.Keys.{accepted}
-use Rattle.acceptance.proofs.Laws.{key-iff}
-use Rattle.keys.proofs.Laws.{Passed, first-passed}
+use Rattle.keys.proofs.Laws.{accepted-passed, first-passed}
 use Rattle.files.specs.declared.Mark.{Mark}
 use Rattle.marks.specs.Feeding.{feedTests, fedMark, feedBits}
 use Rattle.tables.specs.Tables.{word, tableFrom, houseKey, feedHouse}
-use Rattle.stock.specs.Stock.{stockKey}
 use Rattle.stock.proofs.Table.{stock-smallest, stock-61}
 use Rattle.house.proofs.Rows.{same, rows, table-by-test}
-
--- the house key is the stock list's entry for degree 61
-pub house-stock : stockKey 61 ≡ houseKey
-house-stock = stock-61
 
 pub house-degree : degree houseKey ≡ 61
 house-degree = degree-eq houseKey 61 refl
@@ -29,18 +23,14 @@ pub house-monic : monic 61 39 ≡ houseKey
 unfolding monic
 house-monic = refl
 
+-- it is the stock list's entry for degree 61, so it is accepted: lists under it exist
 pub house-accepted : accepted houseKey ≡ true
 house-accepted = rw stock-61 at (stock-smallest 61 (omega arith) (omega arith) .is-accepted)
 
 -- so numbers 1 and 2 do not apply, and feeding under the house key is feeding by bits
-house-passed : Passed houseKey
-house-passed =
-    let h = key-iff houseKey (omega arith) .0 house-accepted in
-    record { low = h .0; irreducible = h .1 }
-
 pub house-bits : (m : Mark) (part : List ℕ) → feedHouse m part ≡ feedBits houseKey m part
 unfolding feedHouse feedBits
-house-bits m part = sym (first-passed houseKey (feedTests houseKey m part) m (fedMark houseKey m part) house-passed)
+house-bits m part = sym (first-passed houseKey (feedTests houseKey m part) m (fedMark houseKey m part) (accepted-passed houseKey house-accepted))
 
 -- the test of the constant table, which the checker computes
 abbrev pub HouseWords : List ℕ → Type 0

@@ -12,6 +12,7 @@ use Rattle.acceptance.specs.Keys.{accepted}
 use Rattle.acceptance.proofs.Laws.{and-both}
 use Rattle.files.specs.Files.{fingerprint}
 use Rattle.book.specs.Confusions.{confused, countFrom}
+use Rattle.book.proofs.ConfusionLaws.{confusions-count, bursts-count}
 use Rattle.site.specs.Book.{Route}
 use Rattle.site.proofs.Guarantee as site-level
 use Rattle.draw.specs.Drawing.{draw}
@@ -49,7 +50,7 @@ by-keys : (k : ℕ) → Listed k → (a b : List ℕ) → elements k (λ e. conf
 by-keys k l a b = elements-count k l (confused a b) (confused-accepted a b)
 
 pub risk : Risk
-risk k l a b ha hb ne n la lb = rw (by-keys k l a b) (site-level.confusions-count k a b ha hb ne n la lb)
+risk k l a b ha hb ne n la lb = rw (by-keys k l a b) (confusions-count k a b ha hb ne n la lb)
 
 pub by-routes : ByRoutes Route
 by-routes k e l m a b =
@@ -58,4 +59,4 @@ by-routes k e l m a b =
     (λ x. c .0 x .2, λ t. c .1 (deg-lo (keyOf k e) k d, omega (arith, deg-hi (keyOf k e) k d, two-pow-succ k), t))
 
 pub no-burst : NoBurst
-no-burst k l a b ha hb ne s = by-keys k l a b ∙ ap (λ (n : ℕ). n * k) (site-level.bursts-count k a b ha hb ne s) ∙ zero-mul k
+no-burst k l a b ha hb ne s = by-keys k l a b ∙ ap (λ (n : ℕ). n * k) (bursts-count k a b ha hb ne s) ∙ zero-mul k

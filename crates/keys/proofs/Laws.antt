@@ -17,7 +17,7 @@ use Rattle.refusals.specs.declared.Refusal.the-variants.{KeyBelow256, KeyReduci
 use Rattle.refusals.specs.Refusals.{Refused, numberOf, Test, _⇒_, firstOf}
 use Rattle.refusals.proofs.Laws as refusals
 use Rattle.acceptance.specs.Keys.{reducible, accepted, keyTests}
-use Rattle.acceptance.proofs.Laws.{key-iff}
+use Rattle.acceptance.proofs.Laws.{accepted-small, key-iff}
 use Rattle.keys.specs.declared.Tested.{Tested}
 use Rattle.keys.specs.declared.Tested.the-variants as cases
 use Rattle.keys.specs.Testing.{testKey, tested}
@@ -47,6 +47,10 @@ passed t key e a =
   where
     none : numberOf (testKey key) ≡ 0
     none = ap numberOf (sym e ∙ ap tested a)
+
+-- an accepted key passes
+pub accepted-passed : (key : ℕ) → accepted key ≡ true → Passed key
+accepted-passed key a = let k = key-iff key (accepted-small key a) .0 a in record { low = k .0; irreducible = k .1 }
 
 pub refused : (t : Tested) (key : ℕ) (q : Refusal) → tested t ≡ testKey key → t ≡ cases.Refused q → testKey key ≡ Refused q tt
 refused t key q e a = sym e ∙ ap tested a
@@ -88,6 +92,3 @@ module _ {key : ℕ} (h : Passed key) where
   -- the modulus as the code holds it
   pub passed-modulus : key < 2 ^ 64 → Modulus (degree key) (key % 2 ^ degree key)
   passed-modulus l = (omega (arith, passed-from), omega (arith, passed-word l), mod-lt key (pow-pos (degree key)))
-
-  pub passed-accepted : key < 2 ^ 64 → accepted key ≡ true
-  passed-accepted l = key-iff key l .1 (h .low, h .irreducible)

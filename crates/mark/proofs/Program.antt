@@ -1,77 +1,30 @@
 -- The calls of the printing program, on whatever parts its input arrives in, give what `printed` says of the whole input.
-use mathlib.Core.Path.{_≡_, refl, sym, ap, ap₂, _∙_}
+use mathlib.Core.Path.{_≡_, refl, sym, ap, _∙_}
 use mathlib.Core.Bool.{Bool, true, false}
 use mathlib.Core.List.{List, [], _∷_, _++_, append-assoc, append-nil}
-use Prim.Native.Nat.{ℕ, zero, suc, _+_, _^_, _≤_, _<_, min}
-use native.Mathlib.Nat.{min-zero, zero-min, suc-min-suc, min-eq-left, min-eq-right}
-use native.Mathlib.Decide.{decLe, decLt}
+use Prim.Native.Nat.{ℕ, _+_, _≤_, _<_}
+use native.Mathlib.Decide.{decLe}
 use native.Mathlib.Omega.{arith}
-use lib.Dec.{leb, ltb, eqb}
-use lib.ListN.{length, take, drop, length-append, length-take, take-append-drop}
-use lib.Seq.{take-take, drop-append-le}
-use borrow.Author.Tests.{lt-ltb, le-ltb, lt-leb}
-use Rattle.bytes.specs.Bytes.{indexOf, indexAfter}
-use Rattle.gf2.specs.Polynomials.{degree}
-use Rattle.gf2.proofs.Residues.{rem-lt}
+use lib.Dec.{ltb}
+use lib.ListN.{length, take, drop, length-append, take-append-drop}
+use lib.Seq.{drop-append-le}
+use borrow.Author.Tests.{lt-ltb, le-ltb}
 use Rattle.refusals.specs.declared.Refusal.{Refusal}
 use Rattle.refusals.specs.declared.Refusal.the-variants.{KeyBelow256, KeyReducible, TooLong}
-use Rattle.refusals.specs.Refusals.{Answer, Done, Refused, Test, _⇒_, firstOf, passes, longest}
-use Rattle.acceptance.specs.Keys.{reducible, keyTests}
+use Rattle.refusals.specs.Refusals.{Answer, Done, Refused, _⇒_, firstOf, passes, longest}
+use Rattle.acceptance.specs.Keys.{reducible}
 use Rattle.files.specs.declared.Mark.{Mark}
-use Rattle.files.specs.Files.{markOf, value, fingerprint}
-use Rattle.files.proofs.Marks.{mark-eq}
-use Rattle.files.proofs.Marks as files
-use Rattle.keys.proofs.Laws.{Passed, first-passed, passed-pos}
-use Rattle.marks.specs.declared.Running.{Running}
-use Rattle.marks.specs.Feeding.{begin, fedMark, feedTests, begunUnder, fedUnder, unreduced}
-use Rattle.marks.proofs.Laws.{sum-passes, sum-fits, feed-long, feed-passed}
+use Rattle.files.specs.Files.{markOf}
+use Rattle.keys.proofs.Laws.{Passed, passed-pos}
+use Rattle.marks.specs.Feeding.{begin, fedMark, feedTests, begunUnder, fedUnder}
+use Rattle.marks.proofs.Laws.{sum-passes, sum-fits, feed-long, feed-passed, true-reduced, fed-true}
 use Rattle.tables.specs.Tables.{word, tableFrom, makeTable, feedTable}
 use Rattle.tables.proofs.Rule.{length-table, table-follows}
 use Rattle.tables.proofs.Calls.{make-done, feed-tested}
 use Rattle.printing.specs.declared.KeyLine.{KeyLine}
 use Rattle.printing.specs.declared.KeyLine.the-variants.{NoKey, Key}
-use Rattle.printing.specs.Printing.{keyBefore, keyLine, noKey, refused, answerText, markFile, printedAfter, printed}
-use Rattle.printing.proofs.Laws.{long-line, key-within}
-
--- ---- the first 17 bytes decide the key's line
-
-index-more : (t : Bool) (m i j : ℕ) → i ≡ min m j → indexAfter t i ≡ min (suc m) (indexAfter t j)
-unfolding indexAfter
-index-more true m i j e = sym (min-zero (suc m))
-index-more false m i j e = ap suc e ∙ sym (suc-min-suc m j)
-
-index-take : (b m : ℕ) (xs : List ℕ) → indexOf b (take m xs) ≡ min m (indexOf b xs)
-unfolding indexOf
-index-take b zero xs = sym (zero-min (indexOf b xs))
-index-take b (suc m) [] = sym (min-zero (suc m))
-index-take b (suc m) (x ∷ xs) = index-more (eqb x b) m (indexOf b (take m xs)) (indexOf b xs) (index-take b m xs)
-
--- a line of at most 16 bytes, in 17 bytes and in the whole
-same : (n : ℕ) (input : List ℕ) → n < 17 → keyBefore n (take 17 input) ≡ keyBefore n input
-unfolding keyBefore
-same n input h = rw (take-take n 17 input (omega arith), length-take 17 input, room)
-  where
-    room : ltb n (min 17 (length input)) ≡ ltb n (length input)
-    room = go (decLt n (length input))
-      where
-        go : Dec (n < length input) → ltb n (min 17 (length input)) ≡ ltb n (length input)
-        go (yes q) = rw (lt-ltb n (length input) q) (lt-ltb n (min 17 (length input)) (omega arith))
-        go (no q) = rw (le-ltb n (length input) (omega arith)) (le-ltb n (min 17 (length input)) (omega arith))
-
-pub head-decides : (input : List ℕ) → keyLine (take 17 input) ≡ keyLine input
-unfolding keyLine
-head-decides input = go (decLe (indexOf 10 input) 16)
-  where
-    n : ℕ
-    n = indexOf 10 input
-
-    go : Dec (n ≤ 16) → keyBefore (indexOf 10 (take 17 input)) (take 17 input) ≡ keyBefore n input
-    go (no q) =
-        let e : indexOf 10 (take 17 input) ≡ 17 = index-take 10 17 input ∙ min-eq-left (omega arith) in
-        rw (e, long-line 17 (take 17 input) (omega arith)) (sym (long-line n input (omega arith)))
-    go (yes q) =
-        let e : indexOf 10 (take 17 input) ≡ n = index-take 10 17 input ∙ min-eq-right (omega arith) in
-        rw e (same n input (omega arith))
+use Rattle.printing.specs.Printing.{keyLine, noKey, refused, answerText, markFile, printedAfter, printed}
+use Rattle.printing.proofs.Laws.{key-within, head-decides}
 
 -- ---- the calls
 
@@ -117,14 +70,6 @@ stopped key words r m [] = refl
 stopped key words r m (part ∷ parts) = refl
 
 module _ (key : ℕ) (h : Passed key) where
-  fed-is : (file part : List ℕ) → fedMark key (markOf key file) part ≡ markOf key (file ++ part)
-  unfolding fedMark markOf
-  fed-is file part = mark-eq (files.fed (passed-pos h) file part) (sym (length-append file part))
-
-  below : (file : List ℕ) → unreduced key (markOf key file) ≡ false
-  unfolding markOf fingerprint
-  below file = lt-leb (2 ^ degree key) (fingerprint key file) (rem-lt (passed-pos h) (value file))
-
   -- the table that was made passes its tests
   table : List ℕ
   table = tableFrom (word 8 key) 0 1024
@@ -137,8 +82,8 @@ module _ (key : ℕ) (h : Passed key) where
   unfolding markOf
   feed-goes file part l =
       tested (markOf key file) part
-      ∙ feed-passed key (markOf key file) part (markOf key file) (fedMark key (markOf key file) part) (sum-fits (length file) (length part) l) (below file)
-      ∙ ap Done (fed-is file part)
+      ∙ feed-passed key (markOf key file) part (markOf key file) (fedMark key (markOf key file) part) (sum-fits (length file) (length part) l) (true-reduced key (passed-pos h) file)
+      ∙ ap Done (fed-true key (passed-pos h) file part)
 
   feed-stops : (file part : List ℕ) → longest < length file + length part → feedTable key (markOf key file) table part ≡ Refused TooLong (markOf key file)
   unfolding markOf

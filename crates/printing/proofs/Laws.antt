@@ -1,17 +1,18 @@
--- Laws of the key's line: one digit more, and which tests make it a key.
+-- Laws of the key's line: one digit more, which tests make it a key, and how many bytes decide it.
 use mathlib.Core.Path.{_≡_, refl, sym, ap, _∙_}
-use mathlib.Core.Bool.{Bool, true, false, cond, _&&_}
+use mathlib.Core.Bool.{Bool, true, false, cond, _&&_, and-false}
 use mathlib.Core.List.{List, [], _∷_, _++_}
-use Prim.Native.Nat.{ℕ, zero, suc, _+_, _-_, _*_, _/_, _%_, _^_, _≤_, _<_}
+use Prim.Native.Nat.{ℕ, zero, suc, _+_, _-_, _*_, _/_, _%_, _^_, _≤_, _<_, min}
 use lib.Pow.{pow-add}
-use native.Mathlib.Nat.{zero-add}
+use native.Mathlib.Nat.{zero-add, min-zero, zero-min, suc-min-suc, min-eq-left, min-eq-right}
+use native.Mathlib.Decide.{decLe, decLt}
 use native.Mathlib.Numerals.{add-one}
 use native.Mathlib.Omega.{arith}
-use lib.Dec.{leb, ltb}
-use lib.ListN.{length, getD, take, drop}
-use lib.Seq.{drop-cons, take-length}
+use lib.Dec.{leb, ltb, eqb}
+use lib.ListN.{length, getD, take, drop, length-take}
+use lib.Seq.{drop-cons, take-length, take-take}
 use borrow.Author.Tests.{ltb-true, lt-ltb, le-ltb, le-leb, lt-leb}
-use Rattle.bytes.specs.Bytes.{indexOf, slice}
+use Rattle.bytes.specs.Bytes.{indexOf, indexAfter, slice}
 use Rattle.acceptance.proofs.Laws.{and-both}
 use Rattle.printing.specs.Printing.{digit, allDigits, hexFrom, keyBefore, keyLine}
 use Rattle.printing.specs.declared.KeyLine.{KeyLine}
@@ -37,10 +38,6 @@ hex-lt s d i h l = let e : 4 * (i + 1) ≡ 4 * i + 4 = omega arith in rw (e, pow
 
 -- ---- the tests
 
-and-false : (a b : Bool) → b ≡ false → (a && b) ≡ false
-and-false true b e = e
-and-false false b e = refl
-
 pub line-at : (input : List ℕ) (r : ℕ) → r ≡ 0 + indexOf 10 (slice 0 (length input) input) → keyLine input ≡ keyBefore r input
 unfolding keyLine slice
 line-at input r e = ap (λ (n : ℕ). keyBefore n input) (sym (e ∙ zero-add (indexOf 10 (take (length input) input)) ∙ ap (indexOf 10) (take-length input)))
@@ -52,15 +49,15 @@ module _ (n : ℕ) (input : List ℕ) where
 
   pub empty-line : n < 1 → keyBefore n input ≡ NoKey
   unfolding keyBefore
-  empty-line h = rw (lt-leb 1 n h, and-false (ltb n (length input)) false refl)
+  empty-line h = rw (lt-leb 1 n h, and-false (ltb n (length input)))
 
   pub long-line : 16 < n → keyBefore n input ≡ NoKey
   unfolding keyBefore
-  long-line h = rw (lt-leb n 16 h, and-false (leb 1 n) false refl, and-false (ltb n (length input)) false refl)
+  long-line h = rw (lt-leb n 16 h, and-false (leb 1 n), and-false (ltb n (length input)))
 
   pub other-bytes : allDigits (take n input) ≡ false → keyBefore n input ≡ NoKey
   unfolding keyBefore
-  other-bytes e = rw (and-false (ltb n (length input) && (leb 1 n && leb n 16)) (allDigits (take n input)) e)
+  other-bytes e = rw (e, and-false (ltb n (length input) && (leb 1 n && leb n 16)))
 
   pub key-digits : n < length input → 1 ≤ n → n ≤ 16 → allDigits (take n input) ≡ true → keyBefore n input ≡ Key (hexFrom 0 (take n input)) (n + 1)
   unfolding keyBefore
@@ -82,3 +79,43 @@ key-within input key at e = go (ltb n (length input)) (leb 1 n && leb n 16) (all
     go true true false t f = absurd (none f)
     go true false c t f = absurd (none f)
     go false b c t f = absurd (none f)
+
+-- ---- the first 17 bytes decide the key's line
+
+index-more : (t : Bool) (m i j : ℕ) → i ≡ min m j → indexAfter t i ≡ min (suc m) (indexAfter t j)
+unfolding indexAfter
+index-more true m i j e = sym (min-zero (suc m))
+index-more false m i j e = ap suc e ∙ sym (suc-min-suc m j)
+
+index-take : (b m : ℕ) (xs : List ℕ) → indexOf b (take m xs) ≡ min m (indexOf b xs)
+unfolding indexOf
+index-take b zero xs = sym (zero-min (indexOf b xs))
+index-take b (suc m) [] = sym (min-zero (suc m))
+index-take b (suc m) (x ∷ xs) = index-more (eqb x b) m (indexOf b (take m xs)) (indexOf b xs) (index-take b m xs)
+
+-- a line of at most 16 bytes, in 17 bytes and in the whole
+same : (n : ℕ) (input : List ℕ) → n < 17 → keyBefore n (take 17 input) ≡ keyBefore n input
+unfolding keyBefore
+same n input h = rw (take-take n 17 input (omega arith), length-take 17 input, room)
+  where
+    room : ltb n (min 17 (length input)) ≡ ltb n (length input)
+    room = go (decLt n (length input))
+      where
+        go : Dec (n < length input) → ltb n (min 17 (length input)) ≡ ltb n (length input)
+        go (yes q) = rw (lt-ltb n (length input) q) (lt-ltb n (min 17 (length input)) (omega arith))
+        go (no q) = rw (le-ltb n (length input) (omega arith)) (le-ltb n (min 17 (length input)) (omega arith))
+
+pub head-decides : (input : List ℕ) → keyLine (take 17 input) ≡ keyLine input
+unfolding keyLine
+head-decides input = go (decLe (indexOf 10 input) 16)
+  where
+    n : ℕ
+    n = indexOf 10 input
+
+    go : Dec (n ≤ 16) → keyBefore (indexOf 10 (take 17 input)) (take 17 input) ≡ keyBefore n input
+    go (no q) =
+        let e : indexOf 10 (take 17 input) ≡ 17 = index-take 10 17 input ∙ min-eq-left (omega arith) in
+        rw (e, long-line 17 (take 17 input) (omega arith)) (sym (long-line n input (omega arith)))
+    go (yes q) =
+        let e : indexOf 10 (take 17 input) ≡ n = index-take 10 17 input ∙ min-eq-right (omega arith) in
+        rw e (same n input (omega arith))

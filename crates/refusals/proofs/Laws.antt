@@ -1,17 +1,18 @@
 -- Laws of lists of tests: the first refusal of a list that stands in the order of the numbers is the lowest that applies; what is
--- known where nothing is refused; and when two lists of tests answer alike.
+-- known where nothing is refused; when two lists of tests answer alike; and one test, by what the code finds.
 use mathlib.Core.Path.{_≡_, refl, sym, ap, _∙_}
-use mathlib.Core.Bool.{Bool, true, false, _||_}
+use mathlib.Core.Bool.{Bool, true, false, not}
 use mathlib.Core.List.{List, [], _∷_, _++_}
 use Prim.Native.Nat.{ℕ, _<_}
 use native.Mathlib.Nat.{lt-trans}
 use native.Mathlib.Omega.{arith}
 use lib.Dec.{T, ltb, ltb→lt}
+use borrow.Author.Tests.{not-true, not-false}
 use Rattle.gf2.specs.Lists.{All}
 use Rattle.gf2.proofs.Lists.{all-map, rising, and-left, and-right}
 use Rattle.refusals.specs.declared.Refusal.{Refusal}
 use Rattle.refusals.specs.declared.Refusal.the-variants.{KeyBelow256, KeyReducible, DegreeNotListed, ElementOutOfRange, TableSize, TableWord, TooLong, MarkNotReduced, PageLengthsDiffer, PagePastEnd, EmptyPattern, PageSize, BufferShort, SheetMalformed}
-use Rattle.refusals.specs.Refusals.{number, Answer, Done, numberOf, stateOf, Test, _⇒_, firstOf, numbers, applying, least, lowest}
+use Rattle.refusals.specs.Refusals.{number, Answer, Refused, numberOf, stateOf, Test, _⇒_, firstOf, numbers, applying, least, lowest}
 
 -- ---- the lowest number that applies
 
@@ -41,7 +42,7 @@ first-is-lowest ts x y t = first-from 0 ts x y t
 
 -- ---- where nothing is refused
 
-pub no-zero : (r : Refusal) → number r ≡ 0 → ⊥
+no-zero : (r : Refusal) → number r ≡ 0 → ⊥
 no-zero KeyBelow256 e = omega arith
 no-zero KeyReducible e = omega arith
 no-zero DegreeNotListed e = omega arith
@@ -71,15 +72,25 @@ module _ {S A : Type 0} where
   passed (true ⇒ q ∷ ts) us b r x y e = absurd (no-zero q e)
   passed (false ⇒ q ∷ ts) us b r x y e = passed ts us b r x y e
 
-  -- only where nothing is refused does the value matter
-  pub same-value : (ts : List Test) (x : S) (y z : A) → (numberOf (firstOf ts x y) ≡ 0 → y ≡ z) → firstOf ts x y ≡ firstOf ts x z
-  same-value [] x y z h = ap Done (h refl)
-  same-value (true ⇒ r ∷ ts) x y z h = refl
-  same-value (false ⇒ r ∷ ts) x y z h = same-value ts x y z h
-
 -- the same tests on two sides: the same refusal, and on both sides what was kept or what comes next
 pub agree : {A B : Type 0} (f : B → A) (ts : List Test) (kept next : B) (nxt : A) → (numberOf (firstOf ts kept next) ≡ 0 → nxt ≡ f next)
     → (stateOf (firstOf ts (f kept) nxt) ≡ f (stateOf (firstOf ts kept next))) × (numberOf (firstOf ts (f kept) nxt) ≡ numberOf (firstOf ts kept next))
 agree f [] kept next nxt h = (h refl, refl)
 agree f (true ⇒ r ∷ ts) kept next nxt h = (refl, refl)
 agree f (false ⇒ r ∷ ts) kept next nxt h = agree f ts kept next nxt h
+
+-- ---- one test, by what the code finds
+
+module _ {S A : Type 0} (b : Bool) (r : Refusal) (ts : List Test) (s : S) (v : A) where
+  pub first-true : b ≡ true → firstOf (b ⇒ r ∷ ts) s v ≡ Refused r s
+  first-true e = rw e
+
+  pub first-false : b ≡ false → firstOf (b ⇒ r ∷ ts) s v ≡ firstOf ts s v
+  first-false e = rw e
+
+-- a function answers whether a test does not hold: what it says by each answer
+pub holds : (r b : Bool) → r ≡ not b → not r ≡ true → b ≡ true
+holds r b e t = not-false b (sym e ∙ not-true r t)
+
+pub fails : (r b : Bool) → r ≡ not b → not r ≡ false → b ≡ false
+fails r b e t = not-true b (sym e ∙ not-false r t)

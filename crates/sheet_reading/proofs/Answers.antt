@@ -20,7 +20,7 @@ use Rattle.sheets.specs.declared.Sheet.{Sheet}
 use Rattle.sheets.specs.Layout.{version1, sheetSize, pageCount, numberAt, lengthIn, sizeIn, pagesIn, contentsIn}
 use Rattle.sheets.specs.Sheets.{someUnreduced, pagesJoined, fileFilled, headWrong, bodyWrong, readSheet, numbersOf, given, pageAt}
 use Rattle.sheets.proofs.Numbers.{length-numbersAt}
-use Rattle.sheets.proofs.Steps.{first-true, first-false}
+use Rattle.refusals.proofs.Laws.{first-true, first-false}
 use Rattle.sheets.proofs.Sound.{neither}
 
 -- ---- reading

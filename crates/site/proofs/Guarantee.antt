@@ -5,14 +5,13 @@ use Prim.Native.Nat.{ℕ}
 use lib.Dec.{T}
 use Rattle.gf2.proofs.Lists.{rising}
 use Rattle.refusals.specs.Refusals.{numbers}
+use Rattle.acceptance.proofs.Laws.{accepted-small}
 use Rattle.files.specs.declared.Mark.{Mark}
 use Rattle.book.specs.Runs.{run}
-use Rattle.book.specs.Claims.{Lists, Lowest, Confusions, Counted, ConfusionsCount, Bursts, BurstsCount}
-use Rattle.book.proofs.ConfusionLaws as keys-equal
+use Rattle.book.specs.Claims.{Lists, Lowest, Confusions, Counted, Bursts}
 use Rattle.book.proofs.Guarantee as any-level
 use Rattle.book.proofs.RunLaws.{run-map}
 use Rattle.sheets.proofs.Guarantee.{written-fingerprint}
-use Rattle.bench.proofs.KeyLaws.{accepted-small}
 use Rattle.bench.specs.Book as bench-book
 use Rattle.bench.proofs.Guarantee as bench-level
 use Rattle.site.specs.Book.{Call, Feeding, Behind, InFront, Page, step, bookTests, site, Route, OfBench, ByCalls, InSheet}
@@ -56,11 +55,5 @@ confusions = any-level.confusions Route sound
 pub counted : Counted Route
 counted = any-level.counted Route sound reaches
 
-pub confusions-count : ConfusionsCount
-confusions-count = keys-equal.confusions-count
-
 pub bursts : Bursts Route
 bursts = any-level.bursts Route sound
-
-pub bursts-count : BurstsCount
-bursts-count = keys-equal.bursts-count

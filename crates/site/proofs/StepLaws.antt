@@ -17,12 +17,13 @@ use Rattle.files.specs.declared.Mark.{Mark}
 use Rattle.files.specs.Files.{fingerprint, markOf, True}
 use Rattle.files.proofs.Marks.{mark-eq, join, page}
 use Rattle.marks.specs.Feeding.{unreduced, sumTest}
+use Rattle.marks.proofs.Laws.{true-reduced, leave-out-8}
 use Rattle.compose.specs.Composing.{joined, joinTests, joinBehind, joinInFront, replaced, replacePage}
 use Rattle.book.specs.Runs.{bookStep}
 use Rattle.book.proofs.RunLaws.{Keeps}
 use Rattle.bench.specs.Book as bench-level
 use Rattle.bench.proofs.StepLaws as bench-laws
-use Rattle.bench.proofs.StepLaws.{Agrees, agrees-by, reduced, leave-out-8}
+use Rattle.bench.proofs.StepLaws.{Agrees, agrees-by}
 use Rattle.site.specs.Book.{Call, Feeding, Behind, InFront, Page, step, bookTests, written, Brings, site}
 
 module _ (key : ℕ) (pos : 0 < key) (file : List ℕ) where
@@ -36,7 +37,7 @@ module _ (key : ℕ) (pos : 0 < key) (file : List ℕ) where
       → firstOf (joinTests key (markOf key file) other) x y ≡ firstOf (keyTests key ++ sumTest (length file) (other .length) ∷ unreduced key other ⇒ MarkNotReduced ∷ []) x y
   unfolding markOf
   join-tests other x y =
-      ap (λ (b : Bool). firstOf (keyTests key ++ sumTest (length file) (other .length) ∷ (b || unreduced key other) ⇒ MarkNotReduced ∷ []) x y) (reduced key pos file)
+      ap (λ (b : Bool). firstOf (keyTests key ++ sumTest (length file) (other .length) ∷ (b || unreduced key other) ⇒ MarkNotReduced ∷ []) x y) (true-reduced key pos file)
 
   joined-is : (a b : List ℕ) → joined key (markOf key a) (markOf key b) ≡ markOf key (a ++ b)
   unfolding joined markOf

@@ -3,7 +3,7 @@ use mathlib.Core.Path.{_≡_, sym, ap, _∙_}
 use Rattle.refusals.specs.Refusals.{numberOf, stateOf}
 use Rattle.tables.specs.declared.Made.{Made}
 use Rattle.tables.specs.Answers.{made}
-use Rattle.bench.proofs.Answers.{made-state}
+use Rattle.tables.proofs.Calls.{made-state}
 use borrow.Author.Needs.{needs}
 use Rattle.bench.proofs.gfp_make_table.Statement.{statement}
 use Rattle.bench.proofs.gfp_make_table.Tie as tie
@@ -27,7 +27,7 @@ returns : tie.Need-returns
 returns c =
     let m = c .before .before .before .before .make in (
       ap (λ (x : Made). numberOf (made (m .last .1 .0) x)) (sym (c .enum-told .given .1)) ∙ ap numberOf (m .ensures),
-      made-state (m .last .1 .0) (m .result) ∙ ap stateOf (m .ensures),
+      sym (made-state (m .last .1 .0) (m .result)) ∙ ap stateOf (m .ensures),
     )
 
 same-length-2 : tie.Need-same-length-2
@@ -37,7 +37,7 @@ returns-2 : tie.Need-returns-2
 returns-2 c =
     let m = c .before .before .before .before .before .before .make in (
       c .number .ensures ∙ ap (λ (x : Made). numberOf (made (m .last .1 .0) x)) (sym (c .before .before .r .given .1)) ∙ ap numberOf (m .ensures),
-      made-state (m .last .1 .0) (m .result) ∙ ap stateOf (m .ensures),
+      sym (made-state (m .last .1 .0) (m .result)) ∙ ap stateOf (m .ensures),
     )
 
 pub gfp-make-table-spec : {M : Type 1} → statement M

@@ -9,11 +9,11 @@ use borrow.Author.Needs.{needs}
 use borrow.Author.Tests.{leb-false}
 use Rattle.gf2.proofs.Monics.{word-degree, word-modulus, word-monic}
 use Rattle.refusals.specs.Refusals.{passes}
+use Rattle.refusals.proofs.Laws.{holds, fails}
 use Rattle.marks.specs.Feeding.{unreduced}
 use Rattle.marks.proofs.Laws.{sum-within}
 use Rattle.files.specs.declared.Mark.{Mark}
 use Rattle.compose.specs.Composing.{joined}
-use Rattle.compose.proofs.Laws.{applies, applies-not}
 use Rattle.compose.proofs.join.Statement.{statement}
 use Rattle.compose.proofs.join.Tie as tie
 
@@ -26,7 +26,7 @@ fits-requires c κs = search needs
 returns : tie.Need-returns
 returns c =
     let a = c .before .before .args in
-    let e = applies _ (passes (lengths (a .first) (a .second))) (c .before .fits2 .ensures) (c .if1 .taken) in
+    let e = holds _ (passes (lengths (a .first) (a .second))) (c .before .fits2 .ensures) (c .if1 .taken) in
     rw e
 
 degree-requires : tie.Need-degree-requires
@@ -40,8 +40,8 @@ reduced-requires c κs =
 returns-2 : tie.Need-returns-2
 returns-2 c =
     let a = c .before .before .before .before .before .args in
-    let e = applies-not _ (passes (lengths (a .first) (a .second))) (c .before .before .before .before .fits2 .ensures) (c .before .before .before .if1 .left) in
-    let u = applies _ (unreduced (a .m .key) (a .first)) (rw (c .before .before .degree .ensures) at (c .before .reduced .ensures)) (c .if2 .taken) in
+    let e = fails _ (passes (lengths (a .first) (a .second))) (c .before .before .before .before .fits2 .ensures) (c .before .before .before .if1 .left) in
+    let u = holds _ (unreduced (a .m .key) (a .first)) (rw (c .before .before .degree .ensures) at (c .before .reduced .ensures)) (c .if2 .taken) in
     let w : (unreduced (a .m .key) (a .first) || unreduced (a .m .key) (a .second)) ≡ true = rw u in
     rw (e, w)
 
@@ -54,9 +54,9 @@ returns-3 : tie.Need-returns-3
 returns-3 c =
     let d = c .before .before .before .before in
     let a = d .before .before .before .args in
-    let e = applies-not _ (passes (lengths (a .first) (a .second))) (d .before .before .fits2 .ensures) (d .before .if1 .left) in
-    let u = applies-not _ (unreduced (a .m .key) (a .first)) (rw (d .degree .ensures) at (c .before .before .before .reduced .ensures)) (c .before .before .if2 .left) in
-    let v = applies _ (unreduced (a .m .key) (a .second)) (rw (d .degree .ensures) at (c .before .reduced2 .ensures)) (c .if3 .taken) in
+    let e = fails _ (passes (lengths (a .first) (a .second))) (d .before .before .fits2 .ensures) (d .before .if1 .left) in
+    let u = fails _ (unreduced (a .m .key) (a .first)) (rw (d .degree .ensures) at (c .before .before .before .reduced .ensures)) (c .before .before .if2 .left) in
+    let v = holds _ (unreduced (a .m .key) (a .second)) (rw (d .degree .ensures) at (c .before .reduced2 .ensures)) (c .if3 .taken) in
     let w : (unreduced (a .m .key) (a .first) || unreduced (a .m .key) (a .second)) ≡ true = rw (u, v) in
     rw (e, w)
 
@@ -70,9 +70,9 @@ joined-residue-requires c κs =
     let d = c .before .before .before .before .before in
     let s = d .before .before .before in
     let a = s .args in
-    let e = applies-not _ (passes (lengths (a .first) (a .second))) (d .before .before .fits2 .ensures) (d .before .if1 .left) in
-    let u = applies-not _ (leb (2 ^ d .degree .result) (a .first .fingerprint)) (c .before .before .before .before .reduced .ensures) (c .before .before .before .if2 .left) in
-    let v = applies-not _ (leb (2 ^ d .degree .result) (a .second .fingerprint)) (c .before .before .reduced2 .ensures) (c .before .if3 .left) in
+    let e = fails _ (passes (lengths (a .first) (a .second))) (d .before .before .fits2 .ensures) (d .before .if1 .left) in
+    let u = fails _ (leb (2 ^ d .degree .result) (a .first .fingerprint)) (c .before .before .before .before .reduced .ensures) (c .before .before .before .if2 .left) in
+    let v = fails _ (leb (2 ^ d .degree .result) (a .second .fingerprint)) (c .before .before .reduced2 .ensures) (c .before .if3 .left) in
     let w = sum-within (a .first .length) (a .second .length) e in
     (rw (c .low-bits .ensures, d .degree .ensures) (word-modulus (a .m .key) (omega arith) (omega arith)), leb-false _ _ u, leb-false _ _ v, omega arith)
 
@@ -80,7 +80,7 @@ add-t17 : tie.Need-add-t17
 add-t17 c =
     let d = c .before .before .before .before .before .before in
     let a = d .before .before .before .args in
-    let e = applies-not _ (passes (lengths (a .first) (a .second))) (d .before .before .fits2 .ensures) (d .before .if1 .left) in
+    let e = fails _ (passes (lengths (a .first) (a .second))) (d .before .before .fits2 .ensures) (d .before .if1 .left) in
     record { fits = omega (arith, sum-within (a .first .length) (a .second .length) e) }
 
 returns-4 : tie.Need-returns-4
@@ -90,9 +90,9 @@ returns-4 c =
     let s = d .before .before .before in
     let a = s .args in
     let key = a .m .key in
-    let e = applies-not _ (passes (lengths (a .first) (a .second))) (d .before .before .fits2 .ensures) (d .before .if1 .left) in
-    let u = applies-not _ (unreduced key (a .first)) (rw (d .degree .ensures) at (c .before .before .before .before .before .reduced .ensures)) (c .before .before .before .before .if2 .left) in
-    let v = applies-not _ (unreduced key (a .second)) (rw (d .degree .ensures) at (c .before .before .before .reduced2 .ensures)) (c .before .before .if3 .left) in
+    let e = fails _ (passes (lengths (a .first) (a .second))) (d .before .before .fits2 .ensures) (d .before .if1 .left) in
+    let u = fails _ (unreduced key (a .first)) (rw (d .degree .ensures) at (c .before .before .before .before .before .reduced .ensures)) (c .before .before .before .before .if2 .left) in
+    let v = fails _ (unreduced key (a .second)) (rw (d .degree .ensures) at (c .before .before .before .reduced2 .ensures)) (c .before .before .if3 .left) in
     let w : (unreduced key (a .first) || unreduced key (a .second)) ≡ false = rw (u, v) in
     rw (c .joined-residue .ensures, c .before .low-bits .ensures, d .degree .ensures, word-monic key (omega arith) (omega arith), e, w)
 

@@ -1,10 +1,9 @@
 -- `compose::join_behind` meets its contract: the tests of the key, and then those of `join`.
-use mathlib.Core.Path.{_∙_}
+use mathlib.Core.Path.{sym, ap, _∙_}
 use borrow.Author.Needs.{needs}
-use Rattle.keys.proofs.Laws.{passed, passed-low}
-use Rattle.marks.specs.Feeding.{markIn}
+use Rattle.keys.proofs.Laws.{passed, refused, first-passed, first-refused, passed-low}
+use Rattle.marks.specs.Feeding.{markIn, fedUnder}
 use Rattle.compose.specs.Composing.{marksTests, joined, joinBehind}
-use Rattle.compose.proofs.Laws.{key-refused, key-passed}
 use Rattle.compose.proofs.join_behind.Statement.{statement}
 use Rattle.compose.proofs.join_behind.Tie as tie
 
@@ -26,7 +25,7 @@ returns c =
     let t = c .before .before .before in
     let a = t .before .args in
     let m = markIn (a .m) in
-    key-refused (t .test .result) (a .m .key) (t .test .ensures) (marksTests (a .m .key) m (a .other)) m (joined (a .m .key) m (a .other)) _ (c .before .r .given .1)
+    sym (ap (fedUnder (a .m .key)) (first-refused (a .m .key) (marksTests (a .m .key) m (a .other)) m (joined (a .m .key) m (a .other)) _ (refused (t .test .result) (a .m .key) _ (t .test .ensures) (c .before .r .given .1))))
 
 returns-2 : tie.Need-returns-2
 unfolding joinBehind
@@ -35,7 +34,7 @@ returns-2 c =
     let a = t .before .args in
     let m = markIn (a .m) in
     c .join .ensures
-    ∙ key-passed (t .test .result) (a .m .key) (t .test .ensures) (marksTests (a .m .key) m (a .other)) m (joined (a .m .key) m (a .other)) (c .before .enum-told .given .1)
+    ∙ sym (ap (fedUnder (a .m .key)) (first-passed (a .m .key) (marksTests (a .m .key) m (a .other)) m (joined (a .m .key) m (a .other)) (passed (t .test .result) (a .m .key) (t .test .ensures) (c .before .enum-told .given .1))))
 
 pub join-behind-spec : {M : Type 1} → statement M
 join-behind-spec = tie.close (tie.spec test-requires enum-known-r enum-told join-requires returns returns-2)

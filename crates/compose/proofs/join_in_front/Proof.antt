@@ -1,12 +1,12 @@
 -- `compose::join_in_front` meets its contract: the tests of the key, and then those of `join`.
-use mathlib.Core.Path.{ap, _∙_}
+use mathlib.Core.Path.{sym, ap, _∙_}
 use mathlib.Core.List.{List}
 use borrow.Author.Needs.{needs}
 use Rattle.refusals.specs.Refusals.{Test, firstOf}
-use Rattle.keys.proofs.Laws.{passed, passed-low}
+use Rattle.keys.proofs.Laws.{passed, refused, first-passed, first-refused, passed-low}
 use Rattle.marks.specs.Feeding.{markIn, fedUnder}
 use Rattle.compose.specs.Composing.{marksTests, joined, joinInFront}
-use Rattle.compose.proofs.Laws.{key-refused, key-passed, marks-swap}
+use Rattle.compose.proofs.Laws.{marks-swap}
 use Rattle.compose.proofs.join_in_front.Statement.{statement}
 use Rattle.compose.proofs.join_in_front.Tie as tie
 
@@ -28,7 +28,7 @@ returns c =
     let t = c .before .before .before in
     let a = t .before .args in
     let m = markIn (a .m) in
-    key-refused (t .test .result) (a .m .key) (t .test .ensures) (marksTests (a .m .key) m (a .other)) m (joined (a .m .key) (a .other) m) _ (c .before .r .given .1)
+    sym (ap (fedUnder (a .m .key)) (first-refused (a .m .key) (marksTests (a .m .key) m (a .other)) m (joined (a .m .key) (a .other) m) _ (refused (t .test .result) (a .m .key) _ (t .test .ensures) (c .before .r .given .1))))
 
 returns-2 : tie.Need-returns-2
 unfolding joinInFront
@@ -38,7 +38,7 @@ returns-2 c =
     let m = markIn (a .m) in
     c .join .ensures
     ∙ ap (λ (ts : List Test). fedUnder (a .m .key) (firstOf ts m (joined (a .m .key) (a .other) m))) (marks-swap (a .m .key) (a .other) m)
-    ∙ key-passed (t .test .result) (a .m .key) (t .test .ensures) (marksTests (a .m .key) m (a .other)) m (joined (a .m .key) (a .other) m) (c .before .enum-told .given .1)
+    ∙ sym (ap (fedUnder (a .m .key)) (first-passed (a .m .key) (marksTests (a .m .key) m (a .other)) m (joined (a .m .key) (a .other) m) (passed (t .test .result) (a .m .key) (t .test .ensures) (c .before .enum-told .given .1))))
 
 pub join-in-front-spec : {M : Type 1} → statement M
 join-in-front-spec = tie.close (tie.spec test-requires enum-known-r enum-told join-requires returns returns-2)

@@ -10,10 +10,10 @@ use borrow.Author.Needs.{needs}
 use borrow.Author.Tests.{leb-false, lt-ltb, le-ltb, eq-eqb, ne-eqb}
 use Rattle.gf2.proofs.Monics.{word-degree, word-modulus, word-monic}
 use Rattle.refusals.specs.Refusals.{passes}
+use Rattle.refusals.proofs.Laws.{holds, fails}
 use Rattle.marks.specs.Feeding.{unreduced, markIn}
 use Rattle.marks.proofs.Laws as marks-laws
 use Rattle.compose.specs.Composing.{replaced}
-use Rattle.compose.proofs.Laws.{applies, applies-not}
 use Rattle.compose.proofs.replace.Statement.{statement}
 use Rattle.compose.proofs.replace.Tie as tie
 
@@ -27,7 +27,7 @@ within-requires c κs = search needs
 returns : tie.Need-returns
 returns c =
     let a = c .before .before .before .before .args in
-    let e = applies _ (passes (a .m .length ∷ length (a .old .now) ∷ length (a .new .now) ∷ [])) (c .before .within .ensures) (c .if1 .taken) in
+    let e = holds _ (passes (a .m .length ∷ length (a .old .now) ∷ length (a .new .now) ∷ [])) (c .before .within .ensures) (c .if1 .taken) in
     rw e
 
 degree-requires : tie.Need-degree-requires
@@ -42,24 +42,24 @@ returns-2 : tie.Need-returns-2
 returns-2 c =
     let d = c .before .before in
     let a = d .before .before .before .before .before .args in
-    let e = applies-not _ (passes (a .m .length ∷ length (a .old .now) ∷ length (a .new .now) ∷ [])) (d .before .before .within .ensures) (d .before .if1 .left) in
-    let u = applies _ (unreduced (a .m .key) (markIn (a .m))) (rw (d .degree .ensures) at (c .before .reduced .ensures)) (c .if2 .taken) in
+    let e = fails _ (passes (a .m .length ∷ length (a .old .now) ∷ length (a .new .now) ∷ [])) (d .before .before .within .ensures) (d .before .if1 .left) in
+    let u = holds _ (unreduced (a .m .key) (markIn (a .m))) (rw (d .degree .ensures) at (c .before .reduced .ensures)) (c .if2 .taken) in
     rw (e, u)
 
 returns-3 : tie.Need-returns-3
 returns-3 c =
     let d = c .before .before .before in
     let a = d .before .before .before .before .before .args in
-    let e = applies-not _ (passes (a .m .length ∷ length (a .old .now) ∷ length (a .new .now) ∷ [])) (d .before .before .within .ensures) (d .before .if1 .left) in
-    let u = applies-not _ (unreduced (a .m .key) (markIn (a .m))) (rw (d .degree .ensures) at (c .before .before .reduced .ensures)) (c .before .if2 .left) in
+    let e = fails _ (passes (a .m .length ∷ length (a .old .now) ∷ length (a .new .now) ∷ [])) (d .before .before .within .ensures) (d .before .if1 .left) in
+    let u = fails _ (unreduced (a .m .key) (markIn (a .m))) (rw (d .degree .ensures) at (c .before .before .reduced .ensures)) (c .before .if2 .left) in
     rw (e, u, ne-eqb _ _ (c .if3 .taken))
 
 returns-4 : tie.Need-returns-4
 returns-4 c =
     let d = c .before .before .before .before in
     let a = d .before .before .before .before .before .args in
-    let e = applies-not _ (passes (a .m .length ∷ length (a .old .now) ∷ length (a .new .now) ∷ [])) (d .before .before .within .ensures) (d .before .if1 .left) in
-    let u = applies-not _ (unreduced (a .m .key) (markIn (a .m))) (rw (d .degree .ensures) at (c .before .before .before .reduced .ensures)) (c .before .before .if2 .left) in
+    let e = fails _ (passes (a .m .length ∷ length (a .old .now) ∷ length (a .new .now) ∷ [])) (d .before .before .within .ensures) (d .before .if1 .left) in
+    let u = fails _ (unreduced (a .m .key) (markIn (a .m))) (rw (d .degree .ensures) at (c .before .before .before .reduced .ensures)) (c .before .before .if2 .left) in
     let past : a .m .length < a .place + length (a .old .now) = omega arith in
     rw (e, u, eq-eqb _ _ (c .before .if3 .left), lt-ltb _ _ past)
 
@@ -67,8 +67,8 @@ returns-5 : tie.Need-returns-5
 returns-5 c =
     let d = c .before .before .before .before .before in
     let a = d .before .before .before .before .before .args in
-    let e = applies-not _ (passes (a .m .length ∷ length (a .old .now) ∷ length (a .new .now) ∷ [])) (d .before .before .within .ensures) (d .before .if1 .left) in
-    let u = applies-not _ (unreduced (a .m .key) (markIn (a .m))) (rw (d .degree .ensures) at (c .before .before .before .before .reduced .ensures)) (c .before .before .before .if2 .left) in
+    let e = fails _ (passes (a .m .length ∷ length (a .old .now) ∷ length (a .new .now) ∷ [])) (d .before .before .within .ensures) (d .before .if1 .left) in
+    let u = fails _ (unreduced (a .m .key) (markIn (a .m))) (rw (d .degree .ensures) at (c .before .before .before .before .reduced .ensures)) (c .before .before .before .if2 .left) in
     let past : a .m .length < a .place + length (a .old .now) = omega arith in
     rw (e, u, eq-eqb _ _ (c .before .before .if3 .left), lt-ltb _ _ past)
 
@@ -82,18 +82,18 @@ replaced-residue-requires : tie.Need-replaced-residue-requires
 replaced-residue-requires c κs =
     let d = c .before .before .before .before .before .before in
     let a = d .before .before .before .before .before .args in
-    let e = applies-not _ (passes (a .m .length ∷ length (a .old .now) ∷ length (a .new .now) ∷ [])) (d .before .before .within .ensures) (d .before .if1 .left) in
-    let u = applies-not _ (leb (2 ^ d .degree .result) (a .m .fingerprint)) (c .before .before .before .before .before .reduced .ensures) (c .before .before .before .before .if2 .left) in
+    let e = fails _ (passes (a .m .length ∷ length (a .old .now) ∷ length (a .new .now) ∷ [])) (d .before .before .within .ensures) (d .before .if1 .left) in
+    let u = fails _ (leb (2 ^ d .degree .result) (a .m .fingerprint)) (c .before .before .before .before .before .reduced .ensures) (c .before .before .before .before .if2 .left) in
     let w = marks-laws.within (a .m .length ∷ length (a .old .now) ∷ length (a .new .now) ∷ []) e in
-    (rw (c .low-bits .ensures, d .degree .ensures) (word-modulus (a .m .key) (omega arith) (omega arith)), leb-false _ _ u, omega (arith, w .0))
+    (rw (c .low-bits .ensures, d .degree .ensures) (word-modulus (a .m .key) (omega arith) (omega arith)), leb-false _ _ u, c .before .before .before .if3 .left, omega (arith, w .0))
 
 returns-6 : tie.Need-returns-6
 unfolding replaced
 returns-6 c =
     let d = c .before .before .before .before .before .before .before in
     let a = d .before .before .before .before .before .args in
-    let e = applies-not _ (passes (a .m .length ∷ length (a .old .now) ∷ length (a .new .now) ∷ [])) (d .before .before .within .ensures) (d .before .if1 .left) in
-    let u = applies-not _ (unreduced (a .m .key) (markIn (a .m))) (rw (d .degree .ensures) at (c .before .before .before .before .before .before .reduced .ensures)) (c .before .before .before .before .before .if2 .left) in
+    let e = fails _ (passes (a .m .length ∷ length (a .old .now) ∷ length (a .new .now) ∷ [])) (d .before .before .within .ensures) (d .before .if1 .left) in
+    let u = fails _ (unreduced (a .m .key) (markIn (a .m))) (rw (d .degree .ensures) at (c .before .before .before .before .before .before .reduced .ensures)) (c .before .before .before .before .before .if2 .left) in
     let fits : a .place + length (a .old .now) ≤ a .m .length = omega arith in
     rw (c .replaced-residue .ensures, c .before .low-bits .ensures, d .degree .ensures, word-monic (a .m .key) (omega arith) (omega arith), e, u, eq-eqb _ _ (c .before .before .before .before .if3 .left), le-ltb _ _ fits, ← (after-page (a .m .length) (length (a .old .now)) (a .place)))
 

@@ -4,9 +4,10 @@ use mathlib.Core.Bool.{true, false}
 use Prim.Native.Nat.{ℕ, _+_}
 use native.Mathlib.Omega.{arith}
 use borrow.Author.Needs.{needs}
-use borrow.Author.Tests.{not-true, not-false, leb-false}
+use borrow.Author.Tests.{leb-false}
 use lib.ListN.{length}
 use Rattle.refusals.specs.Refusals.{Done}
+use Rattle.refusals.proofs.Laws.{holds, fails}
 use Rattle.marks.specs.Feeding.{unreduced, fedMark, fedUnder}
 use Rattle.marks.proofs.Laws.{sum-within, feed-long, feed-unreduced, feed-passed}
 use Rattle.tables.specs.Tables.{houseKey, feedHouse}
@@ -26,7 +27,7 @@ returns c =
     let m = a .m in
     let part = a .part .now in
     let f = c .before .fits2 in
-    let long = not-false _ (sym (f .ensures) ∙ not-true (f .result) (c .if1 .taken)) in
+    let long = holds (f .result) _ (f .ensures) (c .if1 .taken) in
     sym (ap (fedUnder houseKey) (feed-long houseKey m part m (fedMark houseKey m part) long))
 
 reduced-requires : tie.Need-reduced-requires
@@ -40,23 +41,23 @@ returns-2 c =
     let m = a .m in
     let part = a .part .now in
     let f = w .before .fits2 in
-    let short = not-true _ (sym (f .ensures) ∙ not-false (f .result) (w .if1 .left)) in
+    let short = fails (f .result) _ (f .ensures) (w .if1 .left) in
     let r = c .before .reduced in
-    let big = not-false _ (sym (r .ensures) ∙ not-true (r .result) (c .if2 .taken)) in
+    let big = holds (r .result) _ (r .ensures) (c .if2 .taken) in
     let high : unreduced houseKey m ≡ true = rw house-degree big in
     sym (ap (fedUnder houseKey) (feed-unreduced houseKey m part m (fedMark houseKey m part) short high))
 
 fed-by-words-requires : tie.Need-fed-by-words-requires
 fed-by-words-requires c κs =
     let r = c .before .reduced in
-    leb-false _ _ (not-true _ (sym (r .ensures) ∙ not-false (r .result) (c .if2 .left)))
+    leb-false _ _ (fails (r .result) _ (r .ensures) (c .if2 .left))
 
 add-t13 : tie.Need-add-t13
 add-t13 c =
     let w = c .before .before .before in
     let a = w .before .before .before .args in
     let f = w .before .fits2 in
-    let short = not-true _ (sym (f .ensures) ∙ not-false (f .result) (w .if1 .left)) in
+    let short = fails (f .result) _ (f .ensures) (w .if1 .left) in
     let sum = sum-within (a .m .length) (length (a .part .now)) short in
     record { fits = omega (arith, sum) }
 
@@ -68,9 +69,9 @@ returns-3 c =
     let m = a .m in
     let part = a .part .now in
     let f = w .before .fits2 in
-    let short = not-true _ (sym (f .ensures) ∙ not-false (f .result) (w .if1 .left)) in
+    let short = fails (f .result) _ (f .ensures) (w .if1 .left) in
     let r = c .before .before .reduced in
-    let small = not-true _ (sym (r .ensures) ∙ not-false (r .result) (c .before .if2 .left)) in
+    let small = fails (r .result) _ (r .ensures) (c .before .if2 .left) in
     let low : unreduced houseKey m ≡ false = rw house-degree small in
     sym (ap (fedUnder houseKey) (feed-passed houseKey m part m (fedMark houseKey m part) short low) ∙ ap (λ (x : ℕ). Done (record { key = houseKey; fingerprint = x; length = m .length + length part })) (sym (c .fed-by-words .ensures)))
 

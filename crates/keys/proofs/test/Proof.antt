@@ -1,9 +1,10 @@
-use mathlib.Core.Path.{_≡_, sym, ap, _∙_}
+use mathlib.Core.Path.{_≡_, ap, _∙_}
 use Prim.Native.Nat.{_≤_, _<_}
 use native.Mathlib.Omega.{arith}
 use borrow.Author.Needs.{needs}
-use borrow.Author.Tests.{lt-ltb, le-ltb, not-true, not-false}
+use borrow.Author.Tests.{lt-ltb, le-ltb}
 use Rattle.gf2.specs.Polynomials.{degree}
+use Rattle.refusals.proofs.Laws.{holds, fails}
 use Rattle.acceptance.specs.Keys.{reducible, accepted}
 use Rattle.acceptance.proofs.Laws.{key-iff}
 use Rattle.stock.specs.Stock.{stockKey}
@@ -53,7 +54,7 @@ unfolding testKey
 returns-3 c =
     let key = c .before .before .before .before .before .before .args .key in
     let i = c .before .irreducible in
-    let e = not-false (reducible key) (sym (i .ensures) ∙ not-true (i .result) (c .if3 .taken)) in
+    let e = holds (i .result) (reducible key) (i .ensures) (c .if3 .taken) in
     rw (le-ltb key 256 (c .before .before .before .before .before .if1 .left), e)
 
 returns-4 : tie.Need-returns-4
@@ -61,7 +62,7 @@ unfolding testKey
 returns-4 c =
     let key = c .before .before .before .before .before .before .args .key in
     let i = c .before .irreducible in
-    let e = not-true (reducible key) (sym (i .ensures) ∙ not-false (i .result) (c .if3 .left)) in
+    let e = fails (i .result) (reducible key) (i .ensures) (c .if3 .left) in
     rw (le-ltb key 256 (c .before .before .before .before .before .if1 .left), e)
 
 pub test-spec : {M : Type 1} → statement M

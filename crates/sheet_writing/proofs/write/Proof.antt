@@ -5,7 +5,8 @@ use native.Mathlib.Omega.{arith}
 use lib.Dec.{ltb}
 use Rattle.refusals.specs.Refusals.{Done}
 use Rattle.keys.proofs.Laws.{Passed, passed, refused, passed-low}
-use Rattle.sheets.proofs.Steps.{holds, fails, size-bounds}
+use Rattle.refusals.proofs.Laws.{holds, fails}
+use Rattle.sheets.proofs.Steps.{size-bounds}
 use Rattle.sheets.proofs.Pages.{count-small}
 use Rattle.sheet_writing.proofs.Answers.{write-key, write-long, write-size, write-short, write-done}
 use borrow.Author.Needs.{needs}

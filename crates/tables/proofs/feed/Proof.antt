@@ -4,12 +4,13 @@ use Prim.Native.Nat.{ℕ, _-_, _^_, _≤_}
 use native.Mathlib.Omega.{arith}
 use lib.ListN.{length}
 use mathlib.Core.Bool.{not}
-use borrow.Author.Tests.{not-true, not-false, leb-false}
+use borrow.Author.Tests.{leb-false}
 use Rattle.gf2.specs.Polynomials.{degree, monic, rem, Modulus}
+use Rattle.refusals.proofs.Laws.{holds, fails}
 use Rattle.files.specs.Files.{bits, valueFrom}
 use Rattle.keys.proofs.Laws.{passed, refused, passed-pos, passed-from, passed-monic, passed-word, passed-modulus}
 use Rattle.marks.specs.Feeding.{fedMark, markIn, fedUnder}
-use Rattle.marks.proofs.Laws.{sum-within, not-fits, does-fit, not-reduced, is-reduced, feed-long, feed-unreduced, feed-passed}
+use Rattle.marks.proofs.Laws.{sum-within, not-reduced, is-reduced, feed-long, feed-unreduced, feed-passed}
 use Rattle.tables.specs.Tables.{word, differs, Table}
 use Rattle.tables.proofs.Calls.{table-right, feed-key, feed-size, feed-word, feed-tested}
 use borrow.Author.Needs.{needs}
@@ -95,7 +96,7 @@ returns-3 c =
     let l = c .before .before .low-bits in
     let p : monic (d .result) (l .result) ≡ key = rw (l .ensures, d .ensures) (passed-monic h) in
     let r = c .before .holds .ensures ∙ ap (λ (q : ℕ). not (differs (word 8 q) 0 ws)) p in
-    let w = not-false (differs (word 8 key) 0 ws) (sym r ∙ not-true (c .before .holds .result) (c .if2 .taken)) in
+    let w = holds (c .before .holds .result) (differs (word 8 key) 0 ws) r (c .if2 .taken) in
     sym (ap (fedUnder key) (feed-word key m ws part h (e .if1 .left) w))
 
 fits-requires : tie.Need-fits-requires
@@ -115,10 +116,10 @@ returns-4 c =
     let l = c .before .before .before .before .low-bits in
     let p : monic (d .result) (l .result) ≡ key = rw (l .ensures, d .ensures) (passed-monic h) in
     let r = c .before .before .before .holds .ensures ∙ ap (λ (q : ℕ). not (differs (word 8 q) 0 ws)) p in
-    let w = not-true (differs (word 8 key) 0 ws) (sym r ∙ not-false (c .before .before .before .holds .result) (c .before .before .if2 .left)) in
+    let w = fails (c .before .before .before .holds .result) (differs (word 8 key) 0 ws) r (c .before .before .if2 .left) in
     let tested = feed-tested key m ws part h (e .if1 .left) w in
     let f = c .before .fits2 in
-    let long = not-fits (a .m .length) (length part) (f .result) (f .ensures) (c .if3 .taken) in
+    let long = holds (f .result) _ (f .ensures) (c .if3 .taken) in
     sym (ap (fedUnder key) (tested ∙ feed-long key m part m (fedMark key m part) long))
 
 reduced-requires : tie.Need-reduced-requires
@@ -147,10 +148,10 @@ returns-5 c =
     let l = c .before .before .before .before .before .before .low-bits in
     let p : monic (d .result) (l .result) ≡ key = rw (l .ensures, d .ensures) (passed-monic h) in
     let r = c .before .before .before .before .before .holds .ensures ∙ ap (λ (q : ℕ). not (differs (word 8 q) 0 ws)) p in
-    let w = not-true (differs (word 8 key) 0 ws) (sym r ∙ not-false (c .before .before .before .before .before .holds .result) (c .before .before .before .before .if2 .left)) in
+    let w = fails (c .before .before .before .before .before .holds .result) (differs (word 8 key) 0 ws) r (c .before .before .before .before .if2 .left) in
     let tested = feed-tested key m ws part h (e .if1 .left) w in
     let f = c .before .before .before .fits2 in
-    let short = does-fit (a .m .length) (length part) (f .result) (f .ensures) (c .before .before .if3 .left) in
+    let short = fails (f .result) _ (f .ensures) (c .before .before .if3 .left) in
     let u = c .before .reduced in
     let high = not-reduced key (d .result) (a .m .fingerprint) (d .ensures) (u .result) (u .ensures) (c .if4 .taken) in
     sym (ap (fedUnder key) (tested ∙ feed-unreduced key m part m (fedMark key m part) short high))
@@ -169,7 +170,7 @@ fed-requires c κs =
     let l = c .before .before .before .before .before .before .low-bits in
     let p : monic (d .result) (l .result) ≡ key = rw (l .ensures, d .ensures) (passed-monic h) in
     let r = c .before .before .before .before .before .holds .ensures ∙ ap (λ (q : ℕ). not (differs (word 8 q) 0 ws)) p in
-    let w = not-true (differs (word 8 key) 0 ws) (sym r ∙ not-false (c .before .before .before .before .before .holds .result) (c .before .before .before .before .if2 .left)) in
+    let w = fails (c .before .before .before .before .before .holds .result) (differs (word 8 key) 0 ws) r (c .before .before .before .before .if2 .left) in
     let tested = feed-tested key m ws part h (e .if1 .left) w in
     let u = c .before .reduced in
     let low = is-reduced key (d .result) (a .m .fingerprint) (d .ensures) (u .result) (u .ensures) (c .if4 .left) in
@@ -189,8 +190,9 @@ add-t20 c =
     let t = e .before .before .before .test in
     let h = passed (t .result) key (t .ensures) (e .before .enum-told .given .1) in
     let f = c .before .before .before .before .fits2 in
-    let short = does-fit (a .m .length) (length part) (f .result) (f .ensures) (c .before .before .before .if3 .left) in
-    record { fits = omega (arith, sum-within (a .m .length) (length part) short) }
+    let short = fails (f .result) _ (f .ensures) (c .before .before .before .if3 .left) in
+    let sum = sum-within (a .m .length) (length part) short in
+    record { fits = omega (arith, sum) }
 
 returns-6 : tie.Need-returns-6
 unfolding fedMark
@@ -207,10 +209,10 @@ returns-6 c =
     let l = c .before .before .before .before .before .before .before .low-bits in
     let p : monic (d .result) (l .result) ≡ key = rw (l .ensures, d .ensures) (passed-monic h) in
     let r = c .before .before .before .before .before .before .holds .ensures ∙ ap (λ (q : ℕ). not (differs (word 8 q) 0 ws)) p in
-    let w = not-true (differs (word 8 key) 0 ws) (sym r ∙ not-false (c .before .before .before .before .before .before .holds .result) (c .before .before .before .before .before .if2 .left)) in
+    let w = fails (c .before .before .before .before .before .before .holds .result) (differs (word 8 key) 0 ws) r (c .before .before .before .before .before .if2 .left) in
     let tested = feed-tested key m ws part h (e .if1 .left) w in
     let f = c .before .before .before .before .fits2 in
-    let short = does-fit (a .m .length) (length part) (f .result) (f .ensures) (c .before .before .before .if3 .left) in
+    let short = fails (f .result) _ (f .ensures) (c .before .before .before .if3 .left) in
     let u = c .before .before .reduced in
     let low = is-reduced key (d .result) (a .m .fingerprint) (d .ensures) (u .result) (u .ensures) (c .before .if4 .left) in
     let value : c .fed .result ≡ rem key (valueFrom (a .m .fingerprint) (bits part)) = c .fed .ensures ∙ ap (λ (q : ℕ). rem q (valueFrom (a .m .fingerprint) (bits part))) p in

@@ -3,8 +3,8 @@ use mathlib.Core.Path.{_≡_, sym, ap, _∙_}
 use Prim.Native.Nat.{ℕ, _-_}
 use native.Mathlib.Omega.{arith}
 use mathlib.Core.Bool.{not}
-use borrow.Author.Tests.{not-true, not-false}
 use Rattle.gf2.specs.Polynomials.{degree, monic}
+use Rattle.refusals.proofs.Laws.{holds, fails}
 use Rattle.keys.proofs.Laws.{passed, refused, passed-pos, passed-monic, passed-word, passed-modulus}
 use Rattle.tables.specs.Tables.{word, differs}
 use Rattle.tables.proofs.Calls.{test-key, test-size, test-word, test-done}
@@ -75,7 +75,7 @@ returns-3 c =
     let l = c .before .before .low-bits in
     let p : monic (d .result) (l .result) ≡ a .key = rw (l .ensures, d .ensures) (passed-monic h) in
     let r = c .before .holds .ensures ∙ ap (λ (q : ℕ). not (differs (word 8 q) 0 (a .words .now))) p in
-    sym (test-word (a .key) (a .words .now) h (e .if1 .left) (not-false (differs (word 8 (a .key)) 0 (a .words .now)) (sym r ∙ not-true (c .before .holds .result) (c .if2 .taken))))
+    sym (test-word (a .key) (a .words .now) h (e .if1 .left) (holds (c .before .holds .result) (differs (word 8 (a .key)) 0 (a .words .now)) r (c .if2 .taken)))
 
 returns-4 : tie.Need-returns-4
 returns-4 c =
@@ -88,7 +88,7 @@ returns-4 c =
     let l = c .before .before .low-bits in
     let p : monic (d .result) (l .result) ≡ a .key = rw (l .ensures, d .ensures) (passed-monic h) in
     let r = c .before .holds .ensures ∙ ap (λ (q : ℕ). not (differs (word 8 q) 0 (a .words .now))) p in
-    sym (test-done (a .key) (a .words .now) h (e .if1 .left) (not-true (differs (word 8 (a .key)) 0 (a .words .now)) (sym r ∙ not-false (c .before .holds .result) (c .if2 .left))))
+    sym (test-done (a .key) (a .words .now) h (e .if1 .left) (fails (c .before .holds .result) (differs (word 8 (a .key)) 0 (a .words .now)) r (c .if2 .left)))
 
 pub test-spec : {M : Type 1} → statement M
 test-spec =

@@ -11,12 +11,13 @@ use lib.ListN.{length}
 use lib.Pow.{pow-pos}
 use Rattle.gf2.specs.Polynomials.{degree, rem, monic}
 use Rattle.refusals.specs.Refusals.{Done}
+use Rattle.refusals.proofs.Laws.{holds, fails}
 use Rattle.files.specs.declared.Mark.{Mark}
 use Rattle.files.specs.Files.{bits, valueFrom}
 use Rattle.files.proofs.Marks.{mark-eq}
 use Rattle.keys.proofs.Laws.{Passed, passed, refused, first-passed, first-refused, passed-pos, passed-monic, passed-word, passed-modulus}
 use Rattle.marks.specs.Feeding.{unreduced, feedTests, fedMark, feedBits, markIn, fedUnder}
-use Rattle.marks.proofs.Laws.{sum-within, not-fits, does-fit, not-reduced, is-reduced, feed-long, feed-unreduced, feed-passed}
+use Rattle.marks.proofs.Laws.{sum-within, not-reduced, is-reduced, feed-long, feed-unreduced, feed-passed}
 use Rattle.marks.proofs.Running.feed.Statement.{statement}
 use Rattle.marks.proofs.Running.feed.Tie as tie
 
@@ -55,7 +56,7 @@ returns-2 c =
     let part = a .part .now in
     let h = passed (t .result) key (t .ensures) (c .before .before .enum-told .given .1) in
     let f = c .before .fits2 in
-    let long = not-fits (a .self .length) (length part) (f .result) (f .ensures) (c .if1 .taken) in
+    let long = holds (f .result) _ (f .ensures) (c .if1 .taken) in
     sym (ap (fedUnder key) (first-passed key (feedTests key m part) m (fedMark key m part) h ∙ feed-long key m part m (fedMark key m part) long))
 
 degree-requires : tie.Need-degree-requires
@@ -83,7 +84,7 @@ returns-3 c =
     let m = markIn (a .self) in
     let part = a .part .now in
     let f = w .before .fits2 in
-    let short = does-fit (a .self .length) (length part) (f .result) (f .ensures) (w .if1 .left) in
+    let short = fails (f .result) _ (f .ensures) (w .if1 .left) in
     let d = c .before .before .degree in
     let r = c .before .reduced in
     let high = not-reduced key (d .result) (a .self .fingerprint) (d .ensures) (r .result) (r .ensures) (c .if2 .taken) in
@@ -120,8 +121,9 @@ add-total c =
     let m = markIn (a .self) in
     let part = a .part .now in
     let f = w .before .fits2 in
-    let short = does-fit (a .self .length) (length part) (f .result) (f .ensures) (w .if1 .left) in
-    record { fits = omega (arith, sum-within (a .self .length) (length part) short) }
+    let short = fails (f .result) _ (f .ensures) (w .if1 .left) in
+    let sum = sum-within (a .self .length) (length part) short in
+    record { fits = omega (arith, sum) }
 
 returns-4 : tie.Need-returns-4
 unfolding feedBits fedMark
@@ -134,7 +136,7 @@ returns-4 c =
     let m = markIn (a .self) in
     let part = a .part .now in
     let f = w .before .fits2 in
-    let short = does-fit (a .self .length) (length part) (f .result) (f .ensures) (w .if1 .left) in
+    let short = fails (f .result) _ (f .ensures) (w .if1 .left) in
     let d = c .before .before .before .before .degree in
     let r = c .before .before .before .reduced in
     let low = is-reduced key (d .result) (a .self .fingerprint) (d .ensures) (r .result) (r .ensures) (c .before .before .if2 .left) in

@@ -1,4 +1,4 @@
--- Counting twice: what passes a test after a map, by the values that the map takes.
+-- Sums and counts over the n numbers from x on; and counting twice: what passes a test after a map, by the values that the map takes.
 use mathlib.Core.Path.{_≡_, refl, sym, ap, ap₂, _∙_}
 use mathlib.Core.Bool.{Bool, true, false}
 use Prim.Native.Nat.{ℕ, zero, suc, _+_, _*_, _≤_, _<_}
@@ -6,10 +6,9 @@ use native.Mathlib.Nat.{le-refl, mul-zero, zero-mul, mul-one, mul-add, zero-add,
 use native.Mathlib.Decide.{ℕ-discrete}
 use native.Mathlib.Omega.{arith}
 use lib.Dec.{eqb}
-use borrow.Author.Tests.{eqb-true, eq-eqb}
+use borrow.Author.Tests.{eq-eqb, ne-eqb}
 use Rattle.book.specs.Confusions.{toOne, countFrom}
 
--- the sum of g over the n numbers from x on
 unfoldable pub sumFrom : (ℕ → ℕ) → ℕ → ℕ → ℕ
 sumFrom g x zero = 0
 sumFrom g x (suc n) = g x + sumFrom g (suc x) n
@@ -24,10 +23,6 @@ unfolding sumFrom
 sum-same g h x zero e = refl
 sum-same g h x (suc n) e =
     ap₂ (λ (a b : ℕ). a + b) (e x (le-refl x) (omega arith)) (sum-same g h (suc x) n (λ y l m. e y (omega arith) (omega arith)))
-
-pub count-same : (f g : ℕ → Bool) (x n : ℕ) → ((y : ℕ) → x ≤ y → y < x + n → f y ≡ g y) → countFrom f x n ≡ countFrom g x n
-count-same f g x n e =
-    count-is-sum f x n ∙ sum-same (λ y. toOne (f y)) (λ y. toOne (g y)) x n (λ y l m. ap toOne (e y l m)) ∙ sym (count-is-sum g x n)
 
 sum-zero : (x n : ℕ) → sumFrom (λ y. 0) x n ≡ 0
 unfolding sumFrom
@@ -53,20 +48,13 @@ count-all f x (suc n) e =
 
 -- ---- one number alone
 
-pub differ : (v y : ℕ) → (v ≡ y → ⊥) → eqb v y ≡ false
-differ v y n = go (eqb v y) refl
-  where
-    go : (b : Bool) → eqb v y ≡ b → b ≡ false
-    go true e = absurd (n (eqb-true v y e))
-    go false e = refl
-
 -- a sum over the places where y is v, of which there is none past v
 none-later : (h : ℕ → ℕ) (v x n : ℕ) → v < x → sumFrom (λ y. h y * toOne (eqb v y)) x n ≡ 0
 none-later h v x n l =
-    sum-same (λ y. h y * toOne (eqb v y)) (λ y. 0) x n (λ y a b. ap (λ (t : Bool). h y * toOne t) (differ v y (λ e. omega arith)) ∙ mul-zero (h y))
+    sum-same (λ y. h y * toOne (eqb v y)) (λ y. 0) x n (λ y a b. ap (λ (t : Bool). h y * toOne t) (ne-eqb v y (λ e. omega arith)) ∙ mul-zero (h y))
     ∙ sum-zero x n
 
-pub sum-at : (h : ℕ → ℕ) (v x n : ℕ) → x ≤ v → v < x + n → sumFrom (λ y. h y * toOne (eqb v y)) x n ≡ h v
+sum-at : (h : ℕ → ℕ) (v x n : ℕ) → x ≤ v → v < x + n → sumFrom (λ y. h y * toOne (eqb v y)) x n ≡ h v
 unfolding sumFrom
 sum-at h v x zero l m = absurd (omega arith)
 sum-at h v x (suc n) l m = go (ℕ-discrete v x) (λ a. sum-at h v (suc x) n a (omega arith))
@@ -75,7 +63,7 @@ sum-at h v x (suc n) l m = go (ℕ-discrete v x) (λ a. sum-at h v (suc x) n a (
         → h x * toOne (eqb v x) + sumFrom (λ y. h y * toOne (eqb v y)) (suc x) n ≡ h v
     go (yes e) rest =
         rw (eq-eqb v x e, none-later h v (suc x) n (omega arith), mul-one, add-zero) (ap h (sym e))
-    go (no d) rest = rw (differ v x d, mul-zero, zero-add) (rest (omega arith))
+    go (no d) rest = rw (ne-eqb v x d, mul-zero, zero-add) (rest (omega arith))
 
 -- a test that one number of the range passes, and no other
 pub count-one : (f : ℕ → Bool) (v x n : ℕ) → x ≤ v → v < x + n → f v ≡ true → ((y : ℕ) → x ≤ y → y < x + n → f y ≡ true → v ≡ y)
@@ -88,14 +76,21 @@ count-one f v x n l m e only =
       where
         go : (t : Bool) → f y ≡ t → toOne t ≡ 1 * toOne (eqb v y)
         go true p = rw (eq-eqb v y (only y a b p))
-        go false p = rw (differ v y (λ q. clash (sym p ∙ ap f (sym q) ∙ e)))
+        go false p = rw (ne-eqb v y (λ q. clash (sym p ∙ ap f (sym q) ∙ e)))
           where
             clash : false ≡ true → ⊥
             clash c = omega (arith, ap toOne c)
 
-pub count-none : (f : ℕ → Bool) (x n : ℕ) → ((y : ℕ) → x ≤ y → y < x + n → f y ≡ false) → countFrom f x n ≡ 0
-count-none f x n e =
-    count-is-sum f x n ∙ sum-same (λ y. toOne (f y)) (λ y. 0) x n (λ y a b. ap toOne (e y a b)) ∙ sum-zero x n
+-- a test that no number of the range passes
+pub count-none : (f : ℕ → Bool) (x n : ℕ) → ((y : ℕ) → x ≤ y → y < x + n → f y ≡ true → ⊥) → countFrom f x n ≡ 0
+count-none f x n e = count-is-sum f x n ∙ sum-same (λ y. toOne (f y)) (λ y. 0) x n each ∙ sum-zero x n
+  where
+    each : (y : ℕ) → x ≤ y → y < x + n → toOne (f y) ≡ 0
+    each y a b = go (f y) refl
+      where
+        go : (t : Bool) → f y ≡ t → toOne t ≡ 0
+        go true p = absurd (e y a b p)
+        go false p = refl
 
 -- ---- counting twice
 
