@@ -21,7 +21,7 @@ use Rattle.acceptance.proofs.Laws.{irreducible-of, not-reducible}
 use Rattle.basis.specs.Rows.{sumOf, Independent}
 use Rattle.keys.specs.Squares.{listFrom, square, oddPart, folded, squareRows, differenceRows}
 use Rattle.keys.proofs.Filling.{length-list, list-same, list-over}
-use Rattle.keys.proofs.Linear.{Additive, at-zero}
+use Rattle.gf2.proofs.Linear.{Additive, at-zero}
 use Rattle.keys.proofs.Folding.{Kernel, odd-kernel, fold-kernel}
 
 half-lt : (h n : ℕ) → h < 2 ^ suc n → h / 2 < 2 ^ n
