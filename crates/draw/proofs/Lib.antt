@@ -1,9 +1,6 @@
-pub mod Parts
 pub mod Draws
 pub mod Drawers
 pub mod Sums
 pub mod Fairness
 pub mod Lists
-pub mod Matrices
-pub mod Relations
 pub mod Evaluation
