@@ -3,7 +3,7 @@ use Prim.Native.Nat.{ℕ}
 use native.Mathlib.Omega.{arith}
 use Rattle.refusals.specs.Refusals.{Done}
 use Rattle.acceptance.proofs.Laws.{accepted-pos}
-use Rattle.keys.proofs.Laws.{degree-word}
+use Rattle.gf2.proofs.Monics.{word-degree}
 use Rattle.sheets.specs.Layout.{numbersAt}
 use Rattle.sheets.specs.Sheets.{firstChange}
 use Rattle.sheets.specs.Parts.{pagesLeft, fingerprintsFrom}
@@ -36,7 +36,7 @@ degree-requires c κs =
 low-bits-requires : tie.Need-low-bits-requires
 low-bits-requires c κs =
     let s = c .before .before .before .before .before in
-    rw (c .degree .ensures) (rw (key-is (s .args .sheet .now) (s .pre)) (degree-word _ (accepted-pos _ (sound (s .args .sheet .now) (s .pre) .key)) (key-lt _ (sound (s .args .sheet .now) (s .pre) .key))))
+    rw (c .degree .ensures) (rw (key-is (s .args .sheet .now) (s .pre)) (word-degree _ (accepted-pos _ (sound (s .args .sheet .now) (s .pre) .key)) (key-lt _ (sound (s .args .sheet .now) (s .pre) .key))))
 
 slice-aggregate-fill : tie.Need-slice-aggregate-fill
 slice-aggregate-fill c = search needs

@@ -7,7 +7,7 @@ use lib.ListN.{length}
 use borrow.Author.Tests.{eq-eqb, ne-eqb, not-true, not-false}
 use Rattle.gf2.specs.Polynomials.{_⊗_, monic, degree, rem}
 use Rattle.multiples.proofs.Doubling.{rem-below}
-use Rattle.keys.proofs.Laws.{degree-word}
+use Rattle.gf2.proofs.Monics.{word-degree}
 use Rattle.files.specs.Files.{markOf}
 use Rattle.sheets.specs.Layout.{numberAt, numbersAt}
 use Rattle.sheets.specs.Sheets.{someUnreduced, joinedPages}
@@ -68,7 +68,7 @@ degree-requires c κs = search needs
 low-bits-requires : tie.Need-low-bits-requires
 low-bits-requires c κs =
     let s = c .before .before .before .before in
-    rw (c .degree .ensures) (degree-word (s .args .key) (omega arith) (s .fits .key .fits))
+    rw (c .degree .ensures) (word-degree (s .args .key) (omega arith) (s .fits .key .fits))
 
 add-fields-reduced : tie.Need-add-fields-reduced
 add-fields-reduced c = search needs
