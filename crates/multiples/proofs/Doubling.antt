@@ -13,17 +13,12 @@ use mathlib.Core.Logic.{_↔_}
 use lib.ListN.{length, getD, set}
 use lib.Pow.{pow-mono}
 use lib.Seq.{getD-set-same, getD-set-other}
-use Rattle.gf2.specs.Polynomials.{_⊕_, _⊗_, degree, monic, rem}
+use Rattle.gf2.specs.Polynomials.{_⊕_, _⊗_, degree, rem}
 use Rattle.gf2.proofs.Sums.{⊕-append, ⊕-comm, ⊕-assoc, ⊕-self, ⊕-eq}
 use Rattle.gf2.proofs.Products.{zero-⊗, one-⊗, dbl-⊗, ⊕-⊗}
-use Rattle.gf2.proofs.Residues.{rem-zero, rem-lt, rem-small, rem-⊕}
+use Rattle.gf2.proofs.Residues.{rem-zero, rem-small, rem-⊕}
 use Rattle.gf2.proofs.Powers.{rem-shl}
-use Rattle.gf2.proofs.Monics.{monic-degree, monic-pos}
 use Rattle.multiples.specs.Rows.{Multiples, Shifted, SameBefore}
-
--- a residue modulo the modulus as the code holds it
-pub rem-below : (k low : ℕ) → low < 2 ^ k → (a : ℕ) → rem (monic k low) a < 2 ^ k
-rem-below k low h a = rw (monic-degree k low h) at (rem-lt (monic-pos k low h) a)
 
 -- 2^b + m is a sum without carry
 top-⊕ : (b m : ℕ) → m < 2 ^ b → 2 ^ b + m ≡ 2 ^ b ⊕ m

@@ -4,7 +4,7 @@ use lib.ListN.{length}
 use lib.Pow.{pow-lt}
 use Rattle.gf2.specs.Polynomials.{_⊗_, monic, rem}
 use Rattle.gf2.proofs.Monics.{monic-pos}
-use Rattle.multiples.proofs.Doubling.{rem-below}
+use Rattle.gf2.proofs.Steps.{residue-lt}
 use Rattle.files.specs.Files.{value, fingerprint}
 use Rattle.sheets.specs.Sheets.{filled}
 use Rattle.shifts.proofs.Products.{product-shift}
@@ -35,7 +35,7 @@ product-requires : tie.Need-product-requires
 product-requires c κs =
     let s = c .before .before .before .before .before in
     let m = s .pre .0 .0 in
-    (m, rw (c .before .before .fed .ensures) (rem-below (s .args .k) (s .args .low) (m .2) _), rw (c .power-of-t .ensures) (rem-below (s .args .k) (s .args .low) (m .2) _))
+    (m, rw (c .before .before .fed .ensures) (residue-lt (s .args .k) (s .args .low) (m .2) _), rw (c .power-of-t .ensures) (residue-lt (s .args .k) (s .args .low) (m .2) _))
 
 returns-2 : tie.Need-returns-2
 unfolding fingerprint value filled

@@ -6,7 +6,7 @@ use native.Mathlib.Omega.{arith}
 use lib.ListN.{length}
 use borrow.Author.Tests.{eq-eqb, ne-eqb, not-true, not-false}
 use Rattle.gf2.specs.Polynomials.{_⊗_, monic, degree, rem}
-use Rattle.multiples.proofs.Doubling.{rem-below}
+use Rattle.gf2.proofs.Steps.{residue-lt}
 use Rattle.gf2.proofs.Monics.{word-degree}
 use Rattle.files.specs.Files.{markOf}
 use Rattle.sheets.specs.Layout.{numberAt, numbersAt}
@@ -116,7 +116,7 @@ product-requires : tie.Need-product-requires
 product-requires c κs =
     let h = key-held (c .before .before .before .before .before) in
     let k = c .before .before .before .before .before .before .degree .result in
-    (h .modulus, rw (c .before .number-at .ensures .0) (fields (c .before .before .before) .1), rw (c .power-of-t .ensures) (rem-below k (c .before .before .before .before .before .low-bits .result) (h .modulus .2) _))
+    (h .modulus, rw (c .before .number-at .ensures .0) (fields (c .before .before .before) .1), rw (c .power-of-t .ensures) (residue-lt k (c .before .before .before .before .before .low-bits .result) (h .modulus .2) _))
 
 returns-3 : tie.Need-returns-3
 returns-3 c =
