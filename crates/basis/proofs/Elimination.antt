@@ -15,7 +15,7 @@ use Rattle.gf2.specs.Polynomials.{_⊕_}
 use Rattle.gf2.proofs.Sums.{⊕-zero, ⊕-self, ⊕-shr, ⊕-eq, ⊕-swap}
 use Rattle.gf2.proofs.Products.{bit-cases, mod-2, low-⊕}
 use Rattle.gf2.proofs.Linear.{Additive, at-bit}
-use Rattle.gf2.proofs.Degrees.{half-lt, half-pow}
+use Rattle.gf2.proofs.Degrees.{half-lt}
 use Rattle.gf2.proofs.Steps.{shifted-one}
 use Rattle.basis.specs.Rows.{sumOf, Independent, clear}
 use Rattle.basis.proofs.Sums.{sum-none, sum-map}

@@ -8,7 +8,7 @@ use native.Mathlib.Numerals.{add-one}
 use native.Mathlib.Omega.{arith}
 use lib.ListN.{length, take, drop, getD, set, replicate, length-map, length-replicate}
 use lib.Pow.{pow-pos, pow-mono}
-use lib.Seq.{length-take-le, getD-take, drop-at, take-at}
+use lib.Seq.{length-take-le, getD-take}
 use borrow.Rule.Slice.PartMut.{putMid, mid-len, same-len-mid}
 use Rattle.gf2.specs.Polynomials.{_⊕_, Degree}
 use Rattle.gf2.proofs.Sums.{⊕-left-comm, ⊕-lt, ⊕-zero}

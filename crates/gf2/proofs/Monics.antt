@@ -1,6 +1,6 @@
 -- Laws of the polynomial t^k with the coefficients c below it: the modulus as the code holds it, a degree and a word.
 use mathlib.Core.Path.{_≡_, sym, ap, _∙_}
-use Prim.Native.Nat.{ℕ, _+_, _*_, _/_, _%_, _^_, _≤_, _<_}
+use Prim.Native.Nat.{ℕ, _/_, _%_, _^_, _<_}
 use native.Mathlib.Nat.{one-mul, mod-lt, div-self}
 use native.Mathlib.Omega.{arith}
 use lib.Pow.{pow-pos, split}

@@ -5,7 +5,7 @@ use mathlib.Core.Logic.{_⊎_, inl, inr}
 use mathlib.Core.Bool.{Bool, true, false}
 use mathlib.Core.List.{List, [], _∷_}
 use Prim.Native.Nat.{ℕ, zero, suc, _*_, _/_, _%_, _^_, _≤_, _<_, zero-le}
-use native.Mathlib.Nat.{le-trans, le-refl, le-suc, le-of-suc-le-suc, not-suc-le-zero, not-le-of-lt, lt-of-lt-of-le, zero-mul, one-mul, pow-suc, div-self, div-lt-iff-lt-mul}
+use native.Mathlib.Nat.{le-trans, le-refl, le-suc, le-of-suc-le-suc, not-suc-le-zero, not-le-of-lt, lt-of-lt-of-le, zero-mul, one-mul, div-self}
 use native.Mathlib.Omega.{arith}
 use lib.Dec.{T}
 use lib.ListN.{length}
@@ -13,7 +13,7 @@ use lib.Pow.{pow-pos, pow-mono, pow-lt}
 use Rattle.gf2.specs.Polynomials.{_⊕_}
 use Rattle.gf2.proofs.Sums.{⊕-zero, zero-⊕, ⊕-self, ⊕-assoc, ⊕-lt, ⊕-eq, xor}
 use Rattle.gf2.proofs.Products.{by-bit, bit-cases, mod-2}
-use Rattle.gf2.proofs.Degrees.{deg-⊕, deg-lo}
+use Rattle.gf2.proofs.Degrees.{half-lt, deg-⊕, deg-lo}
 use Rattle.stock.proofs.Coefficients.{Word, end, O, I, value, value-lt, plus, value-plus}
 
 -- a slot for each place, the highest first: what stands below the leading one of the basis word there. `failed`: a word was
@@ -225,13 +225,10 @@ sum-in k (w ∷ ws) h t =
 pub independent : (k : ℕ) (ws : List Word) → T (sound (basis k ws)) → (h : ℕ) → h < 2 ^ length ws → sum k h ws ≡ 0 → h ≡ 0
 unfolding sum basis
 independent k [] t h l e = omega arith
-independent k (w ∷ ws) t h l e = go (independent k ws (sound-before b w t) (h / 2) half-lt) (bit-cases (h % 2) (mod-2 h))
+independent k (w ∷ ws) t h l e = go (independent k ws (sound-before b w t) (h / 2) (half-lt h (length ws) l)) (bit-cases (h % 2) (mod-2 h))
   where
     b : Basis
     b = basis k ws
-
-    half-lt : h / 2 < 2 ^ length ws
-    half-lt = div-lt-iff-lt-mul (le-suc 1) .1 (rw pow-suc at l)
 
     go : (sum k (h / 2) ws ≡ 0 → h / 2 ≡ 0) → (h % 2 ≡ 0) ⊎ (h % 2 ≡ 1) → h ≡ 0
     go rest (inl z) = omega (arith, rest (rw (z, zero-mul, zero-⊕) at e))

@@ -1,7 +1,7 @@
 -- The loop's invariant: the rows are independent where those from row i on are, as they stand. The measure is the number of rows that are
 -- left.
 use mathlib.Core.Path.{_≡_, refl, _∙_}
-use mathlib.Core.Bool.{true, false≢true}
+use mathlib.Core.Bool.{false≢true}
 use mathlib.Core.Logic.{_↔_}
 use Prim.Native.Nat.{_+_, _-_, _≤_}
 use native.Mathlib.Nat.{sub-zero}
