@@ -5,14 +5,16 @@ use mathlib.Core.List.{List, [], _∷_, _++_, append-assoc, append-nil}
 use Prim.Native.Nat.{ℕ, _+_, _≤_}
 use native.Mathlib.Omega.{arith}
 use lib.ListN.{length, length-append}
+use Rattle.gf2.specs.Lists.{listFrom}
+use Rattle.gf2.proofs.Lists.{length-list}
 use Rattle.refusals.specs.Refusals.{Done, stateOf, Test, firstOf, longest}
 use Rattle.acceptance.specs.Keys.{accepted}
 use Rattle.files.specs.declared.Mark.{Mark}
 use Rattle.files.specs.Files.{markOf}
 use Rattle.marks.specs.Feeding.{sumTest}
 use Rattle.marks.proofs.Laws.{sum-fits}
-use Rattle.tables.specs.Tables.{word, tableFrom, tableTests}
-use Rattle.tables.proofs.Rule.{length-table, table-follows}
+use Rattle.tables.specs.Tables.{word, tableTests}
+use Rattle.tables.proofs.Rule.{table-follows}
 use Rattle.book.specs.Runs.{bookStep, run, Honest}
 use Rattle.book.proofs.RunLaws.{run-next}
 use Rattle.bench.specs.Book.{Call, ByBits, ByTable, ByHouse, bookTests, written, Brings, bench}
@@ -22,8 +24,8 @@ use Rattle.bench.proofs.Guarantee.{lists}
 
 -- numbers 5 and 6 do not apply
 table-passes : {S A : Type 0} (key : ℕ) (ts : List Test) (kept : S) (value : A)
-    → firstOf (tableTests key (tableFrom (word 8 key) 0 1024) ++ ts) kept value ≡ firstOf ts kept value
-table-passes key ts kept value = rw (length-table (word 8 key) 0 1024, table-follows (word 8 key) 0 1024)
+    → firstOf (tableTests key (listFrom (word 8 key) 0 1024) ++ ts) kept value ≡ firstOf ts kept value
+table-passes key ts kept value = rw (length-list (word 8 key) 0 1024, table-follows (word 8 key) 0 1024)
 
 module _ (key : ℕ) (a : accepted key ≡ true) where
   -- number 7 does not apply

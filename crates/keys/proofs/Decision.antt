@@ -11,6 +11,7 @@ use lib.Arith.{lt-one}
 use lib.ListN.{length, getD}
 use lib.Pow.{pow-pos, pow-mono, pow-add, split, high, shl-lt, shr-lt}
 use Rattle.gf2.specs.Polynomials.{_⊕_, _⊗_, degree, rem}
+use Rattle.gf2.specs.Lists.{listFrom}
 use Rattle.gf2.proofs.Sums.{⊕-zero, ⊕-self, ⊕-eq, ⊕-swap, ⊕-lt, ⊕-append}
 use Rattle.gf2.proofs.Products.{zero-⊗, ⊗-zero, ⊗-one, ⊗-comm, ⊗-pow, ⊗-bit, bit-⊕, by-bit, bit-square, square-⊕, by-digits, ring}
 use Rattle.gf2.proofs.Degrees.{half-lt, degree-is, degree-⊗, deg-hi, deg-le, lt-of-high, pos-⊗, ⊗-no-zero}
@@ -19,20 +20,18 @@ use Rattle.acceptance.proofs.Criterion.{rigid-irreducible, irreducible-rigid}
 use Rattle.acceptance.specs.Keys.{reducible}
 use Rattle.acceptance.proofs.Laws.{irreducible-of, not-reducible}
 use Rattle.basis.specs.Rows.{sumOf, Independent}
-use Rattle.keys.specs.Squares.{listFrom, square, oddPart, folded, squareRows, differenceRows}
-use Rattle.keys.proofs.Filling.{length-list, list-same, list-over}
-use Rattle.gf2.proofs.Linear.{Additive, at-zero}
+use Rattle.basis.proofs.Sums.{sum-map}
+use Rattle.keys.specs.Squares.{square, oddPart, folded, squareRows, differenceRows}
+use Rattle.keys.proofs.Filling.{list-over}
+use Rattle.gf2.proofs.Linear.{Additive}
+use Rattle.gf2.proofs.Lists.{length-list, list-map, list-same}
 use Rattle.keys.proofs.Folding.{Kernel, odd-kernel, fold-kernel}
 
 -- ---- sums of listed rows
 
--- additive functions may be put through the sum
-sum-map : {f : ℕ → ℕ} → Additive f → (g : ℕ → ℕ) (i n h : ℕ) → sumOf h (listFrom (λ j. f (g j)) i n) ≡ f (sumOf h (listFrom g i n))
-unfolding sumOf listFrom
-sum-map {f} a g i zero h = sym (at-zero a)
-sum-map {f} a g i (suc n) h =
-    ap₂ (λ (x y : ℕ). x ⊕ y) (by-bit (λ (c : ℕ). c * f (g i) ≡ f (c * g i)) (rw (zero-mul, zero-mul) (sym (at-zero a))) (rw (one-mul, one-mul)) h) (sum-map a g (suc i) n (h / 2))
-    ∙ sym (a .sum (h % 2 * g i) (sumOf (h / 2) (listFrom g (suc i) n)))
+-- an additive function may be put through the sum
+sum-listed : {f : ℕ → ℕ} → Additive f → (g : ℕ → ℕ) (i n h : ℕ) → sumOf h (listFrom (λ j. f (g j)) i n) ≡ f (sumOf h (listFrom g i n))
+sum-listed {f} a g i n h = ap (sumOf h) (sym (list-map g f i n)) ∙ sum-map a h (listFrom g i n)
 
 sum-both : (f g : ℕ → ℕ) (i n h : ℕ) → sumOf h (listFrom (λ j. f j ⊕ g j) i n) ≡ sumOf h (listFrom f i n) ⊕ sumOf h (listFrom g i n)
 unfolding sumOf listFrom
@@ -108,10 +107,10 @@ module _ (p : ℕ) (pos : 0 < p) (h n : ℕ) (whole : h + n ≡ degree p) (lower
 
     sum-rows : (g : ℕ) → g < 2 ^ n → sumOf g rows ≡ r (value (g * 2 ^ h))
     sum-rows g l =
-        sum-map (t .additive) (λ i. square p i ⊕ δ (2 ^ i)) h n g
+        sum-listed (t .additive) (λ i. square p i ⊕ δ (2 ^ i)) h n g
         ∙ ap r
         (sum-both (square p) (λ i. δ (2 ^ i)) h n g
-        ∙ ap₂ (λ (x y : ℕ). x ⊕ y) (sum-squares p pos h n g l ∙ ap (rem p) shift) (sum-map (t .δ-additive) (λ i. 2 ^ i) h n g ∙ ap δ (sum-powers h n g l ∙ ⊗-comm (2 ^ h) g ∙ ⊗-pow h g)))
+        ∙ ap₂ (λ (x y : ℕ). x ⊕ y) (sum-squares p pos h n g l ∙ ap (rem p) shift) (sum-listed (t .δ-additive) (λ i. 2 ^ i) h n g ∙ ap δ (sum-powers h n g l ∙ ⊗-comm (2 ^ h) g ∙ ⊗-pow h g)))
       where
         expand : (v : ℕ) → v ⊗ v ⊗ (g ⊗ g) ≡ g ⊗ v ⊗ (g ⊗ v)
         expand v = simp ring

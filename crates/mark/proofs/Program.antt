@@ -12,7 +12,9 @@ use lib.Seq.{take-take, drop-append-le}
 use borrow.Author.Tests.{lt-ltb, le-ltb, lt-leb}
 use Rattle.bytes.specs.Bytes.{indexOf, indexAfter}
 use Rattle.gf2.specs.Polynomials.{degree}
+use Rattle.gf2.specs.Lists.{listFrom}
 use Rattle.gf2.proofs.Residues.{rem-lt}
+use Rattle.gf2.proofs.Lists.{length-list}
 use Rattle.refusals.specs.declared.Refusal.{Refusal}
 use Rattle.refusals.specs.declared.Refusal.the-variants.{KeyBelow256, KeyReducible, TooLong}
 use Rattle.refusals.specs.Refusals.{Answer, Done, Refused, Test, _⇒_, firstOf, passes, longest}
@@ -25,8 +27,8 @@ use Rattle.keys.proofs.Laws.{Passed, first-passed, passed-pos}
 use Rattle.marks.specs.declared.Running.{Running}
 use Rattle.marks.specs.Feeding.{begin, fedMark, feedTests, begunUnder, fedUnder, unreduced}
 use Rattle.marks.proofs.Laws.{sum-passes, sum-fits, feed-long, feed-passed}
-use Rattle.tables.specs.Tables.{word, tableFrom, makeTable, feedTable}
-use Rattle.tables.proofs.Rule.{length-table, table-follows}
+use Rattle.tables.specs.Tables.{word, makeTable, feedTable}
+use Rattle.tables.proofs.Rule.{table-follows}
 use Rattle.tables.proofs.Calls.{make-done, feed-tested}
 use Rattle.printing.specs.declared.KeyLine.{KeyLine}
 use Rattle.printing.specs.declared.KeyLine.the-variants.{NoKey, Key}
@@ -127,11 +129,11 @@ module _ (key : ℕ) (h : Passed key) where
 
   -- the table that was made passes its tests
   table : List ℕ
-  table = tableFrom (word 8 key) 0 1024
+  table = listFrom (word 8 key) 0 1024
 
   tested : (m : Mark) (part : List ℕ) → feedTable key m table part ≡ firstOf (feedTests key m part) m (fedMark key m part)
   unfolding table
-  tested m part = feed-tested key m (tableFrom (word 8 key) 0 1024) part h (length-table (word 8 key) 0 1024) (table-follows (word 8 key) 0 1024)
+  tested m part = feed-tested key m (listFrom (word 8 key) 0 1024) part h (length-list (word 8 key) 0 1024) (table-follows (word 8 key) 0 1024)
 
   feed-goes : (file part : List ℕ) → length file + length part ≤ longest → feedTable key (markOf key file) table part ≡ Done (markOf key (file ++ part))
   unfolding markOf

@@ -10,11 +10,12 @@ use lib.ListN.{length, take, drop, getD, replicate}
 use lib.Seq.{length-take-le, length-front, take-at}
 use lib.Pow.{pow-pos}
 use Rattle.gf2.specs.Polynomials.{_⊕_, degree, Degree, monic}
+use Rattle.gf2.specs.Lists.{listFrom}
 use Rattle.gf2.proofs.Degrees.{degree-is, degree-from}
 use Rattle.gf2.proofs.Monics.{monic-of, word-degree}
 use Rattle.acceptance.specs.Keys.{reducible}
 use Rattle.basis.specs.Rows.{Independent}
-use Rattle.keys.specs.Squares.{listFrom, square, oddPart, folded, squareRows, differenceRows}
+use Rattle.keys.specs.Squares.{square, oddPart, folded, squareRows, differenceRows}
 use Rattle.keys.proofs.Decision.{irreducible-squares, irreducible-differences, both-irreducible, squares-made, differences-made, by-test}
 use borrow.Author.Needs.{needs}
 use Rattle.keys.proofs.irreducible.Statement.{statement}
