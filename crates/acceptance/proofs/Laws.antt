@@ -104,6 +104,12 @@ accepted-words p = (there, back)
 pub accepted-pos : (p : ℕ) → accepted p ≡ true → 0 < p
 accepted-pos p e = omega (arith, accepted-iff p .0 e .2 .proper)
 
+-- it fits 64 bits
+pub accepted-small : (p : ℕ) → accepted p ≡ true → p < 2 ^ 64
+accepted-small p e =
+    lt-of-lt-of-le (deg-hi p (degree p) (degree-is p (accepted-pos p e)))
+    (pow-mono {i = suc (degree p)} {j = 64} (omega (arith, accepted-iff p .0 e .1)))
+
 -- of a key handed in, a number below 2^64: neither 1 nor 2 applies where it is accepted, and only there
 pub key-iff : (key : ℕ) → key < 2 ^ 64 → (accepted key ≡ true) ↔ ((ltb key 256 ≡ false) × (reducible key ≡ false))
 key-iff key lt = (there, back)

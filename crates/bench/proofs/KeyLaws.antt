@@ -2,30 +2,23 @@
 use mathlib.Core.Path.{_≡_, ap}
 use mathlib.Core.Bool.{true}
 use mathlib.Core.List.{List, [], _++_}
-use Prim.Native.Nat.{ℕ, suc, _^_, _<_}
+use Prim.Native.Nat.{ℕ}
 use native.Mathlib.Nat.{lt-of-lt-of-le}
 use native.Mathlib.Omega.{arith}
-use lib.Pow.{pow-mono, pow-lt}
-use Rattle.gf2.specs.Polynomials.{degree}
-use Rattle.gf2.proofs.Degrees.{degree-is, deg-hi}
+use lib.Pow.{pow-lt}
 use Rattle.gf2.proofs.Residues.{rem-small}
 use Rattle.refusals.specs.Refusals.{Done, Test, firstOf}
 use Rattle.acceptance.specs.Keys.{accepted, keyTests}
-use Rattle.acceptance.proofs.Laws.{accepted-pos, accepted-iff, key-iff}
+use Rattle.acceptance.proofs.Laws.{accepted-pos, accepted-iff, accepted-small, key-iff}
 use Rattle.files.specs.declared.Mark.{Mark}
 use Rattle.files.specs.Files.{bits, valueFrom, value, fingerprint, markOf}
 use Rattle.keys.proofs.Laws.{first-passed}
 use Rattle.marks.specs.Feeding.{begin}
 
 module _ (key : ℕ) (a : accepted key ≡ true) where
-  pub accepted-small : key < 2 ^ 64
-  accepted-small =
-      lt-of-lt-of-le (deg-hi key (degree key) (degree-is key (accepted-pos key a)))
-      (pow-mono {i = suc (degree key)} {j = 64} (omega (arith, accepted-iff key .0 a .1)))
-
   -- numbers 1 and 2 do not apply
   pub key-passes : {S A : Type 0} (ts : List Test) (kept : S) (value : A) → firstOf (keyTests key ++ ts) kept value ≡ firstOf ts kept value
-  key-passes ts kept value = let k = key-iff key accepted-small .0 a in first-passed key ts kept value (record { low = k .0; irreducible = k .1 })
+  key-passes ts kept value = let k = key-iff key (accepted-small key a) .0 a in first-passed key ts kept value (record { low = k .0; irreducible = k .1 })
 
   -- "The empty file has fingerprint 1."
   pub empty-mark : markOf key [] ≡ record { fingerprint = 1; length = 0 }

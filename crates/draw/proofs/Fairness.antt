@@ -11,7 +11,7 @@ use native.Mathlib.Decide.{ℕ-discrete, decLt}
 use native.Mathlib.Omega.{arith}
 use lib.Dec.{T, T-not, leb, leb→le, eqb, eqb-refl}
 use lib.Pow.{pow-mono}
-use borrow.Author.Tests.{eqb-true, eq-eqb}
+use borrow.Author.Tests.{eqb-true, eq-eqb, ne-eqb}
 use Rattle.gf2.specs.Polynomials.{degree}
 use Rattle.gf2.proofs.Lists.{and-left, and-right}
 use Rattle.gf2.proofs.Degrees.{degree-is, degree-eq, deg-lo, deg-hi, deg-intro}
@@ -25,7 +25,7 @@ use Rattle.stock.proofs.Table.{stock-smallest}
 use Rattle.draw.specs.Drawing.{degrees, among, drawn, Draws}
 use Rattle.draw.proofs.Draws.{drawn-is, drawn-draws, drawn-irreducible}
 use Rattle.draw.proofs.Drawers.{Drawers, drawers}
-use Rattle.draw.proofs.Sums.{count-is-sum, sum-same, sum-times, count-all, count-one, count-none, count-twice, differ}
+use Rattle.draw.proofs.Sums.{count-is-sum, sum-same, sum-times, count-all, count-one, count-none, count-twice}
 
 -- ---- the listed degrees are primes from 11 to 61, by one computed test
 
@@ -151,9 +151,9 @@ module _ (k : ℕ) (listed : among k degrees ≡ true) where
             found : Found k e (all-drawers .element)
             found = all-drawers .all e high (rw s at (key-drawn e low high))
         go (no s) =
-            rw (differ (drawn (stockKey k) k e) p s)
+            rw (ne-eqb (drawn (stockKey k) k e) p s)
             (count-none (λ j. eqb (all-drawers .element j) e) 0 k
-            (λ j a b. differ (all-drawers .element j) e (λ q. s (key-only e low high p (rw q at (all-drawers .draw j))))))
+            (λ j a b. ne-eqb (all-drawers .element j) e (λ q. s (key-only e low high p (rw q at (all-drawers .draw j))))))
 
     pub drawers-count : countFrom (λ e. eqb (drawn (stockKey k) k e) p) 2 (2 ^ k - 2) ≡ k
     unfolding element

@@ -6,7 +6,7 @@ use native.Mathlib.Nat.{le-refl, mul-zero, zero-mul, mul-one, mul-add, zero-add,
 use native.Mathlib.Decide.{ℕ-discrete}
 use native.Mathlib.Omega.{arith}
 use lib.Dec.{eqb}
-use borrow.Author.Tests.{eqb-true, eq-eqb}
+use borrow.Author.Tests.{eq-eqb, ne-eqb}
 use Rattle.book.specs.Confusions.{toOne, countFrom}
 
 -- the sum of g over the n numbers from x on
@@ -24,10 +24,6 @@ unfolding sumFrom
 sum-same g h x zero e = refl
 sum-same g h x (suc n) e =
     ap₂ (λ (a b : ℕ). a + b) (e x (le-refl x) (omega arith)) (sum-same g h (suc x) n (λ y l m. e y (omega arith) (omega arith)))
-
-pub count-same : (f g : ℕ → Bool) (x n : ℕ) → ((y : ℕ) → x ≤ y → y < x + n → f y ≡ g y) → countFrom f x n ≡ countFrom g x n
-count-same f g x n e =
-    count-is-sum f x n ∙ sum-same (λ y. toOne (f y)) (λ y. toOne (g y)) x n (λ y l m. ap toOne (e y l m)) ∙ sym (count-is-sum g x n)
 
 sum-zero : (x n : ℕ) → sumFrom (λ y. 0) x n ≡ 0
 unfolding sumFrom
@@ -53,17 +49,10 @@ count-all f x (suc n) e =
 
 -- ---- one number alone
 
-pub differ : (v y : ℕ) → (v ≡ y → ⊥) → eqb v y ≡ false
-differ v y n = go (eqb v y) refl
-  where
-    go : (b : Bool) → eqb v y ≡ b → b ≡ false
-    go true e = absurd (n (eqb-true v y e))
-    go false e = refl
-
 -- a sum over the places where y is v, of which there is none past v
 none-later : (h : ℕ → ℕ) (v x n : ℕ) → v < x → sumFrom (λ y. h y * toOne (eqb v y)) x n ≡ 0
 none-later h v x n l =
-    sum-same (λ y. h y * toOne (eqb v y)) (λ y. 0) x n (λ y a b. ap (λ (t : Bool). h y * toOne t) (differ v y (λ e. omega arith)) ∙ mul-zero (h y))
+    sum-same (λ y. h y * toOne (eqb v y)) (λ y. 0) x n (λ y a b. ap (λ (t : Bool). h y * toOne t) (ne-eqb v y (λ e. omega arith)) ∙ mul-zero (h y))
     ∙ sum-zero x n
 
 pub sum-at : (h : ℕ → ℕ) (v x n : ℕ) → x ≤ v → v < x + n → sumFrom (λ y. h y * toOne (eqb v y)) x n ≡ h v
@@ -75,7 +64,7 @@ sum-at h v x (suc n) l m = go (ℕ-discrete v x) (λ a. sum-at h v (suc x) n a (
         → h x * toOne (eqb v x) + sumFrom (λ y. h y * toOne (eqb v y)) (suc x) n ≡ h v
     go (yes e) rest =
         rw (eq-eqb v x e, none-later h v (suc x) n (omega arith), mul-one, add-zero) (ap h (sym e))
-    go (no d) rest = rw (differ v x d, mul-zero, zero-add) (rest (omega arith))
+    go (no d) rest = rw (ne-eqb v x d, mul-zero, zero-add) (rest (omega arith))
 
 -- a test that one number of the range passes, and no other
 pub count-one : (f : ℕ → Bool) (v x n : ℕ) → x ≤ v → v < x + n → f v ≡ true → ((y : ℕ) → x ≤ y → y < x + n → f y ≡ true → v ≡ y)
@@ -88,7 +77,7 @@ count-one f v x n l m e only =
       where
         go : (t : Bool) → f y ≡ t → toOne t ≡ 1 * toOne (eqb v y)
         go true p = rw (eq-eqb v y (only y a b p))
-        go false p = rw (differ v y (λ q. clash (sym p ∙ ap f (sym q) ∙ e)))
+        go false p = rw (ne-eqb v y (λ q. clash (sym p ∙ ap f (sym q) ∙ e)))
           where
             clash : false ≡ true → ⊥
             clash c = omega (arith, ap toOne c)

@@ -2,7 +2,7 @@
 use mathlib.Core.Path.{_≡_, refl, sym, ap, ap₂, _∙_}
 use mathlib.Core.List.{List, [], _∷_, _++_, append-assoc}
 use Prim.Native.Nat.{ℕ, zero, suc, _+_, _*_, _/_, _%_, _^_, _<_}
-use native.Mathlib.Nat.{mul-one, mul-comm, add-zero, mod-one, pow-suc}
+use native.Mathlib.Nat.{mul-one, mul-comm, add-zero, mod-one, pow-suc, mod-mod}
 use native.Mathlib.Numerals.{one-add}
 use native.Mathlib.Omega.{arith}
 use lib.Arith.{digits-lt, digits-div}
@@ -57,9 +57,6 @@ bits-append (x ∷ a) b = ap (λ r. lowBits 8 x ++ r) (bits-append a b) ∙ sym 
 low-suc : (n b : ℕ) → b % 2 ^ suc n ≡ b / 2 ^ n % 2 * 2 ^ n + b % 2 ^ n
 low-suc n b = ap (λ (x : ℕ). b % 2 ^ x) (sym (one-add n)) ∙ mod-pow-add b 1 n
 
-mod-twice : (x : ℕ) → x % 2 % 2 ≡ x % 2
-mod-twice x = omega arith
-
 -- n low bits come in as one number
 pub value-low : (n s b : ℕ) (r : List ℕ) → valueFrom s (lowBits n b ++ r) ≡ valueFrom (s * 2 ^ n + b % 2 ^ n) r
 unfolding valueFrom lowBits
@@ -67,7 +64,7 @@ value-low zero s b r = simp (mul-one, mod-one, add-zero)
 value-low (suc n) s b r = value-low n (s * 2 + b / 2 ^ n % 2 % 2) b r ∙ ap (λ (x : ℕ). valueFrom x r) sum
   where
     sum : (s * 2 + b / 2 ^ n % 2 % 2) * 2 ^ n + b % 2 ^ n ≡ s * 2 ^ suc n + b % 2 ^ suc n
-    sum = rw (mod-twice, low-suc, shl-suc) (omega arith)
+    sum = rw (mod-mod, low-suc, shl-suc) (omega arith)
 
 -- the byte law
 pub value-byte : (s b : ℕ) (file : List ℕ) → valueFrom s (bits (b ∷ file)) ≡ valueFrom (s * 256 + b % 256) (bits file)

@@ -8,8 +8,8 @@ use native.Mathlib.Omega.{arith}
 use lib.Arith.{half-le}
 use lib.Pow.{pow-pos, pow-mono}
 use Rattle.gf2.specs.Polynomials.{_⊕_, _⊗_, halvings, degree, Degree}
-use Rattle.gf2.proofs.Sums.{⊕-zero, ⊕-self, ⊕-shr, ⊕-eq}
-use Rattle.gf2.proofs.Products.{⊗-step, one-⊗, ⊕-⊗, by-bit}
+use Rattle.gf2.proofs.Sums.{⊕-zero, ⊕-self, ⊕-shr}
+use Rattle.gf2.proofs.Products.{⊗-step, one-⊗, by-bit}
 
 -- ---- as an order: 2 ^ d ≤ n < 2 ^ (d + 1)
 
@@ -115,10 +115,6 @@ pos-⊗ a b p q = deg-pos (a ⊗ b) (degree a + degree b) (deg-⊗ a b (degree a
 pub degree-⊗ : (a b : ℕ) → 0 < a → 0 < b → degree (a ⊗ b) ≡ degree a + degree b
 degree-⊗ a b p q = degree-eq (a ⊗ b) (degree a + degree b) (deg-⊗ a b (degree a) (degree b) (degree-is a p) (degree-is b q))
 
--- the sum of polynomials of different degree
-pub degree-⊕ : (a b : ℕ) → 0 < a → b < 2 ^ degree a → degree (a ⊕ b) ≡ degree a
-degree-⊕ a b p h = degree-eq (a ⊕ b) (degree a) (deg-⊕ a b (degree a) (degree-is a p) h)
-
 -- no zero divisors
 pub ⊗-no-zero : (a b : ℕ) → a ⊗ b ≡ 0 → (a ≡ 0) ⊎ (b ≡ 0)
 ⊗-no-zero a b e = go (eq-zero-or-pos a) (eq-zero-or-pos b)
@@ -127,10 +123,3 @@ pub ⊗-no-zero : (a b : ℕ) → a ⊗ b ≡ 0 → (a ≡ 0) ⊎ (b ≡ 0)
     go (inl p) y = inl p
     go (inr p) (inl q) = inr q
     go (inr p) (inr q) = absurd (omega (arith, pos-⊗ a b p q))
-
-pub ⊗-cancel : (a b c : ℕ) → 0 < c → a ⊗ c ≡ b ⊗ c → a ≡ b
-⊗-cancel a b c p e = ⊕-eq a b (go (⊗-no-zero (a ⊕ b) c (⊕-⊗ a b c ∙ rw e (⊕-self (b ⊗ c)))))
-  where
-    go : (a ⊕ b ≡ 0) ⊎ (c ≡ 0) → a ⊕ b ≡ 0
-    go (inl q) = q
-    go (inr q) = absurd (omega arith)

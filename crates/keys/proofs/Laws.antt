@@ -14,8 +14,7 @@ use Rattle.refusals.specs.declared.Refusal.{Refusal}
 use Rattle.refusals.specs.declared.Refusal.the-variants.{KeyBelow256, KeyReducible}
 use Rattle.refusals.specs.Refusals.{Refused, numberOf, Test, _⇒_, firstOf}
 use Rattle.refusals.proofs.Laws as refusals
-use Rattle.acceptance.specs.Keys.{reducible, accepted, keyTests}
-use Rattle.acceptance.proofs.Laws.{key-iff}
+use Rattle.acceptance.specs.Keys.{reducible, keyTests}
 use Rattle.keys.specs.declared.Tested.{Tested}
 use Rattle.keys.specs.declared.Tested.the-variants as cases
 use Rattle.keys.specs.Testing.{testKey, tested}
@@ -78,6 +77,3 @@ module _ {key : ℕ} (h : Passed key) where
   -- the modulus as the code holds it
   pub passed-modulus : key < 2 ^ 64 → Modulus (degree key) (key % 2 ^ degree key)
   passed-modulus l = word-modulus key (omega (arith, passed-low)) l
-
-  pub passed-accepted : key < 2 ^ 64 → accepted key ≡ true
-  passed-accepted l = key-iff key l .1 (h .low, h .irreducible)

@@ -12,7 +12,7 @@ use Rattle.book.proofs.ConfusionLaws as keys-equal
 use Rattle.book.proofs.Guarantee as any-level
 use Rattle.book.proofs.RunLaws.{run-map}
 use Rattle.sheets.proofs.Guarantee.{written-fingerprint}
-use Rattle.bench.proofs.KeyLaws.{accepted-small}
+use Rattle.acceptance.proofs.Laws.{accepted-small}
 use Rattle.bench.specs.Book as bench-book
 use Rattle.bench.proofs.Guarantee as bench-level
 use Rattle.site.specs.Book.{Call, Feeding, Behind, InFront, Page, step, bookTests, site, Route, OfBench, ByCalls, InSheet}

@@ -11,7 +11,7 @@ use lib.Dec.{T}
 use lib.ListN.{length}
 use lib.Pow.{pow-pos, pow-mono, pow-lt}
 use Rattle.gf2.specs.Polynomials.{_⊕_}
-use Rattle.gf2.proofs.Sums.{⊕-zero, zero-⊕, ⊕-self, ⊕-assoc, ⊕-lt, ⊕-eq, xor}
+use Rattle.gf2.proofs.Sums.{⊕-zero, zero-⊕, ⊕-self, ⊕-assoc, ⊕-left-comm, ⊕-lt, ⊕-eq, xor}
 use Rattle.gf2.proofs.Products.{by-bit, bit-cases, mod-2}
 use Rattle.gf2.proofs.Degrees.{half-lt, deg-⊕, deg-lo}
 use Rattle.stock.proofs.Coefficients.{Word, end, O, I, value, value-lt, plus, value-plus}
@@ -153,9 +153,6 @@ lead-not n b x l s = not-le-of-lt (span-lt n b (2 ^ n ⊕ x) s) (deg-lo (2 ^ n �
 swapped : (t a b : ℕ) → (t ⊕ a) ⊕ (t ⊕ b) ≡ b ⊕ a
 swapped t a b = simp xor
 
-lifted : (t a b : ℕ) → a ⊕ (t ⊕ b) ≡ t ⊕ (a ⊕ b)
-lifted t a b = simp xor
-
 refused : (n : ℕ) (b : Basis) (w : Word) → slots b ≤ n → Span n b (value n w) → T (sound (insert w b)) → ⊥
 unfolding slots Span insert sound value
 refused n failed w h s t = t
@@ -169,7 +166,7 @@ refused (suc n) (some v b) end h s t = t
 refused (suc n) (some v b) (O w) h (inl s) t = refused n b w (le-of-suc-le-suc h) s t
 refused (suc n) (some v b) (O w) h (inr s) t =
     lead-not n b (value n w ⊕ value n v) (⊕-lt n (value n w) (value n v) (value-lt n w) (value-lt n v))
-    (span-by n b _ _ s (lifted (2 ^ n) (value n w) (value n v)))
+    (span-by n b _ _ s (⊕-left-comm (value n w) (2 ^ n) (value n v)))
 refused (suc n) (some v b) (I w) h (inl s) t = lead-not n b (value n w) (value-lt n w) s
 refused (suc n) (some v b) (I w) h (inr s) t =
     refused n b (plus v w) (le-of-suc-le-suc h)
