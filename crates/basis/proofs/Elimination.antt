@@ -1,21 +1,21 @@
 -- Elimination keeps independence: with a 1 in column c of v, the rows v, r, s, .. are independent where r, s, .. are once v has cleared
 -- column c of each.
-use mathlib.Core.Path.{_≡_, sym, ap, _∙_}
+use mathlib.Core.Path.{_≡_, refl, sym, ap, ap₂, _∙_}
 use mathlib.Core.Logic.{_↔_, _⊎_, inl, inr}
-use mathlib.Core.List.{List, [], _∷_, map}
+use mathlib.Core.List.{List, [], _∷_, _++_, map}
 use Prim.Native.Nat.{ℕ, zero, suc, _+_, _-_, _*_, _/_, _%_, _^_, _<_}
-use native.Mathlib.Numerals.{add-one}
-use native.Mathlib.Nat.{add-zero, add-comm, mod-one, zero-mul, one-mul, mul-zero, zero-div, pow-suc, mod-eq-of-lt, div-one, div-div-eq-div-mul, pow-succ'}
+use native.Mathlib.Numerals.{add-one, one-add}
+use native.Mathlib.Nat.{add-zero, add-comm, zero-mod, mod-one, mod-lt, zero-mul, one-mul, mul-zero, zero-div, pow-suc, mod-eq-of-lt, div-one, div-div-eq-div-mul, pow-succ'}
 use native.Mathlib.Omega.{arith}
-use lib.ListN.{length, length-map}
-use lib.Pow.{pow-pos, pow-lt, pow-add, recompose, mod-pow-add}
-use lib.Bits.{bitAnd, and-mask, and-high, and-zero-r}
+use lib.ListN.{length, length-map, length-append}
+use lib.Pow.{pow-pos, pow-lt, pow-add, split, high, low, shr-lt, recompose, mod-pow-add}
+use lib.Bits.{bitAnd, and-mask, and-high, and-zero-r, block-half, block-odd}
 use lib.Count.{trailingZeros, under}
 use Rattle.gf2.specs.Polynomials.{_⊕_}
-use Rattle.gf2.proofs.Sums.{⊕-zero, ⊕-self, ⊕-shr, ⊕-eq, ⊕-swap}
-use Rattle.gf2.proofs.Products.{bit-cases, mod-2, low-⊕}
+use Rattle.gf2.proofs.Sums.{⊕-zero, ⊕-left-comm, ⊕-self, ⊕-shr, ⊕-eq, ⊕-swap}
+use Rattle.gf2.proofs.Products.{by-bit, bit-cases, mod-2, low-⊕}
 use Rattle.gf2.proofs.Linear.{Additive, at-bit}
-use Rattle.gf2.proofs.Degrees.{half-lt}
+use Rattle.gf2.proofs.Degrees.{half-lt, half-pow}
 use Rattle.gf2.proofs.Steps.{shifted-one}
 use Rattle.basis.specs.Rows.{sumOf, Independent, clear}
 use Rattle.basis.proofs.Sums.{sum-none, sum-map}
@@ -87,6 +87,74 @@ module _ (c v : ℕ) (rows : List ℕ) (one : v / 2 ^ c % 2 ≡ 1) where
 
   pub eliminate : Independent (v ∷ rows) ↔ Independent (map (clear c v) rows)
   eliminate = (there, back)
+
+-- ---- the last row may come first
+
+sum-last : (h v : ℕ) (rows : List ℕ) → sumOf h (rows ++ (v ∷ [])) ≡ h / 2 ^ length rows % 2 * v ⊕ sumOf h rows
+unfolding sumOf
+sum-last h v [] = ap (λ (x : ℕ). x % 2 * v ⊕ 0) (sym (div-one h))
+sum-last h v (r ∷ rows) =
+    ap (λ (x : ℕ). h % 2 * r ⊕ x) (sum-last (h / 2) v rows ∙ ap (λ (x : ℕ). x % 2 * v ⊕ sumOf (h / 2) rows) (sym (half-pow h (length rows))))
+    ∙ ⊕-left-comm (h % 2 * r) (h / 2 ^ suc (length rows) % 2 * v) (sumOf (h / 2) rows)
+
+-- the bits past the rows choose none
+sum-past : (a h : ℕ) (rows : List ℕ) → sumOf (a * 2 ^ length rows + h) rows ≡ sumOf h rows
+unfolding sumOf
+sum-past a h [] = refl
+sum-past a h (r ∷ rows) = rw (block-odd a (length rows) h, block-half a (length rows) h) (ap (λ (x : ℕ). h % 2 * r ⊕ x) (sum-past a (h / 2) rows))
+
+module _ (v : ℕ) (rows : List ℕ) where
+  length-last : length (rows ++ (v ∷ [])) ≡ suc (length rows)
+  length-last = length-append rows (v ∷ []) ∙ add-one (length rows)
+
+  -- the choice h of all rows with v last, and the choice b * 2 + a with v first
+  module _ (a b : ℕ) (bit : a < 2) (small : b < 2 ^ length rows) where
+    both : sumOf (a * 2 ^ length rows + b) (rows ++ (v ∷ [])) ≡ sumOf (b * 2 + a) (v ∷ rows)
+    unfolding sumOf
+    both =
+        sum-last (a * 2 ^ length rows + b) v rows
+        ∙ ap₂ (λ (x y : ℕ). x ⊕ y) (ap (λ (x : ℕ). x * v) (ap (λ (x : ℕ). x % 2) (high a (length rows) small) ∙ e₁)) (sum-past a b rows ∙ ap (λ (x : ℕ). sumOf x rows) e₂)
+      where
+        e₁ : a % 2 ≡ (b * 2 + a) % 2
+        e₁ = omega arith
+
+        e₂ : b ≡ (b * 2 + a) / 2
+        e₂ = omega arith
+
+  last-first : Independent (rows ++ (v ∷ [])) → Independent (v ∷ rows)
+  last-first i h l e = omega (arith, ap (λ (x : ℕ). x / 2 ^ length rows) none, high (h % 2) (length rows) half, zero-div (2 ^ length rows), ap (λ (x : ℕ). x % 2 ^ length rows) none, low (h % 2) (length rows) half, zero-mod (2 ^ length rows))
+    where
+      half : h / 2 < 2 ^ length rows
+      half = half-lt h (length rows) l
+
+      whole : h / 2 * 2 + h % 2 ≡ h
+      whole = omega arith
+
+      bound : h % 2 * 2 ^ length rows + h / 2 < 2 ^ length (rows ++ (v ∷ []))
+      bound = rw (length-last, pow-suc) (by-bit (λ (c : ℕ). c * 2 ^ length rows + h / 2 < 2 ^ length rows * 2) (omega (arith, half)) (omega (arith, half)) h)
+
+      none : h % 2 * 2 ^ length rows + h / 2 ≡ 0
+      none = i (h % 2 * 2 ^ length rows + h / 2) bound (both (h % 2) (h / 2) (mod-2 h) half ∙ rw whole e)
+
+  first-last : Independent (v ∷ rows) → Independent (rows ++ (v ∷ []))
+  first-last i h l e = sym (split h (length rows)) ∙ rw (a-is, b-is, zero-mul)
+    where
+      top : h / 2 ^ length rows < 2
+      top = shr-lt 1 (length rows) (rw (one-add, ← length-last) l)
+
+      none : h % 2 ^ length rows * 2 + h / 2 ^ length rows ≡ 0
+      none =
+          i (h % 2 ^ length rows * 2 + h / 2 ^ length rows) (rw pow-suc (omega (arith, top, mod-lt h (pow-pos (length rows)))))
+          (sym (both (h / 2 ^ length rows) (h % 2 ^ length rows) top (mod-lt h (pow-pos (length rows)))) ∙ rw split e)
+
+      a-is : h / 2 ^ length rows ≡ 0
+      a-is = omega (arith, none)
+
+      b-is : h % 2 ^ length rows ≡ 0
+      b-is = omega (arith, none)
+
+  pub rotate : Independent (rows ++ (v ∷ [])) ↔ Independent (v ∷ rows)
+  rotate = (last-first, first-last)
 
 -- ---- the step in code: a mask of ones where a bit is 1
 

@@ -17,7 +17,7 @@ use Rattle.gf2.proofs.Degrees.{deg-hi, deg-pos, deg-⊕}
 use Rattle.gf2.proofs.Linear.{at-bit}
 use Rattle.basis.specs.Rows.{sumOf, Independent, NoRelation, clear, addWhere}
 use Rattle.basis.proofs.Sums.{sum-additive, sum-take, sum-place}
-use Rattle.basis.proofs.Parts.{part-cons, put-part, turn}
+use Rattle.basis.proofs.Parts.{part-cons, put-part, turn-behind}
 
 -- ---- a list of sums that is changed one by one, from the front
 
@@ -203,7 +203,7 @@ module _ (rows : List ℕ) (k : ℕ) where
             reached = omega arith;
             work-length = same-len-mid (i + 1) (k + 1 - (i + 1)) work ys (ap length ey ∙ length-map (take (k + 1 - (i + 1)) (drop (i + 1) work)) (clear c (getD work i 0))) ∙ s .work-length;
             sums-length = same-len-mid (i + 1) (k + 1 - (i + 1)) sums zs (ap length ez ∙ length-added c (2 ^ i ⊕ getD sums i 0) (take (k + 1 - (i + 1)) (drop (i + 1) work)) (take (k + 1 - (i + 1)) (drop (i + 1) sums))) ∙ s .sums-length;
-            dependent = λ j. s .dependent (turn i (k + 1) c work ys i-lt rows-there one ey .1 j);
+            dependent = λ j. s .dependent (turn-behind i (k + 1) c work ys i-lt rows-there one ey .1 j);
             tied = tied-turn rows i (k + 1) work sums i-lt rows-there sums-there (s .tied) c ys zs ey ez;
           }
 

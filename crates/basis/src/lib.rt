@@ -58,19 +58,20 @@ fn lowest_one(v: u64) -> u32
     u64::trailing_zeros(v)
 }
 
-// Are the rows independent? By elimination in place: each row clears the column of its lowest 1 from the rows behind it.
+// Are the rows independent? By elimination in place: each row, from the last, clears the column of its lowest 1 from the rows before it.
+// From the last, since then every turn's part of the buffer begins at the same place.
 pub fn independent(rows: &mut [u64]) -> bool
     ensures { λ r. ⌜ (r ≡ true) ↔ Independent (now (rows .entry)) ⌝ }
 {
-    let n = rows.len();
-    for i in 0..n {
-        let v = rows[i];
+    let mut n = rows.len();
+    while 0 < n {
+        n -= 1;
+        let v = rows[n];
         if v == 0 {
             return false;
         }
         let c = lowest_one(v);
-        let next = i + 1;
-        clear_column(&mut rows[next..n], v, c);
+        clear_column(&mut rows[..n], v, c);
     }
     true
 }
