@@ -3,14 +3,15 @@ use mathlib.Core.Path.{_≡_, refl, sym, _∙_}
 use mathlib.Core.Logic.{_↔_}
 use mathlib.Core.Bool.{Bool, true, false, _&&_, _||_, not, true≢false, false≢true}
 use Prim.Native.Nat.{ℕ, zero, suc, _^_, _≤_, _<_}
-use native.Mathlib.Nat.{le-refl, le-trans, zero-lt-suc, not-suc-le-zero, lt-of-le-of-lt, lt-of-lt-of-le, le-of-suc-le-suc}
+use native.Mathlib.Nat.{le-refl, le-trans, zero-lt-suc, not-suc-le-zero, lt-of-lt-of-le, le-of-suc-le-suc}
 use native.Mathlib.Decide.{ℕ-discrete}
 use native.Mathlib.Omega.{arith}
 use lib.Dec.{leb, ltb, eqb}
 use lib.Pow.{pow-mono}
 use borrow.Author.Tests.{leb-true, eqb-true, le-leb, eq-eqb, not-true, le-ltb, ltb-false}
 use Rattle.gf2.specs.Polynomials.{halvings, degree, rem, Divides, Irreducible}
-use Rattle.gf2.proofs.Degrees.{degree-is, deg-lo, deg-hi, deg-le, lt-of-pow-lt}
+use Rattle.gf2.proofs.Degrees.{degree-is, degree-from, deg-lo, deg-hi, deg-le}
+use Rattle.gf2.proofs.Monics.{word-degree}
 use Rattle.gf2.proofs.Residues.{rem-of-dvd, dvd-of-rem-zero}
 use Rattle.gf2.proofs.Irreducibles.{irreducible, no-divisor}
 use Rattle.acceptance.specs.Keys.{anyBelow, reducible, accepted}
@@ -98,14 +99,16 @@ accepted-words p = (there, back)
         none : (d : ℕ) → 1 < d → d < 2 ^ degree p → Divides d p → ⊥
         none d two lt =
             let is = degree-is d (omega arith) in
-            h .2 d (le-of-suc-le-suc (lt-of-pow-lt 1 (suc (degree d)) (lt-of-le-of-lt two (deg-hi d (degree d) is)))) (deg-le d (degree d) (degree p) is lt)
+            h .2 d (degree-from 1 d two) (deg-le d (degree d) (degree p) is lt)
 
 pub accepted-pos : (p : ℕ) → accepted p ≡ true → 0 < p
 accepted-pos p e = omega (arith, accepted-iff p .0 e .2 .proper)
 
+-- it fits 64 bits
 pub accepted-small : (p : ℕ) → accepted p ≡ true → p < 2 ^ 64
 accepted-small p e =
-    lt-of-lt-of-le (deg-hi p (degree p) (degree-is p (accepted-pos p e))) (pow-mono {i = suc (degree p)} {j = 64} (omega (arith, accepted-iff p .0 e .1)))
+    lt-of-lt-of-le (deg-hi p (degree p) (degree-is p (accepted-pos p e)))
+    (pow-mono {i = suc (degree p)} {j = 64} (omega (arith, accepted-iff p .0 e .1)))
 
 -- of a key handed in, a number below 2^64: neither 1 nor 2 applies where it is accepted, and only there
 pub key-iff : (key : ℕ) → key < 2 ^ 64 → (accepted key ≡ true) ↔ ((ltb key 256 ≡ false) × (reducible key ≡ false))
@@ -119,6 +122,5 @@ key-iff key lt = (there, back)
     back : (ltb key 256 ≡ false) × (reducible key ≡ false) → accepted key ≡ true
     back h =
         let l = ltb-false key 256 (h .0) in
-        let is = degree-is key (omega arith) in
-        let lo = lt-of-pow-lt 8 (suc (degree key)) (lt-of-le-of-lt l (deg-hi key (degree key) is)) in
-        accepted-iff key .1 (le-of-suc-le-suc lo, le-of-suc-le-suc (deg-le key (degree key) 64 is lt), irreducible-of key (omega (arith, lo)) (h .1))
+        let from = degree-from 8 key l in
+        accepted-iff key .1 (from, le-of-suc-le-suc (word-degree key (omega arith) lt), irreducible-of key (omega (arith, from)) (h .1))

@@ -5,29 +5,25 @@ use mathlib.Core.Logic.{_↔_, _⊎_, inl, inr}
 use mathlib.Core.List.{List, [], _∷_, _++_, map}
 use Prim.Native.Nat.{ℕ, zero, suc, _+_, _-_, _*_, _/_, _%_, _^_, _<_}
 use native.Mathlib.Numerals.{add-one, one-add}
-use native.Mathlib.Nat.{add-zero, add-comm, zero-mod, mod-one, zero-mul, one-mul, mul-zero, zero-div, pow-suc, mod-lt, mod-eq-of-lt, le-suc, div-lt-iff-lt-mul, div-one, div-div-eq-div-mul, pow-succ'}
+use native.Mathlib.Nat.{add-zero, add-comm, zero-mod, mod-one, mod-lt, zero-mul, one-mul, mul-zero, zero-div, pow-suc, mod-eq-of-lt, div-one, div-div-eq-div-mul, pow-succ'}
 use native.Mathlib.Omega.{arith}
 use lib.ListN.{length, length-map, length-append}
 use lib.Pow.{pow-pos, pow-lt, pow-add, split, high, low, shr-lt, recompose, mod-pow-add}
 use lib.Bits.{bitAnd, and-mask, and-high, and-zero-r, block-half, block-odd}
 use lib.Count.{trailingZeros, under}
-use Rattle.gf2.specs.Polynomials.{_⊕_, _⊗_}
-use Rattle.gf2.proofs.Sums.{⊕-zero, ⊕-left-comm, ⊕-self, ⊕-shr, ⊕-eq, ⊕-move, ⊕-swap, ⊕-half, ⊕-dbl, xor}
-use Rattle.gf2.proofs.Products.{by-bit, bit-cases, mod-2, ⊗-step, ⊕-⊗}
-use Rattle.gf2.proofs.Degrees.{half-pow}
+use Rattle.gf2.specs.Polynomials.{_⊕_}
+use Rattle.gf2.proofs.Sums.{⊕-zero, ⊕-left-comm, ⊕-self, ⊕-shr, ⊕-eq, ⊕-swap}
+use Rattle.gf2.proofs.Products.{by-bit, bit-cases, mod-2, low-⊕}
+use Rattle.gf2.proofs.Linear.{Additive, at-bit}
+use Rattle.gf2.proofs.Degrees.{half-lt, half-pow}
 use Rattle.gf2.proofs.Steps.{shifted-one}
 use Rattle.basis.specs.Rows.{sumOf, Independent, clear}
+use Rattle.basis.proofs.Sums.{sum-none, sum-map}
 
--- ---- the bit in column c, and clearing, are linear
+-- ---- clearing is linear
 
 bit-zero : (c : ℕ) → 0 / 2 ^ c % 2 ≡ 0
 bit-zero c = ap (λ (x : ℕ). x % 2) (zero-div (2 ^ c))
-
-pub low-⊕ : (a b c : ℕ) → (a ⊕ b) % 2 * c ≡ a % 2 * c ⊕ b % 2 * c
-low-⊕ a b c = rw (low-is (a ⊕ b) c, low-is a c, low-is b c) (simp (⊕-half, ⊕-⊗, ⊕-dbl, xor))
-  where
-    low-is : (x y : ℕ) → x % 2 * y ≡ x / 2 ⊗ y * 2 ⊕ x ⊗ y
-    low-is x y = ⊕-move (x / 2 ⊗ y * 2) (x % 2 * y) (x ⊗ y) (sym (⊗-step x y))
 
 clear-⊕ : (c v a b : ℕ) → clear c v (a ⊕ b) ≡ clear c v a ⊕ clear c v b
 unfolding clear
@@ -36,23 +32,8 @@ clear-⊕ c v a b =
     ∙ ap (λ (x : ℕ). x ⊕ (a ⊕ b)) (low-⊕ (a / 2 ^ c) (b / 2 ^ c) v)
     ∙ ⊕-swap (a / 2 ^ c % 2 * v) (b / 2 ^ c % 2 * v) a b
 
-clear-zero : (c v : ℕ) → clear c v 0 ≡ 0
-unfolding clear
-clear-zero c v = rw (bit-zero c, zero-mul) (⊕-zero 0)
-
-clear-bit : (c v h r : ℕ) → clear c v (h % 2 * r) ≡ h % 2 * clear c v r
-clear-bit c v h r = by-bit (λ (x : ℕ). clear c v (x * r) ≡ x * clear c v r) (rw (zero-mul, zero-mul) (clear-zero c v)) (rw (one-mul, one-mul)) h
-
-sum-cleared : (c v h : ℕ) (rows : List ℕ) → sumOf h (map (clear c v) rows) ≡ clear c v (sumOf h rows)
-unfolding sumOf
-sum-cleared c v h [] = sym (clear-zero c v)
-sum-cleared c v h (r ∷ rows) =
-    ap₂ (λ (x y : ℕ). x ⊕ y) (sym (clear-bit c v h r)) (sum-cleared c v (h / 2) rows) ∙ sym (clear-⊕ c v (h % 2 * r) (sumOf (h / 2) rows))
-
-sum-none : (rows : List ℕ) → sumOf 0 rows ≡ 0
-unfolding sumOf
-sum-none [] = refl
-sum-none (r ∷ rows) = rw (sum-none rows, zero-mul) (⊕-zero 0)
+clearing : (c v : ℕ) → Additive (clear c v)
+clearing c v = record { sum = clear-⊕ c v }
 
 -- ---- one step
 
@@ -71,7 +52,7 @@ module _ (c v : ℕ) (rows : List ℕ) (one : v / 2 ^ c % 2 ≡ 1) where
 
   there : Independent (v ∷ rows) → Independent (map (clear c v) rows)
   unfolding sumOf clear
-  there i h l e = omega (arith, i (h * 2 + α) bound (rw (half, low) (sym (sum-cleared c v h rows) ∙ e)))
+  there i h l e = omega (arith, i (h * 2 + α) bound (rw (half, low) (sym (sum-map (clearing c v) h rows) ∙ e)))
     where
       α : ℕ
       α = sumOf h rows / 2 ^ c % 2
@@ -94,8 +75,8 @@ module _ (c v : ℕ) (rows : List ℕ) (one : v / 2 ^ c % 2 ≡ 1) where
 
       upper : h / 2 ≡ 0
       upper =
-          i (h / 2) (rw (length-map rows (clear c v)) (div-lt-iff-lt-mul (le-suc 1) .1 (rw pow-suc at l)))
-          (sum-cleared c v (h / 2) rows ∙ ap (clear c v) rest ∙ clear-bit c v h v ∙ rw cleared-itself (mul-zero (h % 2)))
+          i (h / 2) (rw (length-map rows (clear c v)) (half-lt h (length rows) l))
+          (sum-map (clearing c v) (h / 2) rows ∙ ap (clear c v) rest ∙ at-bit (clearing c v) h v ∙ rw cleared-itself (mul-zero (h % 2)))
 
       go : (h % 2 ≡ 0) ⊎ (h % 2 ≡ 1) → h ≡ 0
       go (inl z) = omega (arith, upper)
@@ -144,7 +125,7 @@ module _ (v : ℕ) (rows : List ℕ) where
   last-first i h l e = omega (arith, ap (λ (x : ℕ). x / 2 ^ length rows) none, high (h % 2) (length rows) half, zero-div (2 ^ length rows), ap (λ (x : ℕ). x % 2 ^ length rows) none, low (h % 2) (length rows) half, zero-mod (2 ^ length rows))
     where
       half : h / 2 < 2 ^ length rows
-      half = div-lt-iff-lt-mul (le-suc 1) .1 (rw pow-suc at l)
+      half = half-lt h (length rows) l
 
       whole : h / 2 * 2 + h % 2 ≡ h
       whole = omega arith
@@ -175,15 +156,15 @@ module _ (v : ℕ) (rows : List ℕ) where
   pub rotate : Independent (rows ++ (v ∷ [])) ↔ Independent (v ∷ rows)
   rotate = (last-first, first-last)
 
--- ---- the step in code: a mask of ones where column c holds a 1
+-- ---- the step in code: a mask of ones where a bit is 1
 
-pub masked : (c v x mask : ℕ) → v < 2 ^ 64 → mask < 2 ^ 64 → (mask + bitAnd (x / 2 ^ c) 1) % 2 ^ 64 ≡ 0 → bitAnd v mask ≡ x / 2 ^ c % 2 * v
-masked c v x mask lv lm e = go (bit-cases (x / 2 ^ c % 2) (mod-2 (x / 2 ^ c)))
+pub masked : (v x mask : ℕ) → v < 2 ^ 64 → mask < 2 ^ 64 → (mask + bitAnd x 1) % 2 ^ 64 ≡ 0 → bitAnd v mask ≡ x % 2 * v
+masked v x mask lv lm e = go (bit-cases (x % 2) (mod-2 x))
   where
-    bit : bitAnd (x / 2 ^ c) 1 ≡ x / 2 ^ c % 2
-    bit = and-mask (x / 2 ^ c) 1
+    bit : bitAnd x 1 ≡ x % 2
+    bit = and-mask x 1
 
-    go : (x / 2 ^ c % 2 ≡ 0) ⊎ (x / 2 ^ c % 2 ≡ 1) → bitAnd v mask ≡ x / 2 ^ c % 2 * v
+    go : (x % 2 ≡ 0) ⊎ (x % 2 ≡ 1) → bitAnd v mask ≡ x % 2 * v
     go (inl z) =
         let m : mask ≡ 0 = omega (arith, bit, mod-eq-of-lt lm) in
         rw (z, m, zero-mul) (and-zero-r v)
@@ -191,7 +172,7 @@ masked c v x mask lv lm e = go (bit-cases (x / 2 ^ c % 2) (mod-2 (x / 2 ^ c)))
         let m : mask ≡ 2 ^ 64 - 1 = omega (arith, bit, e) in
         rw (o, m, one-mul) (and-mask v 64 ∙ mod-eq-of-lt lv)
 
--- where v has no 1 below column c, the bit in column c taken from 0 will do
+-- by the bit in column c of x: where v has no 1 below column c, that bit taken from 0 will do
 pub masked-from : (c v x mask : ℕ) → c < 64 → v < 2 ^ 64 → v % 2 ^ c ≡ 0 → mask < 2 ^ 64 → (mask + bitAnd x (1 * 2 ^ c % 2 ^ 64)) % 2 ^ 64 ≡ 0
     → bitAnd v mask ≡ x / 2 ^ c % 2 * v
 masked-from c v x mask lc lv z lm e = go (bit-cases (x / 2 ^ c % 2) (mod-2 (x / 2 ^ c)))
@@ -221,7 +202,7 @@ masked-from c v x mask lc lv z lm e = go (bit-cases (x / 2 ^ c % 2) (mod-2 (x / 
 pub lowest-one : (k n : ℕ) → 0 < n → n < 2 ^ k → (trailingZeros k n < k) × (n % 2 ^ trailingZeros k n ≡ 0) × (n / 2 ^ trailingZeros k n % 2 ≡ 1)
 unfolding trailingZeros
 lowest-one zero n p l = absurd (omega arith)
-lowest-one (suc k) n p l = go (bit-cases (n % 2) (mod-2 n)) (λ q. lowest-one k (n / 2) q (div-lt-iff-lt-mul (le-suc 1) .1 (rw pow-suc at l)))
+lowest-one (suc k) n p l = go (bit-cases (n % 2) (mod-2 n)) (λ q. lowest-one k (n / 2) q (half-lt n k l))
   where
     more : (t : ℕ) → n / 2 % 2 ^ t ≡ 0 → n % 2 ≡ 0 → n % 2 ^ suc t ≡ 0
     more t e z = ap (λ (m : ℕ). n % 2 ^ m) (sym (add-one t)) ∙ mod-pow-add n t 1 ∙ rw (e, z)

@@ -1,5 +1,6 @@
+pub mod Sums
 pub mod Elimination
 pub mod Mapping
 pub mod Parts
-pub mod Echelon
-pub mod Insertion
+pub mod Matrices
+pub mod Relations

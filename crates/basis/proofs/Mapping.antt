@@ -1,16 +1,12 @@
 -- A buffer whose rows are replaced one by one, from the front, each by its value under f.
-use mathlib.Core.Path.{_≡_, refl, sym, ap, _∙_}
-use mathlib.Core.List.{List, [], _∷_, _++_, map, append-nil}
-use Prim.Native.Nat.{ℕ, zero, suc, _+_, _≤_, _<_}
+use mathlib.Core.Path.{_≡_, refl, ap}
+use mathlib.Core.List.{List, [], _∷_, _++_, map}
+use Prim.Native.Nat.{ℕ, zero, suc, _+_, _<_}
 use native.Mathlib.Numerals.{add-one}
 use native.Mathlib.Nat.{le-of-suc-le-suc, not-suc-le-zero}
-use native.Mathlib.Omega.{arith}
 use lib.ListN.{length, take, drop, getD, set}
 
 module _ (f : ℕ → ℕ) where
-  abbrev mapped : ℕ → List ℕ → List ℕ
-  mapped j rows = map f (take j rows) ++ drop j rows
-
   pub length-mapped : (j : ℕ) (rows : List ℕ) → length (map f (take j rows) ++ drop j rows) ≡ length rows
   length-mapped zero rows = refl
   length-mapped (suc j) [] = refl

@@ -14,6 +14,20 @@ sumOf h (r ∷ rows) = h % 2 * r ⊕ sumOf (h / 2) rows
 abbrev pub Independent : List ℕ → Type 0
 Independent rows = (h : ℕ) → h < 2 ^ length rows → sumOf h rows ≡ 0 → h ≡ 0
 
+-- no choice among the first n rows sums to 0 but that of none
+abbrev pub NoRelation : ℕ → List ℕ → Type 0
+NoRelation n rows = (x : ℕ) → x < 2 ^ n → sumOf x rows ≡ 0 → x ≡ 0
+
+-- a linear map by its rows: the value at x is the sum of the rows that the bits of x choose
+abbrev pub Matrix : (ℕ → ℕ) → List ℕ → Type 0
+Matrix L rows = (x : ℕ) → x < 2 ^ 64 → sumOf x rows ≡ L x
+
 -- a step of elimination: v is added to a row with a 1 in column c
 unfoldable pub clear : ℕ → ℕ → ℕ → ℕ
 clear c v r = r / 2 ^ c % 2 * v ⊕ r
+
+-- the same beside the rows: w is added to the sum of each row with a 1 in column c
+unfoldable pub addWhere : ℕ → ℕ → List ℕ → List ℕ → List ℕ
+addWhere c w [] sums = sums
+addWhere c w (r ∷ rows) [] = []
+addWhere c w (r ∷ rows) (s ∷ sums) = (r / 2 ^ c % 2 * w ⊕ s) ∷ addWhere c w rows sums

@@ -1,21 +1,36 @@
-// Linear algebra over the field of two elements, on rows of 64 bits: bit i is the entry in column i.
+// Linear algebra over the field of two elements, on rows of 64 bits: bit i is the entry in column i. These functions are for the project's
+// own crates: what they require, every caller proves.
 ghost use mathlib.Core.Path.{_≡_};
 ghost use mathlib.Core.Bool.{true};
 ghost use mathlib.Core.Logic.{_↔_};
 ghost use mathlib.Core.List.{map};
-ghost use Prim.Native.Nat.{_*_, _/_, _%_, _^_, _≤_, _<_};
-ghost use Rattle.basis.specs.Rows.{Independent, clear};
-ghost use Rattle.basis.specs.Echelon.{emptyBasis, reduceBy, insertInto};
+ghost use Prim.Native.Nat.{_+_, _*_, _/_, _%_, _^_, _≤_, _<_};
+ghost use lib.ListN.{length};
+ghost use Rattle.gf2.specs.Polynomials.{Degree};
+ghost use Rattle.basis.specs.Rows.{sumOf, Independent, NoRelation, clear, addWhere};
 
-// v where column c of x holds a 1, 0 where it holds a 0. No branch: the rows are data.
-fn chosen(x: u64, c: u32, v: u64) -> u64
-    requires { ⌜ c < 64 ⌝ }
-    ensures { λ r. ⌜ r ≡ x / 2 ^ c % 2 * v ⌝ }
+// v where the lowest bit of x is 1, 0 where it is 0. No branch: the bits are data.
+fn chosen(x: u64, v: u64) -> u64
+    ensures { λ r. ⌜ r ≡ x % 2 * v ⌝ }
 {
-    v & std::num::wrapping_sub_u64(0, (x >> c) & 1)
+    v & std::num::wrapping_sub_u64(0, x & 1)
 }
 
-// The same for a v with no 1 below column c: less work, since the bit in column c, taken from 0, is mask enough for such a v.
+// The sum of the rows that the bits of x choose.
+pub fn sum_of(x: u64, rows: &[u64]) -> u64
+    ensures { λ r. ⌜ r ≡ sumOf x (now (rows .entry)) ⌝ }
+{
+    let mut sum: u64 = 0;
+    let mut bits = x;
+    for j in 0..rows.len() {
+        sum = sum ^ chosen(bits, rows[j]);
+        bits = bits / 2;
+    }
+    sum
+}
+
+// v where column c of x holds a 1, for a v with no 1 below column c: the bit in column c, taken from 0, is mask enough for such a v, which
+// is less work than `chosen` by a shifted x.
 fn chosen_from(x: u64, c: u32, v: u64) -> u64
     requires { ⌜ (c < 64) × (v % 2 ^ c ≡ 0) ⌝ }
     ensures { λ r. ⌜ r ≡ x / 2 ^ c % 2 * v ⌝ }
@@ -29,9 +44,9 @@ fn clear_column(rows: &mut [u64], v: u64, c: u32)
     requires { ⌜ (c < 64) × (v % 2 ^ c ≡ 0) ⌝ }
     ensures { λ r. ⌜ now (rows .exit) ≡ map (clear c v) (now (rows .entry)) ⌝ }
 {
-    for j in 0..rows.len() {
-        let r = rows[j];
-        rows[j] = chosen_from(r, c, v) ^ r;
+    for i in 0..rows.len() {
+        let r = rows[i];
+        rows[i] = chosen_from(r, c, v) ^ r;
     }
 }
 
@@ -44,6 +59,7 @@ fn lowest_one(v: u64) -> u32
 }
 
 // Are the rows independent? By elimination in place: each row, from the last, clears the column of its lowest 1 from the rows before it.
+// From the last, since then every turn's part of the buffer begins at the same place.
 pub fn independent(rows: &mut [u64]) -> bool
     ensures { λ r. ⌜ (r ≡ true) ↔ Independent (now (rows .entry)) ⌝ }
 {
@@ -60,57 +76,40 @@ pub fn independent(rows: &mut [u64]) -> bool
     true
 }
 
-// Rows in echelon form, one for each leading column, 0 where there is none: and of each, which of the rows that were inserted it is
-// the sum of.
-pub struct Basis {
-    pub rows: [u64; 64],
-    pub combinations: [u64; 64],
+// Clears column c of every row by v, and adds w to the sums that belong to the rows that change.
+fn clear_with_sums(rows: &mut [u64], sums: &mut [u64], v: u64, w: u64, c: u32)
+    requires { ⌜ (c < 64) × (length (now rows) ≡ length (now sums)) ⌝ }
+    ensures { λ r. ⌜
+        (now (rows .exit) ≡ map (clear c v) (now (rows .entry)))
+        × (now (sums .exit) ≡ addWhere c w (now (rows .entry)) (now (sums .entry)))
+        ⌝ }
+{
+    for j in 0..rows.len() {
+        let r = rows[j];
+        let bits = r >> c;
+        rows[j] = chosen(bits, v) ^ r;
+        sums[j] = chosen(bits, w) ^ sums[j];
+    }
 }
 
-// What a basis leaves of a row, and which rows that is the sum of.
-pub struct Reduced {
-    pub row: u64,
-    pub combination: u64,
-}
-
-impl Basis {
-    pub fn new() -> Basis
-        ensures { λ r. ⌜ r ≡ emptyBasis ⌝ }
-    {
-        Basis {
-            rows: [0; 64],
-            combinations: [0; 64],
-        }
+// The relation among the first k + 1 rows, of which the first k are independent: by elimination. Beside each row stands which of the
+// rows before it were added to it, as bits.
+pub fn relation(rows: [u64; 64], k: u32) -> u64
+    requires { ⌜ (k < 64) × NoRelation k rows × (NoRelation (k + 1) rows → ⊥) ⌝ }
+    ensures { λ r. ⌜ Degree r k × (sumOf r rows ≡ 0) ⌝ }
+{
+    let mut work = rows;
+    let mut sums: [u64; 64] = [0; 64];
+    let last = k as usize;
+    let n = last + 1;
+    for i in 0..last {
+        let v = work[i];
+        let c = lowest_one(v);
+        let place: u64 = 1 << i;
+        let w = place ^ sums[i];
+        let next = i + 1;
+        clear_with_sums(&mut work[next..n], &mut sums[next..n], v, w, c);
     }
-
-    // The row, less each row of the basis that leads in a column where it holds a 1, from the highest column down.
-    pub fn reduce(self, row: u64, combination: u64) -> Reduced
-        ensures { λ r. ⌜ r ≡ reduceBy self 64 row combination ⌝ }
-    {
-        let mut x = row;
-        let mut sum = combination;
-        let mut n: u32 = 64;
-        while 0 < n {
-            n -= 1;
-            let i = n as usize;
-            sum = chosen(x, n, self.combinations[i]) ^ sum;
-            x = chosen(x, n, self.rows[i]) ^ x;
-        }
-        Reduced {
-            row: x,
-            combination: sum,
-        }
-    }
-
-    // With what is left of a row, in its leading column.
-    pub fn insert(self, left: Reduced) -> Basis
-        requires { ⌜ 0 < left .row ⌝ }
-        ensures { λ r. ⌜ r ≡ insertInto self left ⌝ }
-    {
-        let mut basis = self;
-        let i = gf2::degree(left.row) as usize;
-        basis.rows[i] = left.row;
-        basis.combinations[i] = left.combination;
-        basis
-    }
+    let place: u64 = 1 << last;
+    place ^ sums[last]
 }

@@ -6,6 +6,7 @@ use Prim.Native.Nat.{ℕ}
 use native.Mathlib.Omega.{arith}
 use lib.ListN.{length}
 use Rattle.gf2.specs.Polynomials.{_⊕_, halvings, degree, reduce, longDivision, rem}
+use Rattle.gf2.specs.Lists.{listFrom}
 use Rattle.refusals.specs.declared.Refusal.the-variants.{TableSize, TableWord, TooLong}
 use Rattle.refusals.specs.Refusals.{Done, Refused, longest}
 use Rattle.acceptance.specs.Keys.{anyBelow, reducible, accepted}
@@ -14,7 +15,7 @@ use Rattle.files.specs.Files.{lowBits, bits, valueFrom, value, fingerprint, mar
 use Rattle.keys.proofs.Laws.{accepted-passed, first-passed}
 use Rattle.marks.specs.Feeding.{sumTest}
 use Rattle.marks.proofs.Laws.{empty-mark}
-use Rattle.tables.specs.Tables.{word, differs, tableFrom, houseKey}
+use Rattle.tables.specs.Tables.{word, differs, houseKey}
 use Rattle.house.proofs.House.{house-accepted}
 use Rattle.book.specs.Runs.{bookStep, run, Honest}
 use Rattle.book.specs.Confusions.{Confuses}
@@ -31,10 +32,10 @@ accepted-11B = refl
 
 -- the key's table, and 1,024 zero words
 right : List ℕ
-right = tableFrom (word 8 0x11B) 0 1024
+right = listFrom (word 8 0x11B) 0 1024
 
 wrong : List ℕ
-wrong = tableFrom (λ n. 0) 0 1024
+wrong = listFrom (λ n. 0) 0 1024
 
 pub calls : List Call
 calls = ByBits (0x41 ∷ []) ∷ ByTable [] (0x00 ∷ []) ∷ ByTable wrong (0x00 ∷ []) ∷ ByTable right (0x42 ∷ []) ∷ []
@@ -47,7 +48,7 @@ unfolding bookStep bookTests accepted reducible anyBelow rem longDivision reduce
 no-words = refl
 
 wrong-words : bookStep bench 0x11B (0x41 ∷ []) (ByTable wrong (0x00 ∷ [])) ≡ Refused TableWord (0x41 ∷ [])
-unfolding wrong bookStep bookTests accepted reducible anyBelow rem longDivision reduce degree halvings _⊕_ tableFrom differs word
+unfolding wrong bookStep bookTests accepted reducible anyBelow rem longDivision reduce degree halvings _⊕_ listFrom differs word
 wrong-words = refl
 
 right-words : bookStep bench 0x11B (0x41 ∷ []) (ByTable right (0x42 ∷ [])) ≡ Done (0x41 ∷ 0x42 ∷ [])

@@ -5,6 +5,8 @@ use mathlib.Core.List.{List, [], _∷_, _++_, append-assoc, append-nil}
 use Prim.Native.Nat.{ℕ, _+_, _≤_}
 use native.Mathlib.Omega.{arith}
 use lib.ListN.{length, length-append}
+use Rattle.gf2.specs.Lists.{listFrom}
+use Rattle.gf2.proofs.Lists.{length-list}
 use Rattle.refusals.specs.Refusals.{Done, stateOf, firstOf, longest}
 use Rattle.acceptance.specs.Keys.{accepted}
 use Rattle.files.specs.declared.Mark.{Mark}
@@ -12,8 +14,8 @@ use Rattle.files.specs.Files.{markOf}
 use Rattle.keys.proofs.Laws.{accepted-passed, first-passed}
 use Rattle.marks.specs.Feeding.{sumTest}
 use Rattle.marks.proofs.Laws.{sum-fits}
-use Rattle.tables.specs.Tables.{word, tableFrom, tableTests}
-use Rattle.tables.proofs.Rule.{length-table, table-follows}
+use Rattle.tables.specs.Tables.{word, tableTests}
+use Rattle.tables.proofs.Rule.{table-follows}
 use Rattle.tables.proofs.Calls.{table-passed}
 use Rattle.book.specs.Runs.{bookStep, run, Honest}
 use Rattle.book.proofs.RunLaws.{run-next}
@@ -34,7 +36,7 @@ module _ (key : ℕ) (a : accepted key ≡ true) where
   taken file (ByTable words part) u l =
       first-passed key (tableTests key words ++ sumTest (length file) (length part) ∷ []) file (file ++ part) (accepted-passed key a)
       ∙ ap (λ (ws : List ℕ). firstOf (tableTests key ws ++ sumTest (length file) (length part) ∷ []) file (file ++ part)) u
-      ∙ table-passed key (tableFrom (word 8 key) 0 1024) (sumTest (length file) (length part) ∷ []) file (file ++ part) (length-table (word 8 key) 0 1024) (table-follows (word 8 key) 0 1024)
+      ∙ table-passed key (listFrom (word 8 key) 0 1024) (sumTest (length file) (length part) ∷ []) file (file ++ part) (length-list (word 8 key) 0 1024) (table-follows (word 8 key) 0 1024)
       ∙ sum-passes file part l
   taken file (ByHouse part) u l = sum-passes file part l
 

@@ -4,11 +4,12 @@ use mathlib.Core.Bool.{true}
 use mathlib.Core.List.{List, [], _∷_, _++_}
 use Prim.Native.Nat.{ℕ, _+_, _≤_}
 use lib.ListN.{length}
+use Rattle.gf2.specs.Lists.{listFrom}
 use Rattle.refusals.specs.Refusals.{longest}
 use Rattle.acceptance.specs.Keys.{accepted}
 use Rattle.files.specs.declared.Mark.{Mark}
 use Rattle.files.specs.Files.{markOf, True}
-use Rattle.tables.specs.Tables.{word, tableFrom, houseKey}
+use Rattle.tables.specs.Tables.{word, houseKey}
 use Rattle.book.specs.Runs.{run}
 use Rattle.bench.specs.Book.{Call, ByBits, ByTable, ByHouse, step}
 
@@ -20,7 +21,7 @@ partOf (ByHouse part) = part
 -- the lent words are the key's table; the house table is the house key's
 abbrev pub Usable : ℕ → Call → Type 0
 Usable key (ByBits part) = Unit {0}
-Usable key (ByTable words part) = words ≡ tableFrom (word 8 key) 0 1024
+Usable key (ByTable words part) = words ≡ listFrom (word 8 key) 0 1024
 Usable key (ByHouse part) = key ≡ houseKey
 
 abbrev pub AllUsable : ℕ → List Call → Type 0

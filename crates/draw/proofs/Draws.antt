@@ -2,7 +2,7 @@
 -- polynomial of degree k over GF(2). That one is irreducible, and its roots are the k conjugates of e.
 use mathlib.Core.Path.{_≡_, sym, ap, _∙_}
 use mathlib.Core.Logic.{_≢_, _⊎_, inl, inr, ⊎-elim}
-use Prim.Native.Nat.{ℕ, zero, suc, _+_, _^_, _≤_, _<_}
+use Prim.Native.Nat.{ℕ, zero, suc, _+_, _^_, _<_}
 use native.Mathlib.Nat.{lt-trans, two-pow-succ, le-of-suc-le-suc, not-suc-le-zero, lt-of-lt-of-le, div-self}
 use native.Mathlib.Decide.{decLt}
 use native.Mathlib.Omega.{arith}
@@ -108,14 +108,6 @@ module _ (f k : ℕ) (h : Field f k) where
 
     pub drawn-draws : Draws f k e (drawn f k e)
     drawn-draws = rw (drawn-is (draw .0) (draw .1)) (draw .1)
-
-    -- elimination ends here: any polynomial up to degree k with the root e, but 0, is the key
-    pub draws-by-root : (p : ℕ) → 0 < p → p < 2 ^ suc k → at f p e ≡ 0 → Draws f k e p
-    draws-by-root p n l z = record { of-degree = deg-intro p k (go (decLt p (2 ^ k))) l; root = z }
-      where
-        go : Dec (p < 2 ^ k) → 2 ^ k ≤ p
-        go (yes s) = absurd (omega (arith, no-smaller p s z))
-        go (no m) = omega arith
 
     -- ---- it is irreducible
 

@@ -1,7 +1,7 @@
--- Values of polynomials at e, modulo a polynomial as the code holds it: the powers of e, and the relation among them that e draws.
+-- Multiplication by a modulo f, and values of polynomials at e: both are linear. The powers of e, and the relation among them that e draws.
 use mathlib.Core.Path.{_≡_, sym, ap, _∙_}
 use mathlib.Core.List.{List}
-use Prim.Native.Nat.{ℕ, suc, _+_, _^_, _≤_, _<_}
+use Prim.Native.Nat.{ℕ, suc, _+_, _*_, _^_, _≤_, _<_}
 use native.Mathlib.Nat.{pow-suc, lt-of-lt-of-le}
 use native.Mathlib.Numerals.{add-one}
 use native.Mathlib.Omega.{arith}
@@ -9,17 +9,36 @@ use lib.Pow.{pow-mono}
 use Rattle.gf2.specs.Polynomials.{_⊕_, _⊗_, Degree, rem, monic, Modulus}
 use Rattle.gf2.proofs.Degrees.{deg-hi, deg-pos}
 use Rattle.gf2.proofs.Monics.{monic-pos, monic-degree}
-use Rattle.gf2.proofs.Steps.{residue-word}
-use Rattle.basis.specs.Rows.{sumOf}
+use Rattle.gf2.proofs.Products.{⊕-⊗, ⊗-comm, ⊗-pow}
+use Rattle.gf2.proofs.Linear.{Additive}
+use Rattle.gf2.proofs.Residues.{rem-⊕}
+use Rattle.gf2.proofs.Steps.{residue-word, shift-next}
+use Rattle.basis.specs.Rows.{sumOf, NoRelation, Matrix}
 use Rattle.fields.specs.Fields.{compose, at, Field}
 use Rattle.fields.proofs.Values.{mulmod, at-⊕, at-one, at-dbl}
 use Rattle.draw.specs.Drawing.{Draws, drawn}
-use Rattle.draw.specs.Matrices.{Matrix, NoRelation}
 use Rattle.draw.proofs.Draws.{no-smaller, draw, drawn-is}
 
+-- ---- multiplication by a
+
+module _ {f : ℕ} (pos : 0 < f) (a : ℕ) where
+  pub times-additive : Additive (λ x. rem f (x ⊗ a))
+  times-additive = record { sum = λ x y. ap (rem f) (⊕-⊗ x y a) ∙ rem-⊕ pos (x ⊗ a) (y ⊗ a) }
+
+  place-times : (j : ℕ) → 2 ^ j ⊗ a ≡ a * 2 ^ j
+  place-times j = ⊗-comm (2 ^ j) a ∙ ⊗-pow j a
+
+  pub times-next : (j x : ℕ) → x ≡ rem f (2 ^ j ⊗ a) → rem f (x * 2 + 0) ≡ rem f (2 ^ (j + 1) ⊗ a)
+  times-next j x e =
+      ap (λ (y : ℕ). rem f (y * 2 + 0)) (e ∙ ap (rem f) (place-times j))
+      ∙ shift-next pos a j
+      ∙ ap (rem f) (sym (ap (λ (n : ℕ). 2 ^ n ⊗ a) (add-one j) ∙ place-times (suc j)))
+
+-- ---- the value at e, modulo a polynomial as the code holds it
+
 module _ (k low : ℕ) (m : Modulus k low) (e : ℕ) where
-  pub value-⊕ : (p q : ℕ) → at (monic k low) (p ⊕ q) e ≡ at (monic k low) p e ⊕ at (monic k low) q e
-  value-⊕ p q = at-⊕ (monic-pos k low (m .2)) p q e
+  pub value-additive : Additive (λ p. at (monic k low) p e)
+  value-additive = record { sum = λ p q. at-⊕ (monic-pos k low (m .2)) p q e }
 
   pub first-power : at (monic k low) 1 e ≡ 1
   first-power = at-one (monic-pos k low (m .2)) e (rw (monic-degree k low (m .2)) (pow-mono {i = 1} {j = k} (m .0)))

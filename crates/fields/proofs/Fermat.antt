@@ -8,14 +8,14 @@ use native.Mathlib.Nat.{lt-of-lt-of-le, two-pow-succ}
 use native.Mathlib.Decide.{decLt}
 use native.Mathlib.Omega.{arith}
 use lib.Pow.{pow-lt, pow-mono}
-use Rattle.gf2.specs.Polynomials.{_⊕_, Degree, degree, Divides, rem, Irreducible}
+use Rattle.gf2.specs.Polynomials.{_⊕_, Degree, Divides, rem, Irreducible}
 use Rattle.gf2.proofs.Sums.{⊕-eq, ⊕-lt, ⊕-comm}
-use Rattle.gf2.proofs.Degrees.{degree-eq, deg-hi, deg-pos, deg-⊗, deg-⊕}
+use Rattle.gf2.proofs.Degrees.{deg-hi, deg-pos, deg-⊗, deg-⊕}
 use Rattle.gf2.proofs.Divisors.{dvd-by, dvd-refl, dvd-small}
-use Rattle.gf2.proofs.Residues.{rem-cong, rem-small, dvd-of-rem}
+use Rattle.gf2.proofs.Residues.{rem-cong, dvd-of-rem}
 use Rattle.fields.specs.Fields.{compose}
 use Rattle.fields.proofs.Values.{compose-⊕, compose-two, compose-id}
-use Rattle.fields.proofs.Squaring.{power, power-power, power-compose, compose-power, dvd-power, power-cancel, all-fixed, squares, squares-power}
+use Rattle.fields.proofs.Squaring.{power, power-power, power-compose, compose-power, dvd-power, power-cancel, all-fixed}
 use Rattle.fields.proofs.Roots.{Different, few-roots}
 use Rattle.fields.proofs.Pigeonhole.{Collision, collide}
 
@@ -111,10 +111,3 @@ module _ (p k : ℕ) (irr : Irreducible p) (of-degree : Degree p k) where
   -- squaring k times gives every polynomial back, modulo p
   pub fermat-all : (x : ℕ) → Divides p (power k x ⊕ x)
   fermat-all x = all-fixed p k x fermat
-
-  -- the same among residues
-  pub squares-all : (x : ℕ) → x < 2 ^ k → squares p k x ≡ x
-  squares-all x l = squares-power pos k x residue ∙ rem-cong pos (power k x) x (fermat-all x) ∙ rem-small pos x residue
-    where
-      residue : x < 2 ^ degree p
-      residue = rw (degree-eq p k of-degree) l

@@ -4,7 +4,7 @@ use mathlib.Core.Path.{_≡_, refl, sym, ap, _∙_}
 use mathlib.Core.Logic.{_⊎_, inl, inr}
 use mathlib.Core.List.{List, [], _∷_}
 use Prim.Native.Nat.{ℕ, zero, suc, _/_, _%_, _^_, _≤_, _<_}
-use native.Mathlib.Nat.{le-refl, le-step, le-of-eq, le-of-suc-le-suc, not-suc-le-zero, le-suc, pow-suc, div-lt-iff-lt-mul}
+use native.Mathlib.Nat.{le-refl, le-step, le-of-eq, le-of-suc-le-suc, not-suc-le-zero}
 use native.Mathlib.Omega.{arith}
 use lib.Arith.{lt-one}
 use lib.ListN.{length}
@@ -12,6 +12,7 @@ use Rattle.gf2.specs.Lists.{All}
 use Rattle.gf2.specs.Polynomials.{_⊕_, _⊗_, Degree, Divides, Irreducible}
 use Rattle.gf2.proofs.Sums.{xor}
 use Rattle.gf2.proofs.Products.{ring}
+use Rattle.gf2.proofs.Degrees.{half-lt}
 use Rattle.gf2.proofs.Divisors.{dvd-by, dvd-⊕, dvd-⊗, dvd-small}
 use Rattle.gf2.proofs.Irreducibles.{euclid-lemma}
 use Rattle.fields.specs.Fields.{compose}
@@ -95,9 +96,6 @@ length-coefficients : (n p : ℕ) → length (coefficients n p) ≡ n
 unfolding coefficients
 length-coefficients zero p = refl
 length-coefficients (suc n) p = ap suc (length-coefficients n (p / 2))
-
-half-lt : (p n : ℕ) → p < 2 ^ suc n → p / 2 < 2 ^ n
-half-lt p n l = div-lt-iff-lt-mul (le-suc 1) .1 (rw pow-suc at l)
 
 swap-terms : (c x v : ℕ) → c ⊕ x ⊗ v ≡ v ⊗ x ⊕ c
 swap-terms c x v = simp ring

@@ -5,11 +5,12 @@ use mathlib.Core.Logic.{⊎-elim}
 use Prim.Native.Nat.{ℕ, zero, suc, _+_, _^_, _<_}
 use native.Mathlib.Nat.{zero-add, suc-add}
 use Rattle.gf2.specs.Polynomials.{_⊕_, _⊗_, degree, Divides, rem, Irreducible}
+use Rattle.gf2.proofs.Products.{square-⊕}
 use Rattle.gf2.proofs.Divisors.{dvd-by, dvd-⊗}
 use Rattle.gf2.proofs.Residues.{rem-⊗, rem-cong, rem-small, dvd-of-rem}
 use Rattle.gf2.proofs.Irreducibles.{euclid-lemma}
 use Rattle.fields.specs.Fields.{compose}
-use Rattle.fields.proofs.Values.{compose-id, compose-⊗, compose-square, compose-cong, square-⊕, mulmod}
+use Rattle.fields.proofs.Values.{compose-id, compose-⊗, compose-square, compose-cong, mulmod}
 
 unfoldable pub power : ℕ → ℕ → ℕ
 power zero x = x

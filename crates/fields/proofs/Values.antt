@@ -1,15 +1,14 @@
 -- Laws of the value p(e) of a polynomial at another, and of its residue `at f p e`.
 use mathlib.Core.Path.{_≡_, refl, sym, ap, ap₂, _∙_}
-use Prim.Native.Nat.{ℕ, zero, suc, _+_, _*_, _/_, _%_, _^_, _≤_, _<_}
-use native.Mathlib.Nat.{le-refl, not-suc-le-zero, one-mul, zero-mul}
+use Prim.Native.Nat.{ℕ, zero, suc, _*_, _/_, _%_, _^_, _≤_, _<_}
+use native.Mathlib.Nat.{le-refl, not-suc-le-zero, one-mul, zero-mul, mul-one}
 use native.Mathlib.Decide.{le-ind}
-use native.Mathlib.Omega.{arith}
 use lib.Arith.{half-le, bin-ind}
 use Rattle.gf2.specs.Polynomials.{_⊕_, _⊗_, degree, Divides, rem}
-use Rattle.gf2.proofs.Sums.{⊕-zero, zero-⊕, ⊕-self, ⊕-half, ⊕-low}
-use Rattle.gf2.proofs.Products.{zero-⊗, one-⊗, ⊗-step, ⊗-pow, by-bit, by-low, ring}
+use Rattle.gf2.proofs.Sums.{⊕-zero, zero-⊕, ⊕-half}
+use Rattle.gf2.proofs.Products.{zero-⊗, one-⊗, ⊗-step, ⊗-pow, by-bit, by-low, low-⊕, dbl-half, dbl-low, bit-square, ring}
 use Rattle.gf2.proofs.Divisors.{dvd-by, dvd-zero, dvd-⊕, dvd-⊗}
-use Rattle.gf2.proofs.Residues.{rem-⊕, rem-⊗, rem-cong, rem-dvd, rem-small, dvd-of-rem}
+use Rattle.gf2.proofs.Residues.{rem-⊕, rem-⊗, rem-small}
 use Rattle.fields.specs.Fields.{terms, compose, at}
 
 more : (n p e : ℕ) → p ≤ n → terms (suc n) p e ≡ terms n p e
@@ -33,19 +32,8 @@ compose-step (suc p) e = ap (λ (x : ℕ). x ⊗ e ⊕ suc p % 2) (enough p (suc
 
 -- ---- one digit
 
-pub low-sum : (a b : ℕ) → (a ⊕ b) % 2 ≡ a % 2 ⊕ b % 2
-low-sum a b =
-    ⊕-low a b ∙ digits
-    ∙ by-bit (λ (x : ℕ). (x + b % 2) % 2 ≡ x ⊕ b % 2)
-    (by-bit (λ (y : ℕ). (0 + y) % 2 ≡ 0 ⊕ y) (sym (⊕-zero 0)) (sym (zero-⊕ 1)) b)
-    (by-bit (λ (y : ℕ). (1 + y) % 2 ≡ 1 ⊕ y) (sym (⊕-zero 1)) (sym (⊕-self 1)) b)
-    a
-  where
-    digits : (a + b) % 2 ≡ (a % 2 + b % 2) % 2
-    digits = omega arith
-
-bit-square : (a : ℕ) → a % 2 ⊗ (a % 2) ≡ a % 2
-bit-square a = by-bit (λ (x : ℕ). x ⊗ x ≡ x) (zero-⊗ 0) (one-⊗ 1) a
+low-sum : (a b : ℕ) → (a ⊕ b) % 2 ≡ a % 2 ⊕ b % 2
+low-sum a b = simp mul-one at (low-⊕ a b 1)
 
 -- ---- the laws
 
@@ -69,12 +57,6 @@ compose-⊕ a b e =
     (λ n ih m. rw (compose-step (n ⊕ m) e, compose-step n e, compose-step m e, ⊕-half n m, low-sum n m, ih (m / 2))
     (sum-step (compose (n / 2) e) (compose (m / 2) e) e (n % 2) (m % 2))) a b
 
-dbl-half : (a : ℕ) → a * 2 / 2 ≡ a
-dbl-half a = omega arith
-
-dbl-low : (a : ℕ) → a * 2 % 2 ≡ 0
-dbl-low a = omega arith
-
 compose-dbl : (a e : ℕ) → compose (a * 2) e ≡ compose a e ⊗ e
 compose-dbl a e = compose-step (a * 2) e ∙ rw (dbl-half a, dbl-low a) (⊕-zero (compose a e ⊗ e))
 
@@ -93,9 +75,6 @@ compose-⊗ a b e =
     ∙ product-step (compose (n / 2) e) (compose b e) e (n % 2) ∙ ap (λ (x : ℕ). x ⊗ compose b e) (sym (compose-step n e))) a
 
 -- Frobenius: squaring is linear, and passes through a polynomial
-pub square-⊕ : (x y : ℕ) → (x ⊕ y) ⊗ (x ⊕ y) ≡ x ⊗ x ⊕ y ⊗ y
-square-⊕ x y = simp ring
-
 square-step : (x e c : ℕ) → c ⊗ c ≡ c → x ⊗ x ⊗ (e ⊗ e) ⊕ c ≡ (x ⊗ e ⊕ c) ⊗ (x ⊗ e ⊕ c)
 square-step x e c h = ap (λ (z : ℕ). x ⊗ x ⊗ (e ⊗ e) ⊕ z) (sym h) ∙ expand
   where
@@ -127,14 +106,6 @@ module _ {f : ℕ} (pos : 0 < f) where
   unfolding at
   at-⊕ p q e = ap (rem f) (compose-⊕ p q e) ∙ rem-⊕ pos (compose p e) (compose q e)
 
-  pub at-⊗ : (p q e : ℕ) → at f (p ⊗ q) e ≡ mulmod f (at f p e) (at f q e)
-  unfolding at mulmod
-  at-⊗ p q e = ap (rem f) (compose-⊗ p q e) ∙ rem-⊗ pos (compose p e) (compose q e)
-
-  pub at-two : (e : ℕ) → e < 2 ^ degree f → at f 2 e ≡ e
-  unfolding at
-  at-two e h = ap (rem f) (compose-two e) ∙ rem-small pos e h
-
   -- the powers of e: t^0, and one more each time
   pub at-one : (e : ℕ) → 1 < 2 ^ degree f → at f 1 e ≡ 1
   unfolding at
@@ -144,26 +115,3 @@ module _ {f : ℕ} (pos : 0 < f) where
   unfolding at mulmod
   at-dbl p e h =
       ap (rem f) (compose-dbl p e) ∙ rem-⊗ pos (compose p e) e ∙ ap (λ (x : ℕ). rem f (rem f (compose p e) ⊗ x)) (rem-small pos e h)
-
-  -- Horner's rule among the residues
-  pub at-step : (p e : ℕ) → e < 2 ^ degree f → 1 < 2 ^ degree f → at f p e ≡ mulmod f (at f (p / 2) e) e ⊕ p % 2
-  unfolding at mulmod
-  at-step p e h o =
-      ap (rem f) (compose-step p e) ∙ rem-⊕ pos (compose (p / 2) e ⊗ e) (p % 2)
-      ∙ ap₂ (λ (x y : ℕ). x ⊕ y) (rem-⊗ pos (compose (p / 2) e) e ∙ ap (λ (x : ℕ). rem f (rem f (compose (p / 2) e) ⊗ x)) (rem-small pos e h))
-      (rem-small pos (p % 2) (omega arith))
-
-  pub frobenius : (x y : ℕ) → mulmod f (x ⊕ y) (x ⊕ y) ≡ mulmod f x x ⊕ mulmod f y y
-  unfolding mulmod
-  frobenius x y = ap (rem f) (square-⊕ x y) ∙ rem-⊕ pos (x ⊗ x) (y ⊗ y)
-
-  -- a value depends on the residue alone
-  pub at-cong : (p a b : ℕ) → rem f a ≡ rem f b → at f p a ≡ at f p b
-  unfolding at
-  at-cong p a b h = rem-cong pos (compose p a) (compose p b) (compose-cong f p a b (dvd-of-rem pos a b h))
-
-  pub at-square : (p e : ℕ) → at f p (mulmod f e e) ≡ mulmod f (at f p e) (at f p e)
-  unfolding at mulmod
-  at-square p e =
-      sym (rem-cong pos (compose p (e ⊗ e)) (compose p (rem f (e ⊗ e))) (compose-cong f p (e ⊗ e) (rem f (e ⊗ e)) (rem-dvd pos (e ⊗ e))))
-      ∙ ap (rem f) (compose-square p e) ∙ rem-⊗ pos (compose p e) (compose p e)

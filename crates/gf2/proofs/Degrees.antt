@@ -2,14 +2,14 @@
 use mathlib.Core.Path.{_≡_, refl, sym, ap, _∙_}
 use mathlib.Core.Logic.{_⊎_, inl, inr}
 use Prim.Native.Nat.{ℕ, zero, suc, _+_, _*_, _/_, _%_, _^_, _≤_, _<_, zero-le, suc-le-suc}
-use native.Mathlib.Nat.{le-refl, le-trans, le-of-eq, lt-of-lt-of-le, lt-of-le-of-lt, not-le-of-lt, zero-mul, one-mul, div-one, pow-succ', div-div-eq-div-mul, div-eq-of-lt, le-div-iff-mul-le, div-lt-iff-lt-mul, zero-add, suc-add, eq-zero-or-pos, le-antisymm, le-of-suc-le-suc, le-add-left}
+use native.Mathlib.Nat.{le-refl, le-suc, pow-suc, le-trans, le-of-eq, lt-of-lt-of-le, lt-of-le-of-lt, not-le-of-lt, zero-mul, one-mul, div-one, pow-succ', div-div-eq-div-mul, div-eq-of-lt, le-div-iff-mul-le, div-lt-iff-lt-mul, zero-add, suc-add, eq-zero-or-pos, le-antisymm, le-of-suc-le-suc, le-add-left}
 use native.Mathlib.Decide.{decLt}
 use native.Mathlib.Omega.{arith}
 use lib.Arith.{half-le}
 use lib.Pow.{pow-pos, pow-mono}
 use Rattle.gf2.specs.Polynomials.{_⊕_, _⊗_, halvings, degree, Degree}
-use Rattle.gf2.proofs.Sums.{⊕-zero, ⊕-self, ⊕-shr, ⊕-eq}
-use Rattle.gf2.proofs.Products.{⊗-step, one-⊗, ⊕-⊗, by-bit}
+use Rattle.gf2.proofs.Sums.{⊕-zero, ⊕-self, ⊕-shr}
+use Rattle.gf2.proofs.Products.{⊗-step, one-⊗, by-bit}
 
 -- ---- as an order: 2 ^ d ≤ n < 2 ^ (d + 1)
 
@@ -46,6 +46,9 @@ pub deg-le : (n d k : ℕ) → Degree n d → n < 2 ^ k → d < k
 deg-le n d k h l = lt-of-pow-lt d k (lt-of-le-of-lt (deg-lo n d h) l)
 
 -- ---- one digit more, one digit less
+
+pub half-lt : (n d : ℕ) → n < 2 ^ suc d → n / 2 < 2 ^ d
+half-lt n d l = div-lt-iff-lt-mul (le-suc 1) .1 (rw pow-suc at l)
 
 pub half-pow : (n d : ℕ) → n / 2 ^ suc d ≡ n / 2 / 2 ^ d
 half-pow n d = ap (λ (x : ℕ). n / x) (pow-succ' 2 d) ∙ sym (div-div-eq-div-mul n 2 (2 ^ d))
@@ -103,15 +106,14 @@ degree-is a p = halvings-is a a p (le-refl a)
 pub degree-eq : (a d : ℕ) → Degree a d → degree a ≡ d
 degree-eq a d h = deg-unique a (degree a) d (degree-is a (deg-pos a d h)) h
 
+pub degree-from : (d a : ℕ) → 2 ^ d ≤ a → d ≤ degree a
+degree-from d a l = le-of-suc-le-suc (lt-of-pow-lt d (suc (degree a)) (lt-of-le-of-lt l (deg-hi a (degree a) (degree-is a (le-trans (pow-pos d) l)))))
+
 pub pos-⊗ : (a b : ℕ) → 0 < a → 0 < b → 0 < a ⊗ b
 pos-⊗ a b p q = deg-pos (a ⊗ b) (degree a + degree b) (deg-⊗ a b (degree a) (degree b) (degree-is a p) (degree-is b q))
 
 pub degree-⊗ : (a b : ℕ) → 0 < a → 0 < b → degree (a ⊗ b) ≡ degree a + degree b
 degree-⊗ a b p q = degree-eq (a ⊗ b) (degree a + degree b) (deg-⊗ a b (degree a) (degree b) (degree-is a p) (degree-is b q))
-
--- the sum of polynomials of different degree
-pub degree-⊕ : (a b : ℕ) → 0 < a → b < 2 ^ degree a → degree (a ⊕ b) ≡ degree a
-degree-⊕ a b p h = degree-eq (a ⊕ b) (degree a) (deg-⊕ a b (degree a) (degree-is a p) h)
 
 -- no zero divisors
 pub ⊗-no-zero : (a b : ℕ) → a ⊗ b ≡ 0 → (a ≡ 0) ⊎ (b ≡ 0)
@@ -121,10 +123,3 @@ pub ⊗-no-zero : (a b : ℕ) → a ⊗ b ≡ 0 → (a ≡ 0) ⊎ (b ≡ 0)
     go (inl p) y = inl p
     go (inr p) (inl q) = inr q
     go (inr p) (inr q) = absurd (omega (arith, pos-⊗ a b p q))
-
-pub ⊗-cancel : (a b c : ℕ) → 0 < c → a ⊗ c ≡ b ⊗ c → a ≡ b
-⊗-cancel a b c p e = ⊕-eq a b (go (⊗-no-zero (a ⊕ b) c (⊕-⊗ a b c ∙ rw e (⊕-self (b ⊗ c)))))
-  where
-    go : (a ⊕ b ≡ 0) ⊎ (c ≡ 0) → a ⊕ b ≡ 0
-    go (inl q) = q
-    go (inr q) = absurd (omega arith)

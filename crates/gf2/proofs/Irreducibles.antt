@@ -1,5 +1,5 @@
 -- Bezout's equation, Euclid's lemma, and how many different irreducible polynomials of one degree can divide given polynomials.
-use mathlib.Core.Path.{_≡_, refl, sym, ap, _∙_}
+use mathlib.Core.Path.{_≡_, sym, ap, _∙_}
 use mathlib.Core.Logic.{_≢_, _⊎_, inl, inr, ⊎-elim}
 use mathlib.Core.List.{List, [], _∷_}
 use Prim.Native.Nat.{ℕ, zero, suc, _+_, _*_, _^_, _≤_, _<_, zero-le}
@@ -7,12 +7,12 @@ use native.Mathlib.Nat.{le-refl, le-trans, lt-of-lt-of-le, lt-of-le-of-lt, zero-
 use native.Mathlib.Decide.{ℕ-discrete, decLt}
 use native.Mathlib.Omega.{arith}
 use lib.ListN.{length}
-use Rattle.gf2.specs.Lists.{All, Some, Distinct}
-use Rattle.gf2.specs.Polynomials.{_⊕_, _⊗_, productOf, degree, Degree, degreeSum, rem, Divides, Irreducible}
-use Rattle.gf2.proofs.Lists.{all-map, all-zip}
+use Rattle.gf2.specs.Lists.{All, Distinct}
+use Rattle.gf2.specs.Polynomials.{_⊕_, _⊗_, degree, Degree, rem, Divides, Irreducible}
+use Rattle.gf2.proofs.Lists.{all-zip}
 use Rattle.gf2.proofs.Sums.{xor}
 use Rattle.gf2.proofs.Products.{zero-⊗, one-⊗, ⊕-⊗, ⊗-assoc, ⊗-comm, ring}
-use Rattle.gf2.proofs.Degrees.{degree-is, degree-eq, degree-⊗, pos-⊗, deg-⊗, deg-lo, deg-hi, lt-of-pow-lt, deg-zero}
+use Rattle.gf2.proofs.Degrees.{degree-is, degree-eq, degree-⊗, deg-⊗, deg-lo, deg-hi, lt-of-pow-lt, deg-zero}
 use Rattle.gf2.proofs.Divisors.{dvd-by, dvd-left, dvd-refl, dvd-zero, dvd-⊕, dvd-⊗, dvd-trans}
 use Rattle.gf2.proofs.Residues.{rem-lt, rem-dvd}
 
@@ -158,34 +158,3 @@ count k D (p ∷ ps) pos d f = omega (arith, count k q ps q-pos (d .1) rest, deg
 
     degree-D : degree D ≡ degree q + k
     degree-D = ap degree (sym is) ∙ degree-eq (q ⊗ p) (degree q + k) (deg-⊗ q p (degree q) k (degree-is q q-pos) (f .0 .of-degree))
-
--- ---- the same for a list of polynomials
-
-dvd-product : {p : ℕ} (ds : List ℕ) → Some (Divides p) ds → Divides p (productOf ds)
-unfolding productOf
-dvd-product (d ∷ ds) (inl h) = dvd-by (dvd-⊗ (productOf ds) h) (⊗-comm (productOf ds) d)
-dvd-product (d ∷ ds) (inr h) = dvd-⊗ d (dvd-product ds h)
-
-product-pos : (ds : List ℕ) → All (λ d. 0 < d) ds → 0 < productOf ds
-unfolding productOf
-product-pos [] h = le-refl 1
-product-pos (d ∷ ds) h = pos-⊗ d (productOf ds) (h .0) (product-pos ds (h .1))
-
-degree-product : (ds : List ℕ) → All (λ d. 0 < d) ds → degree (productOf ds) ≡ degreeSum ds
-unfolding productOf degreeSum
-degree-product [] h = degree-eq 1 0 refl
-degree-product (d ∷ ds) h =
-    degree-⊗ d (productOf ds) (h .0) (product-pos ds (h .1)) ∙ ap (λ (x : ℕ). degree d + x) (degree-product ds (h .1))
-
--- an irreducible polynomial of degree k that divides at least one of the list
-pub record FactorOfSome (k : ℕ) (ds : List ℕ) (p : ℕ) : Type 0 where
-  pub irreducible : Irreducible p
-  pub of-degree : Degree p k
-  pub divides : Some (Divides p) ds
-
--- different irreducible polynomials of degree k, each dividing at least one of a list of nonzero polynomials: their number times k
--- is at most the sum of the degrees
-pub count-list : (k : ℕ) (ds ps : List ℕ) → All (λ d. 0 < d) ds → Distinct ps → All (FactorOfSome k ds) ps → length ps * k ≤ degreeSum ds
-count-list k ds ps pos d f =
-    rw (← (degree-product ds pos)) (count k (productOf ds) ps (product-pos ds pos) d
-    (all-map (λ p g. record { irreducible = g .irreducible; of-degree = g .of-degree; divides = dvd-product ds (g .divides) }) ps f))

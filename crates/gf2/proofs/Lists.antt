@@ -1,11 +1,13 @@
--- Laws of lists of numbers, and tests of a whole list that the checker computes: of every entry, and that the list rises.
-use mathlib.Core.Logic.{_≢_}
+-- Laws of lists of numbers, of listed values, and tests of a whole list that the checker computes: of every entry, and that the list rises.
+use mathlib.Core.Path.{_≡_, refl, ap, ap₂, _∙_}
 use mathlib.Core.Bool.{Bool, true, false, _&&_}
-use mathlib.Core.List.{List, [], _∷_}
-use Prim.Native.Nat.{ℕ, _<_}
-use native.Mathlib.Nat.{lt-trans, ne-of-gt}
+use mathlib.Core.List.{List, [], _∷_, _++_, map}
+use Prim.Native.Nat.{ℕ, zero, suc, _+_, _<_}
+use native.Mathlib.Nat.{lt-trans, ne-of-gt, zero-add, add-zero, add-suc, suc-add, le-of-suc-le-suc, not-suc-le-zero}
+use native.Mathlib.Omega.{arith}
 use lib.Dec.{T, ltb, ltb→lt}
-use Rattle.gf2.specs.Lists.{All, Distinct}
+use lib.ListN.{length, getD}
+use Rattle.gf2.specs.Lists.{listFrom, All, Distinct}
 
 pub all-map : {P Q : ℕ → Type 0} → ((x : ℕ) → P x → Q x) → (xs : List ℕ) → All P xs → All Q xs
 all-map f [] p = tt
@@ -54,3 +56,38 @@ distinct-by-test b [] t = tt
 distinct-by-test b (x ∷ xs) t =
     let s = and-right (ltb b x) (rising x xs) t in
     (all-map (λ y h. ne-of-gt h) xs (above x xs s), distinct-by-test x xs s)
+
+-- ---- listed values
+
+pub length-list : (f : ℕ → ℕ) (i n : ℕ) → length (listFrom f i n) ≡ n
+unfolding listFrom
+length-list f i zero = refl
+length-list f i (suc n) = ap suc (length-list f (suc i) n)
+
+pub list-at : (f : ℕ → ℕ) (a n i : ℕ) → i < n → getD (listFrom f a n) i 0 ≡ f (a + i)
+unfolding listFrom
+list-at f a zero i h = absurd (not-suc-le-zero h)
+list-at f a (suc n) zero h = rw add-zero
+list-at f a (suc n) (suc i) h = list-at f (suc a) n i (le-of-suc-le-suc h) ∙ rw (suc-add, add-suc)
+
+pub list-append : (f : ℕ → ℕ) (a m n : ℕ) → listFrom f a (m + n) ≡ listFrom f a m ++ listFrom f (a + m) n
+unfolding listFrom
+list-append f a zero n = rw (zero-add, add-zero)
+list-append f a (suc m) n = rw (suc-add, add-suc) (ap (λ (xs : List ℕ). f a ∷ xs) (rw suc-add at (list-append f (suc a) m n)))
+
+pub list-more : (f : ℕ → ℕ) (a n : ℕ) → listFrom f a (n + 1) ≡ listFrom f a n ++ (f (a + n) ∷ [])
+unfolding listFrom
+list-more f a n = list-append f a n 1
+
+pub list-map : (f g : ℕ → ℕ) (a n : ℕ) → map g (listFrom f a n) ≡ listFrom (λ i. g (f i)) a n
+unfolding listFrom
+list-map f g a zero = refl
+list-map f g a (suc n) = ap (λ (xs : List ℕ). g (f a) ∷ xs) (list-map f g (suc a) n)
+
+-- the same values, counted from a or from b
+pub list-same : (f g : ℕ → ℕ) (a b n : ℕ) → ((i : ℕ) → i < n → f (a + i) ≡ g (b + i)) → listFrom f a n ≡ listFrom g b n
+unfolding listFrom
+list-same f g a b zero h = refl
+list-same f g a b (suc n) h =
+    ap₂ {C = List ℕ} (λ (x : ℕ) (xs : List ℕ). x ∷ xs) (rw (add-zero, add-zero) at (h 0 (omega arith)))
+    (list-same f g (suc a) (suc b) n (λ i l. rw (suc-add, suc-add, ← add-suc, ← add-suc) (h (suc i) (omega arith))))

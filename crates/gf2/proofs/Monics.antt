@@ -1,12 +1,12 @@
 -- Laws of the polynomial t^k with the coefficients c below it: the modulus as the code holds it, a degree and a word.
 use mathlib.Core.Path.{_≡_, sym, ap, _∙_}
-use Prim.Native.Nat.{ℕ, suc, _+_, _*_, _/_, _%_, _^_, _≤_, _<_}
-use native.Mathlib.Nat.{one-mul, mod-lt, div-self, lt-of-le-of-lt}
+use Prim.Native.Nat.{ℕ, _/_, _%_, _^_, _<_}
+use native.Mathlib.Nat.{one-mul, mod-lt, div-self}
 use native.Mathlib.Omega.{arith}
 use lib.Pow.{pow-pos, split}
 use Rattle.gf2.specs.Polynomials.{_⊕_, degree, Degree, monic, Modulus}
 use Rattle.gf2.proofs.Sums.{⊕-append}
-use Rattle.gf2.proofs.Degrees.{degree-is, degree-eq, deg-pos, deg-hi, deg-le, deg-⊕, lt-of-pow-lt}
+use Rattle.gf2.proofs.Degrees.{degree-is, degree-eq, degree-from, deg-pos, deg-le, deg-⊕}
 
 pub monic-⊕ : (k c : ℕ) → c < 2 ^ k → monic k c ≡ 2 ^ k ⊕ c
 unfolding monic
@@ -28,15 +28,11 @@ monic-of k p h = simp (h, one-mul) at (split p k)
 
 -- ---- a number of 64 bits, split into its degree and its low word
 
-module _ (p : ℕ) (h : 1 < p) (l : p < 2 ^ 64) where
-  pub word-degree : degree p < 64
-  word-degree = deg-le p (degree p) 64 (degree-is p (omega arith)) l
+pub word-degree : (p : ℕ) → 0 < p → p < 2 ^ 64 → degree p < 64
+word-degree p h l = deg-le p (degree p) 64 (degree-is p h) l
 
-  pub word-modulus : Modulus (degree p) (p % 2 ^ degree p)
-  word-modulus =
-      let d = lt-of-pow-lt 1 (suc (degree p)) (lt-of-le-of-lt h (deg-hi p (degree p) (degree-is p (omega arith)))) in
-      let e = word-degree in
-      (omega arith, omega arith, mod-lt p (pow-pos (degree p)))
+pub word-modulus : (p : ℕ) → 1 < p → p < 2 ^ 64 → Modulus (degree p) (p % 2 ^ degree p)
+word-modulus p h l = (degree-from 1 p h, omega (arith, word-degree p (omega arith) l), mod-lt p (pow-pos (degree p)))
 
-  pub word-monic : monic (degree p) (p % 2 ^ degree p) ≡ p
-  word-monic = monic-of (degree p) p (degree-is p (omega arith))
+pub word-monic : (p : ℕ) → 0 < p → monic (degree p) (p % 2 ^ degree p) ≡ p
+word-monic p h = monic-of (degree p) p (degree-is p h)

@@ -1,12 +1,11 @@
 -- Laws of powers, and of powers modulo a polynomial.
-use mathlib.Core.Path.{_≡_, refl, sym, ap, ap₂, _∙_}
-use Prim.Native.Nat.{ℕ, zero, suc, _+_, _*_, _/_, _%_, _^_, _≤_, _<_}
-use native.Mathlib.Nat.{add-zero, zero-add, suc-add, pow-suc, zero-mul, suc-mul, mul-one}
-use native.Mathlib.Omega.{arith}
+use mathlib.Core.Path.{_≡_, refl, sym, ap, _∙_}
+use Prim.Native.Nat.{ℕ, zero, suc, _+_, _*_, _^_, _<_}
+use native.Mathlib.Nat.{add-zero, zero-add, suc-add, pow-suc}
 use lib.Pow.{pow-pos}
 use Rattle.gf2.specs.Polynomials.{_⊕_, _⊗_, _⊗^_, rem}
 use Rattle.gf2.proofs.Sums.{⊕-zero}
-use Rattle.gf2.proofs.Products.{one-⊗, ⊗-one, ⊗-comm, ⊗-assoc, ⊗-left-comm, ⊗-pow}
+use Rattle.gf2.proofs.Products.{one-⊗, ⊗-comm, ⊗-assoc, ⊗-pow}
 use Rattle.gf2.proofs.Residues.{rem-⊗, rem-lt, rem-small, rem-append}
 
 pub pow-zero : (a : ℕ) → a ⊗^ 0 ≡ 1
@@ -16,9 +15,6 @@ pow-zero a = refl
 pub pow-step : (a n : ℕ) → a ⊗^ suc n ≡ a ⊗ a ⊗^ n
 unfolding _⊗^_
 pow-step a n = refl
-
-pub pow-one : (a : ℕ) → a ⊗^ 1 ≡ a
-pow-one a = pow-step a 0 ∙ ap (λ (x : ℕ). a ⊗ x) (pow-zero a) ∙ ⊗-one a
 
 pub pow-add : (a m n : ℕ) → a ⊗^ (m + n) ≡ a ⊗^ m ⊗ a ⊗^ n
 pow-add a zero n = rw (zero-add, pow-zero) (sym (one-⊗ (a ⊗^ n)))

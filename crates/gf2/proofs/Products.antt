@@ -39,10 +39,10 @@ bit-cases (suc (suc c)) h = absurd (omega arith)
 pub mod-2 : (a : ℕ) → a % 2 < 2
 mod-2 a = omega arith
 
-dbl-half : (a : ℕ) → a * 2 / 2 ≡ a
+pub dbl-half : (a : ℕ) → a * 2 / 2 ≡ a
 dbl-half a = omega arith
 
-dbl-low : (a : ℕ) → a * 2 % 2 ≡ 0
+pub dbl-low : (a : ℕ) → a * 2 % 2 ≡ 0
 dbl-low a = omega arith
 
 pub shl-suc : (a k : ℕ) → a * 2 ^ suc k ≡ a * 2 ^ k * 2
@@ -59,7 +59,7 @@ by-bit P p q a = go (bit-cases (a % 2) (mod-2 a))
 pub bit-⊕ : (a b c : ℕ) → (a % 2) * (b ⊕ c) ≡ (a % 2) * b ⊕ (a % 2) * c
 bit-⊕ a b c = by-bit (λ (x : ℕ). x * (b ⊕ c) ≡ x * b ⊕ x * c) (simp (zero-mul, ⊕-zero)) (simp one-mul) a
 
-low-⊕ : (a b c : ℕ) → (a ⊕ b) % 2 * c ≡ a % 2 * c ⊕ b % 2 * c
+pub low-⊕ : (a b c : ℕ) → (a ⊕ b) % 2 * c ≡ a % 2 * c ⊕ b % 2 * c
 low-⊕ a b c =
     ap (λ (x : ℕ). x * c) (⊕-low a b)
     ∙ ap (λ (x : ℕ). x * c) sum
@@ -107,7 +107,7 @@ pub ⊗-⊕ : (a b c : ℕ) → a ⊗ (b ⊕ c) ≡ a ⊗ b ⊕ a ⊗ c
 pub by-low : (a : ℕ) → a / 2 * 2 ⊕ a % 2 ≡ a
 by-low a = rw (⊕-bit (a / 2) (a % 2) (mod-2 a)) (omega arith)
 
-⊗-bit : (a b : ℕ) → b ⊗ (a % 2) ≡ a % 2 * b
+pub ⊗-bit : (a b : ℕ) → b ⊗ (a % 2) ≡ a % 2 * b
 ⊗-bit a b = by-bit (λ (x : ℕ). b ⊗ x ≡ x * b) (simp (⊗-zero, zero-mul)) (simp (⊗-one, one-mul)) a
 
 bit-⊗ : (a b c : ℕ) → (a % 2 * b) ⊗ c ≡ a % 2 * (b ⊗ c)
@@ -129,8 +129,16 @@ pub ⊗-assoc : (a b c : ℕ) → a ⊗ b ⊗ c ≡ a ⊗ (b ⊗ c)
 pub ⊗-left-comm : (a b c : ℕ) → a ⊗ (b ⊗ c) ≡ b ⊗ (a ⊗ c)
 ⊗-left-comm a b c = sym (⊗-assoc a b c) ∙ ap (λ (x : ℕ). x ⊗ c) (⊗-comm a b) ∙ ⊗-assoc b a c
 
+-- the square of a digit is the digit
+pub bit-square : (a : ℕ) → a % 2 ⊗ (a % 2) ≡ a % 2
+bit-square a = by-bit (λ (x : ℕ). x ⊗ x ≡ x) (zero-⊗ 0) (one-⊗ 1) a
+
 -- `simp ring` multiplies out, sorts, and drops what stands in a sum twice
 pub ruleset ring = (⊕-⊗, ⊗-⊕, ⊗-assoc, ⊗-comm, ⊗-left-comm, zero-⊗, ⊗-zero, one-⊗, ⊗-one, xor)
+
+-- squaring is linear
+pub square-⊕ : (a b : ℕ) → (a ⊕ b) ⊗ (a ⊕ b) ≡ a ⊗ a ⊕ b ⊗ b
+square-⊕ a b = simp ring
 
 -- t^k times a polynomial is a shift
 pub ⊗-shl : (k a b : ℕ) → a ⊗ (b * 2 ^ k) ≡ a ⊗ b * 2 ^ k
@@ -140,3 +148,7 @@ pub ⊗-shl : (k a b : ℕ) → a ⊗ (b * 2 ^ k) ≡ a ⊗ b * 2 ^ k
 
 pub ⊗-pow : (k a : ℕ) → a ⊗ 2 ^ k ≡ a * 2 ^ k
 ⊗-pow k a = ap (λ (x : ℕ). a ⊗ x) (sym (one-mul (2 ^ k))) ∙ ⊗-shl k a 1 ∙ ap (λ (x : ℕ). x * 2 ^ k) (⊗-one a)
+
+-- `by-low` with a product by t
+pub by-digits : (a : ℕ) → a / 2 ⊗ 2 ⊕ a % 2 ≡ a
+by-digits a = ap (λ (x : ℕ). x ⊕ a % 2) (⊗-pow 1 (a / 2)) ∙ by-low a

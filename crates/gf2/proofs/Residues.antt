@@ -3,7 +3,7 @@ use mathlib.Core.Path.{_≡_, refl, sym, ap, _∙_}
 use mathlib.Core.Logic.{_⊎_, inl, inr}
 use Prim.Native.Nat.{ℕ, zero, suc, _+_, _*_, _/_, _%_, _^_, _≤_, _<_}
 use native.Mathlib.Nat.{le-refl, not-suc-le-zero, zero-mul, one-mul, zero-div, div-lt-iff-lt-mul, pow-suc, pow-succ'}
-use native.Mathlib.Decide.{le-ind, ℕ-discrete}
+use native.Mathlib.Decide.{le-ind}
 use native.Mathlib.Omega.{arith}
 use lib.Arith.{half-le, bin-ind}
 use lib.Pow.{pow-pos}
@@ -125,10 +125,3 @@ module _ {p : ℕ} (pos : 0 < p) where
 
   pub dvd-of-rem-zero : (a : ℕ) → rem p a ≡ 0 → Divides p a
   dvd-of-rem-zero a e = dvd-by (rem-dvd a) (rw e (⊕-zero a))
-
-  pub dec-dvd : (a : ℕ) → Dec (Divides p a)
-  dec-dvd a = go (ℕ-discrete (rem p a) 0)
-    where
-      go : Dec (rem p a ≡ 0) → Dec (Divides p a)
-      go (yes e) = yes (dvd-of-rem-zero a e)
-      go (no n) = no (λ h. n (rem-of-dvd a h))

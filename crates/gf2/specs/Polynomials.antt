@@ -2,7 +2,6 @@
 -- So 2 is t, 2 ^ n is t^n, and the numbers below 2 ^ k are the polynomials of degree less than k.
 use mathlib.Core.Path.{_≡_}
 use mathlib.Core.Logic.{_⊎_}
-use mathlib.Core.List.{List, [], _∷_}
 use Prim.Native.Nat.{ℕ, zero, suc, _+_, _*_, _/_, _%_, _^_, _≤_, _<_}
 use lib.Bits.{bitXor}
 
@@ -24,15 +23,11 @@ infixl 70 _⊗_
 unfoldable pub _⊗_ : ℕ → ℕ → ℕ
 a ⊗ b = longProduct a a b
 
--- the power a^n, and the product of a list
+-- the power a^n
 infixr 75 _⊗^_
 unfoldable pub _⊗^_ : ℕ → ℕ → ℕ
 a ⊗^ zero = 1
 a ⊗^ suc n = a ⊗ a ⊗^ n
-
-unfoldable pub productOf : List ℕ → ℕ
-productOf [] = 1
-productOf (a ∷ rest) = a ⊗ productOf rest
 
 -- ---- the degree: the place of the highest one bit, counted from 0
 
@@ -49,10 +44,6 @@ degree a = halvings a a
 -- the same as an equation: a has degree d where nothing but a 1 stands at t^d and above
 abbrev pub Degree : ℕ → ℕ → Type 0
 Degree a d = a / 2 ^ d ≡ 1
-
-unfoldable pub degreeSum : List ℕ → ℕ
-degreeSum [] = 0
-degreeSum (a ∷ rest) = degree a + degreeSum rest
 
 -- the polynomial t^k with the coefficients c below it
 unfoldable pub monic : ℕ → ℕ → ℕ

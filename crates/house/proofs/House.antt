@@ -6,12 +6,14 @@ use Prim.Native.Nat.{ℕ}
 use native.Mathlib.Omega.{arith}
 use lib.Dec.{T}
 use Rattle.gf2.specs.Polynomials.{degree, monic}
+use Rattle.gf2.specs.Lists.{listFrom}
 use Rattle.gf2.proofs.Degrees.{degree-eq}
 use Rattle.acceptance.specs.Keys.{accepted}
 use Rattle.keys.proofs.Laws.{accepted-passed, first-passed}
 use Rattle.files.specs.declared.Mark.{Mark}
 use Rattle.marks.specs.Feeding.{feedTests, fedMark, feedBits}
-use Rattle.tables.specs.Tables.{word, tableFrom, houseKey, feedHouse}
+use Rattle.tables.specs.Tables.{word, houseKey, feedHouse}
+use Rattle.stock.specs.Stock.{stockKey}
 use Rattle.stock.proofs.Table.{stock-smallest, stock-61}
 use Rattle.house.proofs.Rows.{same, rows, table-by-test}
 
@@ -36,5 +38,5 @@ house-bits m part = sym (first-passed houseKey (feedTests houseKey m part) m (fe
 abbrev pub HouseWords : List ℕ → Type 0
 HouseWords words = T (same words (rows 8 houseKey 4))
 
-pub house-table : (words : List ℕ) → HouseWords words → words ≡ tableFrom (word 8 houseKey) 0 1024
+pub house-table : (words : List ℕ) → HouseWords words → words ≡ listFrom (word 8 houseKey) 0 1024
 house-table = table-by-test {key = houseKey} (omega arith) 8 4

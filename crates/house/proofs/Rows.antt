@@ -4,12 +4,13 @@ use mathlib.Core.Path.{_≡_, refl, sym, ap, ap₂, _∙_}
 use mathlib.Core.Bool.{Bool, true, false, _&&_}
 use mathlib.Core.List.{List, [], _∷_, _++_, map}
 use Prim.Native.Nat.{ℕ, zero, suc, _+_, _*_, _^_, _<_}
-use native.Mathlib.Nat.{add-zero, zero-add, add-suc, suc-add, zero-mul, suc-mul, pow-suc}
+use native.Mathlib.Nat.{zero-add, zero-mul, suc-mul, pow-suc}
 use native.Mathlib.Omega.{arith}
 use lib.Dec.{T, eqb, eqb→eq}
 use Rattle.gf2.specs.Polynomials.{_⊕_, longProduct, _⊗_, halvings, degree, reduce, longDivision, rem}
-use Rattle.gf2.proofs.Lists.{and-left, and-right}
-use Rattle.tables.specs.Tables.{word, tableFrom}
+use Rattle.gf2.specs.Lists.{listFrom}
+use Rattle.gf2.proofs.Lists.{and-left, and-right, list-append, list-map, list-same}
+use Rattle.tables.specs.Tables.{word}
 use Rattle.tables.proofs.Rule.{power, word-row}
 use Rattle.multiples.proofs.Doubling.{multiple-zero, multiple-double}
 
@@ -42,38 +43,18 @@ same-eq (x ∷ xs) [] t = absurd t
 same-eq (x ∷ xs) (y ∷ ys) t =
     ap₂ {C = List ℕ} (λ (v : ℕ) (ws : List ℕ). v ∷ ws) (eqb→eq x y (and-left (eqb x y) (same xs ys) t)) (same-eq xs ys (and-right (eqb x y) (same xs ys) t))
 
--- ---- laws of a table's parts
-
-part-append : (f : ℕ → ℕ) (n a b : ℕ) → tableFrom f n (a + b) ≡ tableFrom f n a ++ tableFrom f (n + a) b
-unfolding tableFrom
-part-append f n zero b = rw (zero-add, add-zero)
-part-append f n (suc a) b = rw (suc-add, add-suc) (ap (λ (ws : List ℕ). f n ∷ ws) (rw suc-add at (part-append f (suc n) a b)))
-
-part-map : (f h : ℕ → ℕ) (n c : ℕ) → map h (tableFrom f n c) ≡ tableFrom (λ i. h (f i)) n c
-unfolding tableFrom
-part-map f h n zero = refl
-part-map f h n (suc c) = ap (λ (ws : List ℕ). h (f n) ∷ ws) (part-map f h (suc n) c)
-
--- the same words at other places
-part-same : (f g : ℕ → ℕ) (n m c : ℕ) → ((i : ℕ) → i < c → f (n + i) ≡ g (m + i)) → tableFrom f n c ≡ tableFrom g m c
-unfolding tableFrom
-part-same f g n m zero e = refl
-part-same f g n m (suc c) e =
-    ap₂ {C = List ℕ} (λ (v : ℕ) (ws : List ℕ). v ∷ ws) (rw (add-zero n, add-zero m) at (e 0 (omega arith)))
-    (part-same f g (suc n) (suc m) c (λ i l. rw (suc-add n i, suc-add m i) (rw (add-suc n i, add-suc m i) at (e (suc i) (omega arith)))))
-
 -- ---- the rows are the table's
 
 module _ {key : ℕ} (pos : 0 < key) where
-  row-is : (x b : ℕ) → row key x b ≡ tableFrom (λ i. rem key (i ⊗ x)) 0 (2 ^ b)
-  unfolding row doubled tableFrom
+  row-is : (x b : ℕ) → row key x b ≡ listFrom (λ i. rem key (i ⊗ x)) 0 (2 ^ b)
+  unfolding row doubled listFrom
   row-is x zero = ap (λ (v : ℕ). v ∷ []) (sym (multiple-zero pos x))
   row-is x (suc b) =
       ap (λ (ws : List ℕ). ws ++ map (λ v. v ⊕ y) ws) (row-is x b)
-      ∙ ap (λ (ws : List ℕ). tableFrom f 0 (2 ^ b) ++ ws)
-      (part-map f (λ v. v ⊕ y) 0 (2 ^ b) ∙ part-same (λ i. f i ⊕ y) f 0 (0 + 2 ^ b) (2 ^ b) (λ i l. rw (zero-add i, zero-add (2 ^ b)) (sym (multiple-double pos x b i l))))
-      ∙ sym (part-append f 0 (2 ^ b) (2 ^ b))
-      ∙ ap (tableFrom f 0) twice
+      ∙ ap (λ (ws : List ℕ). listFrom f 0 (2 ^ b) ++ ws)
+      (list-map f (λ v. v ⊕ y) 0 (2 ^ b) ∙ list-same (λ i. f i ⊕ y) f 0 (0 + 2 ^ b) (2 ^ b) (λ i l. rw (zero-add i, zero-add (2 ^ b)) (sym (multiple-double pos x b i l))))
+      ∙ sym (list-append f 0 (2 ^ b) (2 ^ b))
+      ∙ ap (listFrom f 0) twice
     where
       f : ℕ → ℕ
       f i = rem key (i ⊗ x)
@@ -84,18 +65,18 @@ module _ {key : ℕ} (pos : 0 < key) where
       twice : 2 ^ b + 2 ^ b ≡ 2 ^ suc b
       twice = rw pow-suc (omega arith)
 
-  rows-table : (w c : ℕ) → rows w key c ≡ tableFrom (word w key) 0 (c * 2 ^ w)
-  unfolding rows tableFrom
+  rows-table : (w c : ℕ) → rows w key c ≡ listFrom (word w key) 0 (c * 2 ^ w)
+  unfolding rows listFrom
   rows-table w zero = rw zero-mul refl
   rows-table w (suc c) =
       ap₂ (λ (us vs : List ℕ). us ++ vs) (rows-table w c)
-      (row-is x w ∙ part-same (λ i. rem key (i ⊗ x)) (word w key) 0 (0 + c * 2 ^ w) (2 ^ w) (λ i l. rw (zero-add i, zero-add (c * 2 ^ w)) (sym (word-row w (degree key) pos refl c i l))))
-      ∙ sym (part-append (word w key) 0 (c * 2 ^ w) (2 ^ w))
-      ∙ ap (tableFrom (word w key) 0) (sym (suc-mul c (2 ^ w)))
+      (row-is x w ∙ list-same (λ i. rem key (i ⊗ x)) (word w key) 0 (0 + c * 2 ^ w) (2 ^ w) (λ i l. rw (zero-add i, zero-add (c * 2 ^ w)) (sym (word-row w (degree key) pos refl c i l))))
+      ∙ sym (list-append (word w key) 0 (c * 2 ^ w) (2 ^ w))
+      ∙ ap (listFrom (word w key) 0) (sym (suc-mul c (2 ^ w)))
     where
       x : ℕ
       x = power key (degree key + w * c)
 
   -- words that pass the test are the table
-  pub table-by-test : (w c : ℕ) (words : List ℕ) → T (same words (rows w key c)) → words ≡ tableFrom (word w key) 0 (c * 2 ^ w)
+  pub table-by-test : (w c : ℕ) (words : List ℕ) → T (same words (rows w key c)) → words ≡ listFrom (word w key) 0 (c * 2 ^ w)
   table-by-test w c words t = same-eq words (rows w key c) t ∙ rows-table w c

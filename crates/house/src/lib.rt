@@ -5,9 +5,10 @@ ghost use mathlib.Core.Path.{_≡_};
 ghost use Prim.Native.Nat.{_^_, _<_};
 ghost use lib.ListN.{getD};
 ghost use Rattle.gf2.specs.Polynomials.{rem};
+ghost use Rattle.gf2.specs.Lists.{listFrom};
 ghost use Rattle.files.specs.Files.{bits, valueFrom};
 ghost use Rattle.marks.specs.Feeding.{fed, fedUnder};
-ghost use Rattle.tables.specs.Tables.{word, tableFrom, houseKey, feedHouse};
+ghost use Rattle.tables.specs.Tables.{word, houseKey, feedHouse};
 use files::Mark;
 use marks::Fed;
 use marks::Running;
@@ -23,7 +24,7 @@ const KEY: u64 = 0x2000000000000027;
 
 // Word n of the house key's table, and 0 past its end.
 pub fn house_word(n: usize) -> u64
-    ensures { λ r. ⌜ r ≡ getD (tableFrom (word 8 houseKey) 0 1024) n 0 ⌝ }
+    ensures { λ r. ⌜ r ≡ getD (listFrom (word 8 houseKey) 0 1024) n 0 ⌝ }
 {
     if n < 1024 { HOUSE[n] } else { 0 }
 }

@@ -4,44 +4,34 @@ use mathlib.Core.Logic.{_⊎_, inl, inr}
 use mathlib.Core.Bool.{Bool, true, false, not, true≢false, false≢true}
 use mathlib.Core.List.{List}
 use Prim.Native.Nat.{ℕ, zero, suc, _+_, _-_, _*_, _/_, _%_, _^_, _≤_, _<_}
-use native.Mathlib.Nat.{le-suc, zero-mul, one-mul, pow-suc, div-lt-iff-lt-mul, mod-lt, lt-of-lt-of-le, eq-zero-or-pos, div-eq-of-lt}
+use native.Mathlib.Nat.{zero-mul, one-mul, pow-suc, mod-lt, lt-of-lt-of-le, eq-zero-or-pos, div-eq-of-lt}
 use native.Mathlib.Decide.{decLt}
 use native.Mathlib.Omega.{arith}
 use lib.Arith.{lt-one}
 use lib.ListN.{length, getD}
 use lib.Pow.{pow-pos, pow-mono, pow-add, split, high, shl-lt, shr-lt}
 use Rattle.gf2.specs.Polynomials.{_⊕_, _⊗_, degree, rem}
+use Rattle.gf2.specs.Lists.{listFrom}
 use Rattle.gf2.proofs.Sums.{⊕-zero, ⊕-self, ⊕-eq, ⊕-swap, ⊕-lt, ⊕-append}
-use Rattle.gf2.proofs.Products.{zero-⊗, ⊗-zero, one-⊗, ⊗-one, ⊗-comm, ⊗-pow, bit-⊕, by-bit, by-low, ring}
-use Rattle.gf2.proofs.Degrees.{degree-is, degree-⊗, deg-hi, deg-le, lt-of-high, pos-⊗, ⊗-no-zero}
+use Rattle.gf2.proofs.Products.{zero-⊗, ⊗-zero, ⊗-one, ⊗-comm, ⊗-pow, ⊗-bit, bit-⊕, by-bit, bit-square, square-⊕, by-digits, ring}
+use Rattle.gf2.proofs.Degrees.{half-lt, degree-is, degree-⊗, deg-hi, deg-le, lt-of-high, pos-⊗, ⊗-no-zero}
 use Rattle.gf2.proofs.Residues.{rem-zero, rem-⊕, rem-small, rem-lt}
 use Rattle.acceptance.proofs.Criterion.{rigid-irreducible, irreducible-rigid}
 use Rattle.acceptance.specs.Keys.{reducible}
 use Rattle.acceptance.proofs.Laws.{irreducible-of, not-reducible}
 use Rattle.basis.specs.Rows.{sumOf, Independent}
-use Rattle.keys.specs.Squares.{listFrom, square, oddPart, folded, squareRows, differenceRows}
-use Rattle.keys.proofs.Filling.{length-list, list-same, list-over}
-use Rattle.keys.proofs.Linear.{Additive, at-zero}
+use Rattle.basis.proofs.Sums.{sum-map}
+use Rattle.keys.specs.Squares.{square, oddPart, folded, squareRows, differenceRows}
+use Rattle.keys.proofs.Filling.{list-over}
+use Rattle.gf2.proofs.Linear.{Additive}
+use Rattle.gf2.proofs.Lists.{length-list, list-map, list-same}
 use Rattle.keys.proofs.Folding.{Kernel, odd-kernel, fold-kernel}
-
-half-lt : (h n : ℕ) → h < 2 ^ suc n → h / 2 < 2 ^ n
-half-lt h n l = div-lt-iff-lt-mul (le-suc 1) .1 (rw pow-suc at l)
-
-by-digits : (h : ℕ) → h / 2 ⊗ 2 ⊕ h % 2 ≡ h
-by-digits h = ap (λ (x : ℕ). x ⊕ h % 2) (⊗-pow 1 (h / 2)) ∙ by-low h
-
-bit-square : (h : ℕ) → h % 2 ⊗ (h % 2) ≡ h % 2
-bit-square h = by-bit (λ (c : ℕ). c ⊗ c ≡ c) (zero-⊗ 0) (one-⊗ 1) h
 
 -- ---- sums of listed rows
 
--- additive functions may be put through the sum
-sum-map : {f : ℕ → ℕ} → Additive f → (g : ℕ → ℕ) (i n h : ℕ) → sumOf h (listFrom (λ j. f (g j)) i n) ≡ f (sumOf h (listFrom g i n))
-unfolding sumOf listFrom
-sum-map {f} a g i zero h = sym (at-zero a)
-sum-map {f} a g i (suc n) h =
-    ap₂ (λ (x y : ℕ). x ⊕ y) (by-bit (λ (c : ℕ). c * f (g i) ≡ f (c * g i)) (rw (zero-mul, zero-mul) (sym (at-zero a))) (rw (one-mul, one-mul)) h) (sum-map a g (suc i) n (h / 2))
-    ∙ sym (a .sum (h % 2 * g i) (sumOf (h / 2) (listFrom g (suc i) n)))
+-- an additive function may be put through the sum
+sum-listed : {f : ℕ → ℕ} → Additive f → (g : ℕ → ℕ) (i n h : ℕ) → sumOf h (listFrom (λ j. f (g j)) i n) ≡ f (sumOf h (listFrom g i n))
+sum-listed {f} a g i n h = ap (sumOf h) (sym (list-map g f i n)) ∙ sum-map a h (listFrom g i n)
 
 sum-both : (f g : ℕ → ℕ) (i n h : ℕ) → sumOf h (listFrom (λ j. f j ⊕ g j) i n) ≡ sumOf h (listFrom f i n) ⊕ sumOf h (listFrom g i n)
 unfolding sumOf listFrom
@@ -50,14 +40,11 @@ sum-both f g i (suc n) h =
     ap₂ (λ (x y : ℕ). x ⊕ y) (bit-⊕ h (f i) (g i)) (sum-both f g (suc i) n (h / 2))
     ∙ ⊕-swap (h % 2 * f i) (h % 2 * g i) (sumOf (h / 2) (listFrom f (suc i) n)) (sumOf (h / 2) (listFrom g (suc i) n))
 
-bit-⊗ : (h x : ℕ) → h % 2 * x ≡ x ⊗ (h % 2)
-bit-⊗ h x = by-bit (λ (c : ℕ). c * x ≡ x ⊗ c) (rw (zero-mul, ⊗-zero)) (rw (one-mul, ⊗-one)) h
-
 sum-powers : (i n h : ℕ) → h < 2 ^ n → sumOf h (listFrom (λ j. 2 ^ j) i n) ≡ 2 ^ i ⊗ h
 unfolding sumOf listFrom
 sum-powers i zero h l = rw (lt-one l) (sym (⊗-zero (2 ^ i)))
 sum-powers i (suc n) h l =
-    ap₂ (λ (x y : ℕ). x ⊕ y) (bit-⊗ h (2 ^ i)) (sum-powers (suc i) n (h / 2) (half-lt h n l) ∙ ap (λ (x : ℕ). x ⊗ (h / 2)) (pow-suc 2 i ∙ sym (⊗-pow 1 (2 ^ i))))
+    ap₂ (λ (x y : ℕ). x ⊕ y) (sym (⊗-bit h (2 ^ i))) (sum-powers (suc i) n (h / 2) (half-lt h n l) ∙ ap (λ (x : ℕ). x ⊗ (h / 2)) (pow-suc 2 i ∙ sym (⊗-pow 1 (2 ^ i))))
     ∙ expand (2 ^ i) (h / 2) (h % 2) 2 ∙ ap (λ (x : ℕ). 2 ^ i ⊗ x) (by-digits h)
   where
     expand : (v g c t : ℕ) → v ⊗ c ⊕ v ⊗ t ⊗ g ≡ v ⊗ (g ⊗ t ⊕ c)
@@ -120,10 +107,10 @@ module _ (p : ℕ) (pos : 0 < p) (h n : ℕ) (whole : h + n ≡ degree p) (lower
 
     sum-rows : (g : ℕ) → g < 2 ^ n → sumOf g rows ≡ r (value (g * 2 ^ h))
     sum-rows g l =
-        sum-map (t .additive) (λ i. square p i ⊕ δ (2 ^ i)) h n g
+        sum-listed (t .additive) (λ i. square p i ⊕ δ (2 ^ i)) h n g
         ∙ ap r
         (sum-both (square p) (λ i. δ (2 ^ i)) h n g
-        ∙ ap₂ (λ (x y : ℕ). x ⊕ y) (sum-squares p pos h n g l ∙ ap (rem p) shift) (sum-map (t .δ-additive) (λ i. 2 ^ i) h n g ∙ ap δ (sum-powers h n g l ∙ ⊗-comm (2 ^ h) g ∙ ⊗-pow h g)))
+        ∙ ap₂ (λ (x y : ℕ). x ⊕ y) (sum-squares p pos h n g l ∙ ap (rem p) shift) (sum-listed (t .δ-additive) (λ i. 2 ^ i) h n g ∙ ap δ (sum-powers h n g l ∙ ⊗-comm (2 ^ h) g ∙ ⊗-pow h g)))
       where
         expand : (v : ℕ) → v ⊗ v ⊗ (g ⊗ g) ≡ g ⊗ v ⊗ (g ⊗ v)
         expand v = simp ring
@@ -136,11 +123,8 @@ module _ (p : ℕ) (pos : 0 < p) (h n : ℕ) (whole : h + n ≡ degree p) (lower
 
     parts : (g l : ℕ) → l < 2 ^ h → value (g * 2 ^ h ⊕ l) ≡ value (g * 2 ^ h) ⊕ (l ⊗ l ⊕ δ l)
     parts g l m =
-        ap₂ (λ (x y : ℕ). x ⊕ y) (ap (rem p) (expand (g * 2 ^ h) l) ∙ rem-⊕ pos (g * 2 ^ h ⊗ (g * 2 ^ h)) (l ⊗ l) ∙ ap (λ (y : ℕ). rem p (g * 2 ^ h ⊗ (g * 2 ^ h)) ⊕ y) (small-rem l m)) (t .δ-additive .sum (g * 2 ^ h) l)
+        ap₂ (λ (x y : ℕ). x ⊕ y) (ap (rem p) (square-⊕ (g * 2 ^ h) l) ∙ rem-⊕ pos (g * 2 ^ h ⊗ (g * 2 ^ h)) (l ⊗ l) ∙ ap (λ (y : ℕ). rem p (g * 2 ^ h ⊗ (g * 2 ^ h)) ⊕ y) (small-rem l m)) (t .δ-additive .sum (g * 2 ^ h) l)
         ∙ ⊕-swap (rem p (g * 2 ^ h ⊗ (g * 2 ^ h))) (l ⊗ l) (δ (g * 2 ^ h)) (δ l)
-      where
-        expand : (a b : ℕ) → (a ⊕ b) ⊗ (a ⊕ b) ≡ a ⊗ a ⊕ b ⊗ b
-        expand a b = simp ring
 
     abbrev Low : Type 0
     Low = (x : ℕ) → x < 2 ^ degree p → value x ≡ 0 → x < 2 ^ h

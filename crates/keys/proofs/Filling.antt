@@ -1,39 +1,17 @@
--- Laws of listed values, and of a buffer that is filled with them from the front.
-use mathlib.Core.Path.{_≡_, refl, sym, ap, ap₂, _∙_}
+-- Listed values put through a function, and a buffer that is filled with them from the front.
+use mathlib.Core.Path.{_≡_, sym, ap, _∙_}
 use mathlib.Core.List.{List, [], _∷_, _++_, append-nil}
-use Prim.Native.Nat.{ℕ, zero, suc, _+_, _-_, _*_, _^_, _≤_, _<_}
-use native.Mathlib.Nat.{zero-add, add-zero, add-suc, suc-add, le-of-suc-le-suc, not-suc-le-zero, pow-suc}
+use Prim.Native.Nat.{ℕ, suc, _+_, _-_, _*_, _^_, _≤_, _<_}
+use native.Mathlib.Nat.{zero-add, add-zero, pow-suc}
 use native.Mathlib.Numerals.{add-one}
 use native.Mathlib.Omega.{arith}
 use lib.ListN.{length, drop, getD, set, length-append, length-drop}
 use lib.Seq.{drop-cons, drop-length, append-snoc, set-at, getD-at}
 use Rattle.gf2.specs.Polynomials.{rem}
+use Rattle.gf2.specs.Lists.{listFrom}
 use Rattle.gf2.proofs.Powers.{rem-shl}
-use Rattle.keys.specs.Squares.{listFrom, square}
-
-list-more : (f : ℕ → ℕ) (a n : ℕ) → listFrom f a (suc n) ≡ listFrom f a n ++ (f (a + n) ∷ [])
-unfolding listFrom
-list-more f a zero = rw add-zero
-list-more f a (suc n) = ap (λ (x : List ℕ). f a ∷ x) (rw (add-suc a n, ← suc-add a n) (list-more f (suc a) n))
-
-pub length-list : (f : ℕ → ℕ) (i n : ℕ) → length (listFrom f i n) ≡ n
-unfolding listFrom
-length-list f i zero = refl
-length-list f i (suc n) = ap suc (length-list f (suc i) n)
-
-list-at : (f : ℕ → ℕ) (a n i : ℕ) → i < n → getD (listFrom f a n) i 0 ≡ f (a + i)
-unfolding listFrom
-list-at f a zero i h = absurd (not-suc-le-zero h)
-list-at f a (suc n) zero h = rw add-zero
-list-at f a (suc n) (suc i) h = list-at f (suc a) n i (le-of-suc-le-suc h) ∙ rw (suc-add, add-suc)
-
--- counted from a or from b
-pub list-same : (f g : ℕ → ℕ) (a b n : ℕ) → ((i : ℕ) → i < n → f (a + i) ≡ g (b + i)) → listFrom f a n ≡ listFrom g b n
-unfolding listFrom
-list-same f g a b zero h = refl
-list-same f g a b (suc n) h =
-    ap₂ (λ (x : ℕ) (xs : List ℕ). x ∷ xs) (rw (add-zero, add-zero) at (h 0 (omega arith)))
-    (list-same f g (suc a) (suc b) n (λ i l. rw (suc-add, suc-add, ← add-suc, ← add-suc) (h (suc i) (omega arith))))
+use Rattle.gf2.proofs.Lists.{length-list, list-at, list-more, list-same}
+use Rattle.keys.specs.Squares.{square}
 
 -- listed values, each put through g with its place
 pub list-over : (g : ℕ → ℕ → ℕ) (f : ℕ → ℕ) (a n : ℕ) → listFrom (λ i. g (a + i) (getD (listFrom f a n) i 0)) 0 n ≡ listFrom (λ i. g i (f i)) a n
@@ -55,7 +33,7 @@ module _ (f : ℕ → ℕ) (a i : ℕ) (rows : List ℕ) where
       ∙ last
     where
       last : listFrom f a i ++ (v ∷ []) ++ drop (suc i) rows ≡ listFrom f a (i + 1) ++ drop (i + 1) rows
-      last = rw (add-one, list-more f a i, e)
+      last = rw (list-more f a i, add-one, e)
 
   pub fill-whole : i ≡ length rows → listFrom f a i ++ drop i rows ≡ listFrom f a (length rows)
   fill-whole e = rw (e, drop-length) (append-nil (listFrom f a (length rows)))

@@ -11,7 +11,7 @@ use Rattle.gf2.specs.Polynomials.{_⊕_, _⊗_, longProduct}
 use Rattle.gf2.proofs.Sums.{⊕-zero, ⊕-assoc, ⊕-self, ⊕-shr, ⊕-low, ⊕-lt, ⊕-eq, ⊕-half, bits-eq, xor}
 use Rattle.gf2.proofs.Products.{mod-2, ring}
 use Rattle.keys.specs.Squares.{evenRoot, oddPart, folded}
-use Rattle.keys.proofs.Linear.{Additive, at-zero, same, none, after, both, shifted, masked, squared, equal}
+use Rattle.gf2.proofs.Linear.{Additive, at-zero, same, none, after, both, shifted, masked, squared, equal}
 
 -- ---- the root
 

@@ -3,15 +3,13 @@
 use mathlib.Core.Path.{_≡_, sym, ap, _∙_}
 use mathlib.Core.Bool.{Bool, true, false}
 use mathlib.Core.List.{List, [], _∷_, _++_}
-use Prim.Native.Nat.{ℕ, suc, _%_, _^_, _≤_, _<_}
-use native.Mathlib.Nat.{lt-of-le-of-lt, le-of-suc-le-suc, mod-lt}
+use Prim.Native.Nat.{ℕ, _%_, _^_, _≤_, _<_}
 use native.Mathlib.Omega.{arith}
 use lib.Dec.{ltb}
-use lib.Pow.{pow-pos}
 use borrow.Author.Tests.{ltb-false}
 use Rattle.gf2.specs.Polynomials.{degree, monic, Modulus}
-use Rattle.gf2.proofs.Degrees.{degree-is, deg-hi, deg-le, lt-of-pow-lt}
-use Rattle.gf2.proofs.Monics.{monic-of}
+use Rattle.gf2.proofs.Degrees.{degree-from}
+use Rattle.gf2.proofs.Monics.{word-degree, word-monic, word-modulus}
 use Rattle.refusals.specs.declared.Refusal.{Refusal}
 use Rattle.refusals.specs.declared.Refusal.the-variants.{KeyBelow256, KeyReducible}
 use Rattle.refusals.specs.Refusals.{Refused, numberOf, Test, _⇒_, firstOf}
@@ -21,14 +19,6 @@ use Rattle.acceptance.proofs.Laws.{accepted-small, key-iff}
 use Rattle.keys.specs.declared.Tested.{Tested}
 use Rattle.keys.specs.declared.Tested.the-variants as cases
 use Rattle.keys.specs.Testing.{testKey, tested}
-
--- ---- the degree of a key: d or more where it is at least 2 ^ d, at most 63 where it is a word
-
-pub degree-from : (d key : ℕ) → 2 ^ d ≤ key → d ≤ degree key
-degree-from d key l = le-of-suc-le-suc (lt-of-pow-lt d (suc (degree key)) (lt-of-le-of-lt l (deg-hi key (degree key) (degree-is key (omega (arith, pow-pos d))))))
-
-pub degree-word : (key : ℕ) → 0 < key → key < 2 ^ 64 → degree key < 64
-degree-word key p l = deg-le key (degree key) 64 (degree-is key p) l
 
 -- ---- what a caller knows in each arm
 
@@ -81,14 +71,14 @@ module _ {key : ℕ} (h : Passed key) where
   passed-pos = omega (arith, passed-low)
 
   pub passed-monic : monic (degree key) (key % 2 ^ degree key) ≡ key
-  passed-monic = monic-of (degree key) key (degree-is key passed-pos)
+  passed-monic = word-monic key passed-pos
 
   pub passed-from : 8 ≤ degree key
   passed-from = degree-from 8 key passed-low
 
   pub passed-word : key < 2 ^ 64 → degree key < 64
-  passed-word l = degree-word key passed-pos l
+  passed-word l = word-degree key passed-pos l
 
   -- the modulus as the code holds it
   pub passed-modulus : key < 2 ^ 64 → Modulus (degree key) (key % 2 ^ degree key)
-  passed-modulus l = (omega (arith, passed-from), omega (arith, passed-word l), mod-lt key (pow-pos (degree key)))
+  passed-modulus l = word-modulus key (omega (arith, passed-low)) l

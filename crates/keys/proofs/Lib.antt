@@ -1,4 +1,3 @@
-pub mod Linear
 pub mod Folding
 pub mod Filling
 pub mod Decision

@@ -1,15 +1,11 @@
 -- The rows that decide whether a polynomial p of degree k is irreducible, after Berlekamp: squaring modulo p is linear. With h half of
 -- k, rounded up, the squares of 1, t, .. t^(h - 1) are those without the modulus; what is left to test are the squares of t^h, ..
 -- t^(k - 1), modulo all squares, and each less its power of t, modulo all l² ⊕ l (proofs/Decision).
-use mathlib.Core.List.{List, [], _∷_}
+use mathlib.Core.List.{List}
 use Prim.Native.Nat.{ℕ, zero, suc, _+_, _*_, _/_, _%_, _^_}
 use lib.Bits.{bitAnd}
 use Rattle.gf2.specs.Polynomials.{_⊕_, rem}
-
--- f i, f (i + 1), ..: n of them
-unfoldable pub listFrom : (ℕ → ℕ) → ℕ → ℕ → List ℕ
-listFrom f i zero = []
-listFrom f i (suc n) = f i ∷ listFrom f (suc i) n
+use Rattle.gf2.specs.Lists.{listFrom}
 
 -- the square of t^i modulo p
 unfoldable pub square : ℕ → ℕ → ℕ

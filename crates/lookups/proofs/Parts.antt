@@ -13,7 +13,7 @@ use Rattle.gf2.proofs.Products.{⊗-pow}
 use Rattle.gf2.proofs.Residues.{rem-⊕, rem-small}
 use Rattle.gf2.proofs.Powers.{rem-shl, rem-⊗-right}
 use Rattle.gf2.proofs.Monics.{monic-pos, monic-degree}
-use Rattle.multiples.proofs.Doubling.{rem-below}
+use Rattle.gf2.proofs.Steps.{residue-lt}
 use Rattle.files.specs.Files.{bits, valueFrom}
 use Rattle.files.proofs.Values.{value-append, value-split, value-lt, value-⊕, length-bits, bits-append, value-byte, rem-from}
 
@@ -110,7 +110,7 @@ Going k low f p i x = (x < 2 ^ k) × (rem (monic k low) (valueFrom x (bits (drop
 
 module _ (k low : ℕ) (m : low < 2 ^ k) (f : ℕ) (p : List ℕ) (i x : ℕ) (g : Going k low f p i x) where
   pub going-four : (v y : ℕ) → i + 4 ≤ length p → v ≡ valueFrom 0 (bits (take 4 (drop i p))) → y ≡ rem (monic k low) (x * 2 ^ 32 + v) → Going k low f p (i + 4) y
-  going-four v y l ev ey = (rw ey (rem-below k low m (x * 2 ^ 32 + v)), fed-four (monic-pos k low m) p i x v y l ev ey ∙ g .1)
+  going-four v y l ev ey = (rw ey (residue-lt k low m (x * 2 ^ 32 + v)), fed-four (monic-pos k low m) p i x v y l ev ey ∙ g .1)
 
   pub going-all : length p ≤ i → x ≡ rem (monic k low) (valueFrom f (bits p))
   going-all l = sym (fed-all (monic-pos k low m) p i x l (rw (monic-degree k low m) (g .0))) ∙ g .1
@@ -138,7 +138,7 @@ runs-join {key} pos f p q =
     ∙ ap (valueFrom f) (sym (bits-append p q)))
 
 pub joined-lt : (k low : ℕ) → low < 2 ^ k → (x t y z r : ℕ) → r ≡ rem (monic k low) (x ⊗ t) ⊕ y → y ≡ rem (monic k low) z → r < 2 ^ k
-joined-lt k low m x t y z r er ey = rw (er, ey) (⊕-lt k (rem (monic k low) (x ⊗ t)) (rem (monic k low) z) (rem-below k low m (x ⊗ t)) (rem-below k low m z))
+joined-lt k low m x t y z r er ey = rw (er, ey) (⊕-lt k (rem (monic k low) (x ⊗ t)) (rem (monic k low) z) (residue-lt k low m (x ⊗ t)) (residue-lt k low m z))
 
 module _ {key : ℕ} (pos : 0 < key) (f : ℕ) (p : List ℕ) where
   -- the run of n bytes from place a to place b joined

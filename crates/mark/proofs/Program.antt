@@ -9,6 +9,8 @@ use lib.Dec.{ltb}
 use lib.ListN.{length, take, drop, length-append, take-append-drop}
 use lib.Seq.{drop-append-le}
 use borrow.Author.Tests.{lt-ltb, le-ltb}
+use Rattle.gf2.specs.Lists.{listFrom}
+use Rattle.gf2.proofs.Lists.{length-list}
 use Rattle.refusals.specs.declared.Refusal.{Refusal}
 use Rattle.refusals.specs.declared.Refusal.the-variants.{KeyBelow256, KeyReducible, TooLong}
 use Rattle.refusals.specs.Refusals.{Answer, Done, Refused, _⇒_, firstOf, passes, longest}
@@ -18,8 +20,8 @@ use Rattle.files.specs.Files.{markOf}
 use Rattle.keys.proofs.Laws.{Passed, passed-pos}
 use Rattle.marks.specs.Feeding.{begin, fedMark, feedTests, begunUnder, fedUnder}
 use Rattle.marks.proofs.Laws.{sum-passes, sum-fits, feed-long, feed-passed, true-reduced, fed-true}
-use Rattle.tables.specs.Tables.{word, tableFrom, makeTable, feedTable}
-use Rattle.tables.proofs.Rule.{length-table, table-follows}
+use Rattle.tables.specs.Tables.{word, makeTable, feedTable}
+use Rattle.tables.proofs.Rule.{table-follows}
 use Rattle.tables.proofs.Calls.{make-done, feed-tested}
 use Rattle.printing.specs.declared.KeyLine.{KeyLine}
 use Rattle.printing.specs.declared.KeyLine.the-variants.{NoKey, Key}
@@ -72,11 +74,11 @@ stopped key words r m (part ∷ parts) = refl
 module _ (key : ℕ) (h : Passed key) where
   -- the table that was made passes its tests
   table : List ℕ
-  table = tableFrom (word 8 key) 0 1024
+  table = listFrom (word 8 key) 0 1024
 
   tested : (m : Mark) (part : List ℕ) → feedTable key m table part ≡ firstOf (feedTests key m part) m (fedMark key m part)
   unfolding table
-  tested m part = feed-tested key m (tableFrom (word 8 key) 0 1024) part h (length-table (word 8 key) 0 1024) (table-follows (word 8 key) 0 1024)
+  tested m part = feed-tested key m (listFrom (word 8 key) 0 1024) part h (length-list (word 8 key) 0 1024) (table-follows (word 8 key) 0 1024)
 
   feed-goes : (file part : List ℕ) → length file + length part ≤ longest → feedTable key (markOf key file) table part ≡ Done (markOf key (file ++ part))
   unfolding markOf

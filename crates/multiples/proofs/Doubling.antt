@@ -3,7 +3,7 @@
 use mathlib.Core.Path.{_≡_, sym, ap, _∙_}
 use mathlib.Core.List.{List}
 use Prim.Native.Nat.{ℕ, suc, _+_, _-_, _*_, _^_, _≤_, _<_}
-use native.Mathlib.Nat.{add-zero, one-mul, add-assoc, pow-suc}
+use native.Mathlib.Nat.{add-zero, add-assoc, pow-suc}
 use native.Mathlib.Decide.{decLt, ℕ-discrete}
 use native.Mathlib.Omega.{arith}
 use lib.Arith.{lt-of-le-ne}
@@ -14,25 +14,18 @@ use lib.ListN.{length, getD, set}
 use lib.Pow.{pow-mono}
 use lib.Seq.{getD-set-same, getD-set-other}
 use Rattle.gf2.specs.Polynomials.{_⊕_, _⊗_, degree, monic, rem}
-use Rattle.gf2.proofs.Sums.{⊕-append, ⊕-comm, ⊕-assoc, ⊕-self, ⊕-eq}
+use Rattle.gf2.proofs.Sums.{⊕-comm, ⊕-assoc, ⊕-self, ⊕-eq}
 use Rattle.gf2.proofs.Products.{zero-⊗, one-⊗, dbl-⊗, ⊕-⊗}
-use Rattle.gf2.proofs.Residues.{rem-zero, rem-lt, rem-small, rem-⊕}
+use Rattle.gf2.proofs.Residues.{rem-zero, rem-small, rem-⊕}
 use Rattle.gf2.proofs.Powers.{rem-shl}
-use Rattle.gf2.proofs.Monics.{monic-degree, monic-pos}
+use Rattle.gf2.proofs.Monics.{monic-⊕}
 use Rattle.multiples.specs.Rows.{Multiples, Shifted, SameBefore}
-
--- a residue modulo the modulus as the code holds it
-pub rem-below : (k low : ℕ) → low < 2 ^ k → (a : ℕ) → rem (monic k low) a < 2 ^ k
-rem-below k low h a = rw (monic-degree k low h) at (rem-lt (monic-pos k low h) a)
-
--- 2^b + m is a sum without carry
-top-⊕ : (b m : ℕ) → m < 2 ^ b → 2 ^ b + m ≡ 2 ^ b ⊕ m
-top-⊕ b m h = sym (simp one-mul at (⊕-append 1 b m h))
 
 module _ {key : ℕ} (pos : 0 < key) (x : ℕ) where
   pub multiple-double : (b m : ℕ) → m < 2 ^ b → rem key ((2 ^ b + m) ⊗ x) ≡ rem key (m ⊗ x) ⊕ rem key (2 ^ b ⊗ x)
+  unfolding monic
   multiple-double b m h =
-      ap (λ (y : ℕ). rem key (y ⊗ x)) (top-⊕ b m h ∙ ⊕-comm (2 ^ b) m) ∙ ap (rem key) (⊕-⊗ m (2 ^ b) x) ∙ rem-⊕ pos (m ⊗ x) (2 ^ b ⊗ x)
+      ap (λ (y : ℕ). rem key (y ⊗ x)) (monic-⊕ b m h ∙ ⊕-comm (2 ^ b) m) ∙ ap (rem key) (⊕-⊗ m (2 ^ b) x) ∙ rem-⊕ pos (m ⊗ x) (2 ^ b ⊗ x)
 
   -- the multiple by twice z, from the one by z
   pub multiple-next : (z : ℕ) → rem key (rem key (z ⊗ x) * 2 + 0) ≡ rem key (z * 2 ⊗ x)

@@ -14,13 +14,12 @@ use Rattle.gf2.specs.Polynomials.{degree, rem}
 use Rattle.gf2.proofs.Lists.{all-map}
 use Rattle.refusals.specs.Refusals.{Done, Test, _⇒_, firstOf, longest}
 use Rattle.acceptance.specs.Keys.{accepted}
-use Rattle.acceptance.proofs.Laws.{or-neither, accepted-iff, accepted-pos, key-iff}
+use Rattle.acceptance.proofs.Laws.{or-neither, accepted-iff, accepted-pos, accepted-small, key-iff}
 use Rattle.files.specs.Files.{Bytes, fingerprint}
 use Rattle.sheets.specs.Layout.{version1, numberAt, sheetSize, pageCount, pagesIn, Contents, sheetBytes, contentsIn}
 use Rattle.sheets.specs.Sheets.{contentsOf, someUnreduced, pagesJoined, fileFilled, readTests, Sound, WellFormed}
 use Rattle.sheets.proofs.Numbers.{number-lt, length-numbersAt}
 use Rattle.sheets.proofs.Layouts.{Fits, length-sheet, letters-back, version-back, read-back, write-back}
-use Rattle.sheets.proofs.Moduli.{key-lt}
 use Rattle.sheets.proofs.Pages.{fingerprint-lt, fingerprints-lt, length-pages, pages-joined}
 
 -- ---- lists of tests of which none holds
@@ -70,7 +69,7 @@ sound-fits x h =
     record {
       letters = lit< tt;
       version = lit< tt;
-      key = key-lt (x .key) (h .key);
+      key = accepted-small (x .key) (h .key);
       length = omega (arith, h .length);
       pageSize = omega (arith, h .pageSize);
       pages = all-map (λ f l. lt-of-lt-of-le l small) (x .pages) (h .pages);
@@ -92,7 +91,7 @@ or-clear x y z = rw (x, y, z)
 pub sound-clear : (x : Contents) → Sound x → Clear (readTests version1 (sheetBytes version1 x))
 sound-clear x h =
     let f = sound-fits x h in
-    let k = key-iff (x .key) (key-lt (x .key) (h .key)) .0 (h .key) in
+    let k = key-iff (x .key) (accepted-small (x .key) (h .key)) .0 (h .key) in
     rw (read-back version1 x f, length-sheet version1 x, letters-back version1 x f, version-back version1 x f) (
       or-clear (le-ltb (sheetSize version1 (length (x .pages))) 27 (omega arith)) refl refl,
       (

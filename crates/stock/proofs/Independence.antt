@@ -5,15 +5,15 @@ use mathlib.Core.Logic.{_⊎_, inl, inr}
 use mathlib.Core.Bool.{Bool, true, false}
 use mathlib.Core.List.{List, [], _∷_}
 use Prim.Native.Nat.{ℕ, zero, suc, _*_, _/_, _%_, _^_, _≤_, _<_, zero-le}
-use native.Mathlib.Nat.{le-trans, le-refl, le-suc, le-of-suc-le-suc, not-suc-le-zero, not-le-of-lt, lt-of-lt-of-le, zero-mul, one-mul, pow-suc, div-self, div-lt-iff-lt-mul}
+use native.Mathlib.Nat.{le-trans, le-refl, le-suc, le-of-suc-le-suc, not-suc-le-zero, not-le-of-lt, lt-of-lt-of-le, zero-mul, one-mul, div-self}
 use native.Mathlib.Omega.{arith}
 use lib.Dec.{T}
 use lib.ListN.{length}
 use lib.Pow.{pow-pos, pow-mono, pow-lt}
 use Rattle.gf2.specs.Polynomials.{_⊕_}
-use Rattle.gf2.proofs.Sums.{⊕-zero, zero-⊕, ⊕-self, ⊕-assoc, ⊕-lt, ⊕-eq, xor}
+use Rattle.gf2.proofs.Sums.{⊕-zero, zero-⊕, ⊕-self, ⊕-assoc, ⊕-left-comm, ⊕-lt, ⊕-eq, xor}
 use Rattle.gf2.proofs.Products.{by-bit, bit-cases, mod-2}
-use Rattle.gf2.proofs.Degrees.{deg-⊕, deg-lo}
+use Rattle.gf2.proofs.Degrees.{half-lt, deg-⊕, deg-lo}
 use Rattle.stock.proofs.Coefficients.{Word, end, O, I, value, value-lt, plus, value-plus}
 
 -- a slot for each place, the highest first: what stands below the leading one of the basis word there. `failed`: a word was
@@ -153,9 +153,6 @@ lead-not n b x l s = not-le-of-lt (span-lt n b (2 ^ n ⊕ x) s) (deg-lo (2 ^ n �
 swapped : (t a b : ℕ) → (t ⊕ a) ⊕ (t ⊕ b) ≡ b ⊕ a
 swapped t a b = simp xor
 
-lifted : (t a b : ℕ) → a ⊕ (t ⊕ b) ≡ t ⊕ (a ⊕ b)
-lifted t a b = simp xor
-
 refused : (n : ℕ) (b : Basis) (w : Word) → slots b ≤ n → Span n b (value n w) → T (sound (insert w b)) → ⊥
 unfolding slots Span insert sound value
 refused n failed w h s t = t
@@ -169,7 +166,7 @@ refused (suc n) (some v b) end h s t = t
 refused (suc n) (some v b) (O w) h (inl s) t = refused n b w (le-of-suc-le-suc h) s t
 refused (suc n) (some v b) (O w) h (inr s) t =
     lead-not n b (value n w ⊕ value n v) (⊕-lt n (value n w) (value n v) (value-lt n w) (value-lt n v))
-    (span-by n b _ _ s (lifted (2 ^ n) (value n w) (value n v)))
+    (span-by n b _ _ s (⊕-left-comm (value n w) (2 ^ n) (value n v)))
 refused (suc n) (some v b) (I w) h (inl s) t = lead-not n b (value n w) (value-lt n w) s
 refused (suc n) (some v b) (I w) h (inr s) t =
     refused n b (plus v w) (le-of-suc-le-suc h)
@@ -225,13 +222,10 @@ sum-in k (w ∷ ws) h t =
 pub independent : (k : ℕ) (ws : List Word) → T (sound (basis k ws)) → (h : ℕ) → h < 2 ^ length ws → sum k h ws ≡ 0 → h ≡ 0
 unfolding sum basis
 independent k [] t h l e = omega arith
-independent k (w ∷ ws) t h l e = go (independent k ws (sound-before b w t) (h / 2) half-lt) (bit-cases (h % 2) (mod-2 h))
+independent k (w ∷ ws) t h l e = go (independent k ws (sound-before b w t) (h / 2) (half-lt h (length ws) l)) (bit-cases (h % 2) (mod-2 h))
   where
     b : Basis
     b = basis k ws
-
-    half-lt : h / 2 < 2 ^ length ws
-    half-lt = div-lt-iff-lt-mul (le-suc 1) .1 (rw pow-suc at l)
 
     go : (sum k (h / 2) ws ≡ 0 → h / 2 ≡ 0) → (h % 2 ≡ 0) ⊎ (h % 2 ≡ 1) → h ≡ 0
     go rest (inl z) = omega (arith, rest (rw (z, zero-mul, zero-⊕) at e))

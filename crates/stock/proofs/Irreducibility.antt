@@ -4,7 +4,7 @@ use mathlib.Core.Path.{_≡_, refl, sym, ap, ap₂, _∙_}
 use mathlib.Core.Bool.{Bool, _&&_}
 use mathlib.Core.List.{List, [], _∷_}
 use Prim.Native.Nat.{ℕ, zero, suc, _*_, _/_, _%_, _^_, _≤_, _<_}
-use native.Mathlib.Nat.{le-of-eq, le-suc, zero-mul, one-mul, pow-suc, lt-of-lt-of-le, div-lt-iff-lt-mul, mod-eq-of-lt}
+use native.Mathlib.Nat.{le-of-eq, zero-mul, one-mul, pow-suc, lt-of-lt-of-le, mod-eq-of-lt}
 use native.Mathlib.Omega.{arith}
 use lib.Arith.{lt-one}
 use lib.Dec.{T, eqb, eqb→eq}
@@ -13,11 +13,11 @@ use lib.Pow.{pow-pos}
 use Rattle.gf2.specs.Polynomials.{_⊕_, _⊗_, degree, Degree, monic, rem, Irreducible}
 use Rattle.gf2.proofs.Lists.{and-left, and-right}
 use Rattle.gf2.proofs.Sums.{⊕-self, ⊕-cancel, ⊕-swap}
-use Rattle.gf2.proofs.Products.{⊗-zero, zero-⊗, ⊗-one, one-⊗, ⊗-pow, ⊗-assoc, bit-⊕, by-bit, by-low, ring}
-use Rattle.gf2.proofs.Degrees.{degree-eq, deg-lo, deg-pos}
+use Rattle.gf2.proofs.Products.{⊗-zero, ⊗-one, one-⊗, ⊗-pow, ⊗-assoc, bit-⊕, by-bit, bit-square, by-digits, ring}
+use Rattle.gf2.proofs.Degrees.{half-lt, degree-eq, deg-lo, deg-pos}
 use Rattle.gf2.proofs.Monics.{monic-of}
-use Rattle.gf2.proofs.Divisors.{dvd-by, dvd-⊗}
-use Rattle.gf2.proofs.Residues.{rem-dvd, rem-cong, rem-⊕, rem-small, rem-zero}
+use Rattle.gf2.proofs.Residues.{rem-⊕, rem-small, rem-zero}
+use Rattle.gf2.proofs.Powers.{rem-⊗-left}
 use Rattle.acceptance.proofs.Criterion.{rigid-irreducible}
 use Rattle.stock.proofs.Coefficients.{Word, value, value-lt, plus, value-plus, size, divide, divide-rem, divide-size, value-shl, modulus, modulus-deg, word, digit, value-word, size-word}
 use Rattle.stock.proofs.Independence.{basis, sound, insert, empty, sum, independent}
@@ -68,15 +68,6 @@ lengths p (suc n) a b =
     let r = lengths p n (divide p 1 a) (divide p 1 (divide p 1 b)) in
     (ap suc (r .0), ap suc (r .1), ap suc (r .2))
 
-half-lt : (h n : ℕ) → h < 2 ^ suc n → h / 2 < 2 ^ n
-half-lt h n l = div-lt-iff-lt-mul (le-suc 1) .1 (rw pow-suc at l)
-
-by-digits : (h : ℕ) → h / 2 ⊗ 2 ⊕ h % 2 ≡ h
-by-digits h = ap (λ (x : ℕ). x ⊕ h % 2) (⊗-pow 1 (h / 2)) ∙ by-low h
-
-bit-square : (h : ℕ) → h % 2 ⊗ (h % 2) ≡ h % 2
-bit-square h = by-bit (λ (c : ℕ). c ⊗ c ≡ c) (zero-⊗ 0) (one-⊗ 1) h
-
 module _ (k : ℕ) (p : Word) (fits : size p ≤ k) where
   abbrev P : ℕ
   P = modulus k p
@@ -87,9 +78,6 @@ module _ (k : ℕ) (p : Word) (fits : size p ≤ k) where
   small : (x : ℕ) → x < 2 ^ k → rem P x ≡ x
   small x h = rem-small pos x (rw (degree-eq (modulus k p) k (modulus-deg k p)) h)
 
-  rem-left : (x y : ℕ) → rem P (rem P x ⊗ y) ≡ rem P (x ⊗ y)
-  rem-left x y = sym (rem-cong pos (x ⊗ y) (rem P x ⊗ y) (dvd-by (dvd-⊗ y (rem-dvd pos x)) (simp ring)))
-
   times-t : (w : Word) → size w ≤ k → value k (divide p 1 w) ≡ rem P (value k w ⊗ 2)
   times-t w h = sym (divide-rem k p fits 1 w) ∙ ap (rem (modulus k p)) (value-shl 1 k w h ∙ sym (⊗-pow 1 (value k w)))
 
@@ -99,7 +87,7 @@ module _ (k : ℕ) (p : Word) (fits : size p ≤ k) where
 
   power-step : (v g c : ℕ) → rem P (v ⊗ c) ⊕ rem P (rem P (v ⊗ 2) ⊗ g) ≡ rem P (v ⊗ (g ⊗ 2 ⊕ c))
   power-step v g c =
-      ap (λ (x : ℕ). rem P (v ⊗ c) ⊕ x) (rem-left (v ⊗ 2) g) ∙ sym (rem-⊕ pos (v ⊗ c) (v ⊗ 2 ⊗ g)) ∙ ap (rem P) (expand v g c 2)
+      ap (λ (x : ℕ). rem P (v ⊗ c) ⊕ x) (rem-⊗-left pos (v ⊗ 2) g) ∙ sym (rem-⊕ pos (v ⊗ c) (v ⊗ 2 ⊗ g)) ∙ ap (rem P) (expand v g c 2)
     where
       expand : (v g c t : ℕ) → v ⊗ c ⊕ v ⊗ t ⊗ g ≡ v ⊗ (g ⊗ t ⊕ c)
       expand v g c t = simp ring
@@ -108,7 +96,7 @@ module _ (k : ℕ) (p : Word) (fits : size p ≤ k) where
       → rem P (v ⊗ c) ⊕ rem P (rem P (rem P (v ⊗ 2) ⊗ 2) ⊗ (g ⊗ g)) ≡ rem P (v ⊗ ((g ⊗ 2 ⊕ c) ⊗ (g ⊗ 2 ⊕ c)))
   square-step v g c e =
       ap₂ (λ (x y : ℕ). rem P (v ⊗ x) ⊕ y) (sym e)
-      (rem-left (rem P (v ⊗ 2) ⊗ 2) (g ⊗ g) ∙ ap (rem P) (⊗-assoc (rem P (v ⊗ 2)) 2 (g ⊗ g)) ∙ rem-left (v ⊗ 2) (2 ⊗ (g ⊗ g)))
+      (rem-⊗-left pos (rem P (v ⊗ 2) ⊗ 2) (g ⊗ g) ∙ ap (rem P) (⊗-assoc (rem P (v ⊗ 2)) 2 (g ⊗ g)) ∙ rem-⊗-left pos (v ⊗ 2) (2 ⊗ (g ⊗ g)))
       ∙ sym (rem-⊕ pos (v ⊗ (c ⊗ c)) (v ⊗ 2 ⊗ (2 ⊗ (g ⊗ g)))) ∙ ap (rem P) (expand v g c 2)
     where
       expand : (v g c t : ℕ) → v ⊗ (c ⊗ c) ⊕ v ⊗ t ⊗ (t ⊗ (g ⊗ g)) ≡ v ⊗ ((g ⊗ t ⊕ c) ⊗ (g ⊗ t ⊕ c))

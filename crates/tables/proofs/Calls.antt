@@ -6,6 +6,7 @@ use Prim.Native.Nat.{ℕ}
 use lib.Dec.{eqb}
 use lib.ListN.{length}
 use borrow.Author.Tests.{eq-eqb, ne-eqb}
+use Rattle.gf2.specs.Lists.{listFrom}
 use Rattle.refusals.specs.declared.Refusal.{Refusal}
 use Rattle.refusals.specs.declared.Refusal.the-variants.{TableSize, TableWord}
 use Rattle.refusals.specs.Refusals.{Done, Refused, stateOf, Test, firstOf}
@@ -13,7 +14,7 @@ use Rattle.keys.specs.Testing.{testKey}
 use Rattle.keys.proofs.Laws.{Passed, first-passed, first-refused}
 use Rattle.files.specs.declared.Mark.{Mark}
 use Rattle.marks.specs.Feeding.{feedTests, fedMark}
-use Rattle.tables.specs.Tables.{word, differs, tableFrom, Table, sizeTest, tableTests, makeTable, testTable, feedTable}
+use Rattle.tables.specs.Tables.{word, differs, Table, sizeTest, tableTests, makeTable, testTable, feedTable}
 use Rattle.tables.specs.declared.Made.{Made}
 use Rattle.tables.specs.declared.Made.the-variants as made-cases
 use Rattle.tables.specs.Answers.{made}
@@ -42,26 +43,26 @@ module _ {S A : Type 0} (key : ℕ) (words : List ℕ) (ts : List Test) (s : S) 
 
 -- where neither applies, the words are the table
 pub table-right : (key : ℕ) (words : List ℕ) → length words ≡ 1024 → differs (word 8 key) 0 words ≡ false → Table key words
-table-right key words e d = table-only (word 8 key) 0 words d ∙ ap (tableFrom (word 8 key) 0) e
+table-right key words e d = table-only (word 8 key) 0 words d ∙ ap (listFrom (word 8 key) 0) e
 
 -- ---- making
 
 module _ (key : ℕ) (words : List ℕ) where
   pub make-key : (q : Refusal) → testKey key ≡ Refused q tt → makeTable key words ≡ Refused q words
   unfolding makeTable
-  make-key q e = first-refused key (sizeTest words ∷ []) words (tableFrom (word 8 key) 0 1024) q e
+  make-key q e = first-refused key (sizeTest words ∷ []) words (listFrom (word 8 key) 0 1024) q e
 
   pub make-size : Passed key → (length words ≡ 1024 → ⊥) → makeTable key words ≡ Refused TableSize words
   unfolding makeTable
   make-size h n =
-      first-passed key (sizeTest words ∷ []) words (tableFrom (word 8 key) 0 1024) h
-      ∙ size-refused key words [] words (tableFrom (word 8 key) 0 1024) n
+      first-passed key (sizeTest words ∷ []) words (listFrom (word 8 key) 0 1024) h
+      ∙ size-refused key words [] words (listFrom (word 8 key) 0 1024) n
 
-  pub make-done : Passed key → length words ≡ 1024 → makeTable key words ≡ Done (tableFrom (word 8 key) 0 1024)
+  pub make-done : Passed key → length words ≡ 1024 → makeTable key words ≡ Done (listFrom (word 8 key) 0 1024)
   unfolding makeTable
   make-done h e =
-      first-passed key (sizeTest words ∷ []) words (tableFrom (word 8 key) 0 1024) h
-      ∙ size-passed key words [] words (tableFrom (word 8 key) 0 1024) e
+      first-passed key (sizeTest words ∷ []) words (listFrom (word 8 key) 0 1024) h
+      ∙ size-passed key words [] words (listFrom (word 8 key) 0 1024) e
 
 -- what the lent words are, for a caller
 pub made-state : (words : List ℕ) (r : Made) → stateOf (made words r) ≡ words

@@ -13,14 +13,16 @@ use lib.ListN.{length, getD}
 use lib.Pow.{pow-add, pow-lt}
 use borrow.Author.Tests.{eqb-true, eq-eqb, not-false}
 use Rattle.gf2.specs.Polynomials.{_⊕_, _⊗_, degree, monic, rem}
+use Rattle.gf2.specs.Lists.{listFrom}
 use Rattle.gf2.proofs.Products.{⊗-comm, ⊗-pow}
 use Rattle.gf2.proofs.Divisors.{dvd-by, dvd-refl}
 use Rattle.gf2.proofs.Residues.{rem-unique}
 use Rattle.gf2.proofs.Powers.{rem-⊗-right}
 use Rattle.gf2.proofs.Monics.{monic-⊕, monic-degree, monic-pos}
+use Rattle.gf2.proofs.Lists.{length-list}
 use Rattle.acceptance.proofs.Laws.{or-neither}
 use Rattle.lookups.specs.Groups.{Rows, Reduces}
-use Rattle.tables.specs.Tables.{word, differs, tableFrom, TableOf}
+use Rattle.tables.specs.Tables.{word, differs, TableOf}
 use Rattle.multiples.specs.Rows.{Multiples}
 use Rattle.multiples.proofs.Doubling.{multiple-next}
 
@@ -108,32 +110,27 @@ some-differs rule words none = go (differs rule 0 words) refl
 
 -- ---- the table
 
-pub length-table : (rule : ℕ → ℕ) (n c : ℕ) → length (tableFrom rule n c) ≡ c
-unfolding tableFrom
-length-table rule n zero = refl
-length-table rule n (suc c) = ap suc (length-table rule (suc n) c)
-
 -- no word of the table differs, and no other list of its length is so
-pub table-follows : (rule : ℕ → ℕ) (n c : ℕ) → differs rule n (tableFrom rule n c) ≡ false
-unfolding differs tableFrom
+pub table-follows : (rule : ℕ → ℕ) (n c : ℕ) → differs rule n (listFrom rule n c) ≡ false
+unfolding differs listFrom
 table-follows rule n zero = refl
 table-follows rule n (suc c) = rw (eq-eqb (rule n) (rule n) refl) (table-follows rule (suc n) c)
 
-pub table-only : (rule : ℕ → ℕ) (n : ℕ) (words : List ℕ) → differs rule n words ≡ false → words ≡ tableFrom rule n (length words)
-unfolding differs tableFrom
+pub table-only : (rule : ℕ → ℕ) (n : ℕ) (words : List ℕ) → differs rule n words ≡ false → words ≡ listFrom rule n (length words)
+unfolding differs listFrom
 table-only rule n [] e = refl
 table-only rule n (x ∷ xs) e =
     let h = or-neither (not (eqb x (rule n))) (differs rule (suc n) xs) e in
     ap₂ {C = List ℕ} (λ (y : ℕ) (ys : List ℕ). y ∷ ys) (eqb-true x (rule n) (not-false (eqb x (rule n)) (h .0))) (table-only rule (suc n) xs (h .1))
 
-pub table-is : (rule : ℕ → ℕ) (c : ℕ) (words : List ℕ) → length words ≡ c → Follows rule c words → words ≡ tableFrom rule 0 c
-table-is rule c words l f = table-only rule 0 words (none-differs rule words (λ n h. f n (rw l at h))) ∙ ap (tableFrom rule 0) l
+pub table-is : (rule : ℕ → ℕ) (c : ℕ) (words : List ℕ) → length words ≡ c → Follows rule c words → words ≡ listFrom rule 0 c
+table-is rule c words l f = table-only rule 0 words (none-differs rule words (λ n h. f n (rw l at h))) ∙ ap (listFrom rule 0) l
 
 -- what is known of the words where they are the table
-pub table-length : (rule : ℕ → ℕ) (c : ℕ) (words : List ℕ) → words ≡ tableFrom rule 0 c → length words ≡ c
-table-length rule c words e = ap length e ∙ length-table rule 0 c
+pub table-length : (rule : ℕ → ℕ) (c : ℕ) (words : List ℕ) → words ≡ listFrom rule 0 c → length words ≡ c
+table-length rule c words e = ap length e ∙ length-list rule 0 c
 
-pub table-rule : (rule : ℕ → ℕ) (c : ℕ) (words : List ℕ) → words ≡ tableFrom rule 0 c → Follows rule (length words) words
+pub table-rule : (rule : ℕ → ℕ) (c : ℕ) (words : List ℕ) → words ≡ listFrom rule 0 c → Follows rule (length words) words
 table-rule rule c words e = follows rule words (rw e (table-follows rule 0 c))
 
 -- ---- the table and its rows, for every width and number of groups

@@ -2,10 +2,11 @@
 use mathlib.Core.Path.{_≡_}
 use mathlib.Core.Bool.{Bool, false, _||_, not}
 use mathlib.Core.List.{List, [], _∷_, _++_}
-use Prim.Native.Nat.{ℕ, zero, suc, _+_, _*_, _/_, _%_, _^_, _≤_}
+use Prim.Native.Nat.{ℕ, suc, _+_, _*_, _/_, _%_, _^_, _≤_}
 use lib.Dec.{eqb}
 use lib.ListN.{length}
 use Rattle.gf2.specs.Polynomials.{degree, monic, rem, Modulus}
+use Rattle.gf2.specs.Lists.{listFrom}
 use Rattle.refusals.specs.declared.Refusal.the-variants.{TableSize, TableWord}
 use Rattle.refusals.specs.Refusals.{Answer, Test, _⇒_, firstOf}
 use Rattle.acceptance.specs.Keys.{keyTests}
@@ -21,14 +22,9 @@ unfoldable pub differs : (ℕ → ℕ) → ℕ → List ℕ → Bool
 differs rule n [] = false
 differs rule n (x ∷ xs) = not (eqb x (rule n)) || differs rule (suc n) xs
 
--- the table: c words from place n on
-unfoldable pub tableFrom : (ℕ → ℕ) → ℕ → ℕ → List ℕ
-tableFrom rule n zero = []
-tableFrom rule n (suc c) = rule n ∷ tableFrom rule (suc n) c
-
--- the words are the key's table
+-- the words are the key's table: 1,024 words by the rule
 abbrev pub Table : ℕ → List ℕ → Type 0
-Table key words = words ≡ tableFrom (word 8 key) 0 1024
+Table key words = words ≡ listFrom (word 8 key) 0 1024
 
 -- the same of a modulus as the code holds it: its degree, at least 8, and the coefficients below
 abbrev pub TableOf : ℕ → ℕ → List ℕ → Type 0
@@ -44,7 +40,7 @@ tableTests key words = sizeTest words ∷ differs (word 8 key) 0 words ⇒ Table
 
 -- what the lent words are after the call
 unfoldable pub makeTable : ℕ → List ℕ → Answer (List ℕ) (List ℕ)
-makeTable key words = firstOf (keyTests key ++ sizeTest words ∷ []) words (tableFrom (word 8 key) 0 1024)
+makeTable key words = firstOf (keyTests key ++ sizeTest words ∷ []) words (listFrom (word 8 key) 0 1024)
 
 unfoldable pub testTable : ℕ → List ℕ → Answer Unit Unit
 testTable key words = firstOf (keyTests key ++ tableTests key words) tt tt

@@ -4,12 +4,13 @@ ghost use mathlib.Core.Bool.{not};
 ghost use Prim.Native.Nat.{_+_};
 ghost use lib.ListN.{length};
 ghost use Rattle.gf2.specs.Polynomials.{monic, Modulus};
-ghost use Rattle.tables.specs.Tables.{word, differs, tableFrom};
+ghost use Rattle.gf2.specs.Lists.{listFrom};
+ghost use Rattle.tables.specs.Tables.{word, differs};
 
 // The table of a modulus.
 pub fn fill(words: &mut [u64], k: u32, low: u64)
     requires { ⌜ Modulus k low × (length (now words) ≡ 1024) ⌝ }
-    ensures { λ r. ⌜ now (words .exit) ≡ tableFrom (word 8 (monic k low)) 0 1024 ⌝ }
+    ensures { λ r. ⌜ now (words .exit) ≡ listFrom (word 8 (monic k low)) 0 1024 ⌝ }
 {
     let mut x = low;
     let mut j: usize = 0;

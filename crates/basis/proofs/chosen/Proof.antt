@@ -3,16 +3,13 @@ use Rattle.basis.proofs.Elimination.{masked}
 use Rattle.basis.proofs.chosen.Statement.{statement}
 use Rattle.basis.proofs.chosen.Tie as tie
 
-shr-wrapping-sub-u64 : tie.Need-shr-wrapping-sub-u64
-shr-wrapping-sub-u64 c = search needs
-
 wrapping-sub-u64-requires : tie.Need-wrapping-sub-u64-requires
 wrapping-sub-u64-requires c κs = search needs
 
 returns : tie.Need-returns
 returns c =
     let a = c .before .args in
-    masked (a .c) (a .v) (a .x) (c .wrapping-sub-u64 .result) (search needs) (search needs) (c .wrapping-sub-u64 .ensures)
+    masked (a .v) (a .x) (c .wrapping-sub-u64 .result) (search needs) (search needs) (c .wrapping-sub-u64 .ensures)
 
 pub chosen-spec : {M : Type 1} → statement M
-chosen-spec = tie.close (tie.spec shr-wrapping-sub-u64 wrapping-sub-u64-requires returns)
+chosen-spec = tie.close (tie.spec wrapping-sub-u64-requires returns)

@@ -14,10 +14,10 @@ use Rattle.basis.proofs.clear_column.Lts as lts
 use Rattle.basis.proofs.chosen_from.Reads as chosen-from-reads
 
 abbrev Inv-loop : tie.InvT-loop
-Inv-loop rows₀ v c j₀ j-end rows j = (j ≤ length rows₀) × (rows ≡ map (clear c v) (take j rows₀) ++ drop j rows₀)
+Inv-loop rows₀ v c i₀ i-end rows i = (i ≤ length rows₀) × (rows ≡ map (clear c v) (take i rows₀) ++ drop i rows₀)
 
 abbrev μ-loop : tie.MeasureT-loop
-μ-loop rows₀ v c j₀ j-end rows j = length rows₀ - j
+μ-loop rows₀ v c i₀ i-end rows i = length rows₀ - i
 
 loop-holds : tie.Need-loop-holds Inv-loop μ-loop
 loop-holds c = (omega arith, refl)
@@ -26,7 +26,7 @@ loop-holds c = (omega arith, refl)
 same : (c : tie.At-loop Inv-loop μ-loop) → length (c .loop .rows) ≡ length (c .before .before .args .rows .now)
 same c =
     let a = c .before .before .args in
-    ap length (c .loop .inv .1) ∙ length-mapped (clear (a .c) (a .v)) (c .loop .j) (a .rows .now)
+    ap length (c .loop .inv .1) ∙ length-mapped (clear (a .c) (a .v)) (c .loop .i) (a .rows .now)
 
 mul-r : tie.Need-mul-r Inv-loop μ-loop
 mul-r c = omega arith
@@ -43,8 +43,8 @@ mul-rows c = omega arith
 slice-write-rows : tie.Need-slice-write-rows Inv-loop μ-loop
 slice-write-rows c = omega (arith, same (c .before .before .before))
 
-add-j : tie.Need-add-j Inv-loop μ-loop
-add-j c = omega arith
+add-i : tie.Need-add-i Inv-loop μ-loop
+add-i c = omega arith
 
 loop-less : tie.Need-loop-less Inv-loop μ-loop
 loop-less c = omega arith
@@ -56,9 +56,9 @@ loop-again c =
     let l = c .before .before .before .loop in
     let f = clear (a .c) (a .v) in
     let e =
-    ap (λ (x : ℕ). bitXor x (getD (l .rows) (l .j) 0)) (c .chosen-from .ensures)
-    ∙ ap (λ (x : List ℕ). f (getD x (l .j) 0)) (l .inv .1) ∙ ap f (map-at f (l .j) (a .rows .now)) in
-    (omega arith, rw (e, l .inv .1) (map-more f (l .j) (a .rows .now) (omega arith)))
+    ap (λ (x : ℕ). bitXor x (getD (l .rows) (l .i) 0)) (c .chosen-from .ensures)
+    ∙ ap (λ (x : List ℕ). f (getD x (l .i) 0)) (l .inv .1) ∙ ap f (map-at f (l .i) (a .rows .now)) in
+    (omega arith, rw (e, l .inv .1) (map-more f (l .i) (a .rows .now) (omega arith)))
 
 same-length : tie.Need-same-length Inv-loop μ-loop
 same-length c = same (c .before)
@@ -67,7 +67,7 @@ returns : tie.Need-returns Inv-loop μ-loop
 returns c =
     let a = c .before .before .before .args in
     let l = c .before .loop in
-    let e : l .j ≡ length (a .rows .now) = omega arith in
+    let e : l .i ≡ length (a .rows .now) = omega arith in
     rw e at (l .inv .1) ∙ map-whole (clear (a .c) (a .v)) (a .rows .now)
 
 pub clear-column-spec : {M : Type 1} → statement M
@@ -82,7 +82,7 @@ clear-column-spec =
     chosen-from-requires
     mul-rows
     slice-write-rows
-    add-j
+    add-i
     loop-less
     loop-again
     same-length

@@ -1,12 +1,12 @@
 use mathlib.Core.Path.{_≡_, refl, sym, _∙_}
-use mathlib.Core.Bool.{true, false, false≢true}
+use mathlib.Core.Bool.{false≢true}
 use mathlib.Core.Logic.{_↔_}
 use Prim.Native.Nat.{_-_, _≤_}
 use native.Mathlib.Omega.{arith}
 use lib.ListN.{length, take}
 use lib.Seq.{take-length, length-take-le, length-front}
 use Rattle.basis.specs.Rows.{Independent}
-use Rattle.basis.proofs.Parts.{last-zero, turn}
+use Rattle.basis.proofs.Parts.{last-zero, turn-before}
 use Rattle.basis.proofs.Elimination.{no-rows}
 use Rattle.basis.proofs.independent.Statement.{statement}
 use Rattle.basis.proofs.independent.Tie as tie
@@ -63,7 +63,7 @@ loop-again c =
     let l = c .before .before .before .before .before .before .before .before .loop in
     let one = c .before .before .before .before .lowest-one in
     let clear = c .before .before .clear-column in
-    let t = turn (l .n) (l .rows) (omega arith) (omega arith) (one .result) (clear .last .0) (one .ensures .2) (clear .ensures) in (
+    let t = turn-before (l .n) (l .rows) (omega arith) (omega arith) (one .result) (clear .last .0) (one .ensures .2) (clear .ensures) in (
       omega arith,
       length-front (l .rows) (clear .last .0) (l .n - 1) (clear .kept .0) ∙ l .inv .1,
       (λ i. t .0 (l .inv .2 .0 i), λ i. l .inv .2 .1 (t .1 i)),

@@ -94,7 +94,7 @@ returns-4 c =
     let u = fails _ (unreduced key (a .first)) (rw (d .degree .ensures) at (c .before .before .before .before .before .reduced .ensures)) (c .before .before .before .before .if2 .left) in
     let v = fails _ (unreduced key (a .second)) (rw (d .degree .ensures) at (c .before .before .before .reduced2 .ensures)) (c .before .before .if3 .left) in
     let w : (unreduced key (a .first) || unreduced key (a .second)) ≡ false = rw (u, v) in
-    rw (c .joined-residue .ensures, c .before .low-bits .ensures, d .degree .ensures, word-monic key (omega arith) (omega arith), e, w)
+    rw (c .joined-residue .ensures, c .before .low-bits .ensures, d .degree .ensures, word-monic key (omega arith), e, w)
 
 pub join-spec : {M : Type 1} → statement M
 join-spec =

@@ -95,7 +95,7 @@ returns-6 c =
     let e = fails _ (passes (a .m .length ∷ length (a .old .now) ∷ length (a .new .now) ∷ [])) (d .before .before .within .ensures) (d .before .if1 .left) in
     let u = fails _ (unreduced (a .m .key) (markIn (a .m))) (rw (d .degree .ensures) at (c .before .before .before .before .before .before .reduced .ensures)) (c .before .before .before .before .before .if2 .left) in
     let fits : a .place + length (a .old .now) ≤ a .m .length = omega arith in
-    rw (c .replaced-residue .ensures, c .before .low-bits .ensures, d .degree .ensures, word-monic (a .m .key) (omega arith) (omega arith), e, u, eq-eqb _ _ (c .before .before .before .before .if3 .left), le-ltb _ _ fits, ← (after-page (a .m .length) (length (a .old .now)) (a .place)))
+    rw (c .replaced-residue .ensures, c .before .low-bits .ensures, d .degree .ensures, word-monic (a .m .key) (omega arith), e, u, eq-eqb _ _ (c .before .before .before .before .if3 .left), le-ltb _ _ fits, ← (after-page (a .m .length) (length (a .old .now)) (a .place)))
 
 pub replace-spec : {M : Type 1} → statement M
 replace-spec =

@@ -8,7 +8,8 @@ use Rattle.gf2.specs.Polynomials.{_⊗_, monic, rem}
 use Rattle.gf2.proofs.Products.{one-⊗}
 use Rattle.gf2.proofs.Monics.{monic-pos}
 use Rattle.gf2.proofs.Steps.{residue-lt, residue-small}
-use Rattle.draw.proofs.Matrices.{times-⊕, times-next, filled-more, filled-matrix}
+use Rattle.basis.proofs.Matrices.{filled-more, filled-matrix}
+use Rattle.draw.proofs.Evaluation.{times-additive, times-next}
 use Rattle.draw.proofs.multiples.Statement.{statement}
 use Rattle.draw.proofs.multiples.Tie as tie
 
@@ -52,12 +53,11 @@ loop-again c =
     let s = c .before .before .before in
     let a = s .args in
     let l = c .before .before .loop in
-    let p = monic (a .k) (a .low) in
     let pos = monic-pos (a .k) (a .low) (s .pre .0 .2) in (
       omega arith,
       length-set (l .rows) (l .j) (l .x) ∙ l .inv .1,
       c .step .ensures ∙ times-next pos (a .a) (l .j) (l .x) (l .inv .2),
-      filled-more (λ x. rem p (x ⊗ a .a)) (times-⊕ pos (a .a)) (l .j) (l .rows) (l .x) (omega arith) (l .inv .2) (l .inv .3),
+      filled-more (times-additive pos (a .a)) (l .j) (l .rows) (l .x) (omega arith) (l .inv .2) (l .inv .3),
     )
 
 returns : tie.Need-returns Inv-loop μ-loop
@@ -66,7 +66,7 @@ returns c =
     let l = c .before .loop in
     let e : l .j ≡ 64 = omega arith in
     let pos = monic-pos (s .args .k) (s .args .low) (s .pre .0 .2) in
-    filled-matrix (λ x. rem (monic (s .args .k) (s .args .low)) (x ⊗ s .args .a)) (times-⊕ pos (s .args .a)) (l .rows) (l .inv .1) (rw e at (l .inv .3))
+    filled-matrix (times-additive pos (s .args .a)) (l .rows) (l .inv .1) (rw e at (l .inv .3))
 
 pub multiples-spec : {M : Type 1} → statement M
 multiples-spec =

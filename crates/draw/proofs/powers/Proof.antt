@@ -6,8 +6,8 @@ use borrow.Author.Needs.{needs}
 use lib.ListN.{length, getD, length-set}
 use Rattle.gf2.specs.Polynomials.{monic}
 use Rattle.fields.specs.Fields.{at}
-use Rattle.draw.proofs.Matrices.{filled-more, filled-matrix}
-use Rattle.draw.proofs.Evaluation.{value-⊕, first-power, next-power, value-word}
+use Rattle.basis.proofs.Matrices.{filled-more, filled-matrix}
+use Rattle.draw.proofs.Evaluation.{value-additive, first-power, next-power, value-word}
 use Rattle.draw.proofs.powers.Statement.{statement}
 use Rattle.draw.proofs.powers.Tie as tie
 
@@ -53,7 +53,7 @@ loop-again c =
       omega arith,
       length-set (l .rows) (l .i) (l .power) ∙ l .inv .1,
       c .sum-of .ensures ∙ c .before .before .before .before .multiples .ensures (l .power) word ∙ next-power (a .k) (a .low) (s .pre .0) (a .e) (s .pre .1) (l .i) (l .power) (l .inv .2),
-      filled-more (λ p. at (monic (a .k) (a .low)) p (a .e)) (value-⊕ (a .k) (a .low) (s .pre .0) (a .e)) (l .i) (l .rows) (l .power) (omega arith) (l .inv .2) (l .inv .3),
+      filled-more (value-additive (a .k) (a .low) (s .pre .0) (a .e)) (l .i) (l .rows) (l .power) (omega arith) (l .inv .2) (l .inv .3),
     )
 
 returns : tie.Need-returns Inv-loop μ-loop
@@ -62,7 +62,7 @@ returns c =
     let a = s .args in
     let l = c .before .loop in
     let e : l .i ≡ 64 = omega arith in
-    filled-matrix (λ p. at (monic (a .k) (a .low)) p (a .e)) (value-⊕ (a .k) (a .low) (s .pre .0) (a .e)) (l .rows) (l .inv .1) (rw e at (l .inv .3))
+    filled-matrix (value-additive (a .k) (a .low) (s .pre .0) (a .e)) (l .rows) (l .inv .1) (rw e at (l .inv .3))
 
 pub powers-spec : {M : Type 1} → statement M
 powers-spec =

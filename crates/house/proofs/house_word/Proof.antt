@@ -5,8 +5,9 @@ use Prim.Native.Nat.{ℕ}
 use lib.ListN.{getD, List·getD-eq-default}
 use borrow.Author.Needs.{needs}
 use borrow.Table.Row as Row
-use Rattle.tables.specs.Tables.{word, tableFrom, houseKey}
-use Rattle.tables.proofs.Rule.{length-table}
+use Rattle.gf2.specs.Lists.{listFrom}
+use Rattle.gf2.proofs.Lists.{length-list}
+use Rattle.tables.specs.Tables.{word, houseKey}
 use Rattle.house.proofs.Rows.{same, rows}
 use Rattle.house.proofs.House.{house-table}
 use Rattle.house.proofs.house_word.Statement.{statement}
@@ -29,7 +30,7 @@ unfolding same rows
 returns c = ap (λ (ws : List ℕ). getD ws (c .before .args .n) 0) (house-table (constant (c .before)) tt)
 
 returns-2 : tie.Need-returns-2
-returns-2 c = sym (List·getD-eq-default (tableFrom (word 8 houseKey) 0 1024) 0 (rw (length-table (word 8 houseKey) 0 1024) (c .if1 .left)))
+returns-2 c = sym (List·getD-eq-default (listFrom (word 8 houseKey) 0 1024) 0 (rw (length-list (word 8 houseKey) 0 1024) (c .if1 .left)))
 
 pub house-word-spec : {M : Type 1} → statement M
 house-word-spec = tie.close (tie.spec mul-result array-read-result returns returns-2)

@@ -6,8 +6,9 @@ use native.Mathlib.Nat.{zero-add}
 use native.Mathlib.Omega.{arith}
 use lib.ListN.{length, drop, getD}
 use Rattle.gf2.specs.Polynomials.{_⊕_}
+use Rattle.gf2.specs.Lists.{listFrom}
 use Rattle.gf2.proofs.Steps.{shifted-one}
-use Rattle.keys.specs.Squares.{listFrom, folded}
+use Rattle.keys.specs.Squares.{folded}
 use Rattle.keys.proofs.Filling.{length-filled, filled-at, fill, fill-whole}
 use Rattle.keys.proofs.independent_differences.Statement.{statement}
 use Rattle.keys.proofs.independent_differences.Tie as tie

@@ -10,13 +10,13 @@ use lib.ListN.{length, take, drop, getD, replicate}
 use lib.Seq.{length-take-le, length-front, take-at}
 use lib.Pow.{pow-pos}
 use Rattle.gf2.specs.Polynomials.{_⊕_, degree, Degree, monic}
-use Rattle.gf2.proofs.Degrees.{degree-is}
-use Rattle.gf2.proofs.Monics.{monic-of}
+use Rattle.gf2.specs.Lists.{listFrom}
+use Rattle.gf2.proofs.Degrees.{degree-is, degree-from}
+use Rattle.gf2.proofs.Monics.{monic-of, word-degree}
 use Rattle.acceptance.specs.Keys.{reducible}
 use Rattle.basis.specs.Rows.{Independent}
-use Rattle.keys.specs.Squares.{listFrom, square, oddPart, folded, squareRows, differenceRows}
+use Rattle.keys.specs.Squares.{square, oddPart, folded, squareRows, differenceRows}
 use Rattle.keys.proofs.Decision.{irreducible-squares, irreducible-differences, both-irreducible, squares-made, differences-made, by-test}
-use Rattle.keys.proofs.Laws.{degree-from, degree-word}
 use borrow.Author.Needs.{needs}
 use Rattle.keys.proofs.irreducible.Statement.{statement}
 use Rattle.keys.proofs.irreducible.Tie as tie
@@ -47,7 +47,7 @@ known c =
     let key = c .before .args .key in
     let p : 0 < key = omega (arith, c .before .pre) in
     let e = c .degree .ensures in
-    record { proper = c .before .pre; is = e; of-degree = rw e (degree-is key p); low = rw e (degree-from 1 key (c .before .pre)); high = rw e (degree-word key p (c .before .fits .key .fits)) }
+    record { proper = c .before .pre; is = e; of-degree = rw e (degree-is key p); low = rw e (degree-from 1 key (c .before .pre)); high = rw e (word-degree key p (c .before .fits .key .fits)) }
 
 abbrev zeros : List ℕ
 zeros = replicate 32 0

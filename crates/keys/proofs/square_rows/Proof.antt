@@ -5,9 +5,10 @@ use native.Mathlib.Omega.{arith}
 use lib.ListN.{length, drop}
 use lib.Pow.{pow-lt}
 use Rattle.gf2.specs.Polynomials.{monic}
+use Rattle.gf2.specs.Lists.{listFrom}
 use Rattle.gf2.proofs.Monics.{monic-pos}
 use Rattle.gf2.proofs.Steps.{residue-lt, residue-small, shifted-one}
-use Rattle.keys.specs.Squares.{listFrom, square}
+use Rattle.keys.specs.Squares.{square}
 use Rattle.keys.proofs.Filling.{length-filled, fill, fill-whole, next-square}
 use Rattle.keys.proofs.square_rows.Statement.{statement}
 use Rattle.keys.proofs.square_rows.Tie as tie

@@ -4,13 +4,14 @@ use native.Mathlib.Omega.{arith}
 use borrow.Author.Needs.{needs}
 use borrow.Author.Tests.{lt-ltb, le-ltb}
 use Rattle.gf2.specs.Polynomials.{degree}
+use Rattle.gf2.proofs.Degrees.{degree-from}
+use Rattle.gf2.proofs.Monics.{word-degree}
 use Rattle.refusals.proofs.Laws.{holds, fails}
 use Rattle.acceptance.specs.Keys.{reducible, accepted}
 use Rattle.acceptance.proofs.Laws.{key-iff}
 use Rattle.stock.specs.Stock.{stockKey}
 use Rattle.stock.proofs.Table.{stock-smallest}
 use Rattle.keys.specs.Testing.{testKey}
-use Rattle.keys.proofs.Laws.{degree-from, degree-word}
 use Rattle.keys.proofs.test.Statement.{statement}
 use Rattle.keys.proofs.test.Tie as tie
 use Rattle.keys.proofs.test.Reads as reads
@@ -31,7 +32,7 @@ in-range : (c : tie.After-degree) → (8 ≤ c .degree .result) × (c .degree .r
 in-range c =
     let key = c .before .before .args .key in
     let e = c .degree .ensures in
-    (rw e (degree-from 8 key (c .before .if1 .left)), rw e (degree-word key (omega arith) (c .before .before .fits .key .fits)))
+    (rw e (degree-from 8 key (c .before .if1 .left)), rw e (word-degree key (omega arith) (c .before .before .fits .key .fits)))
 
 stock-key-requires : tie.Need-stock-key-requires
 stock-key-requires c κs = in-range c

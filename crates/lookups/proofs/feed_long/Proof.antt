@@ -6,7 +6,7 @@ use lib.ListN.{length, take}
 use lib.Pow.{pow-pos}
 use lib.Seq.{length-take-le}
 use Rattle.gf2.proofs.Monics.{monic-pos}
-use Rattle.multiples.proofs.Doubling.{rem-below}
+use Rattle.gf2.proofs.Steps.{residue-lt}
 use Rattle.lookups.proofs.Parts.{run-length, run-joined, run-rest, joined-lt}
 use Rattle.lookups.proofs.feed_long.Statement.{statement}
 use Rattle.lookups.proofs.feed_long.Tie as tie
@@ -86,7 +86,7 @@ joined-requires c κs =
     let m = s .pre .0 .0 .2 in
     let t = c .power-of-t in
     let x = c .before .feed-runs in
-    (s .pre .0 .0, rw (x .ensures .0) (rem-below (a .k) (a .low) m _), rw (t .ensures) (rem-below (a .k) (a .low) m _))
+    (s .pre .0 .0, rw (x .ensures .0) (residue-lt (a .k) (a .low) m _), rw (t .ensures) (residue-lt (a .k) (a .low) m _))
 
 joined-requires-2 : tie.Need-joined-requires-2
 joined-requires-2 c κs =
@@ -96,7 +96,7 @@ joined-requires-2 c κs =
     let t = c .before .power-of-t in
     let x = c .before .before .feed-runs in
     let j = c .joined in
-    (s .pre .0 .0, joined-lt (a .k) (a .low) m (x .result .a) (t .result) (x .result .b) _ (j .result) (j .ensures) (x .ensures .1), rw (t .ensures) (rem-below (a .k) (a .low) m _))
+    (s .pre .0 .0, joined-lt (a .k) (a .low) m (x .result .a) (t .result) (x .result .b) _ (j .result) (j .ensures) (x .ensures .1), rw (t .ensures) (residue-lt (a .k) (a .low) m _))
 
 joined-requires-3 : tie.Need-joined-requires-3
 joined-requires-3 c κs =
@@ -107,7 +107,7 @@ joined-requires-3 c κs =
     let x = c .before .before .before .feed-runs in
     let i = c .before .joined in
     let j = c .joined2 in
-    (s .pre .0 .0, joined-lt (a .k) (a .low) m (i .result) (t .result) (x .result .c) _ (j .result) (j .ensures) (x .ensures .2), rw (t .ensures) (rem-below (a .k) (a .low) m _))
+    (s .pre .0 .0, joined-lt (a .k) (a .low) m (i .result) (t .result) (x .result .c) _ (j .result) (j .ensures) (x .ensures .2), rw (t .ensures) (residue-lt (a .k) (a .low) m _))
 
 sub-feed-run : tie.Need-sub-feed-run
 sub-feed-run c = omega arith

@@ -6,7 +6,7 @@ use lib.ListN.{length, drop}
 use Rattle.gf2.specs.Polynomials.{monic, rem}
 use Rattle.gf2.proofs.Monics.{monic-pos, monic-degree}
 use Rattle.files.specs.Files.{bits, valueFrom}
-use Rattle.multiples.proofs.Doubling.{rem-below}
+use Rattle.gf2.proofs.Steps.{residue-lt}
 use Rattle.lookups.proofs.Parts.{fed-byte, fed-all}
 use Rattle.lookups.proofs.feed_tail.Statement.{statement}
 use Rattle.lookups.proofs.feed_tail.Tie as tie
@@ -42,7 +42,7 @@ loop-again c =
     let e = c .feed-one .ensures in
     let b = c .before .shared-slice-known3 .given (l .i) .fits in (
       omega arith,
-      rw e (rem-below (a .k) (a .low) m _),
+      rw e (residue-lt (a .k) (a .low) m _),
       fed-byte (monic-pos (a .k) (a .low) m) (a .part .now) (l .i) (l .x) (c .feed-one .result) (omega arith) b e ∙ l .inv .2,
     )
 

@@ -10,7 +10,7 @@ use lib.Pow.{pow-pos}
 use native.Mathlib.Nat.{pow-suc}
 use native.Mathlib.Numerals.{add-one}
 use Rattle.gf2.proofs.Monics.{monic-pos, monic-degree}
-use Rattle.multiples.proofs.Doubling.{rem-below}
+use Rattle.gf2.proofs.Steps.{residue-lt}
 use Rattle.multiples.proofs.fill_row.Statement.{statement}
 use Rattle.multiples.proofs.fill_row.Tie as tie
 
@@ -54,7 +54,7 @@ step-requires c κs =
     let s = c .before .before .before .before .before .before .before in
     let a = s .args in
     let l = c .before .before .before .before .before .loop in
-    (s .pre .0, rw (l .inv .2) (rem-below (a .k) (a .low) (s .pre .0 .2) (l .n ⊗ a .x)), omega arith)
+    (s .pre .0, rw (l .inv .2) (residue-lt (a .k) (a .low) (s .pre .0 .2) (l .n ⊗ a .x)), omega arith)
 
 mul-n : tie.Need-mul-n Inv-loop μ-loop
 mul-n c =

@@ -11,7 +11,7 @@ use Rattle.gf2.specs.Polynomials.{_⊗_, monic, rem}
 use Rattle.gf2.proofs.Monics.{monic-pos, monic-degree}
 use Rattle.multiples.specs.Rows.{Multiples, Shifted}
 use Rattle.multiples.proofs.Doubling.{or-iff, iff-trans, row-iff-one, row-iff, double-le, multiple-one, multiple-next}
-use Rattle.multiples.proofs.Doubling.{rem-below}
+use Rattle.gf2.proofs.Steps.{residue-lt}
 use Rattle.multiples.proofs.row_holds.Statement.{statement}
 use Rattle.multiples.proofs.row_holds.Tie as tie
 
@@ -50,7 +50,7 @@ step-requires c κs =
     let s = c .before .before .before .before .before in
     let a = s .args in
     let l = c .before .before .loop in
-    (s .pre .0, rw (l .inv .2) (rem-below (a .k) (a .low) (s .pre .0 .2) (l .n ⊗ a .x)), omega arith)
+    (s .pre .0, rw (l .inv .2) (residue-lt (a .k) (a .low) (s .pre .0 .2) (l .n ⊗ a .x)), omega arith)
 
 mul-n : tie.Need-mul-n Inv-loop μ-loop
 mul-n c =

@@ -2,12 +2,12 @@ use mathlib.Core.Path.{refl, sym, ap, _∙_}
 use Prim.Native.Nat.{ℕ}
 use native.Mathlib.Omega.{arith}
 use Rattle.refusals.specs.Refusals.{Done}
-use Rattle.acceptance.proofs.Laws.{accepted-pos}
-use Rattle.keys.proofs.Laws.{degree-word}
+use Rattle.acceptance.proofs.Laws.{accepted-pos, accepted-small}
+use Rattle.gf2.proofs.Monics.{word-degree}
 use Rattle.sheets.specs.Layout.{numbersAt}
 use Rattle.sheets.specs.Sheets.{firstChange}
 use Rattle.sheets.specs.Parts.{pagesLeft, fingerprintsFrom}
-use Rattle.sheets.proofs.Moduli.{Held, accepted-held, key-lt}
+use Rattle.sheets.proofs.Moduli.{Held, accepted-held}
 use Rattle.sheet_checking.proofs.Laws.{compare-long, compare-other, compare-pages, sound, size-is, key-is, length-is, pages-there}
 use borrow.Author.Needs.{needs}
 use Rattle.sheet_checking.proofs.compare.Statement.{statement}
@@ -36,7 +36,7 @@ degree-requires c κs =
 low-bits-requires : tie.Need-low-bits-requires
 low-bits-requires c κs =
     let s = c .before .before .before .before .before in
-    rw (c .degree .ensures) (rw (key-is (s .args .sheet .now) (s .pre)) (degree-word _ (accepted-pos _ (sound (s .args .sheet .now) (s .pre) .key)) (key-lt _ (sound (s .args .sheet .now) (s .pre) .key))))
+    rw (c .degree .ensures) (rw (key-is (s .args .sheet .now) (s .pre)) (word-degree _ (accepted-pos _ (sound (s .args .sheet .now) (s .pre) .key)) (accepted-small _ (sound (s .args .sheet .now) (s .pre) .key))))
 
 slice-aggregate-fill : tie.Need-slice-aggregate-fill
 slice-aggregate-fill c = search needs

@@ -5,7 +5,7 @@ use native.Mathlib.Omega.{arith}
 use lib.ListN.{length}
 use lib.Seq.{sets}
 use Rattle.gf2.specs.Polynomials.{monic}
-use Rattle.keys.proofs.Laws.{degree-word}
+use Rattle.gf2.proofs.Monics.{word-degree}
 use Rattle.files.specs.Files.{fingerprint}
 use Rattle.sheets.specs.Layout.{bytesOf, fieldsOf, numbersAt, pageCount}
 use Rattle.sheets.specs.Sheets.{pageFingerprints, contentsOf}
@@ -43,7 +43,7 @@ degree-requires c κs = search needs
 low-bits-requires : tie.Need-low-bits-requires
 low-bits-requires c κs =
     let s = c .before .before .before .before in
-    rw (c .degree .ensures) (degree-word (s .args .key) (omega arith) (s .fits .key .fits))
+    rw (c .degree .ensures) (word-degree (s .args .key) (omega arith) (s .fits .key .fits))
 
 slice-aggregate-fill : tie.Need-slice-aggregate-fill
 slice-aggregate-fill c = search needs

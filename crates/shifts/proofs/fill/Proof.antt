@@ -6,7 +6,7 @@ use lib.ListN.{length}
 use Rattle.gf2.specs.Polynomials.{monic, rem}
 use Rattle.gf2.proofs.Monics.{monic-pos}
 use Rattle.multiples.specs.Rows.{Multiples}
-use Rattle.multiples.proofs.Doubling.{rem-below}
+use Rattle.gf2.proofs.Steps.{residue-lt}
 use Rattle.tables.proofs.Rule.{power-next}
 use Rattle.shifts.proofs.Products.{Rows, row-more}
 use Rattle.shifts.proofs.fill.Statement.{statement}
@@ -37,7 +37,7 @@ fill-row-requires c κs =
     let s = c .before .before .before .before .before in
     let a = s .args in
     let l = c .before .before .loop in
-    (s .pre .0, rw (l .inv .2) (rem-below (a .k) (a .low) (s .pre .0 .2) (2 ^ (8 * a .n + 8 * l .j))), omega arith)
+    (s .pre .0, rw (l .inv .2) (residue-lt (a .k) (a .low) (s .pre .0 .2) (2 ^ (8 * a .n + 8 * l .j))), omega arith)
 
 add-step : tie.Need-add-step Inv-loop μ-loop
 add-step c = omega arith
@@ -53,7 +53,7 @@ step-requires : tie.Need-step-requires Inv-loop μ-loop
 step-requires c κs =
     let s = c .before .before .before .before .before .before .before .before .before in
     let e = c .before .before .before .fill-row .ensures .0 128 (omega arith) in
-    (s .pre .0, rw e (rem-below (s .args .k) (s .args .low) (s .pre .0 .2) _), omega arith)
+    (s .pre .0, rw e (residue-lt (s .args .k) (s .args .low) (s .pre .0 .2) _), omega arith)
 
 add-j : tie.Need-add-j Inv-loop μ-loop
 add-j c = omega arith

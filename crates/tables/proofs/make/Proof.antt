@@ -3,9 +3,10 @@ use mathlib.Core.Path.{_≡_, sym, ap, _∙_}
 use Prim.Native.Nat.{ℕ, _-_}
 use native.Mathlib.Omega.{arith}
 use Rattle.gf2.specs.Polynomials.{degree, monic}
+use Rattle.gf2.specs.Lists.{listFrom}
 use Rattle.refusals.specs.Refusals.{Done}
 use Rattle.keys.proofs.Laws.{passed, refused, passed-pos, passed-monic, passed-word, passed-modulus}
-use Rattle.tables.specs.Tables.{word, tableFrom}
+use Rattle.tables.specs.Tables.{word}
 use Rattle.tables.proofs.Calls.{make-key, make-size, make-done}
 use borrow.Author.Needs.{needs}
 use Rattle.tables.proofs.make.Statement.{statement}
@@ -76,7 +77,7 @@ returns-3 c =
     let d = c .before .before .before .before .before .degree in
     let l = c .before .before .before .low-bits in
     let p : monic (d .result) (l .result) ≡ a .key = rw (l .ensures, d .ensures) (passed-monic h) in
-    ap Done (c .before .before .fill .ensures ∙ ap (λ (q : ℕ). tableFrom (word 8 q) 0 1024) p) ∙ sym (make-done (a .key) (a .words .now) h (e .if1 .left))
+    ap Done (c .before .before .fill .ensures ∙ ap (λ (q : ℕ). listFrom (word 8 q) 0 1024) p) ∙ sym (make-done (a .key) (a .words .now) h (e .if1 .left))
 
 pub make-spec : {M : Type 1} → statement M
 make-spec =

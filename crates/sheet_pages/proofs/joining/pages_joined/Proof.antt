@@ -2,7 +2,7 @@ use mathlib.Core.Path.{_∙_}
 use Prim.Native.Nat.{_-_, _/_}
 use native.Mathlib.Nat.{mul-le-mul-right}
 use native.Mathlib.Omega.{arith}
-use Rattle.multiples.proofs.Doubling.{rem-below}
+use Rattle.gf2.proofs.Steps.{residue-lt}
 use Rattle.sheet_pages.proofs.Chains.{few-joined, a-lt, ab-lt, abc-lt, all-joined}
 use borrow.Author.Needs.{needs}
 use Rattle.sheet_pages.proofs.joining.pages_joined.Statement.{statement}
@@ -51,7 +51,7 @@ behind-requires c κs =
       s .pre .0,
       a-lt (a .k) (a .low) (s .pre .0) (a .size) (a .n) (a .n / 4) (omega arith) (a .sheet .now) (c .before .before .before .before .before .fill .last .0) (c .before .before .before .before .before .fill .ensures) (s .pre .4) (c .before .join-runs .result)
           (c .before .join-runs .ensures) (c .power-of-t .result) (c .power-of-t .ensures),
-      rw (c .power-of-t .ensures) (rem-below (a .k) (a .low) (s .pre .0 .2) _),
+      rw (c .power-of-t .ensures) (residue-lt (a .k) (a .low) (s .pre .0 .2) _),
     )
 
 behind-requires-2 : tie.Need-behind-requires-2
@@ -61,7 +61,7 @@ behind-requires-2 c κs =
       s .pre .0,
       ab-lt (a .k) (a .low) (s .pre .0) (a .size) (a .n) (a .n / 4) (omega arith) (a .sheet .now) (c .before .before .before .before .before .before .fill .last .0) (c .before .before .before .before .before .before .fill .ensures) (s .pre .4) (c .before .before .join-runs .result)
           (c .before .before .join-runs .ensures) (c .before .power-of-t .result) (c .before .power-of-t .ensures) (c .behind .result) (c .behind .ensures),
-      rw (c .before .power-of-t .ensures) (rem-below (a .k) (a .low) (s .pre .0 .2) _),
+      rw (c .before .power-of-t .ensures) (residue-lt (a .k) (a .low) (s .pre .0 .2) _),
     )
 
 behind-requires-3 : tie.Need-behind-requires-3
@@ -71,7 +71,7 @@ behind-requires-3 c κs =
       s .pre .0,
       abc-lt (a .k) (a .low) (s .pre .0) (a .size) (a .n) (a .n / 4) (omega arith) (a .sheet .now) (c .before .before .before .before .before .before .before .fill .last .0) (c .before .before .before .before .before .before .before .fill .ensures) (s .pre .4) (c .before .before .before .join-runs .result)
           (c .before .before .before .join-runs .ensures) (c .before .before .power-of-t .result) (c .before .before .power-of-t .ensures) (c .before .behind .result) (c .behind2 .result) (c .before .behind .ensures) (c .behind2 .ensures),
-      rw (c .before .before .power-of-t .ensures) (rem-below (a .k) (a .low) (s .pre .0 .2) _),
+      rw (c .before .before .power-of-t .ensures) (residue-lt (a .k) (a .low) (s .pre .0 .2) _),
     )
 
 slice-aggregate-join-run-2 : tie.Need-slice-aggregate-join-run-2

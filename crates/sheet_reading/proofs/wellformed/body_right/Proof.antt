@@ -6,8 +6,8 @@ use native.Mathlib.Omega.{arith}
 use lib.ListN.{length}
 use borrow.Author.Tests.{eq-eqb, ne-eqb, not-true, not-false}
 use Rattle.gf2.specs.Polynomials.{_⊗_, monic, degree, rem}
-use Rattle.multiples.proofs.Doubling.{rem-below}
-use Rattle.keys.proofs.Laws.{degree-word}
+use Rattle.gf2.proofs.Steps.{residue-lt}
+use Rattle.gf2.proofs.Monics.{word-degree}
 use Rattle.files.specs.Files.{markOf}
 use Rattle.sheets.specs.Layout.{numberAt, numbersAt}
 use Rattle.sheets.specs.Sheets.{someUnreduced, joinedPages}
@@ -68,7 +68,7 @@ degree-requires c κs = search needs
 low-bits-requires : tie.Need-low-bits-requires
 low-bits-requires c κs =
     let s = c .before .before .before .before in
-    rw (c .degree .ensures) (degree-word (s .args .key) (omega arith) (s .fits .key .fits))
+    rw (c .degree .ensures) (word-degree (s .args .key) (omega arith) (s .fits .key .fits))
 
 add-fields-reduced : tie.Need-add-fields-reduced
 add-fields-reduced c = search needs
@@ -116,7 +116,7 @@ product-requires : tie.Need-product-requires
 product-requires c κs =
     let h = key-held (c .before .before .before .before .before) in
     let k = c .before .before .before .before .before .before .degree .result in
-    (h .modulus, rw (c .before .number-at .ensures .0) (fields (c .before .before .before) .1), rw (c .power-of-t .ensures) (rem-below k (c .before .before .before .before .before .low-bits .result) (h .modulus .2) _))
+    (h .modulus, rw (c .before .number-at .ensures .0) (fields (c .before .before .before) .1), rw (c .power-of-t .ensures) (residue-lt k (c .before .before .before .before .before .low-bits .result) (h .modulus .2) _))
 
 returns-3 : tie.Need-returns-3
 returns-3 c =

@@ -4,7 +4,7 @@ use Prim.Native.Nat.{_+_, _-_, _*_, _^_, _≤_}
 use native.Mathlib.Omega.{arith}
 use Rattle.gf2.specs.Polynomials.{monic}
 use Rattle.gf2.proofs.Monics.{monic-pos, monic-degree}
-use Rattle.multiples.proofs.Doubling.{rem-below}
+use Rattle.gf2.proofs.Steps.{residue-lt}
 use Rattle.tables.specs.Tables.{word}
 use Rattle.multiples.specs.Rows.{Multiples}
 use Rattle.tables.proofs.Rule.{power, power-low, power-next, Follows, row-follows, table-is}
@@ -34,7 +34,7 @@ fill-row-requires c κs =
     let s = c .before .before .before .before in
     let a = s .args in
     let l = c .before .before .loop in
-    (s .pre .0, rw (l .inv .2) (rem-below (a .k) (a .low) (s .pre .0 .2) (2 ^ (a .k + 8 * l .j))), omega arith)
+    (s .pre .0, rw (l .inv .2) (residue-lt (a .k) (a .low) (s .pre .0 .2) (2 ^ (a .k + 8 * l .j))), omega arith)
 
 add-step : tie.Need-add-step Inv-loop μ-loop
 add-step c = omega arith
@@ -52,7 +52,7 @@ step-requires c κs =
     let s = c .before .before .before .before .before .before .before .before in
     let a = s .args in
     let e = c .before .before .before .fill-row .ensures .0 128 (omega arith) in
-    (s .pre .0, rw e (rem-below (a .k) (a .low) (s .pre .0 .2) _), omega arith)
+    (s .pre .0, rw e (residue-lt (a .k) (a .low) (s .pre .0 .2) _), omega arith)
 
 add-j : tie.Need-add-j Inv-loop μ-loop
 add-j c = omega arith

@@ -6,7 +6,7 @@ use mathlib.Core.Bool.{true, false, true≢false}
 use borrow.Author.Tests.{not-true, not-false}
 use Rattle.gf2.specs.Polynomials.{monic}
 use Rattle.gf2.proofs.Monics.{monic-pos, monic-degree}
-use Rattle.multiples.proofs.Doubling.{rem-below}
+use Rattle.gf2.proofs.Steps.{residue-lt}
 use Rattle.tables.specs.Tables.{word}
 use Rattle.multiples.specs.Rows.{Multiples}
 use Rattle.tables.proofs.Rule.{power, power-low, power-next, Follows, row-follows, follows-row, some-differs, none-differs}
@@ -35,7 +35,7 @@ row-holds-requires c κs =
     let s = c .before .before .before in
     let a = s .args in
     let l = c .before .loop in
-    (s .pre .0, rw (l .inv .1) (rem-below (a .k) (a .low) (s .pre .0 .2) (2 ^ (a .k + 8 * l .j))), omega arith)
+    (s .pre .0, rw (l .inv .1) (residue-lt (a .k) (a .low) (s .pre .0 .2) (2 ^ (a .k + 8 * l .j))), omega arith)
 
 returns : tie.Need-returns Inv-loop μ-loop
 returns c =
@@ -63,7 +63,7 @@ step-requires c κs =
     let s = c .before .before .before .before .before .before in
     let a = s .args in
     let e = c .before .before .row-holds .ensures .0 (not-false (c .before .before .row-holds .result) (c .before .if1 .left)) 128 (omega arith) in
-    (s .pre .0, rw e (rem-below (a .k) (a .low) (s .pre .0 .2) _), omega arith)
+    (s .pre .0, rw e (residue-lt (a .k) (a .low) (s .pre .0 .2) _), omega arith)
 
 add-j : tie.Need-add-j Inv-loop μ-loop
 add-j c = omega arith

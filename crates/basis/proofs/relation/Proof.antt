@@ -6,9 +6,9 @@ use borrow.Author.Needs.{needs}
 use lib.ListN.{length-take, length-drop}
 use Rattle.gf2.specs.Polynomials.{_⊕_}
 use Rattle.gf2.proofs.Steps.{shifted-one}
-use Rattle.draw.proofs.Relations.{Kept, kept-start, pivot, kept-turn, relation-found}
-use Rattle.draw.proofs.relation.Statement.{statement}
-use Rattle.draw.proofs.relation.Tie as tie
+use Rattle.basis.proofs.Relations.{Kept, kept-start, pivot, kept-turn, relation-found}
+use Rattle.basis.proofs.relation.Statement.{statement}
+use Rattle.basis.proofs.relation.Tie as tie
 
 abbrev Inv-loop : tie.InvT-loop
 Inv-loop k work₀ sums₀ last n i₀ work sums i = Kept work₀ k i work sums
@@ -28,6 +28,12 @@ mul-v c = omega arith
 array-read-v : tie.Need-array-read-v Inv-loop μ-loop
 array-read-v c = omega arith
 
+lowest-one-requires : tie.Need-lowest-one-requires Inv-loop μ-loop
+lowest-one-requires c κs =
+    let s = c .before .before in
+    let l = c .before .loop in
+    pivot (s .args .rows) (s .args .k) (s .pre .0) (l .i) (l .work) (l .sums) (l .inv) (c .loop-test .taken) (s .pre .1)
+
 shl-place : tie.Need-shl-place Inv-loop μ-loop
 shl-place c = omega arith
 
@@ -43,8 +49,8 @@ add-next c = omega arith
 mul-work : tie.Need-mul-work Inv-loop μ-loop
 mul-work c = omega arith
 
-sub-clear-column : tie.Need-sub-clear-column Inv-loop μ-loop
-sub-clear-column c = omega arith
+sub-clear-with-sums : tie.Need-sub-clear-with-sums Inv-loop μ-loop
+sub-clear-with-sums c = omega arith
 
 part-work-start : tie.Need-part-work-start Inv-loop μ-loop
 part-work-start c = omega arith
@@ -55,8 +61,8 @@ part-work-end c = omega arith
 mul-sums : tie.Need-mul-sums Inv-loop μ-loop
 mul-sums c = omega arith
 
-sub-clear-column-2 : tie.Need-sub-clear-column-2 Inv-loop μ-loop
-sub-clear-column-2 c = omega arith
+sub-clear-with-sums-2 : tie.Need-sub-clear-with-sums-2 Inv-loop μ-loop
+sub-clear-with-sums-2 c = omega arith
 
 part-sums-start : tie.Need-part-sums-start Inv-loop μ-loop
 part-sums-start c = omega arith
@@ -64,13 +70,10 @@ part-sums-start c = omega arith
 part-sums-end : tie.Need-part-sums-end Inv-loop μ-loop
 part-sums-end c = omega arith
 
-clear-column-requires : tie.Need-clear-column-requires Inv-loop μ-loop
-clear-column-requires c κs =
-    let s = c .before .before .before .before in
-    let l = c .before .before .before .loop in (
-      pivot (s .args .rows) (s .args .k) (s .pre .0) (l .i) (l .work) (l .sums) (l .inv) (c .before .before .loop-test .taken) (s .pre .1),
-      simp (length-take, length-drop, l .inv .work-length, l .inv .sums-length),
-    )
+clear-with-sums-requires : tie.Need-clear-with-sums-requires Inv-loop μ-loop
+clear-with-sums-requires c κs =
+    let l = c .before .before .before .before .loop in
+    (c .before .before .lowest-one .ensures .0, simp (length-take, length-drop, l .inv .work-length, l .inv .sums-length))
 
 add-i : tie.Need-add-i Inv-loop μ-loop
 add-i c = omega arith
@@ -81,11 +84,12 @@ loop-less c = omega arith
 loop-again : tie.Need-loop-again Inv-loop μ-loop
 unfolding _⊕_
 loop-again c =
-    let s = c .before .before .before .before .before .before .before in
-    let l = c .before .before .before .before .before .before .loop in
-    let e = c .before .before .clear-column .ensures in
-    kept-turn (s .args .rows) (s .args .k) (s .pre .0) (l .i) (l .work) (l .sums) (l .inv) (c .before .before .before .before .before .loop-test .taken) (s .pre .1)
-    (c .before .before .clear-column .last .0) (c .before .before .clear-column .last .1 .0) (e .0) (rw (shifted-one (l .i) (omega arith)) at (e .1))
+    let s = c .before .before .before .before .before .before .before .before in
+    let l = c .before .before .before .before .before .before .before .loop in
+    let one = c .before .before .before .before .before .lowest-one in
+    let clear = c .before .before .clear-with-sums in
+    kept-turn (s .args .rows) (s .args .k) (s .pre .0) (l .i) (l .work) (l .sums) (l .inv) (omega arith) (one .result) (one .ensures .2)
+    (clear .last .0) (clear .last .1 .0) (clear .ensures .0) (rw (shifted-one (l .i) (omega arith)) at (clear .ensures .1))
 
 shl-place-2 : tie.Need-shl-place-2 Inv-loop μ-loop
 shl-place-2 c = omega arith
@@ -114,19 +118,20 @@ relation-spec =
     loop-holds
     mul-v
     array-read-v
+    lowest-one-requires
     shl-place
     mul-w
     array-read-w
     add-next
     mul-work
-    sub-clear-column
+    sub-clear-with-sums
     part-work-start
     part-work-end
     mul-sums
-    sub-clear-column-2
+    sub-clear-with-sums-2
     part-sums-start
     part-sums-end
-    clear-column-requires
+    clear-with-sums-requires
     add-i
     loop-less
     loop-again

@@ -7,10 +7,10 @@ use borrow.Author.Needs.{needs}
 use lib.ListN.{length, drop}
 use Rattle.gf2.specs.Polynomials.{_⊕_}
 use Rattle.gf2.proofs.Sums.{zero-⊕}
 use Rattle.basis.specs.Rows.{sumOf}
-use Rattle.draw.proofs.Matrices.{sum-next, sum-done}
-use Rattle.draw.proofs.sum_of.Statement.{statement}
-use Rattle.draw.proofs.sum_of.Tie as tie
+use Rattle.basis.proofs.Sums.{sum-next, sum-done}
+use Rattle.basis.proofs.sum_of.Statement.{statement}
+use Rattle.basis.proofs.sum_of.Tie as tie
 
 abbrev Inv-loop : tie.InvT-loop
 Inv-loop x rows sum₀ bits₀ j₀ j-end sum bits j = (j ≤ length rows) × (sum ⊕ sumOf bits (drop j rows) ≡ sumOf x rows)

@@ -11,16 +11,19 @@ use lib.Arith.{bin-ind, lt-one}
 use lib.Bits.{bitAnd, and-shr, and-mod, and-mask, and-zero-r}
 use lib.Dec.{T, eqb, eqb→eq}
 use lib.Pow.{pow-pos, split, shr-lt}
 use Rattle.gf2.specs.Polynomials.{_⊕_, _⊗_}
 use Rattle.gf2.proofs.Sums.{⊕-shr, ⊕-half, ⊕-low, ⊕-self, ⊕-swap, ⊕-append, bits-eq}
-use Rattle.gf2.proofs.Products.{bit-cases, mod-2, ring}
+use Rattle.gf2.proofs.Products.{bit-cases, mod-2, by-bit, square-⊕}
 use Rattle.gf2.proofs.Lists.{and-left, and-right}
 
 pub record Additive (f : ℕ → ℕ) : Type 0 where
   pub sum : (a b : ℕ) → f (a ⊕ b) ≡ f a ⊕ f b
 
 pub at-zero : {f : ℕ → ℕ} → Additive f → f 0 ≡ 0
 at-zero {f} h = ap f (sym (⊕-self 0)) ∙ h .sum 0 0 ∙ ⊕-self (f 0)
+
+pub at-bit : {f : ℕ → ℕ} → Additive f → (x y : ℕ) → f (x % 2 * y) ≡ x % 2 * f y
+at-bit {f} h x y = by-bit (λ (b : ℕ). f (b * y) ≡ b * f y) (rw (zero-mul, zero-mul) (at-zero h)) (rw (one-mul, one-mul)) x
 
 -- ---- of what they are made
 
@@ -40,7 +43,7 @@ pub shifted : (k : ℕ) → Additive (λ x. x / 2 ^ k)
 shifted k = record { sum = ⊕-shr k }
 
 pub squared : Additive (λ x. x ⊗ x)
-squared = record { sum = λ a b. simp ring }
+squared = record { sum = square-⊕ }
 
 and-half : (a m : ℕ) → bitAnd a m / 2 ≡ bitAnd (a / 2) (m / 2)
 and-half a m = and-shr a m 1

@@ -8,17 +8,16 @@ use native.Mathlib.Numerals.{add-one}
 use native.Mathlib.Omega.{arith}
 use lib.ListN.{length, take, drop, getD, set, replicate, length-map, length-replicate}
 use lib.Pow.{pow-pos, pow-mono}
-use lib.Seq.{length-take-le, getD-take, drop-at, take-at}
+use lib.Seq.{length-take-le, getD-take}
 use borrow.Rule.Slice.PartMut.{putMid, mid-len, same-len-mid}
-use Rattle.gf2.specs.Polynomials.{_⊕_, degree, Degree}
+use Rattle.gf2.specs.Polynomials.{_⊕_, Degree}
 use Rattle.gf2.proofs.Sums.{⊕-left-comm, ⊕-lt, ⊕-zero}
 use Rattle.gf2.proofs.Products.{by-bit, bit-cases}
-use Rattle.gf2.proofs.Degrees.{degree-is, deg-hi, deg-pos, deg-⊕}
-use Rattle.basis.specs.Rows.{sumOf, Independent, clear}
-use Rattle.draw.proofs.Parts.{part-cons, turn}
-use Rattle.basis.proofs.Insertion.{sum-⊕}
-use Rattle.draw.specs.Matrices.{NoRelation, addWhere}
-use Rattle.draw.proofs.Matrices.{sum-take, sum-place, bit-value}
+use Rattle.gf2.proofs.Degrees.{deg-hi, deg-pos, deg-⊕}
+use Rattle.gf2.proofs.Linear.{at-bit}
+use Rattle.basis.specs.Rows.{sumOf, Independent, NoRelation, clear, addWhere}
+use Rattle.basis.proofs.Sums.{sum-additive, sum-take, sum-place}
+use Rattle.basis.proofs.Parts.{part-cons, put-part, turn-behind}
 
 -- ---- a list of sums that is changed one by one, from the front
 
@@ -51,51 +50,48 @@ module _ (c w : ℕ) where
 
 -- ---- rows and sums
 
-module _ (L : ℕ → ℕ) (add : (x y : ℕ) → L (x ⊕ y) ≡ L x ⊕ L y) where
-  -- each row, from row i on, is the value at t^i less its sum, and the sum is of rows before it
+module _ (given : List ℕ) where
+  -- each row, from row i on, is the given row i with the sum beside it added, and that sum is of rows before it
   abbrev pub Tied : ℕ → List ℕ → List ℕ → Type 0
   Tied i [] sums = Unit {0}
   Tied i (r ∷ rows) [] = ⊥
-  Tied i (r ∷ rows) (s ∷ sums) = (s < 2 ^ i) × (L (2 ^ i ⊕ s) ≡ r) × Tied (suc i) rows sums
+  Tied i (r ∷ rows) (s ∷ sums) = (s < 2 ^ i) × (sumOf (2 ^ i ⊕ s) given ≡ r) × Tied (suc i) rows sums
 
-  pub tied-start : (i : ℕ) (rows sums : List ℕ) → length rows ≤ length sums → ((j : ℕ) → j < length rows → getD rows j 0 ≡ L (2 ^ (i + j)))
+  pub tied-start : (i : ℕ) (rows sums : List ℕ) → length rows ≤ length sums → ((j : ℕ) → j < length rows → getD rows j 0 ≡ getD given (i + j) 0)
       → ((j : ℕ) → getD sums j 0 ≡ 0) → Tied i rows sums
   tied-start i [] sums l h z = tt
   tied-start i (r ∷ rows) [] l h z = not-suc-le-zero l
   tied-start i (r ∷ rows) (s ∷ sums) l h z = (
     rw (z 0) (pow-pos i),
-    rw (z 0) (ap L (⊕-zero (2 ^ i)) ∙ sym (h 0 (omega arith) ∙ ap (λ (n : ℕ). L (2 ^ n)) (add-zero i))),
+    rw (z 0) (ap (λ (x : ℕ). sumOf x given) (⊕-zero (2 ^ i)) ∙ sum-place i given ∙ sym (h 0 (omega arith) ∙ ap (λ (n : ℕ). getD given n 0) (add-zero i))),
     tied-start (suc i) rows sums (le-of-suc-le-suc l)
-        (λ j m. h (suc j) (suc-le-suc m) ∙ ap (λ (n : ℕ). L (2 ^ n)) (add-suc i j ∙ sym (suc-add i j))) (λ j. z (suc j)),
+        (λ j m. h (suc j) (suc-le-suc m) ∙ ap (λ (n : ℕ). getD given n 0) (add-suc i j ∙ sym (suc-add i j))) (λ j. z (suc j)),
   )
 
-  -- a column is cleared by a row v before them, whose value is that of w
-  pub tied-cleared : (c v w : ℕ) → L w ≡ v → (i : ℕ) (rows sums : List ℕ) → w < 2 ^ i → Tied i rows sums
+  -- a column is cleared by a row v before them, the sum of the given rows that w chooses
+  pub tied-cleared : (c v w : ℕ) → sumOf w given ≡ v → (i : ℕ) (rows sums : List ℕ) → w < 2 ^ i → Tied i rows sums
       → Tied i (map (clear c v) rows) (addWhere c w rows sums)
   unfolding clear addWhere
   tied-cleared c v w e i [] sums l t = tt
   tied-cleared c v w e i (r ∷ rows) [] l t = t
   tied-cleared c v w e i (r ∷ rows) (s ∷ sums) l t = (
     ⊕-lt i (r / 2 ^ c % 2 * w) s (by-bit (λ (b : ℕ). b * w < 2 ^ i) (rw zero-mul (pow-pos i)) (rw one-mul l) (r / 2 ^ c)) (t .0),
-    ap L (⊕-left-comm (2 ^ i) (r / 2 ^ c % 2 * w) s) ∙ add (r / 2 ^ c % 2 * w) (2 ^ i ⊕ s)
-        ∙ ap₂ (λ (x y : ℕ). x ⊕ y) (bit-value L add (r / 2 ^ c) w ∙ ap (λ (x : ℕ). r / 2 ^ c % 2 * x) e) (t .1),
+    ap (λ (x : ℕ). sumOf x given) (⊕-left-comm (2 ^ i) (r / 2 ^ c % 2 * w) s) ∙ sum-additive given .sum (r / 2 ^ c % 2 * w) (2 ^ i ⊕ s)
+        ∙ ap₂ (λ (x y : ℕ). x ⊕ y) (at-bit (sum-additive given) (r / 2 ^ c) w ∙ ap (λ (x : ℕ). r / 2 ^ c % 2 * x) e) (t .1),
     tied-cleared c v w e (suc i) rows sums (lt-of-lt-of-le l (pow-mono (le-suc i))) (t .2),
   )
 
 -- ---- a turn, on the buffers: row i clears the rows from i + 1 up to n, which the code lends as parts of the buffers
 
-put-part : (a k : ℕ) (rows ys : List ℕ) → a ≤ length rows → length ys ≡ k → take k (drop a (putMid a k rows ys)) ≡ ys
-put-part a k rows ys h e = ap (take k) (drop-at (take a rows) _ a (length-take-le a rows h)) ∙ take-at ys _ k e
-
-module _ (L : ℕ → ℕ) (add : (x y : ℕ) → L (x ⊕ y) ≡ L x ⊕ L y) (i n : ℕ) (rows sums : List ℕ) (l : i < n) (lr : n ≤ length rows) (ls : n ≤ length sums)
-    (t : Tied L add i (take (n - i) (drop i rows)) (take (n - i) (drop i sums))) where
-  parts : Tied L add i (getD rows i 0 ∷ take (n - (i + 1)) (drop (i + 1) rows)) (getD sums i 0 ∷ take (n - (i + 1)) (drop (i + 1) sums))
+module _ (given : List ℕ) (i n : ℕ) (rows sums : List ℕ) (l : i < n) (lr : n ≤ length rows) (ls : n ≤ length sums)
+    (t : Tied given i (take (n - i) (drop i rows)) (take (n - i) (drop i sums))) where
+  parts : Tied given i (getD rows i 0 ∷ take (n - (i + 1)) (drop (i + 1) rows)) (getD sums i 0 ∷ take (n - (i + 1)) (drop (i + 1) sums))
   parts = rw (part-cons i n rows l lr, part-cons i n sums l ls) at t
 
   pub sum-before : getD sums i 0 < 2 ^ i
   sum-before = parts .0
 
-  pub row-value : L (2 ^ i ⊕ getD sums i 0) ≡ getD rows i 0
+  pub row-value : sumOf (2 ^ i ⊕ getD sums i 0) given ≡ getD rows i 0
   row-value = parts .1
 
   pub new-degree : Degree (2 ^ i ⊕ getD sums i 0) i
@@ -103,10 +99,10 @@ module _ (L : ℕ → ℕ) (add : (x y : ℕ) → L (x ⊕ y) ≡ L x ⊕ L y) (
 
   pub tied-turn : (c : ℕ) (ys zs : List ℕ) → ys ≡ map (clear c (getD rows i 0)) (take (n - (i + 1)) (drop (i + 1) rows))
       → zs ≡ addWhere c (2 ^ i ⊕ getD sums i 0) (take (n - (i + 1)) (drop (i + 1) rows)) (take (n - (i + 1)) (drop (i + 1) sums))
-      → Tied L add (i + 1) (take (n - (i + 1)) (drop (i + 1) (putMid (i + 1) (n - (i + 1)) rows ys))) (take (n - (i + 1)) (drop (i + 1) (putMid (i + 1) (n - (i + 1)) sums zs)))
+      → Tied given (i + 1) (take (n - (i + 1)) (drop (i + 1) (putMid (i + 1) (n - (i + 1)) rows ys))) (take (n - (i + 1)) (drop (i + 1) (putMid (i + 1) (n - (i + 1)) sums zs)))
   tied-turn c ys zs ey ez =
       rw (put-part (i + 1) (n - (i + 1)) rows ys (omega arith) ly, put-part (i + 1) (n - (i + 1)) sums zs (omega arith) lz, ey, ez, add-one i)
-      (tied-cleared L add c (getD rows i 0) (2 ^ i ⊕ getD sums i 0) row-value (suc i) (take (n - suc i) (drop (suc i) rows)) (take (n - suc i) (drop (suc i) sums)) (deg-hi (2 ^ i ⊕ getD sums i 0) i new-degree) (rw (add-one i) at (parts .2)))
+      (tied-cleared given c (getD rows i 0) (2 ^ i ⊕ getD sums i 0) row-value (suc i) (take (n - suc i) (drop (suc i) rows)) (take (n - suc i) (drop (suc i) sums)) (deg-hi (2 ^ i ⊕ getD sums i 0) i new-degree) (rw (add-one i) at (parts .2)))
     where
       ly : length ys ≡ n - (i + 1)
       ly = ap length ey ∙ length-map (take (n - (i + 1)) (drop (i + 1) rows)) (clear c (getD rows i 0)) ∙ mid-len (i + 1) n rows lr
@@ -147,7 +143,7 @@ module _ (rows : List ℕ) (k : ℕ) where
     pub work-length : length work ≡ 64
     pub sums-length : length sums ≡ 64
     pub dependent : Independent (take (k + 1 - i) (drop i work)) → ⊥
-    pub tied : Tied (λ x. sumOf x rows) (sum-⊕ rows) i (take (k + 1 - i) (drop i work)) (take (k + 1 - i) (drop i sums))
+    pub tied : Tied rows i (take (k + 1 - i) (drop i work)) (take (k + 1 - i) (drop i sums))
 
   module _ (small : k < 64) where
     pub kept-start : length rows ≡ 64 → (NoRelation (k + 1) rows → ⊥) → Kept 0 rows (replicate 64 0)
@@ -159,8 +155,8 @@ module _ (rows : List ℕ) (k : ℕ) where
           dependent = λ i. d (independent-none (k + 1) rows (omega arith) (rw sub-zero at i));
           tied =
               rw sub-zero
-              (tied-start (λ x. sumOf x rows) (sum-⊕ rows) 0 (take (k + 1) rows) (take (k + 1) (replicate 64 0)) lengths
-              (λ j l. getD-take (k + 1) rows j 0 (omega (arith, own)) ∙ sym (ap (λ (n : ℕ). sumOf (2 ^ n) rows) (zero-add j) ∙ sum-place j rows)) (zeros-at 64 (k + 1)));
+              (tied-start rows 0 (take (k + 1) rows) (take (k + 1) (replicate 64 0)) lengths
+              (λ j l. getD-take (k + 1) rows j 0 (omega (arith, own)) ∙ ap (λ (n : ℕ). getD rows n 0) (sym (zero-add j))) (zeros-at 64 (k + 1)));
         }
       where
         own : length (take (k + 1) rows) ≡ k + 1
@@ -187,43 +183,37 @@ module _ (rows : List ℕ) (k : ℕ) where
           x = 2 ^ i ⊕ getD sums i 0
 
           d : Degree x i
-          d = new-degree (λ x. sumOf x rows) (sum-⊕ rows) i (k + 1) work sums i-lt rows-there sums-there (s .tied)
+          d = new-degree rows i (k + 1) work sums i-lt rows-there sums-there (s .tied)
 
           go : (getD work i 0 ≡ 0) ⊎ (0 < getD work i 0) → 0 < getD work i 0
           go (inr p) = p
           go (inl z) =
               absurd (omega (
                 arith,
-                none x (lt-of-lt-of-le (deg-hi x i d) (pow-mono l)) (row-value (λ x. sumOf x rows) (sum-⊕ rows) i (k + 1) work sums i-lt rows-there sums-there (s .tied) ∙ z),
+                none x (lt-of-lt-of-le (deg-hi x i d) (pow-mono l)) (row-value rows i (k + 1) work sums i-lt rows-there sums-there (s .tied) ∙ z),
                 deg-pos x i d,
               ))
 
-      pub kept-turn : i < k → NoRelation k rows → (ys zs : List ℕ)
-          → ys ≡ map (clear (degree (getD work i 0)) (getD work i 0)) (take (k + 1 - (i + 1)) (drop (i + 1) work))
-          → zs ≡ addWhere (degree (getD work i 0)) (2 ^ i ⊕ getD sums i 0) (take (k + 1 - (i + 1)) (drop (i + 1) work)) (take (k + 1 - (i + 1)) (drop (i + 1) sums))
+      pub kept-turn : i < k → (c : ℕ) → getD work i 0 / 2 ^ c % 2 ≡ 1 → (ys zs : List ℕ)
+          → ys ≡ map (clear c (getD work i 0)) (take (k + 1 - (i + 1)) (drop (i + 1) work))
+          → zs ≡ addWhere c (2 ^ i ⊕ getD sums i 0) (take (k + 1 - (i + 1)) (drop (i + 1) work)) (take (k + 1 - (i + 1)) (drop (i + 1) sums))
           → Kept (i + 1) (putMid (i + 1) (k + 1 - (i + 1)) work ys) (putMid (i + 1) (k + 1 - (i + 1)) sums zs)
-      kept-turn l none ys zs ey ez =
+      kept-turn l c one ys zs ey ez =
           record {
             reached = omega arith;
             work-length = same-len-mid (i + 1) (k + 1 - (i + 1)) work ys (ap length ey ∙ length-map (take (k + 1 - (i + 1)) (drop (i + 1) work)) (clear c (getD work i 0))) ∙ s .work-length;
             sums-length = same-len-mid (i + 1) (k + 1 - (i + 1)) sums zs (ap length ez ∙ length-added c (2 ^ i ⊕ getD sums i 0) (take (k + 1 - (i + 1)) (drop (i + 1) work)) (take (k + 1 - (i + 1)) (drop (i + 1) sums))) ∙ s .sums-length;
-            dependent = λ j. s .dependent (turn i (k + 1) c work ys i-lt rows-there one ey .1 j);
-            tied = tied-turn (λ x. sumOf x rows) (sum-⊕ rows) i (k + 1) work sums i-lt rows-there sums-there (s .tied) c ys zs ey ez;
+            dependent = λ j. s .dependent (turn-behind i (k + 1) c work ys i-lt rows-there one ey .1 j);
+            tied = tied-turn rows i (k + 1) work sums i-lt rows-there sums-there (s .tied) c ys zs ey ez;
           }
-        where
-          c : ℕ
-          c = degree (getD work i 0)
-
-          one : getD work i 0 / 2 ^ c % 2 ≡ 1
-          one = ap (λ (x : ℕ). x % 2) (degree-is (getD work i 0) (pivot l none))
 
     -- of the last row nothing is left: t^k with its sum is the relation
     pub relation-found : (work sums : List ℕ) → Kept k work sums → (place : ℕ) → place ≡ 2 ^ k
         → Degree (place ⊕ getD sums k 0) k × (sumOf (place ⊕ getD sums k 0) rows ≡ 0)
     relation-found work sums s place e =
         rw e (
-          new-degree (λ x. sumOf x rows) (sum-⊕ rows) k (k + 1) work sums (i-lt k work sums s) (rows-there k work sums s) (sums-there k work sums s) (s .tied),
-          row-value (λ x. sumOf x rows) (sum-⊕ rows) k (k + 1) work sums (i-lt k work sums s) (rows-there k work sums s) (sums-there k work sums s) (s .tied)
+          new-degree rows k (k + 1) work sums (i-lt k work sums s) (rows-there k work sums s) (sums-there k work sums s) (s .tied),
+          row-value rows k (k + 1) work sums (i-lt k work sums s) (rows-there k work sums s) (sums-there k work sums s) (s .tied)
               ∙ last-row (getD work k 0) (λ j. s .dependent (rw (part-cons k (k + 1) work (i-lt k work sums s) (rows-there k work sums s), none-left) j)),
         )
       where
