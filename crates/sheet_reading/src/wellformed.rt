@@ -29,7 +29,7 @@ fn fields_reduced(sheet: &[u8], k: u32, n: u64) -> bool
     let mut place: usize = 19;
     let mut left = n;
     while 0 < left {
-        if limit <= fields::number_at(sheet, place, 8) {
+        if limit <= lookups::eight_at(sheet, place) {
             return false;
         }
         place += 8;

@@ -23,8 +23,13 @@ shl-limit c = omega arith
 loop-holds : tie.Need-loop-holds Inv-loop μ-loop
 loop-holds c = (c .before .pre .1, refl)
 
-number-at-requires : tie.Need-number-at-requires Inv-loop μ-loop
-number-at-requires c κs = omega arith
+eight-at-requires : tie.Need-eight-at-requires Inv-loop μ-loop
+eight-at-requires c κs = omega arith
+
+-- the field at hand
+field : (c : tie.After-eight-at Inv-loop μ-loop) → c .eight-at .result ≡ numberAt (c .before .before .loop .place) 8 (c .before .before .before .before .args .sheet .now)
+unfolding numberAt
+field c = c .eight-at .ensures
 
 returns : tie.Need-returns Inv-loop μ-loop
 returns c =
@@ -33,7 +38,7 @@ returns c =
     let next = numbers-next (l .place) 8 (l .left) (a .sheet .now) (omega arith) in
     let here =
     unreduced-here (a .k) (numberAt (l .place) 8 (a .sheet .now)) (numbersAt (l .place + 8) 8 (l .left - 1) (a .sheet .now))
-    (rw (← (c .before .number-at .ensures .0)) (omega (arith, c .if1 .taken, shifted-one (a .k) (c .before .before .before .before .before .pre .0)))) in
+    (rw (← (field (c .before))) (omega (arith, c .if1 .taken, shifted-one (a .k) (c .before .before .before .before .before .pre .0)))) in
     sym (ap not (sym (l .inv .1) ∙ ap (someUnreduced (a .k)) next ∙ here))
 
 add-place : tie.Need-add-place Inv-loop μ-loop
@@ -52,7 +57,7 @@ loop-again c =
     let next = numbers-next (l .place) 8 (l .left) (a .sheet .now) (omega arith) in
     let later =
     unreduced-later (a .k) (numberAt (l .place) 8 (a .sheet .now)) (numbersAt (l .place + 8) 8 (l .left - 1) (a .sheet .now))
-    (rw (← (c .before .number-at .ensures .0)) (omega (arith, c .if1 .left, shifted-one (a .k) (c .before .before .before .before .before .pre .0)))) in
+    (rw (← (field (c .before))) (omega (arith, c .if1 .left, shifted-one (a .k) (c .before .before .before .before .before .pre .0)))) in
     (omega arith, sym later ∙ ap (someUnreduced (a .k)) (sym next) ∙ l .inv .1)
 
 returns-2 : tie.Need-returns-2 Inv-loop μ-loop
@@ -69,7 +74,7 @@ fields-reduced-spec =
     μ-loop
     shl-limit
     loop-holds
-    number-at-requires
+    eight-at-requires
     returns
     add-place
     sub-left
