@@ -47,7 +47,7 @@ struct Pair {
 static Pair measure(const Call &ours, const Call &theirs) {
     size_t n = enough(ours), m = enough(theirs);
     Pair best = {1e300, 1e300};
-    for (int run = 0; run < 11; run++) {
+    for (int run = 0; run < 31; run++) {
         best.ours = std::min(best.ours, took(ours, n) / double(n));
         best.theirs = std::min(best.theirs, took(theirs, m) / double(m));
     }

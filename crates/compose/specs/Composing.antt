@@ -1,6 +1,6 @@
 -- Joining marks and changing a page in a file's mark (document 01, "Marks"): each call is its tests, in the order of their numbers,
 -- and its value.
-use mathlib.Core.Bool.{Bool, _||_, not}
+use mathlib.Core.Bool.{_||_, not}
 use mathlib.Core.List.{List, [], _∷_, _++_}
 use Prim.Native.Nat.{ℕ, _+_, _-_, _*_, _^_}
 use lib.Dec.{ltb, eqb}

@@ -1,12 +1,11 @@
 -- The conjugates of a residue modulo f: e, e^2, e^4, .. up to e^(2^(k-1)). If k is prime and e is not 0 or 1, no two are equal:
 -- the least period of squaring divides k.
 use mathlib.Core.Path.{_≡_, sym, ap, _∙_}
-use mathlib.Core.Logic.{_≢_}
 use Prim.Native.Nat.{ℕ, zero, suc, _+_, _*_, _-_, _/_, _%_, _^_, _≤_, _<_}
 use native.Mathlib.Nat.{le-refl, suc-mul, zero-mul, mod-lt, mod-add-div'}
 use native.Mathlib.Decide.{ℕ-discrete}
 use native.Mathlib.Omega.{arith}
-use Rattle.gf2.specs.Polynomials.{_⊕_, _⊗_, Degree, degree, Divides, rem, Irreducible}
+use Rattle.gf2.specs.Polynomials.{_⊕_, _⊗_, degree, Divides, rem}
 use Rattle.gf2.proofs.Sums.{⊕-self, xor}
 use Rattle.gf2.proofs.Degrees.{degree-eq}
 use Rattle.gf2.proofs.Divisors.{dvd-by, dvd-zero, dvd-⊕}
@@ -14,7 +13,7 @@ use Rattle.gf2.proofs.Residues.{rem-cong, rem-small}
 use Rattle.acceptance.proofs.Criterion.{irreducible-rigid}
 use Rattle.fields.proofs.Squaring.{power, power-zero, power-suc, power-power, power-cong, power-cancel}
 use Rattle.fields.proofs.Fermat.{fermat-all}
-use Rattle.fields.specs.Fields.{Prime, Field}
+use Rattle.fields.specs.Fields.{Field}
 
 -- squaring j times gives e back
 abbrev Period : ℕ → ℕ → ℕ → Type 0

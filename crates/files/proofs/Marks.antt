@@ -2,14 +2,13 @@
 use mathlib.Core.Path.{_≡_, sym, ap, ap₂, _∙_}
 use mathlib.Core.List.{List, _++_}
 use Prim.Native.Nat.{ℕ, _*_, _^_, _<_}
-use native.Mathlib.Nat.{add-zero, one-mul}
-use lib.ListN.{length, length-append}
-use lib.Pow.{pow-pos}
+use native.Mathlib.Nat.{one-mul}
+use lib.ListN.{length}
 use Rattle.gf2.specs.Polynomials.{_⊕_, rem}
-use Rattle.gf2.proofs.Sums.{⊕-zero, ⊕-move, xor}
+use Rattle.gf2.proofs.Sums.{⊕-move, xor}
 use Rattle.gf2.proofs.Residues.{rem-⊕}
 use Rattle.gf2.proofs.Powers.{rem-rem, rem-shl}
-use Rattle.files.specs.Files.{bits, valueFrom, value, fingerprint, markOf}
+use Rattle.files.specs.Files.{bits, valueFrom, value, fingerprint}
 use Rattle.files.specs.declared.Mark.{Mark}
 use Rattle.files.proofs.Values.{value-append, value-⊕, length-bits, bits-append, rem-from, value-change}
 

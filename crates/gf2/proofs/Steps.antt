@@ -1,14 +1,14 @@
 -- What the code computes modulo t^k with the coefficients `low` below it: one bit behind a residue, a product and a power bit by bit.
-use mathlib.Core.Path.{_≡_, refl, sym, ap, ap₂, _∙_}
+use mathlib.Core.Path.{_≡_, sym, ap, ap₂, _∙_}
 use mathlib.Core.Logic.{_⊎_, inl, inr}
 use Prim.Native.Nat.{ℕ, zero, suc, _+_, _-_, _*_, _/_, _%_, _^_, _≤_, _<_, zero-le}
 use native.Mathlib.Nat.{le-refl, lt-of-lt-of-le, div-eq-of-lt, one-mul, zero-mul, mul-one, mul-zero, mod-lt, pow-suc, pow-succ', add-zero, div-lt-iff-lt-mul, div-div-eq-div-mul}
 use native.Mathlib.Numerals.{add-one, one-add}
 use native.Mathlib.Omega.{arith}
 use lib.Dec.{lit<}
-use lib.Count.{leadingZeros, leading-length, leading-le}
+use lib.Count.{leadingZeros, leading-length}
 use lib.Pow.{pow-pos, pow-mono, pow-lt, split, shl-exact, high, low, mod-pow-add}
-use Rattle.gf2.specs.Polynomials.{_⊕_, _⊗_, _⊗^_, degree, monic, rem, Divides, Modulus}
+use Rattle.gf2.specs.Polynomials.{_⊕_, _⊗_, _⊗^_, monic, rem, Modulus}
 use Rattle.gf2.proofs.Sums.{⊕-append, ⊕-comm}
 use Rattle.gf2.proofs.Products.{⊗-zero, ⊗-⊕, ⊗-comm, ⊗-pow, shl-suc, bit-cases, by-bit}
 use Rattle.gf2.proofs.Degrees.{half-pow}

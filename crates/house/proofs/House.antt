@@ -13,7 +13,6 @@ use Rattle.keys.proofs.Laws.{accepted-passed, first-passed}
 use Rattle.files.specs.declared.Mark.{Mark}
 use Rattle.marks.specs.Feeding.{feedTests, fedMark, feedBits}
 use Rattle.tables.specs.Tables.{word, houseKey, feedHouse}
-use Rattle.stock.specs.Stock.{stockKey}
 use Rattle.stock.proofs.Table.{stock-smallest, stock-61}
 use Rattle.house.proofs.Rows.{same, rows, table-by-test}
 

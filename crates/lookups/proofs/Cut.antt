@@ -8,7 +8,7 @@ use native.Mathlib.Omega.{arith}
 use lib.Arith.{lt-one, digits-lt}
 use lib.ListN.{getD}
 use lib.Pow.{pow-pos, pow-mono, pow-add, shr-lt, shr-shr, split, high, low, mod-pow-add}
-use Rattle.gf2.specs.Polynomials.{_⊕_, degree, rem}
+use Rattle.gf2.specs.Polynomials.{_⊕_, _⊗_, degree, rem}
 use Rattle.gf2.proofs.Sums.{⊕-append, ⊕-shl, ⊕-comm, ⊕-assoc, ⊕-zero}
 use Rattle.gf2.proofs.Products.{⊗-pow}
 use Rattle.gf2.proofs.Powers.{rem-⊗-right}
@@ -33,41 +33,36 @@ below-fits f v n j h l = lt-of-lt-of-le (rw (← (pow-add 2 j n)) at (digits-lt 
 pub all-fits : (f v n k : ℕ) → f < 2 ^ k → v < 2 ^ n → k + n ≤ 64 → f * 2 ^ n + v < 2 ^ 64
 all-fits f v n k hf h l = lt-of-lt-of-le (rw (← (pow-add 2 k n)) at (digits-lt hf h)) (pow-mono {i = k + n} {j = 64} l)
 
-module _ (w k : ℕ) {key : ℕ} (pos : 0 < key) (deg : degree key ≡ k) (words : List ℕ) (c : ℕ) (rows : Rows w key c words) where
-  at-place : (j i : ℕ) → i < 2 ^ w → j < c → getD words (j * 2 ^ w + i) 0 ≡ rem key (i * 2 ^ (k + w * j))
-  at-place j i l h = rows j h i l ∙ rw deg (rem-⊗-right pos i (2 ^ (k + w * j)) ∙ ap (rem key) (⊗-pow (k + w * j) i))
+-- times the residue of a power of t
+pub product-shift : {key : ℕ} (pos : 0 < key) (a e : ℕ) → rem key (a ⊗ rem key (2 ^ e)) ≡ rem key (a * 2 ^ e)
+product-shift {key} pos a e = rem-⊗-right pos a (2 ^ e) ∙ ap (rem key) (⊗-pow e a)
 
-  shift : (q e : ℕ) → q * 2 ^ (e + w) ≡ q * 2 ^ w * 2 ^ e
-  shift q e = rw pow-add (omega arith)
+-- a number is its low w bits and the others
+digits : (w h e : ℕ) → h % 2 ^ w * 2 ^ e ⊕ h / 2 ^ w * 2 ^ (e + w) ≡ h * 2 ^ e
+digits w h e =
+    ap (λ (x : ℕ). h % 2 ^ w * 2 ^ e ⊕ x) (rw (pow-add 2 e w) (omega arith))
+    ∙ sym (⊕-shl e (h % 2 ^ w) (h / 2 ^ w * 2 ^ w))
+    ∙ ap (λ (x : ℕ). x * 2 ^ e) (⊕-comm (h % 2 ^ w) (h / 2 ^ w * 2 ^ w) ∙ ⊕-append (h / 2 ^ w) w (h % 2 ^ w) (mod-lt h (pow-pos w)) ∙ split h w)
 
-  sum : (h e : ℕ) → h % 2 ^ w * 2 ^ e ⊕ h / 2 ^ w * 2 ^ (e + w) ≡ h * 2 ^ e
-  sum h e =
-      ap (λ (x : ℕ). h % 2 ^ w * 2 ^ e ⊕ x) (shift (h / 2 ^ w) e)
-      ∙ sym (⊕-shl e (h % 2 ^ w) (h / 2 ^ w * 2 ^ w))
-      ∙ ap (λ (x : ℕ). x * 2 ^ e)
-      (⊕-comm (h % 2 ^ w) (h / 2 ^ w * 2 ^ w) ∙ ⊕-append (h / 2 ^ w) w (h % 2 ^ w) (mod-lt h (pow-pos w)) ∙ split h w)
+-- n groups of w bits, the lowest looked up in row j
+pub groups : (w e c : ℕ) {key : ℕ} (pos : 0 < key) (words : List ℕ) → Rows w e key c words → (n j h : ℕ) → j + n ≤ c → h < 2 ^ (w * n)
+    → looked w words n j h ≡ rem key (h * 2 ^ (e + w * j))
+unfolding looked
+groups w e c {key} pos words rows zero j h l b = rw (lt-one (rw mul-zero at b), zero-mul) (sym (rem-zero key))
+groups w e c {key} pos words rows (suc n) j h l b =
+    ap₂ (λ (x y : ℕ). x ⊕ y) (rows j (omega arith) (h % 2 ^ w) (mod-lt h (pow-pos w)) ∙ product-shift pos (h % 2 ^ w) (e + w * j))
+    (groups w e c pos words rows n (suc j) (h / 2 ^ w) (omega arith) (shr-lt {n = h} (w * n) w (rw mul-suc at b)))
+    ∙ sym (rem-⊕ pos (h % 2 ^ w * 2 ^ (e + w * j)) (h / 2 ^ w * 2 ^ (e + w * suc j)))
+    ∙ ap (λ (x : ℕ). rem key (h % 2 ^ w * 2 ^ (e + w * j) ⊕ h / 2 ^ w * 2 ^ x)) (omega arith)
+    ∙ ap (rem key) (digits w h (e + w * j))
 
-  exponent : (j : ℕ) → k + w * suc j ≡ k + w * j + w
-  exponent j = omega arith
-
-  -- n groups, the lowest being that of t^(k + w·j)
-  pub groups : (n j h : ℕ) → j + n ≤ c → h < 2 ^ (w * n) → looked w words n j h ≡ rem key (h * 2 ^ (k + w * j))
-  unfolding looked
-  groups zero j h l b = rw (lt-one (rw mul-zero at b), zero-mul) (sym (rem-zero key))
-  groups (suc n) j h l b =
-      ap₂ (λ (x y : ℕ). x ⊕ y)
-      (at-place j (h % 2 ^ w) (mod-lt h (pow-pos w)) (omega arith))
-      (groups n (suc j) (h / 2 ^ w) (omega arith) (shr-lt {n = h} (w * n) w (rw mul-suc at b)))
-      ∙ sym (rem-⊕ pos (h % 2 ^ w * 2 ^ (k + w * j)) (h / 2 ^ w * 2 ^ (k + w * suc j)))
-      ∙ ap (λ (x : ℕ). rem key (h % 2 ^ w * 2 ^ (k + w * j) ⊕ h / 2 ^ w * 2 ^ x)) (exponent j)
-      ∙ ap (rem key) (sum h (k + w * j))
-
+module _ (w k : ℕ) {key : ℕ} (pos : 0 < key) (deg : degree key ≡ k) (words : List ℕ) (c : ℕ) (rows : Rows w k key c words) where
   -- n groups of w bits at t^k and above, and what stands below
   pub cut : (n v : ℕ) → n ≤ c → v < 2 ^ (w * n + k)
       → v % 2 ^ k ⊕ looked w words n 0 (v / 2 ^ k) ≡ rem key v
   cut n v l b =
       ap₂ (λ (x y : ℕ). x ⊕ y) (sym (rem-small pos (v % 2 ^ k) (rw deg (mod-lt v (pow-pos k)))))
-      (groups n 0 (v / 2 ^ k) (omega arith) (shr-lt {n = v} (w * n) k b)
+      (groups w k c pos words rows n 0 (v / 2 ^ k) (omega arith) (shr-lt {n = v} (w * n) k b)
       ∙ ap (λ (x : ℕ). rem key (v / 2 ^ k * 2 ^ x)) (rw mul-zero (add-zero k)))
       ∙ sym (rem-⊕ pos (v % 2 ^ k) (v / 2 ^ k * 2 ^ k))
       ∙ ap (rem key)

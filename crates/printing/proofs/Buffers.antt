@@ -1,12 +1,12 @@
 -- Laws of a buffer with a text at a place.
-use mathlib.Core.Path.{_≡_, refl, sym, ap, ap₂, _∙_}
-use mathlib.Core.List.{List, [], _∷_, _++_, append-assoc, append-nil}
-use Prim.Native.Nat.{ℕ, _+_, _-_, _≤_, _<_}
+use mathlib.Core.Path.{_≡_, sym, ap, ap₂, _∙_}
+use mathlib.Core.List.{List, _++_, append-assoc, append-nil}
+use Prim.Native.Nat.{ℕ, _+_, _-_, _≤_}
 use native.Mathlib.Nat.{zero-add, add-assoc}
 use native.Mathlib.Omega.{arith}
 use lib.ListN.{length, take, drop, length-append, length-drop}
 use lib.Seq.{length-take-le, take-at, drop-append-add, drop-drop, take-length, take-all, drop-length}
-use borrow.Rule.Slice.PartMut.{midOf, postOf, putMid, post-is}
+use borrow.Rule.Slice.PartMut.{midOf, putMid, post-is}
 use Rattle.io.specs.Counts.{Counts}
 use Rattle.printing.specs.Printing.{putAt}
 

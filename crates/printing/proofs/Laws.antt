@@ -1,8 +1,8 @@
 -- Laws of the key's line: one digit more, which tests make it a key, and how many bytes decide it.
 use mathlib.Core.Path.{_≡_, refl, sym, ap, _∙_}
 use mathlib.Core.Bool.{Bool, true, false, cond, _&&_, and-false}
-use mathlib.Core.List.{List, [], _∷_, _++_}
-use Prim.Native.Nat.{ℕ, zero, suc, _+_, _-_, _*_, _/_, _%_, _^_, _≤_, _<_, min}
+use mathlib.Core.List.{List, [], _∷_}
+use Prim.Native.Nat.{ℕ, zero, suc, _+_, _-_, _*_, _^_, _≤_, _<_, min}
 use lib.Pow.{pow-add}
 use native.Mathlib.Nat.{zero-add, min-zero, zero-min, suc-min-suc, min-eq-left, min-eq-right}
 use native.Mathlib.Decide.{decLe, decLt}
@@ -15,7 +15,6 @@ use borrow.Author.Tests.{ltb-true, lt-ltb, le-ltb, le-leb, lt-leb}
 use Rattle.bytes.specs.Bytes.{indexOf, indexAfter, slice}
 use Rattle.acceptance.proofs.Laws.{and-both}
 use Rattle.printing.specs.Printing.{digit, allDigits, hexFrom, keyBefore, keyLine}
-use Rattle.printing.specs.declared.KeyLine.{KeyLine}
 use Rattle.printing.specs.declared.KeyLine.the-variants.{NoKey, Key}
 
 module _ (line : List ℕ) (i : ℕ) (h : i < length line) where

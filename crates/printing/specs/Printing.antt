@@ -1,5 +1,5 @@
 -- The printing program (document 01), on lists of bytes: which key its first line gives, and what it prints.
-use mathlib.Core.Bool.{Bool, true, false, cond, _&&_}
+use mathlib.Core.Bool.{Bool, true, cond, _&&_}
 use mathlib.Core.List.{List, [], _∷_, _++_}
 use Prim.Native.Nat.{ℕ, zero, suc, _+_, _-_, _*_, _/_, _%_}
 use Prim.Native.Char.{code}
@@ -11,7 +11,7 @@ use Rattle.io.specs.Digits.{glyph}
 use Rattle.gf2.specs.Polynomials.{degree}
 use Rattle.refusals.specs.declared.Refusal.{Refusal}
 use Rattle.refusals.specs.declared.Refusal.the-variants.{TooLong}
-use Rattle.refusals.specs.Refusals.{Answer, Done, Refused, number, Test, _⇒_, firstOf, passes}
+use Rattle.refusals.specs.Refusals.{Answer, Done, Refused, number, _⇒_, firstOf, passes}
 use Rattle.acceptance.specs.Keys.{keyTests}
 use Rattle.files.specs.Files.{markOf}
 use Rattle.marks.specs.declared.Running.{Running}

@@ -12,7 +12,7 @@ use Rattle.gf2.specs.Lists.{All}
 use Rattle.gf2.proofs.Lists.{all-map, rising, and-left, and-right}
 use Rattle.refusals.specs.declared.Refusal.{Refusal}
 use Rattle.refusals.specs.declared.Refusal.the-variants.{KeyBelow256, KeyReducible, DegreeNotListed, ElementOutOfRange, TableSize, TableWord, TooLong, MarkNotReduced, PageLengthsDiffer, PagePastEnd, EmptyPattern, PageSize, BufferShort, SheetMalformed}
-use Rattle.refusals.specs.Refusals.{number, Answer, Refused, numberOf, stateOf, Test, _⇒_, firstOf, numbers, applying, least, lowest}
+use Rattle.refusals.specs.Refusals.{number, Refused, numberOf, stateOf, Test, _⇒_, firstOf, numbers, applying, least, lowest}
 
 -- ---- the lowest number that applies
 

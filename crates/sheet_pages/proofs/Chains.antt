@@ -21,7 +21,8 @@ use Rattle.compose.specs.Composing.{joined}
 use Rattle.lookups.specs.declared.Runs.{Runs}
 use Rattle.lookups.specs.Groups.{looked}
 use Rattle.shifts.specs.Shifts.{Shifts}
-use Rattle.shifts.proofs.Products.{product-shift, joined-by-table}
+use Rattle.lookups.proofs.Cut.{product-shift}
+use Rattle.shifts.proofs.Products.{joined-by-table}
 use Rattle.sheets.specs.Layout.{numberAt, numbersAt}
 use Rattle.sheets.specs.Sheets.{someUnreduced, joinedPages}
 use Rattle.sheets.proofs.Numbers.{numbers-next, numbers-done, length-numbersAt}

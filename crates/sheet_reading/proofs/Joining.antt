@@ -2,15 +2,12 @@
 use mathlib.Core.Path.{_≡_, refl}
 use mathlib.Core.Bool.{Bool, true, false, _||_, not}
 use mathlib.Core.List.{List, [], _∷_, _++_}
-use Prim.Native.Nat.{ℕ, _+_, _-_, _*_, _/_, _^_, _≤_, _<_}
-use native.Mathlib.Nat.{div-eq-of-lt}
-use native.Mathlib.Decide.{decLt}
+use Prim.Native.Nat.{ℕ, _+_, _-_, _*_, _^_, _≤_, _<_}
 use native.Mathlib.Omega.{arith}
 use lib.Dec.{leb, eqb}
 use lib.ListN.{length}
 use borrow.Author.Tests.{le-leb, lt-leb, leb-false}
 use Rattle.gf2.specs.Polynomials.{rem, degree}
-use Rattle.gf2.proofs.Degrees.{lt-of-high}
 use Rattle.acceptance.proofs.Laws.{or-neither}
 use Rattle.files.specs.Files.{fingerprint, markOf}
 use Rattle.sheets.specs.Layout.{version1, numberAt, numbersAt, pageCount, lengthIn, sizeIn, contentsIn}

@@ -1,21 +1,19 @@
 -- Laws of the pages of a file: their count, and that their marks joined are the mark of the file filled up with zero bytes.
 use mathlib.Core.Path.{_≡_, refl, sym, ap, ap₂, _∙_}
 use mathlib.Core.List.{List, [], _∷_, _++_, append-assoc, append-nil}
-use Prim.Native.Nat.{ℕ, zero, suc, _+_, _-_, _*_, _/_, _^_, _≤_, _<_, min}
-use native.Mathlib.Nat.{add-div-right, div-add-mod', div-eq-of-lt, le-div-iff-mul-le, mod-lt, mul-le-mul-left, mul-one, one-mul, sub-zero, suc-add, suc-mul, zero-add, zero-mul}
+use Prim.Native.Nat.{ℕ, zero, suc, _+_, _-_, _*_, _/_, _^_, _≤_, _<_}
+use native.Mathlib.Nat.{add-div-right, div-add-mod', div-eq-of-lt, le-div-iff-mul-le, mod-lt, mul-le-mul-left, mul-one, sub-zero, suc-add, suc-mul, zero-add, zero-mul}
 use native.Mathlib.Decide.{decLe}
 use native.Mathlib.Numerals.{add-one}
 use native.Mathlib.Omega.{arith}
 use lib.ListN.{length, take, drop, replicate, length-append, length-replicate, length-drop, length-take, drop-of-length-le, take-append-drop, replicate-append-replicate}
 use lib.Seq.{drop-drop, length-take-le, take-add, take-all}
-use Rattle.gf2.specs.Polynomials.{_⊕_, rem, degree}
+use Rattle.gf2.specs.Polynomials.{rem, degree}
 use Rattle.gf2.specs.Lists.{All}
-use Rattle.gf2.proofs.Residues.{rem-lt, rem-small, rem-⊕}
-use Rattle.gf2.proofs.Sums.{xor}
-use Rattle.gf2.proofs.Powers.{rem-rem}
+use Rattle.gf2.proofs.Residues.{rem-lt}
 use Rattle.files.specs.declared.Mark.{Mark}
 use Rattle.files.specs.Files.{bits, valueFrom, value, fingerprint, markOf}
-use Rattle.files.proofs.Values.{value-append, value-byte, value-⊕, length-bits, bits-append, rem-from}
+use Rattle.files.proofs.Values.{value-byte}
 use Rattle.files.proofs.Marks.{mark-eq, fed, join}
 use Rattle.compose.specs.Composing.{joined}
 use Rattle.sheets.specs.Layout.{pageCount, numberAt, numbersAt}
@@ -60,16 +58,6 @@ module _ {p : ℕ} (pos : 0 < p) where
   -- the fingerprint of a file with zero bytes behind it
   pub with-zeros : (m : ℕ) (file : List ℕ) → rem p (fingerprint p file * 2 ^ (8 * m)) ≡ fingerprint p (file ++ replicate m 0)
   with-zeros m file = ap (rem p) (sym (value-zeros m (fingerprint p file))) ∙ fed pos file (replicate m 0)
-
-  -- a page behind what has the residue f: the page's mark joined, its leading 1 taken off again
-  pub page-behind : (f : ℕ) (page : List ℕ) → rem p (f * 2 ^ (8 * length page) ⊕ fingerprint p page ⊕ 2 ^ (8 * length page)) ≡ rem p (valueFrom f (bits page))
-  unfolding fingerprint value
-  page-behind f page =
-      residue ∙ ap (rem p) (rw (value-⊕ f (bits page), value-⊕ 1 (bits page), length-bits page, one-mul) (simp xor))
-    where
-      residue : rem p (f * 2 ^ (8 * length page) ⊕ rem p (valueFrom 1 (bits page)) ⊕ 2 ^ (8 * length page))
-          ≡ rem p (f * 2 ^ (8 * length page) ⊕ valueFrom 1 (bits page) ⊕ 2 ^ (8 * length page))
-      residue = simp (rem-⊕ pos, rem-rem pos)
 
   pub fingerprint-lt : (file : List ℕ) → fingerprint p file < 2 ^ degree p
   unfolding fingerprint
@@ -186,21 +174,6 @@ whole-page s file at l =
 pub last-page : (s : ℕ) (file : List ℕ) (at : ℕ) → length file ≤ at + s → take (length file - at) (drop at file) ≡ take s (drop at file)
 last-page s file at l =
     take-all (length file - at) (drop at file) (rw (length-drop at file) (omega arith)) ∙ sym (take-all s (drop at file) (rw (length-drop at file) (omega arith)))
-
--- the file's residue, one page more
-module _ {p : ℕ} (pos : 0 < p) (file : List ℕ) where
-  pub residue-next : (s at f : ℕ) → rem p (valueFrom (rem p (valueFrom f (bits (take s (drop at file))))) (bits (drop (at + s) file))) ≡ rem p (valueFrom f (bits (drop at file)))
-  residue-next s at f =
-      rem-from pos (valueFrom f (bits (take s (drop at file)))) (bits (drop (at + s) file))
-      ∙ ap (rem p)
-      (sym (value-append f (bits (take s (drop at file))) (bits (drop (at + s) file)))
-      ∙ ap (valueFrom f)
-      (sym (bits-append (take s (drop at file)) (drop (at + s) file))
-      ∙ ap bits (ap (λ (l : List ℕ). take s (drop at file) ++ l) (sym (drop-drop s at file)) ∙ take-append-drop s (drop at file))))
-
-  pub residue-done : (at f : ℕ) → f < 2 ^ degree p → length file ≤ at → rem p (valueFrom f (bits (drop at file))) ≡ f
-  unfolding valueFrom bits
-  residue-done at f h l = rw (drop-of-length-le file {i = at} l) (rem-small pos f h)
 
 -- ---- the whole pages
 

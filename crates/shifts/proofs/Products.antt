@@ -1,51 +1,22 @@
 -- Laws of the product of a residue and a power of t by a table.
-use mathlib.Core.Path.{_≡_, sym, ap, ap₂, _∙_}
+use mathlib.Core.Path.{_≡_, sym, ap, _∙_}
 use mathlib.Core.List.{List}
-use Prim.Native.Nat.{ℕ, zero, suc, _+_, _-_, _*_, _/_, _%_, _^_, _≤_, _<_}
-use native.Mathlib.Nat.{add-zero, mul-zero, mul-suc, mod-lt, zero-mul}
+use Prim.Native.Nat.{ℕ, zero, suc, _+_, _-_, _*_, _/_, _%_, _^_, _<_}
+use native.Mathlib.Nat.{add-zero, mul-zero}
 use native.Mathlib.Decide.{decLt}
 use native.Mathlib.Numerals.{add-one}
 use native.Mathlib.Omega.{arith}
-use lib.Arith.{lt-one, digits-lt}
+use lib.Arith.{digits-lt}
 use lib.ListN.{getD}
-use lib.Pow.{pow-pos, pow-add, shr-lt, split}
-use Rattle.gf2.specs.Polynomials.{_⊕_, _⊗_, degree, rem}
-use Rattle.gf2.proofs.Sums.{⊕-append, ⊕-shl, ⊕-comm, ⊕-assoc, ⊕-zero}
-use Rattle.gf2.proofs.Products.{one-⊗, ⊗-pow}
-use Rattle.gf2.proofs.Residues.{rem-zero, rem-small, rem-⊕}
-use Rattle.gf2.proofs.Powers.{rem-rem, rem-⊗-right}
+use Rattle.gf2.specs.Polynomials.{_⊕_, degree, rem}
+use Rattle.gf2.proofs.Sums.{⊕-assoc, ⊕-zero}
+use Rattle.gf2.proofs.Products.{one-⊗}
+use Rattle.gf2.proofs.Residues.{rem-small, rem-⊕}
+use Rattle.gf2.proofs.Powers.{rem-rem}
 use Rattle.multiples.specs.Rows.{Multiples, SameBefore}
-use Rattle.lookups.specs.Groups.{looked}
+use Rattle.lookups.specs.Groups.{looked, Rows}
+use Rattle.lookups.proofs.Cut.{groups}
 use Rattle.shifts.specs.Shifts.{Shifts}
-
--- times the residue of a power of t
-pub product-shift : {key : ℕ} (pos : 0 < key) (a e : ℕ) → rem key (a ⊗ rem key (2 ^ e)) ≡ rem key (a * 2 ^ e)
-product-shift {key} pos a e = rem-⊗-right pos a (2 ^ e) ∙ ap (rem key) (⊗-pow e a)
-
--- row j of the words has the multiples of t^(e + w·j), for each j below m
-abbrev pub Rows : ℕ → ℕ → ℕ → ℕ → List ℕ → Type 0
-Rows w e key m words = (j : ℕ) → j < m → Multiples key (rem key (2 ^ (e + w * j))) (j * 2 ^ w) (2 ^ w) words
-
-module _ (w e m : ℕ) {key : ℕ} (pos : 0 < key) (words : List ℕ) (rows : Rows w e key m words) where
-  entry : (j i : ℕ) → j < m → i < 2 ^ w → getD words (j * 2 ^ w + i) 0 ≡ rem key (i * 2 ^ (e + w * j))
-  entry j i l h = rows j l i h ∙ product-shift pos i (e + w * j)
-
-  sum : (h d : ℕ) → h % 2 ^ w * 2 ^ d ⊕ h / 2 ^ w * 2 ^ (d + w) ≡ h * 2 ^ d
-  sum h d =
-      ap (λ (x : ℕ). h % 2 ^ w * 2 ^ d ⊕ x) (rw (pow-add 2 d w) (omega arith))
-      ∙ sym (⊕-shl d (h % 2 ^ w) (h / 2 ^ w * 2 ^ w))
-      ∙ ap (λ (x : ℕ). x * 2 ^ d) (⊕-comm (h % 2 ^ w) (h / 2 ^ w * 2 ^ w) ∙ ⊕-append (h / 2 ^ w) w (h % 2 ^ w) (mod-lt h (pow-pos w)) ∙ split h w)
-
-  -- n groups of w bits, the lowest looked up in row j
-  pub groups : (n j h : ℕ) → j + n ≤ m → h < 2 ^ (w * n) → looked w words n j h ≡ rem key (h * 2 ^ (e + w * j))
-  unfolding looked
-  groups zero j h l b = rw (lt-one (rw mul-zero at b), zero-mul) (sym (rem-zero key))
-  groups (suc n) j h l b =
-      ap₂ (λ (x y : ℕ). x ⊕ y) (entry j (h % 2 ^ w) (omega arith) (mod-lt h (pow-pos w)))
-      (groups n (suc j) (h / 2 ^ w) (omega arith) (shr-lt {n = h} (w * n) w (rw mul-suc at b)))
-      ∙ sym (rem-⊕ pos (h % 2 ^ w * 2 ^ (e + w * j)) (h / 2 ^ w * 2 ^ (e + w * suc j)))
-      ∙ ap (λ (x : ℕ). rem key (h % 2 ^ w * 2 ^ (e + w * j) ⊕ h / 2 ^ w * 2 ^ x)) (omega arith)
-      ∙ ap (rem key) (sum h (e + w * j))
 
 pub shifted : {key : ℕ} (pos : 0 < key) (e : ℕ) (words : List ℕ) (f : ℕ) → Shifts key e words → f < 2 ^ 64 → looked 8 words 8 0 f ≡ rem key (f * 2 ^ e)
 shifted {key} pos e words f s h = groups 8 e 8 pos words (s .rows) 8 0 f (omega arith) h ∙ ap (λ (x : ℕ). rem key (f * 2 ^ x)) (rw mul-zero (add-zero e))

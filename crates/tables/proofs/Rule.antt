@@ -136,10 +136,10 @@ table-rule rule c words e = follows rule words (rw e (table-follows rule 0 c))
 -- ---- the table and its rows, for every width and number of groups
 
 module _ (w : ℕ) {key : ℕ} (pos : 0 < key) (words : List ℕ) where
-  pub follows-rows : (c : ℕ) → Follows (word w key) (c * 2 ^ w) words → Rows w key c words
+  pub follows-rows : (c : ℕ) → Follows (word w key) (c * 2 ^ w) words → Rows w (degree key) key c words
   follows-rows c f j l = follows-row w (degree key) pos refl words j (c * 2 ^ w) (mul-le-mul-right (2 ^ w) (add-one-le l)) f
 
-  pub rows-follow : (c : ℕ) → Rows w key c words → Follows (word w key) (c * 2 ^ w) words
+  pub rows-follow : (c : ℕ) → Rows w (degree key) key c words → Follows (word w key) (c * 2 ^ w) words
   rows-follow zero r = λ n l. absurd (not-suc-le-zero (rw zero-mul at l))
   rows-follow (suc c) r =
       rw (← (add-one c)) (row-follows w (degree key) pos refl words c (rows-follow c (λ j l. r j (le-trans l (le-suc c)))) (r c (le-refl (suc c))))
@@ -148,4 +148,4 @@ pub table-reduces : {k low : ℕ} (words : List ℕ) → TableOf k low words →
 table-reduces {k} {low} words t =
     let rule = word 8 (monic k low) in
     let long = table-length rule 1024 words (t .2) in
-    (t .0, t .1, long, follows-rows 8 (monic-pos k low (t .0 .2)) words 4 (λ n l. table-rule rule 1024 words (t .2) n (rw long l)))
+    (t .0, t .1, long, rw (monic-degree k low (t .0 .2)) at (follows-rows 8 (monic-pos k low (t .0 .2)) words 4 (λ n l. table-rule rule 1024 words (t .2) n (rw long l))))

@@ -15,7 +15,7 @@ use Rattle.gf2.proofs.Sums.{⊕-cancel, ⊕-comm, ⊕-move}
 use Rattle.gf2.proofs.Products.{⊗-pow}
 use Rattle.gf2.proofs.Residues.{rem-zero, rem-⊕}
 use Rattle.gf2.proofs.Powers.{rem-⊗-right, rem-shl}
-use Rattle.gf2.proofs.Monics.{monic-pos, monic-degree}
+use Rattle.gf2.proofs.Monics.{monic-pos}
 use Rattle.gf2.proofs.Steps.{residue-lt, residue-top}
 use Rattle.multiples.specs.Rows.{Multiples}
 use Rattle.lookups.specs.Groups.{Rows}
@@ -139,8 +139,8 @@ pub multiples-top : (k c : ℕ) → c < 2 ^ k → (table : List ℕ) → Multipl
 multiples-top k c h table t = multiples-of (monic-pos k c h) (2 ^ k) table (rw (residue-top k c h) t)
 
 -- they are the one row of words that takes a byte at t^k and above off
-pub one-row : (k c : ℕ) → c < 2 ^ k → (table : List ℕ) → Multiples (monic k c) (2 ^ k) 0 256 table → Rows 8 (monic k c) 1 table
+pub one-row : (k c : ℕ) → c < 2 ^ k → (table : List ℕ) → Multiples (monic k c) (2 ^ k) 0 256 table → Rows 8 k (monic k c) 1 table
 one-row k c h table t j l i b =
     let z : j ≡ 0 = omega arith in
     let e : k + 8 * 0 ≡ k = omega arith in
-    rw (z, monic-degree k c h, e) (t i b ∙ sym (rem-⊗-right (monic-pos k c h) i (2 ^ k)))
+    rw (z, e) (t i b ∙ sym (rem-⊗-right (monic-pos k c h) i (2 ^ k)))

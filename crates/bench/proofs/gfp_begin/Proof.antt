@@ -1,7 +1,6 @@
 -- The mark that was begun is stored; on refusal nothing is.
-use mathlib.Core.Path.{_≡_, sym, ap, _∙_}
-use Rattle.refusals.specs.Refusals.{Answer, numberOf}
-use Rattle.marks.specs.declared.Running.{Running}
+use mathlib.Core.Path.{sym, ap, _∙_}
+use Rattle.refusals.specs.Refusals.{numberOf}
 use Rattle.marks.specs.declared.Begun.{Begun}
 use Rattle.marks.specs.Feeding.{begin, begun}
 use Rattle.bench.specs.Places.{markAt}

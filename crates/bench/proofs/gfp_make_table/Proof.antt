@@ -1,5 +1,5 @@
 -- The words are what the answer says of them.
-use mathlib.Core.Path.{_≡_, sym, ap, _∙_}
+use mathlib.Core.Path.{sym, ap, _∙_}
 use Rattle.refusals.specs.Refusals.{numberOf, stateOf}
 use Rattle.tables.specs.declared.Made.{Made}
 use Rattle.tables.specs.Answers.{made}

@@ -1,5 +1,5 @@
 -- The number is that of the answer.
-use mathlib.Core.Path.{_≡_, sym, ap, _∙_}
+use mathlib.Core.Path.{sym, ap, _∙_}
 use Rattle.refusals.specs.Refusals.{numberOf}
 use Rattle.tables.specs.declared.Checked.{Checked}
 use Rattle.tables.specs.Answers.{checked}

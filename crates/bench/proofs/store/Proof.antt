@@ -1,7 +1,6 @@
 -- Both fields of the answer's mark are stored.
-use mathlib.Core.Path.{_≡_, sym, ap, _∙_}
+use mathlib.Core.Path.{sym, ap, _∙_}
 use Rattle.refusals.specs.Refusals.{numberOf, stateOf}
-use Rattle.files.specs.declared.Mark.{Mark}
 use Rattle.marks.specs.declared.Fed.{Fed}
 use Rattle.marks.specs.Feeding.{fed, markIn}
 use borrow.Author.Needs.{needs}

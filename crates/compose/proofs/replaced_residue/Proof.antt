@@ -1,6 +1,6 @@
 -- `compose::replaced_residue` meets its contract: `replaced-is`.
 use mathlib.Core.Path.{sym}
-use Prim.Native.Nat.{_*_, _^_}
+use Prim.Native.Nat.{_*_}
 use borrow.Author.Needs.{needs}
 use Rattle.gf2.specs.Polynomials.{_⊕_, monic}
 use Rattle.gf2.proofs.Sums.{⊕-lt}

@@ -1,6 +1,6 @@
 -- `gf2::degree` meets its contract, by the law of the leading zeros.
 use mathlib.Core.Path.{_≡_, sym, _∙_}
-use Prim.Native.Nat.{ℕ, suc, _-_, _+_, _<_, _^_}
+use Prim.Native.Nat.{ℕ, _-_, _<_, _^_}
 use native.Mathlib.Omega.{arith}
 use lib.Count.{leadingZeros, leading-top}
 use Rattle.gf2.specs.Polynomials.{degree}

@@ -1,9 +1,8 @@
 -- From place 64 on n has no bits.
-use mathlib.Core.Path.{_≡_, sym, ap, _∙_}
+use mathlib.Core.Path.{sym, ap, _∙_}
 use Prim.Native.Nat.{ℕ, _/_, _^_}
 use native.Mathlib.Nat.{div-eq-of-lt}
 use borrow.Author.Needs.{needs}
-use native.Mathlib.Omega.{arith}
 use Rattle.gf2.proofs.Steps.{shifted-one}
 use Rattle.gf2.proofs.first_power.Statement.{statement}
 use Rattle.gf2.proofs.first_power.Tie as tie

@@ -1,9 +1,9 @@
 -- `gf2::power` meets its contract. The loop's invariant: x is the power by the bits of n from place i on. The measure is i.
 use mathlib.Core.Path.{_≡_, sym, ap, _∙_}
-use Prim.Native.Nat.{ℕ, _+_, _-_, _*_, _/_, _%_, _^_, _≤_, _<_}
+use Prim.Native.Nat.{ℕ, _-_, _/_, _^_, _≤_, _<_}
 use native.Mathlib.Nat.{div-one}
 use native.Mathlib.Omega.{arith}
-use lib.Count.{leadingZeros, leading-le}
+use lib.Count.{leading-le}
 use borrow.Author.Needs.{needs}
 use Rattle.gf2.specs.Polynomials.{_⊗_, _⊗^_, monic, rem}
 use Rattle.gf2.proofs.Powers.{pow-zero}

@@ -1,5 +1,5 @@
 -- `fed` keeps a residue below 2 ^ 8.
-use Prim.Native.Nat.{_+_, _*_, _/_, _%_, _^_, _≤_, _<_}
+use Prim.Native.Nat.{_≤_, _<_}
 use native.Mathlib.Omega.{arith}
 use borrow.Author.Needs.{needs}
 use Rattle.gf2.proofs.Steps.{residue-lt}

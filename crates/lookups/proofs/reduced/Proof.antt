@@ -9,7 +9,6 @@ use Rattle.gf2.proofs.Residues.{rem-append}
 use Rattle.gf2.proofs.Powers.{rem-rem}
 use Rattle.gf2.proofs.Monics.{monic-pos}
 use Rattle.gf2.proofs.Steps.{residue-lt}
-use borrow.Author.Needs.{needs}
 use Rattle.lookups.proofs.reduced.Statement.{statement}
 use Rattle.lookups.proofs.reduced.Tie as tie
 

@@ -1,7 +1,6 @@
 -- `marks::feed_byte` meets its contract: what is left of the byte is fed to x, and gives what the whole byte gives behind f.
 use mathlib.Core.Path.{_≡_, refl, sym, ap, _∙_}
-use mathlib.Core.List.{[]}
-use Prim.Native.Nat.{ℕ, _+_, _-_, _*_, _/_, _%_, _^_, _≤_, _<_}
+use Prim.Native.Nat.{_+_, _-_, _*_, _/_, _%_, _^_, _≤_, _<_}
 use native.Mathlib.Omega.{arith}
 use Rattle.gf2.specs.Polynomials.{rem, monic}
 use Rattle.gf2.proofs.Monics.{monic-pos}

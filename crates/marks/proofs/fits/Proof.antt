@@ -1,6 +1,4 @@
 use native.Mathlib.Omega.{arith}
-use mathlib.Core.Path.{_≡_}
-use Prim.Native.Nat.{_+_, _≤_, _<_}
 use Rattle.marks.proofs.Laws.{sum-passes, room}
 use Rattle.marks.proofs.fits.Statement.{statement}
 use Rattle.marks.proofs.fits.Tie as tie

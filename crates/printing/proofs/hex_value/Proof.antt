@@ -1,14 +1,11 @@
 -- `printing::hex_value` meets its contract: what is left of the line, behind the value so far, writes what the whole line writes.
-use mathlib.Core.Path.{_≡_, refl, sym, ap, _∙_}
+use mathlib.Core.Path.{_≡_, refl, sym, _∙_}
 use mathlib.Core.Bool.{true}
-use Prim.Native.Nat.{ℕ, _+_, _-_, _*_, _^_, _≤_, _<_}
+use Prim.Native.Nat.{ℕ, _-_, _*_, _^_, _≤_, _<_}
 use native.Mathlib.Nat.{lt-of-lt-of-le}
 use native.Mathlib.Omega.{arith}
-use borrow.Author.Tests.{ltb-true}
-use lib.Dec.{ltb}
 use lib.ListN.{length, getD, drop, drop-of-length-le}
 use lib.Pow.{pow-mono}
-use Rattle.acceptance.proofs.Laws.{and-both}
 use Rattle.printing.specs.Printing.{digit, allDigits, hexFrom}
 use Rattle.printing.proofs.Laws.{digit-here, hex-next, hex-lt}
 use Rattle.printing.proofs.hex_value.Statement.{statement}

@@ -1,13 +1,13 @@
 -- `printing::key_line` meets its contract: each return follows from the tests before it.
-use mathlib.Core.Path.{_≡_, sym, ap, _∙_}
+use mathlib.Core.Path.{_≡_, sym, _∙_}
 use mathlib.Core.Bool.{true, false}
-use Prim.Native.Nat.{_+_, _≤_, _<_}
+use Prim.Native.Nat.{_<_}
 use native.Mathlib.Omega.{arith}
 use borrow.Author.Needs.{needs}
 use borrow.Author.Tests.{not-true, not-false}
 use lib.ListN.{length, take}
 use lib.Seq.{length-take-le}
-use Rattle.printing.specs.Printing.{allDigits, keyLine}
+use Rattle.printing.specs.Printing.{allDigits}
 use Rattle.printing.proofs.Laws.{line-at, no-newline, empty-line, long-line, other-bytes, key-digits}
 use Rattle.printing.proofs.key_line.Statement.{statement}
 use Rattle.printing.proofs.key_line.Tie as tie

@@ -1,9 +1,9 @@
 -- `printing::put_both` meets its contract: `put-put`.
-use mathlib.Core.Path.{_≡_, ap₂, _∙_}
-use mathlib.Core.List.{List, _++_}
-use Prim.Native.Nat.{ℕ, _+_}
+use mathlib.Core.Path.{ap₂, _∙_}
+use mathlib.Core.List.{List}
+use Prim.Native.Nat.{ℕ}
 use native.Mathlib.Omega.{arith}
-use lib.ListN.{length, length-append}
+use lib.ListN.{length-append}
 use Rattle.printing.specs.Printing.{putAt}
 use Rattle.printing.proofs.Buffers.{put-put}
 use borrow.Author.Needs.{needs}

@@ -1,12 +1,10 @@
 -- `printing::refusal` meets its contract: the label with the number, and a newline behind it.
-use mathlib.Core.Path.{_≡_, sym, ap, _∙_}
-use mathlib.Core.List.{List, _++_}
-use Prim.Native.Nat.{ℕ, _+_, _≤_}
+use mathlib.Core.List.{_++_}
+use Prim.Native.Nat.{_+_}
 use native.Mathlib.Omega.{arith}
 use borrow.Author.Needs.{needs}
-use lib.ListN.{length}
 use Rattle.refusals.specs.Refusals.{number}
-use Rattle.printing.specs.Printing.{ascii, numeral, refused, putAt}
+use Rattle.printing.specs.Printing.{ascii, numeral, refused}
 use Rattle.printing.proofs.Buffers.{Holds, put-next, whole}
 use Rattle.printing.proofs.refusal.Statement.{statement}
 use Rattle.printing.proofs.refusal.Tie as tie

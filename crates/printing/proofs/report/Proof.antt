@@ -1,12 +1,11 @@
 -- `printing::report` meets its contract: each text goes behind the one before it.
-use mathlib.Core.Path.{_≡_, sym, ap, _∙_}
-use mathlib.Core.List.{List, _++_}
-use Prim.Native.Nat.{ℕ, _+_, _≤_}
+use mathlib.Core.List.{_++_}
+use Prim.Native.Nat.{_+_}
 use native.Mathlib.Omega.{arith}
 use borrow.Author.Needs.{needs}
 use lib.ListN.{length}
 use Rattle.gf2.specs.Polynomials.{degree}
-use Rattle.printing.specs.Printing.{ascii, numeral, report, putAt}
+use Rattle.printing.specs.Printing.{ascii, numeral, report}
 use Rattle.printing.proofs.Buffers.{Holds, put-next, whole}
 use Rattle.printing.proofs.report.Statement.{statement}
 use Rattle.printing.proofs.report.Tie as tie

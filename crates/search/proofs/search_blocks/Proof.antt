@@ -1,7 +1,6 @@
 -- `search::search_blocks` meets its contract. The loop's invariant: of the windows before `from` all places and false alarms are found,
 -- and g is the residue of the next window. The measure is the number of windows that are left.
 use mathlib.Core.Path.{_≡_, refl, ap, _∙_}
-use mathlib.Core.Bool.{false}
 use mathlib.Core.List.{List}
 use Prim.Native.Nat.{ℕ, _+_, _-_, _≤_, _<_}
 use native.Mathlib.Omega.{arith}

@@ -7,7 +7,7 @@ use Rattle.gf2.proofs.Monics.{monic-pos}
 use Rattle.gf2.proofs.Steps.{residue-lt}
 use Rattle.files.specs.Files.{value, fingerprint}
 use Rattle.sheets.specs.Sheets.{filled}
-use Rattle.shifts.proofs.Products.{product-shift}
+use Rattle.lookups.proofs.Cut.{product-shift}
 use Rattle.sheets.proofs.Pages.{with-zeros}
 use borrow.Author.Needs.{needs}
 use Rattle.sheet_pages.proofs.filled_mark.Statement.{statement}

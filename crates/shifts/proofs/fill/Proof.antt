@@ -8,7 +8,8 @@ use Rattle.gf2.proofs.Monics.{monic-pos}
 use Rattle.multiples.specs.Rows.{Multiples}
 use Rattle.gf2.proofs.Steps.{residue-lt}
 use Rattle.tables.proofs.Rule.{power-next}
-use Rattle.shifts.proofs.Products.{Rows, row-more}
+use Rattle.lookups.specs.Groups.{Rows}
+use Rattle.shifts.proofs.Products.{row-more}
 use Rattle.shifts.proofs.fill.Statement.{statement}
 use Rattle.shifts.proofs.fill.Tie as tie
 

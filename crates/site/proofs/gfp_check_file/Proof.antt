@@ -1,5 +1,5 @@
 -- The answer of the check is told in two places; on refusal nothing is.
-use mathlib.Core.Path.{_≡_, sym, ap, _∙_}
+use mathlib.Core.Path.{sym, ap, _∙_}
 use Rattle.refusals.specs.Refusals.{numberOf}
 use Rattle.sheets.specs.declared.Checked.{Checked}
 use Rattle.sheets.specs.Sheets.{checked}

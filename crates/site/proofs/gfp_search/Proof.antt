@@ -1,5 +1,5 @@
 -- The two numbers of the search are stored; on refusal nothing is.
-use mathlib.Core.Path.{_≡_, sym, ap, _∙_}
+use mathlib.Core.Path.{sym, ap, _∙_}
 use Rattle.refusals.specs.Refusals.{numberOf, valueOr}
 use Rattle.search.specs.declared.Searched.{Searched}
 use Rattle.search.specs.Searching.{searched}

@@ -1,22 +1,18 @@
 -- `Running::feed` meets its contract: each return follows from the tests before it, and the last from `feed_bytes`.
 use mathlib.Core.Path.{_≡_, refl, sym, ap, _∙_}
-use mathlib.Core.Bool.{true, false}
-use mathlib.Core.List.{_∷_, []}
-use Prim.Native.Nat.{ℕ, _+_, _%_, _^_, _≤_, _<_}
-use native.Mathlib.Nat.{mod-lt}
+use Prim.Native.Nat.{ℕ, _^_}
 use native.Mathlib.Omega.{arith}
 use borrow.Author.Needs.{needs}
 use borrow.Author.Tests.{leb-false}
 use lib.ListN.{length}
-use lib.Pow.{pow-pos}
 use Rattle.gf2.specs.Polynomials.{degree, rem, monic}
 use Rattle.refusals.specs.Refusals.{Done}
 use Rattle.refusals.proofs.Laws.{holds, fails}
 use Rattle.files.specs.declared.Mark.{Mark}
 use Rattle.files.specs.Files.{bits, valueFrom}
 use Rattle.files.proofs.Marks.{mark-eq}
-use Rattle.keys.proofs.Laws.{Passed, passed, refused, first-passed, first-refused, passed-pos, passed-monic, passed-word, passed-modulus}
-use Rattle.marks.specs.Feeding.{unreduced, feedTests, fedMark, feedBits, markIn, fedUnder}
+use Rattle.keys.proofs.Laws.{passed, refused, first-passed, first-refused, passed-pos, passed-monic, passed-word, passed-modulus}
+use Rattle.marks.specs.Feeding.{feedTests, fedMark, feedBits, markIn, fedUnder}
 use Rattle.marks.proofs.Laws.{sum-within, not-reduced, is-reduced, feed-long, feed-unreduced, feed-passed}
 use Rattle.marks.proofs.Running.feed.Statement.{statement}
 use Rattle.marks.proofs.Running.feed.Tie as tie

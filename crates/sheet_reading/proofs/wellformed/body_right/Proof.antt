@@ -13,7 +13,7 @@ use Rattle.sheets.specs.Layout.{numberAt, numbersAt}
 use Rattle.sheets.specs.Sheets.{someUnreduced, joinedPages}
 use Rattle.sheets.proofs.Numbers.{numbers-last}
 use Rattle.sheets.proofs.Pages.{count-covers, count-tight, count-small}
-use Rattle.shifts.proofs.Products.{product-shift}
+use Rattle.lookups.proofs.Cut.{product-shift}
 use Rattle.sheet_reading.proofs.Joining.{twice, reduced-last, body-is}
 use Rattle.sheets.proofs.Moduli.{Held, held}
 use borrow.Author.Needs.{needs}
