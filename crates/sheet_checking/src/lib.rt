@@ -14,9 +14,26 @@ ghost use Rattle.tables.specs.Tables.{TableOf};
 ghost use Rattle.shifts.specs.Shifts.{Shifts};
 ghost use Rattle.sheets.specs.Layout.{version1, numbersAt, contentsIn};
 ghost use Rattle.sheets.specs.Sheets.{firstChange, checkSheet, checked, rangeOf, changed};
-ghost use Rattle.sheets.specs.Parts.{pagesLeft, fingerprintsFrom, ReadAs, comparison};
+ghost use Rattle.sheets.specs.Parts.{pagesLeft, fingerprintsFrom, agreeing, ReadAs, comparison};
 
-// The first page whose fingerprint differs from the sheet's.
+// How many of the fingerprints, from the first on, are those of the sheet from a place on.
+fn agreeing(sheet: &[u8], from: usize, marks: &[u64]) -> usize
+    requires { ⌜ from + 8 * length (now marks) ≤ length (now sheet) ⌝ }
+    ensures { λ r. ⌜ r ≡ agreeing (numbersAt from 8 (length (now (marks .entry))) (now (sheet .entry))) (now (marks .entry)) ⌝ }
+{
+    let mut place = from;
+    let mut i: usize = 0;
+    while i < marks.len() {
+        if lookups::eight_at(sheet, place) != marks[i] {
+            return i;
+        }
+        place += 8;
+        i += 1;
+    }
+    i
+}
+
+// The first page whose fingerprint differs from the sheet's, block by block.
 fn first_change(
     sheet: &[u8],
     words: &[u64],
@@ -31,18 +48,20 @@ fn first_change(
     ensures { λ r. ⌜ checked r ≡ Answer.Done (firstChange 0 (numbersAt 19 8 (pagesLeft size (now (file .entry)) 0) (now (sheet .entry)))
         (fingerprintsFrom (monic k low) size (now (file .entry)) 0)) ⌝ }
 {
+    let mut marks = [0u64; 64];
     let mut at: usize = 0;
     let mut i: u32 = 0;
     let mut place: usize = 19;
     while size <= file.len() - at {
-        let end = at + size;
-        let f = sheet_pages::whole_mark(words, eights, k, low, &file[at..end]);
-        if fields::number_at(sheet, place, 8) != f {
-            return Checked::Page(i);
+        let n = sheet_pages::block(file.len() - at, size);
+        sheet_pages::whole_marks(&mut marks, words, eights, k, low, size, n, &file[at..]);
+        let same = agreeing(sheet, place, &marks[..n]);
+        if same < n {
+            return Checked::Page(i + same as u32);
         }
-        at = end;
-        place += 8;
-        i += 1;
+        at += n * size;
+        place += 8 * n;
+        i += n as u32;
     }
     if at < file.len() {
         let last = sheet_pages::filled_mark(words, k, low, size, &file[at..]);

@@ -1,28 +1,113 @@
 // The fingerprints of a file's pages, by tables. These functions are for the project's own crates: what they require, every caller proves.
 ghost use mathlib.Core.Path.{_≡_};
-ghost use Prim.Native.Nat.{_≤_};
-ghost use lib.ListN.{length};
-ghost use Rattle.gf2.specs.Polynomials.{monic};
-ghost use Rattle.files.specs.Files.{fingerprint};
+ghost use Prim.Native.Nat.{_+_, _*_, _%_, _≤_, _<_};
+ghost use lib.ListN.{length, take};
+ghost use Rattle.gf2.specs.Polynomials.{monic, rem, Modulus};
+ghost use Rattle.files.specs.Files.{bits, valueFrom, fingerprint};
 ghost use Rattle.tables.specs.Tables.{TableOf};
 ghost use Rattle.shifts.specs.Shifts.{Shifts};
-ghost use Rattle.sheets.specs.Sheets.{filled};
+ghost use Rattle.sheets.specs.Sheets.{filled, pageFingerprints};
+ghost use Rattle.sheet_pages.specs.Blocks.{Begun, Finished};
 
 pub mod joining;
 
-// The fingerprint of a whole page, eight bytes at a time.
-pub fn whole_mark(words: &[u64], eights: &[u64], k: u32, low: u64, page: &[u8]) -> u64
-    requires { ⌜ TableOf k low (now words) × Shifts (monic k low) 64 (now eights) × (8 ≤ length (now page)) ⌝ }
-    ensures { λ r. ⌜ r ≡ fingerprint (monic k low) (now (page .entry)) ⌝ }
+// How many whole pages the next block has: all that are left, at most 64.
+pub fn block(left: usize, size: usize) -> usize
+    requires { ⌜ 0 < size ⌝ }
+    ensures { λ r. ⌜ (r ≤ 64) × (r * size ≤ left) × (size ≤ left → 0 < r) ⌝ }
 {
-    let n = page.len();
-    let whole = n / 8 * 8;
-    let x = shifts::feed_eights(eights, k, low, &page[..whole]);
+    let n = left / size;
+    if n < 64 { n } else { 64 }
+}
+
+// The page that is fed beside page i, of n pages: the next one, or page i itself where it is the last.
+fn beside(i: usize, n: usize) -> usize
+    requires { ⌜ i < n ⌝ }
+    ensures { λ r. ⌜ (i ≤ r) × (r ≤ i + 1) × (r < n) ⌝ }
+{
+    if i < n - 1 { i + 1 } else { i }
+}
+
+// The first bytes of each of n pages, `whole` of them, in groups of eight: two pages side by side, which do not wait for each other.
+fn begin_pages(
+    marks: &mut [u64],
+    eights: &[u64],
+    k: u32,
+    low: u64,
+    size: usize,
+    whole: usize,
+    n: usize,
+    pages: &[u8],
+)
+    requires { ⌜ Modulus k low × Shifts (monic k low) 64 (now eights) × (8 ≤ whole) × (whole % 8 ≡ 0) × (whole ≤ size)
+        × (n * size ≤ length (now pages)) × (n ≤ length (now marks)) ⌝ }
+    ensures { λ r. ⌜ Begun (monic k low) size whole n (now (pages .entry)) (now (marks .exit)) ⌝ }
+{
+    let mut i: usize = 0;
+    while i < n {
+        let j = beside(i, n);
+        let a = i * size;
+        let b = j * size;
+        let x = shifts::feed_eights(eights, k, low, &pages[a..a + whole], &pages[b..b + whole]);
+        marks[i] = x.a;
+        marks[j] = x.b;
+        i = j + 1;
+    }
+}
+
+// The residue of x with the bytes that are left of a page behind it.
+fn finished(words: &[u64], k: u32, low: u64, x: u64, rest: &[u8]) -> u64
+    requires { ⌜ TableOf k low (now words) ⌝ }
+    ensures { λ r. ⌜ r ≡ rem (monic k low) (valueFrom x (bits (now (rest .entry)))) ⌝ }
+{
     let f = lookups::reduced(words, k, low, x);
-    if whole == n {
+    if rest.len() == 0 {
         return f;
     }
-    lookups::fed(words, k, low, f, &page[whole..])
+    lookups::fed(words, k, low, f, rest)
+}
+
+// The fingerprints of n pages that are begun: each number is reduced, and the bytes that are left of its page are fed behind it.
+fn finish_pages(
+    marks: &mut [u64],
+    words: &[u64],
+    k: u32,
+    low: u64,
+    size: usize,
+    whole: usize,
+    n: usize,
+    pages: &[u8],
+)
+    requires { ⌜ TableOf k low (now words) × (whole ≤ size) × (n * size ≤ length (now pages)) × (n ≤ length (now marks))
+        × Begun (monic k low) size whole n (now pages) (now marks) ⌝ }
+    ensures { λ r. ⌜ Finished (monic k low) size n (now (pages .entry)) (now (marks .exit)) ⌝ }
+{
+    let mut i: usize = 0;
+    while i < n {
+        let a = i * size;
+        marks[i] = finished(words, k, low, marks[i], &pages[a + whole..a + size]);
+        i += 1;
+    }
+}
+
+// The fingerprints of the first n pages, which are whole, into the first n words.
+pub fn whole_marks(
+    marks: &mut [u64],
+    words: &[u64],
+    eights: &[u64],
+    k: u32,
+    low: u64,
+    size: usize,
+    n: usize,
+    pages: &[u8],
+)
+    requires { ⌜ TableOf k low (now words) × Shifts (monic k low) 64 (now eights) × (8 ≤ size)
+        × (n * size ≤ length (now pages)) × (n ≤ length (now marks)) ⌝ }
+    ensures { λ r. ⌜ take n (now (marks .exit)) ≡ pageFingerprints (monic k low) size n (now (pages .entry)) ⌝ }
+{
+    let whole = size / 8 * 8;
+    begin_pages(marks, eights, k, low, size, whole, n, pages);
+    finish_pages(marks, words, k, low, size, whole, n, pages);
 }
 
 // The fingerprint of the last page, filled up with zero bytes: they come in as one power of t.

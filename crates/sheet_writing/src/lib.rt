@@ -28,7 +28,21 @@ fn put_head(buffer: &mut [u8], key: u64, n: u64, size: u64)
     fields::put(buffer, 17, 2, size);
 }
 
-// Writes the fingerprints of all pages.
+// Writes fingerprints one behind the other.
+fn put_fields(buffer: &mut [u8], from: usize, marks: &[u64])
+    requires { ⌜ from + 8 * length (now marks) ≤ length (now buffer) ⌝ }
+    ensures { λ r. ⌜ now (buffer .exit) ≡ sets (now (buffer .entry)) from (fieldsOf 8 (now (marks .entry))) ⌝ }
+{
+    let mut place = from;
+    let mut i: usize = 0;
+    while i < marks.len() {
+        fields::put(buffer, place, 8, marks[i]);
+        place += 8;
+        i += 1;
+    }
+}
+
+// Writes the fingerprints of all pages, block by block.
 fn put_pages(
     buffer: &mut [u8],
     words: &[u64],
@@ -42,14 +56,15 @@ fn put_pages(
         × (19 + 8 * pagesLeft size (now file) 0 ≤ length (now buffer)) ⌝ }
     ensures { λ r. ⌜ now (buffer .exit) ≡ sets (now (buffer .entry)) 19 (fieldsOf 8 (fingerprintsFrom (monic k low) size (now (file .entry)) 0)) ⌝ }
 {
+    let mut marks = [0u64; 64];
     let mut at: usize = 0;
     let mut place: usize = 19;
     while size <= file.len() - at {
-        let end = at + size;
-        let f = sheet_pages::whole_mark(words, eights, k, low, &file[at..end]);
-        fields::put(buffer, place, 8, f);
-        at = end;
-        place += 8;
+        let n = sheet_pages::block(file.len() - at, size);
+        sheet_pages::whole_marks(&mut marks, words, eights, k, low, size, n, &file[at..]);
+        put_fields(buffer, place, &marks[..n]);
+        at += n * size;
+        place += 8 * n;
     }
     if at < file.len() {
         let last = sheet_pages::filled_mark(words, k, low, size, &file[at..]);

@@ -1,14 +1,18 @@
 -- Laws of the first place where two lists of fingerprints differ.
 use mathlib.Core.Path.{_≡_, refl, sym, ap, ap₂, _∙_}
 use mathlib.Core.Logic.{_≢_}
-use mathlib.Core.List.{List, [], _∷_}
-use Prim.Native.Nat.{ℕ, zero, suc, _+_, _<_}
+use mathlib.Core.List.{List, [], _∷_, _++_}
+use Prim.Native.Nat.{ℕ, zero, suc, _+_, _-_, _≤_, _<_}
 use native.Mathlib.Nat.{add-zero, not-suc-le-zero}
 use native.Mathlib.Decide.{ℕ-discrete}
 use native.Mathlib.Numerals.{add-one}
 use native.Mathlib.Omega.{arith}
-use lib.ListN.{length, getD}
+use lib.ListN.{length, getD, drop, drop-of-length-le}
+use lib.Seq.{drop-cons}
 use borrow.Author.Tests.{eq-eqb, ne-eqb}
+use Rattle.sheets.specs.Layout.{numberAt, numbersAt}
+use Rattle.sheets.specs.Parts.{agreeing}
+use Rattle.sheets.proofs.Numbers.{numbers-next}
 use Rattle.sheets.specs.Sheets.{Same, Page, OtherLength, firstChange}
 
 -- the lists differ at place i and at no place before it
@@ -117,3 +121,57 @@ module _ (i f g : ℕ) (fs gs xs ys : List ℕ) (ex : xs ≡ f ∷ fs) (ey : ys 
 pub changed-none : (i : ℕ) (xs ys : List ℕ) → xs ≡ [] → firstChange i xs ys ≡ Same
 unfolding firstChange
 changed-none i xs ys e = rw e
+
+-- ---- a block of pages at once: two lists of one length and what stands behind each
+
+agree-step : (f g : ℕ) (fs gs : List ℕ) → f ≡ g → agreeing (f ∷ fs) (g ∷ gs) ≡ suc (agreeing fs gs)
+unfolding agreeing
+agree-step f g fs gs e = rw (eq-eqb f g e)
+
+agree-stop : (f g : ℕ) (fs gs : List ℕ) → f ≢ g → agreeing (f ∷ fs) (g ∷ gs) ≡ 0
+unfolding agreeing
+agree-stop f g fs gs n = rw (ne-eqb f g n)
+
+module _ (xs ys : List ℕ) where
+  pub block-changed : (i : ℕ) (fs gs : List ℕ) → length fs ≡ length gs → agreeing fs gs < length gs → firstChange i (fs ++ xs) (gs ++ ys) ≡ Page (i + agreeing fs gs)
+  block-changed i fs [] l h = absurd (not-suc-le-zero h)
+  block-changed i [] (g ∷ gs) l h = absurd (omega arith)
+  block-changed i (f ∷ fs) (g ∷ gs) l h = go (compare-heads i f g (fs ++ xs) (gs ++ ys)) (block-changed (suc i) fs gs (omega arith))
+    where
+      go : Compared i f g (fs ++ xs) (gs ++ ys) → (agreeing fs gs < length gs → firstChange (suc i) (fs ++ xs) (gs ++ ys) ≡ Page (suc i + agreeing fs gs))
+          → firstChange i (f ∷ fs ++ xs) (g ∷ gs ++ ys) ≡ Page (i + agreeing (f ∷ fs) (g ∷ gs))
+      go (alike e d) rest = let s = agree-step f g fs gs e in d ∙ rest (omega (arith, s)) ∙ ap Page (omega (arith, s))
+      go (unlike e d) rest = d ∙ ap Page (omega (arith, agree-stop f g fs gs e))
+
+  pub block-same : (i : ℕ) (fs gs : List ℕ) → length fs ≡ length gs → length gs ≤ agreeing fs gs → firstChange i (fs ++ xs) (gs ++ ys) ≡ firstChange (i + length gs) xs ys
+  block-same i [] [] l h = ap (λ (n : ℕ). firstChange n xs ys) (sym (add-zero i))
+  block-same i (f ∷ fs) [] l h = absurd (omega arith)
+  block-same i [] (g ∷ gs) l h = absurd (omega arith)
+  block-same i (f ∷ fs) (g ∷ gs) l h = go (compare-heads i f g (fs ++ xs) (gs ++ ys)) (block-same (suc i) fs gs (omega arith))
+    where
+      go : Compared i f g (fs ++ xs) (gs ++ ys) → (length gs ≤ agreeing fs gs → firstChange (suc i) (fs ++ xs) (gs ++ ys) ≡ firstChange (suc i + length gs) xs ys)
+          → firstChange i (f ∷ fs ++ xs) (g ∷ gs ++ ys) ≡ firstChange (i + length (g ∷ gs)) xs ys
+      go (alike e d) rest = d ∙ rest (omega (arith, agree-step f g fs gs e)) ∙ ap (λ (n : ℕ). firstChange n xs ys) (omega arith)
+      go (unlike e d) rest = absurd (omega (arith, agree-stop f g fs gs e))
+
+-- and how the code counts them: fields of a sheet from a place on, and the numbers from the i-th on
+module _ (place : ℕ) (sheet gs : List ℕ) (i : ℕ) (l : i < length gs) where
+  heads : agreeing (numbersAt place 8 (length gs - i) sheet) (drop i gs)
+      ≡ agreeing (numberAt place 8 sheet ∷ numbersAt (place + 8) 8 (length gs - (i + 1)) sheet) (getD gs i 0 ∷ drop (i + 1) gs)
+  heads =
+      let e : length gs - i - 1 ≡ length gs - (i + 1) = omega arith in
+      ap₂ agreeing (numbers-next place 8 (length gs - i) sheet (omega arith) ∙ ap (λ (n : ℕ). numberAt place 8 sheet ∷ numbersAt (place + 8) 8 n sheet) e)
+      (drop-cons gs i 0 l ∙ ap (λ (n : ℕ). getD gs i 0 ∷ drop n gs) (sym (add-one i)))
+
+  pub agree-on : numberAt place 8 sheet ≡ getD gs i 0
+      → agreeing (numbersAt place 8 (length gs - i) sheet) (drop i gs) ≡ suc (agreeing (numbersAt (place + 8) 8 (length gs - (i + 1)) sheet) (drop (i + 1) gs))
+  agree-on e = heads ∙ agree-step _ _ _ _ e
+
+  pub agree-off : numberAt place 8 sheet ≢ getD gs i 0 → agreeing (numbersAt place 8 (length gs - i) sheet) (drop i gs) ≡ 0
+  agree-off n = heads ∙ agree-stop _ _ _ _ n
+
+-- no number is left
+pub agree-end : (gs fs : List ℕ) (i : ℕ) → length gs ≤ i → agreeing fs (drop i gs) ≡ 0
+unfolding agreeing
+agree-end gs [] i l = refl
+agree-end gs (f ∷ fs) i l = rw (drop-of-length-le gs {i = i} l)

@@ -170,16 +170,20 @@ pub numbers-done : (place w n : ℕ) (l : List ℕ) → n ≡ 0 → numbersAt pl
 unfolding numbersAt
 numbers-done place w n l e = rw e
 
--- the last of c + 1 fields
-last-of : (c place w : ℕ) (l : List ℕ) → numbersAt place w (suc c) l ≡ numbersAt place w c l ++ numberAt (place + w * c) w l ∷ []
+-- m fields, and n behind them
+pub numbers-append : (place w m n : ℕ) (l : List ℕ) → numbersAt place w (m + n) l ≡ numbersAt place w m l ++ numbersAt (place + w * m) w n l
 unfolding numbersAt
-last-of zero place w l = ap (λ (n : ℕ). numberAt n w l ∷ []) (sym (rw (mul-zero w) (add-zero place)))
-last-of (suc c) place w l =
-    let e : place + w + w * c ≡ place + w * suc c = omega (arith, mul-suc w c) in
-    ap (λ (r : List ℕ). numberAt place w l ∷ r) (last-of c (place + w) w l ∙ ap (λ (n : ℕ). numbersAt (place + w) w c l ++ numberAt n w l ∷ []) e)
+numbers-append place w zero n l =
+    ap₂ (λ (p c : ℕ). numbersAt p w c l) (sym (rw (mul-zero w) (add-zero place))) (zero-add n)
+numbers-append place w (suc m) n l =
+    let e : place + w + w * m ≡ place + w * suc m = omega (arith, mul-suc w m) in
+    ap (λ (c : ℕ). numbersAt place w c l) (suc-add m n)
+    ∙ ap (λ (r : List ℕ). numberAt place w l ∷ r)
+    (numbers-append (place + w) w m n l ∙ ap (λ (p : ℕ). numbersAt (place + w) w m l ++ numbersAt p w n l) e)
 
 pub numbers-last : (place w c : ℕ) (l : List ℕ) → numbersAt place w (c + 1) l ≡ numbersAt place w c l ++ numberAt (place + w * c) w l ∷ []
-numbers-last place w c l = ap (λ (n : ℕ). numbersAt place w n l) (add-one c) ∙ last-of c place w l
+unfolding numbersAt
+numbers-last place w c l = numbers-append place w c 1 l
 
 -- ---- stores behind each other
 
@@ -208,7 +212,7 @@ numbers-one (suc c) place w (suc i) l h =
     numbers-one c (place + w) w i l (omega arith) ∙ ap (λ (n : ℕ). numberAt n w l) (omega (arith, mul-suc w i))
 
 -- fields that were stored, read back
-fields-append : (w : ℕ) (us vs : List ℕ) → fieldsOf w (us ++ vs) ≡ fieldsOf w us ++ fieldsOf w vs
+pub fields-append : (w : ℕ) (us vs : List ℕ) → fieldsOf w (us ++ vs) ≡ fieldsOf w us ++ fieldsOf w vs
 unfolding fieldsOf
 fields-append w [] vs = refl
 fields-append w (u ∷ us) vs = ap (λ (l : List ℕ). bytesOf w u ++ l) (fields-append w us vs) ∙ sym (append-assoc (bytesOf w u) (fieldsOf w us) (fieldsOf w vs))

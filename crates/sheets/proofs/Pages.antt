@@ -2,7 +2,7 @@
 use mathlib.Core.Path.{_≡_, refl, sym, ap, ap₂, _∙_}
 use mathlib.Core.List.{List, [], _∷_, _++_, append-assoc, append-nil}
 use Prim.Native.Nat.{ℕ, zero, suc, _+_, _-_, _*_, _/_, _^_, _≤_, _<_}
-use native.Mathlib.Nat.{add-div-right, div-add-mod', div-eq-of-lt, le-div-iff-mul-le, mod-lt, mul-le-mul-left, mul-one, sub-zero, suc-add, suc-mul, zero-add, zero-mul}
+use native.Mathlib.Nat.{add-div-right, div-add-mod', div-eq-of-lt, le-div-iff-mul-le, mod-lt, mul-le-mul-left, mul-one, sub-zero, suc-add, suc-mul, zero-add, zero-mul, add-zero, le-refl}
 use native.Mathlib.Decide.{decLe}
 use native.Mathlib.Numerals.{add-one}
 use native.Mathlib.Omega.{arith}
@@ -165,15 +165,39 @@ module _ (s : ℕ) (file : List ℕ) (at : ℕ) (h : 0 < s) where
   unfolding numbersAt
   fields-none place w sheet l = rw (left-none l)
 
--- the page that the code cuts out: a whole one, and the last
-pub whole-page : (s : ℕ) (file : List ℕ) (at : ℕ) → at + s ≤ length file → take (at + s - at) (drop at file) ≡ filled s (take s (drop at file))
-whole-page s file at l =
-    let e : at + s - at ≡ s = omega arith in
-    rw e (sym (filled-whole s (take s (drop at file)) (length-take-le s (drop at file) (rw (length-drop at file) (omega arith)))))
+-- n pages at once, which the file has
+module _ (s : ℕ) (file : List ℕ) (h : 0 < s) where
+  in-file : (at n : ℕ) → at + suc n * s ≤ length file → (at < length file) × (at + s + n * s ≤ length file)
+  in-file at n l = (omega (arith, suc-mul n s), omega (arith, suc-mul n s))
 
+  behind : (at n : ℕ) → at + s + n * s ≡ at + suc n * s
+  behind at n = omega (arith, suc-mul n s)
+
+  pub left-block : (at n : ℕ) → at + n * s ≤ length file → pagesLeft s file at ≡ n + pagesLeft s file (at + n * s)
+  left-block at zero l = rw (zero-mul s, add-zero at, zero-add)
+  left-block at (suc n) l =
+      left-next s file at h (in-file at n l .0)
+      ∙ ap suc (left-block (at + s) n (in-file at n l .1))
+      ∙ sym (suc-add n (pagesLeft s file (at + s + n * s)))
+      ∙ ap (λ (m : ℕ). suc n + pagesLeft s file m) (behind at n)
+
+  pub from-block : (p at n : ℕ) → at + n * s ≤ length file → fingerprintsFrom p s file at ≡ pageFingerprints p s n (drop at file) ++ fingerprintsFrom p s file (at + n * s)
+  unfolding pageFingerprints
+  from-block p at zero l = rw (zero-mul s, add-zero at)
+  from-block p at (suc n) l =
+      from-next s file at h p (in-file at n l .0)
+      ∙ ap (λ (fs : List ℕ). fingerprint p (filled s (take s (drop at file))) ∷ fs)
+      (from-block p (at + s) n (in-file at n l .1)
+      ∙ ap₂ (λ (q : List ℕ) (m : ℕ). pageFingerprints p s n q ++ fingerprintsFrom p s file m) (sym (drop-drop s at file)) (behind at n))
+
+-- the bytes from a place on, as the code lends them
+pub all-left : (file : List ℕ) (at : ℕ) → take (length file - at) (drop at file) ≡ drop at file
+all-left file at = take-all (length file - at) (drop at file) (rw (length-drop at file) (le-refl (length file - at)))
+
+-- and the last page
 pub last-page : (s : ℕ) (file : List ℕ) (at : ℕ) → length file ≤ at + s → take (length file - at) (drop at file) ≡ take s (drop at file)
 last-page s file at l =
-    take-all (length file - at) (drop at file) (rw (length-drop at file) (omega arith)) ∙ sym (take-all s (drop at file) (rw (length-drop at file) (omega arith)))
+    all-left file at ∙ sym (take-all s (drop at file) (rw (length-drop at file) (omega arith)))
 
 -- ---- the whole pages
 

@@ -1,7 +1,9 @@
 -- What the inner functions promise of the pages that are left: a reader of the promises need not read this page.
 use mathlib.Core.Path.{_≡_}
+use mathlib.Core.Bool.{cond}
 use mathlib.Core.List.{List, [], _∷_, _++_}
-use Prim.Native.Nat.{ℕ, _-_}
+use Prim.Native.Nat.{ℕ, suc, _-_}
+use lib.Dec.{eqb}
 use lib.ListN.{length, drop}
 use Rattle.refusals.specs.declared.Refusal.the-variants.{TooLong}
 use Rattle.refusals.specs.Refusals.{Answer, Done, _⇒_, firstOf, passes}
@@ -15,6 +17,12 @@ pagesLeft s file at = pageCount s (length file - at)
 
 abbrev pub fingerprintsFrom : ℕ → ℕ → List ℕ → ℕ → List ℕ
 fingerprintsFrom key s file at = pageFingerprints key s (pagesLeft s file at) (drop at file)
+
+-- how many numbers, from the first on, two lists have in common
+unfoldable pub agreeing : List ℕ → List ℕ → ℕ
+agreeing [] gs = 0
+agreeing (f ∷ fs) [] = 0
+agreeing (f ∷ fs) (g ∷ gs) = cond (eqb f g) (suc (agreeing fs gs)) 0
 
 -- the sheet was read, as the numbers x
 pub record ReadAs (sheet : List ℕ) (x : Sheet) : Type 0 where

@@ -47,16 +47,27 @@ pub fn join(words: &[u64], f: u64, g: u64) -> u64
     times(words, f) ^ g ^ words[1]
 }
 
-// Groups of eight bytes behind a leading 1, by the table for the shift by eight bytes. The value is congruent to the residue, not reduced.
-pub fn feed_eights(words: &[u64], k: u32, low: u64, part: &[u8]) -> u64
-    requires { ⌜ Modulus k low × Shifts (monic k low) 64 (now words) × (8 ≤ length (now part)) × (length (now part) % 8 ≡ 0) ⌝ }
-    ensures { λ r. ⌜ rem (monic k low) r ≡ rem (monic k low) (valueFrom 1 (bits (now (part .entry)))) ⌝ }
+// Two numbers that are congruent to residues.
+pub struct Pair {
+    pub a: u64,
+    pub b: u64,
+}
+
+// Two parts of one length side by side, each in groups of eight bytes behind a leading 1, by the table for the shift by eight bytes. The
+// values are congruent to the residues, not reduced.
+pub fn feed_eights(words: &[u64], k: u32, low: u64, p: &[u8], q: &[u8]) -> Pair
+    requires { ⌜ Modulus k low × Shifts (monic k low) 64 (now words)
+        × (8 ≤ length (now p)) × (length (now p) % 8 ≡ 0) × (length (now q) ≡ length (now p)) ⌝ }
+    ensures { λ r. ⌜ (rem (monic k low) (r .a) ≡ rem (monic k low) (valueFrom 1 (bits (now (p .entry)))))
+        × (rem (monic k low) (r .b) ≡ rem (monic k low) (valueFrom 1 (bits (now (q .entry))))) ⌝ }
 {
-    let mut x = words[1] ^ lookups::eight_at(part, 0);
+    let mut a = words[1] ^ lookups::eight_at(p, 0);
+    let mut b = words[1] ^ lookups::eight_at(q, 0);
     let mut i: usize = 8;
-    while i < part.len() {
-        x = times(words, x) ^ lookups::eight_at(part, i);
+    while i < p.len() {
+        a = times(words, a) ^ lookups::eight_at(p, i);
+        b = times(words, b) ^ lookups::eight_at(q, i);
         i += 8;
     }
-    x
+    Pair { a, b }
 }

@@ -1,0 +1,88 @@
+-- Laws of a block of whole pages.
+use mathlib.Core.Path.{_≡_, refl, sym, ap, _∙_}
+use mathlib.Core.Logic.{_≢_}
+use mathlib.Core.List.{List, _∷_, _++_}
+use Prim.Native.Nat.{ℕ, zero, suc, _+_, _-_, _*_, _≤_, _<_}
+use native.Mathlib.Nat.{mul-le-mul-right, zero-mul, suc-mul}
+use native.Mathlib.Decide.{ℕ-discrete}
+use native.Mathlib.Omega.{arith}
+use lib.ListN.{length, getD, set, take, drop, length-drop, length-set}
+use lib.Seq.{drop-drop, length-take-le, take-add, getD-set-same, getD-set-other, getD-take}
+use Rattle.gf2.specs.Polynomials.{rem}
+use Rattle.gf2.specs.Lists.{listFrom}
+use Rattle.files.specs.Files.{bits, valueFrom, value, fingerprint}
+use Rattle.files.proofs.Values.{rem-from}
+use Rattle.files.proofs.Marks.{fed}
+use Rattle.tables.proofs.Rule.{table-is}
+use Rattle.sheets.specs.Sheets.{filled, pageFingerprints}
+use Rattle.sheets.proofs.Pages.{filled-whole}
+use Rattle.sheet_pages.specs.Blocks.{pageFront, Begun, Finished}
+
+-- ---- one place more follows a rule
+
+module _ (P : ℕ → ℕ → Type 0) (marks : List ℕ) (i v : ℕ) (l : i < length marks) (p : P i v) where
+  -- a place that is stored rightly, and the others as they were
+  pub stored : (j : ℕ) → (j ≢ i → P j (getD marks j 0)) → P j (getD (set marks i v) j 0)
+  stored j f = go (ℕ-discrete j i)
+    where
+      go : Dec (j ≡ i) → P j (getD (set marks i v) j 0)
+      go (yes e) = rw (e, getD-set-same marks i v 0 l) p
+      go (no n) = rw (getD-set-other marks i j v 0 n) (f n)
+
+module _ (key s w : ℕ) (pages marks : List ℕ) (i : ℕ) where
+  -- two pages more, the second the next one or the same
+  pub begun-two : (j x y : ℕ) → i ≤ j → j ≤ i + 1 → j < length marks → Begun key s w i pages marks
+      → rem key x ≡ rem key (valueFrom 1 (bits (pageFront s w pages i)))
+      → rem key y ≡ rem key (valueFrom 1 (bits (pageFront s w pages j)))
+      → Begun key s w (j + 1) pages (set (set marks i x) j y)
+  begun-two j x y lo hi l f ex ey m b =
+      let P : ℕ → ℕ → Type 0 = λ n z. rem key z ≡ rem key (valueFrom 1 (bits (pageFront s w pages n))) in
+      stored P (set marks i x) j y (simp length-set l) ey m (λ d. stored P marks i x (omega arith) ex m (λ e. f m (omega (arith, d, e))))
+
+  -- one page more
+  pub finished-more : (v : ℕ) → i < length marks → Finished key s i pages marks → v ≡ fingerprint key (pageFront s s pages i) → Finished key s (i + 1) pages (set marks i v)
+  finished-more v l f e m b = stored (λ n z. z ≡ fingerprint key (pageFront s s pages n)) marks i v l e m (λ d. f m (omega (arith, d)))
+
+-- ---- the bytes of a page in the block
+
+pub place-fits : (s n i len : ℕ) → i < n → n * s ≤ len → i * s + s ≤ len
+place-fits s n i len l h = omega (arith, suc-mul i s, mul-le-mul-right s l, h)
+
+pub front-cut : (a w : ℕ) (pages : List ℕ) → take (a + w - a) (drop a pages) ≡ take w (drop a pages)
+front-cut a w pages = let e : a + w - a ≡ w = omega arith in rw e
+
+-- the first w bytes, which x stands for, and the others behind them
+pub page-finished : {key : ℕ} (pos : 0 < key) (s w i : ℕ) (pages : List ℕ) (x r : ℕ) → w ≤ s
+    → rem key x ≡ rem key (valueFrom 1 (bits (pageFront s w pages i)))
+    → r ≡ rem key (valueFrom x (bits (take (i * s + s - (i * s + w)) (drop (i * s + w) pages))))
+    → r ≡ fingerprint key (pageFront s s pages i)
+unfolding fingerprint value
+page-finished {key} pos s w i pages x r l ex er =
+    let e : i * s + s - (i * s + w) ≡ s - w = omega arith in
+    let d : w + (s - w) ≡ s = omega arith in
+    let rest = take (s - w) (drop (i * s + w) pages) in
+    er
+    ∙ ap (λ (n : ℕ). rem key (valueFrom x (bits (take n (drop (i * s + w) pages))))) e
+    ∙ sym (rem-from pos x (bits rest))
+    ∙ ap (λ (y : ℕ). rem key (valueFrom y (bits rest))) ex
+    ∙ fed pos (pageFront s w pages i) rest
+    ∙ ap (fingerprint key)
+    (ap (λ (q : List ℕ). pageFront s w pages i ++ take (s - w) q) (sym (drop-drop w (i * s) pages))
+    ∙ sym (take-add w (s - w) (drop (i * s) pages))
+    ∙ ap (λ (n : ℕ). take n (drop (i * s) pages)) d)
+
+-- ---- the fingerprints as a list
+
+pages-list : (p s c a : ℕ) (file : List ℕ) → pageFingerprints p s c (drop (a * s) file) ≡ listFrom (λ i. fingerprint p (filled s (take s (drop (i * s) file)))) a c
+unfolding pageFingerprints listFrom
+pages-list p s zero a file = refl
+pages-list p s (suc c) a file =
+    ap (λ (l : List ℕ). fingerprint p (filled s (take s (drop (a * s) file))) ∷ l)
+    (ap (pageFingerprints p s c) (drop-drop s (a * s) file ∙ ap (λ (n : ℕ). drop n file) (sym (suc-mul a s))) ∙ pages-list p s c (suc a) file)
+
+pub block-is : (key s n : ℕ) (pages marks : List ℕ) → n * s ≤ length pages → n ≤ length marks → Finished key s n pages marks → take n marks ≡ pageFingerprints key s n pages
+block-is key s n pages marks h l f =
+    let whole : (i : ℕ) → i < n → filled s (take s (drop (i * s) pages)) ≡ take s (drop (i * s) pages) = λ i b. filled-whole s (take s (drop (i * s) pages)) (length-take-le s (drop (i * s) pages) (rw length-drop (omega (arith, place-fits s n i (length pages) b h)))) in
+    table-is _ n (take n marks) (length-take-le n marks l) (λ i b. getD-take n marks i 0 b ∙ f i b ∙ ap (fingerprint key) (sym (whole i b)))
+    ∙ sym (pages-list key s n 0 pages)
+    ∙ ap (λ (m : ℕ). pageFingerprints key s n (drop m pages)) (zero-mul s)

@@ -1,0 +1,134 @@
+-- `begin_pages` meets its contract: the pages before page i are begun.
+use mathlib.Core.Path.{_≡_, refl, ap, _∙_}
+use mathlib.Core.List.{List}
+use Prim.Native.Nat.{ℕ, _+_, _-_, _*_, _≤_, _<_}
+use native.Mathlib.Omega.{arith}
+use lib.ListN.{length, take, drop, length-set}
+use Rattle.gf2.specs.Polynomials.{monic, rem}
+use Rattle.files.specs.Files.{bits, valueFrom}
+use Rattle.lookups.proofs.Parts.{run-length}
+use Rattle.sheet_pages.specs.Blocks.{Begun}
+use Rattle.sheet_pages.proofs.Blocks.{begun-two, place-fits, front-cut}
+use Rattle.sheet_pages.proofs.begin_pages.Statement.{statement}
+use Rattle.sheet_pages.proofs.begin_pages.Tie as tie
+
+abbrev Inv-loop : tie.InvT-loop
+Inv-loop marks₀ eights k low size whole n pages i₀ marks i = (i ≤ n) × (length marks ≡ length marks₀) × Begun (monic k low) size whole i pages marks
+
+abbrev μ-loop : tie.MeasureT-loop
+μ-loop marks₀ eights k low size whole n pages i₀ marks i = n - i
+
+loop-holds : tie.Need-loop-holds Inv-loop μ-loop
+loop-holds c = (omega arith, refl, λ i l. absurd (omega arith))
+
+beside-requires : tie.Need-beside-requires Inv-loop μ-loop
+beside-requires c κs = c .loop-test .taken
+
+mul-a : tie.Need-mul-a Inv-loop μ-loop
+mul-a c = let s = c .before .before .before .before .before .before in omega (arith, s .pre .4, place-fits (s .args .size) (s .args .n) (c .before .before .loop .i) (length (s .args .pages .now)) (c .before .loop-test .taken) (s .pre .5))
+
+mul-b : tie.Need-mul-b Inv-loop μ-loop
+mul-b c = let s = c .before .before .before .before .before .before in omega (arith, s .pre .4, place-fits (s .args .size) (s .args .n) (c .beside .result) (length (s .args .pages .now)) (c .beside .ensures .2) (s .pre .5))
+
+add-feed-eights : tie.Need-add-feed-eights Inv-loop μ-loop
+add-feed-eights c = let s = c .before .before .before .before .before .before in omega (arith, s .pre .4, place-fits (s .args .size) (s .args .n) (c .before .before .loop .i) (length (s .args .pages .now)) (c .before .loop-test .taken) (s .pre .5))
+
+sub-feed-eights : tie.Need-sub-feed-eights Inv-loop μ-loop
+sub-feed-eights c = let s = c .before .before .before .before .before .before in omega (arith, s .pre .4, place-fits (s .args .size) (s .args .n) (c .before .before .loop .i) (length (s .args .pages .now)) (c .before .loop-test .taken) (s .pre .5))
+
+part-feed-eights-start : tie.Need-part-feed-eights-start Inv-loop μ-loop
+part-feed-eights-start c = let s = c .before .before .before .before .before .before in omega (arith, s .pre .4, place-fits (s .args .size) (s .args .n) (c .before .before .loop .i) (length (s .args .pages .now)) (c .before .loop-test .taken) (s .pre .5))
+
+part-feed-eights-end : tie.Need-part-feed-eights-end Inv-loop μ-loop
+part-feed-eights-end c = let s = c .before .before .before .before .before .before in omega (arith, s .pre .4, place-fits (s .args .size) (s .args .n) (c .before .before .loop .i) (length (s .args .pages .now)) (c .before .loop-test .taken) (s .pre .5))
+
+add-feed-eights-2 : tie.Need-add-feed-eights-2 Inv-loop μ-loop
+add-feed-eights-2 c = let s = c .before .before .before .before .before .before .before in omega (arith, s .pre .4, place-fits (s .args .size) (s .args .n) (c .before .beside .result) (length (s .args .pages .now)) (c .before .beside .ensures .2) (s .pre .5))
+
+sub-feed-eights-2 : tie.Need-sub-feed-eights-2 Inv-loop μ-loop
+sub-feed-eights-2 c = let s = c .before .before .before .before .before .before .before in omega (arith, s .pre .4, place-fits (s .args .size) (s .args .n) (c .before .beside .result) (length (s .args .pages .now)) (c .before .beside .ensures .2) (s .pre .5))
+
+part-feed-eights-start-2 : tie.Need-part-feed-eights-start-2 Inv-loop μ-loop
+part-feed-eights-start-2 c = let s = c .before .before .before .before .before .before .before in omega (arith, s .pre .4, place-fits (s .args .size) (s .args .n) (c .before .beside .result) (length (s .args .pages .now)) (c .before .beside .ensures .2) (s .pre .5))
+
+part-feed-eights-end-2 : tie.Need-part-feed-eights-end-2 Inv-loop μ-loop
+part-feed-eights-end-2 c = let s = c .before .before .before .before .before .before .before in omega (arith, s .pre .4, place-fits (s .args .size) (s .args .n) (c .before .beside .result) (length (s .args .pages .now)) (c .before .beside .ensures .2) (s .pre .5))
+
+feed-eights-requires : tie.Need-feed-eights-requires Inv-loop μ-loop
+feed-eights-requires c κs =
+    let s = c .before .before .before .before .before .before .before .before in
+    let a = s .args in
+    let i = c .before .before .before .before .loop .i in
+    let j = c .before .before .beside .result in
+    let p = run-length (a .pages .now) (i * a .size) (i * a .size + a .whole) (a .whole) refl (omega (arith, s .pre .4, place-fits (a .size) (a .n) i (length (a .pages .now)) (c .before .before .before .loop-test .taken) (s .pre .5))) in
+    let q = run-length (a .pages .now) (j * a .size) (j * a .size + a .whole) (a .whole) refl (omega (arith, s .pre .4, place-fits (a .size) (a .n) j (length (a .pages .now)) (c .before .before .beside .ensures .2) (s .pre .5))) in
+    (s .pre .0, s .pre .1, rw p (s .pre .2), rw p (s .pre .3), rw (p, q))
+
+mul-marks : tie.Need-mul-marks Inv-loop μ-loop
+mul-marks c = omega arith
+
+slice-write-marks : tie.Need-slice-write-marks Inv-loop μ-loop
+slice-write-marks c = omega arith
+
+mul-marks-2 : tie.Need-mul-marks-2 Inv-loop μ-loop
+mul-marks-2 c = omega arith
+
+slice-write-marks-2 : tie.Need-slice-write-marks-2 Inv-loop μ-loop
+slice-write-marks-2 c = simp length-set (omega arith)
+
+add-i : tie.Need-add-i Inv-loop μ-loop
+add-i c = omega arith
+
+loop-less : tie.Need-loop-less Inv-loop μ-loop
+loop-less c = omega arith
+
+loop-again : tie.Need-loop-again Inv-loop μ-loop
+loop-again c =
+    let s = c .before .before .before .before .before .before .before .before .before in
+    let a = s .args in
+    let l = c .before .before .before .before .before .loop in
+    let j = c .before .before .before .beside .result in
+    let fed = c .feed-eights .ensures in
+    let key = monic (a .k) (a .low) in
+    let front : (i : ℕ) → rem key (valueFrom 1 (bits (take (i * a .size + a .whole - i * a .size) (drop (i * a .size) (a .pages .now))))) ≡ rem key (valueFrom 1 (bits (take (a .whole) (drop (i * a .size) (a .pages .now)))))
+    = λ i. ap (λ (q : List ℕ). rem key (valueFrom 1 (bits q))) (front-cut (i * a .size) (a .whole) (a .pages .now)) in (
+      omega arith,
+      simp length-set (l .inv .1),
+      begun-two key (a .size) (a .whole) (a .pages .now) (l .marks) (l .i) j (c .feed-eights .result .a) (c .feed-eights .result .b) (c .before .before .before .beside .ensures .0) (c .before .before .before .beside .ensures .1) (omega (arith, c .before .before .before .beside .ensures .2)) (l .inv .2)
+          (fed .0 ∙ front (l .i)) (fed .1 ∙ front j),
+    )
+
+same-length : tie.Need-same-length Inv-loop μ-loop
+same-length c = omega arith
+
+returns : tie.Need-returns Inv-loop μ-loop
+returns c = λ i l. c .before .loop .inv .2 i (omega (arith, l))
+
+pub begin-pages-spec : {M : Type 1} → statement M
+begin-pages-spec =
+    tie.close
+    (tie.spec
+    Inv-loop
+    μ-loop
+    loop-holds
+    beside-requires
+    mul-a
+    mul-b
+    add-feed-eights
+    sub-feed-eights
+    part-feed-eights-start
+    part-feed-eights-end
+    add-feed-eights-2
+    sub-feed-eights-2
+    part-feed-eights-start-2
+    part-feed-eights-end-2
+    feed-eights-requires
+    mul-marks
+    slice-write-marks
+    mul-marks-2
+    slice-write-marks-2
+    add-i
+    loop-less
+    loop-again
+    same-length
+    returns)

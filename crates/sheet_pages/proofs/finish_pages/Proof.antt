@@ -1,0 +1,105 @@
+-- `finish_pages` meets its contract: the numbers before place i are fingerprints, the others as they were.
+use mathlib.Core.Path.{_≡_, refl, sym, ap, _∙_}
+use Prim.Native.Nat.{ℕ, _+_, _-_, _*_, _≤_, _<_}
+use native.Mathlib.Omega.{arith}
+use lib.ListN.{length, getD, length-set}
+use lib.Seq.{getD-set-other}
+use Rattle.gf2.specs.Polynomials.{monic, rem}
+use Rattle.gf2.proofs.Monics.{monic-pos}
+use Rattle.sheet_pages.specs.Blocks.{Finished}
+use Rattle.sheet_pages.proofs.Blocks.{finished-more, place-fits, page-finished}
+use Rattle.sheet_pages.proofs.finish_pages.Statement.{statement}
+use Rattle.sheet_pages.proofs.finish_pages.Tie as tie
+
+abbrev Inv-loop : tie.InvT-loop
+Inv-loop marks₀ words k low size whole n pages i₀ marks i =
+    (i ≤ n) × (length marks ≡ length marks₀) × Finished (monic k low) size i pages marks × ((j : ℕ) → i ≤ j → getD marks j 0 ≡ getD marks₀ j 0)
+
+abbrev μ-loop : tie.MeasureT-loop
+μ-loop marks₀ words k low size whole n pages i₀ marks i = n - i
+
+loop-holds : tie.Need-loop-holds Inv-loop μ-loop
+loop-holds c = (omega arith, refl, λ i l. absurd (omega arith), λ i l. refl)
+
+mul-a : tie.Need-mul-a Inv-loop μ-loop
+mul-a c = let s = c .before .before .before .before .before in omega (arith, place-fits (s .args .size) (s .args .n) (c .before .loop .i) (length (s .args .pages .now)) (c .loop-test .taken) (s .pre .2))
+
+mul-finished : tie.Need-mul-finished Inv-loop μ-loop
+mul-finished c = omega arith
+
+slice-read-finished : tie.Need-slice-read-finished Inv-loop μ-loop
+slice-read-finished c = omega arith
+
+add-finished : tie.Need-add-finished Inv-loop μ-loop
+add-finished c = let s = c .before .before .before .before .before .before in omega (arith, place-fits (s .args .size) (s .args .n) (c .before .before .loop .i) (length (s .args .pages .now)) (c .before .loop-test .taken) (s .pre .2))
+
+add-finished-2 : tie.Need-add-finished-2 Inv-loop μ-loop
+add-finished-2 c = let s = c .before .before .before .before .before .before in omega (arith, place-fits (s .args .size) (s .args .n) (c .before .before .loop .i) (length (s .args .pages .now)) (c .before .loop-test .taken) (s .pre .2))
+
+sub-finished : tie.Need-sub-finished Inv-loop μ-loop
+sub-finished c = let s = c .before .before .before .before .before .before in omega (arith, s .pre .1)
+
+part-finished-start : tie.Need-part-finished-start Inv-loop μ-loop
+part-finished-start c = let s = c .before .before .before .before .before .before in omega (arith, s .pre .1, place-fits (s .args .size) (s .args .n) (c .before .before .loop .i) (length (s .args .pages .now)) (c .before .loop-test .taken) (s .pre .2))
+
+part-finished-end : tie.Need-part-finished-end Inv-loop μ-loop
+part-finished-end c = let s = c .before .before .before .before .before .before in omega (arith, s .pre .1, place-fits (s .args .size) (s .args .n) (c .before .before .loop .i) (length (s .args .pages .now)) (c .before .loop-test .taken) (s .pre .2))
+
+finished-requires : tie.Need-finished-requires Inv-loop μ-loop
+finished-requires c κs = c .before .before .before .before .before .before .before .pre .0
+
+mul-marks : tie.Need-mul-marks Inv-loop μ-loop
+mul-marks c = omega arith
+
+slice-write-marks : tie.Need-slice-write-marks Inv-loop μ-loop
+slice-write-marks c = omega arith
+
+add-i : tie.Need-add-i Inv-loop μ-loop
+add-i c = omega arith
+
+loop-less : tie.Need-loop-less Inv-loop μ-loop
+loop-less c = omega arith
+
+loop-again : tie.Need-loop-again Inv-loop μ-loop
+loop-again c =
+    let s = c .before .before .before .before .before .before .before .before in
+    let a = s .args in
+    let l = c .before .before .before .before .loop in
+    let key = monic (a .k) (a .low) in
+    let begun = ap (rem key) (l .inv .3 (l .i) (omega arith)) ∙ s .pre .4 (l .i) (omega arith) in (
+      omega arith,
+      simp length-set (l .inv .1),
+      finished-more key (a .size) (a .whole) (a .pages .now) (l .marks) (l .i) (c .finished .result) (omega arith) (l .inv .2)
+          (page-finished (monic-pos (a .k) (a .low) (s .pre .0 .0 .2)) (a .size) (a .whole) (l .i) (a .pages .now) _ (c .finished .result) (s .pre .1) begun (c .finished .ensures)),
+      λ j b. getD-set-other (l .marks) (l .i) j (c .finished .result) 0 (λ e. omega (arith, e, b)) ∙ l .inv .3 j (omega (arith, b)),
+    )
+
+same-length : tie.Need-same-length Inv-loop μ-loop
+same-length c = omega arith
+
+returns : tie.Need-returns Inv-loop μ-loop
+returns c = λ i l. c .before .loop .inv .2 i (omega (arith, l))
+
+pub finish-pages-spec : {M : Type 1} → statement M
+finish-pages-spec =
+    tie.close
+    (tie.spec
+    Inv-loop
+    μ-loop
+    loop-holds
+    mul-a
+    mul-finished
+    slice-read-finished
+    add-finished
+    add-finished-2
+    sub-finished
+    part-finished-start
+    part-finished-end
+    finished-requires
+    mul-marks
+    slice-write-marks
+    add-i
+    loop-less
+    loop-again
+    same-length
+    returns)
