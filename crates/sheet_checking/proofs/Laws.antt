@@ -16,52 +16,23 @@ use Rattle.sheets.specs.declared.Sheet.{Sheet}
 use Rattle.sheets.specs.Layout.{version1, numberAt, numbersAt, pagesIn, sheetSize, Contents, contentsIn}
 use Rattle.sheets.specs.Sheets.{contentsOf, readTests, readSheet, numbersOf, sheetRead, Sound, Page, OtherLength, firstChange, compared, checkSheet, FromTo, rangeOf}
 use Rattle.sheets.specs.Parts.{pagesLeft, fingerprintsFrom, ReadAs, comparison}
-use Rattle.sheets.proofs.Sound.{Clear, done-clear, neither, clear-total, clear-contents}
+use Rattle.sheets.proofs.Sound.{Clear, done-clear, neither}
+use Rattle.sheets.proofs.Known.{more-refused, more-clear, refused-inv, tests-clear, total}
 use Rattle.sheets.proofs.Changes.{not-other}
 use Rattle.sheets.proofs.Guarantee.{other-length}
 
--- ---- more tests behind a list
-
-more-refused : {A B : Type 0} {S : Type 0} (ts us : List Test) (s : S) (v : A) (w : B) (q : Refusal) → firstOf ts s v ≡ Refused q s → firstOf (ts ++ us) s w ≡ Refused q s
-more-refused [] us s v w q e = absurd (let z : _≡_ {A = ℕ} 0 1 = cc in omega arith)
-more-refused (true ⇒ r ∷ ts) us s v w q e = let d : r ≡ q = cc in rw d
-more-refused (false ⇒ r ∷ ts) us s v w q e = more-refused ts us s v w q e
-
-more-clear : {B : Type 0} {S : Type 0} (ts us : List Test) (s : S) (w : B) → Clear ts → firstOf (ts ++ us) s w ≡ firstOf us s w
-more-clear [] us s w c = refl
-more-clear (b ⇒ r ∷ ts) us s w c = rw (c .0) (more-clear ts us s w (c .1))
-
 -- ---- what reading says
-
-refused-inv : (a : Answer Unit Contents) (q : Refusal) → sheetRead a ≡ Refused q tt → a ≡ Refused q tt
-refused-inv (Done x) q e = absurd (let z : _≡_ {A = ℕ} 0 1 = cc in omega arith)
-refused-inv (Refused r s) q e = let d : r ≡ q = cc in rw d
-
-done-inv : (sheet : List ℕ) (a : Answer Unit Contents) (x : Sheet) → readSheet sheet ≡ a → sheetRead a ≡ Done x → ReadAs sheet x
-unfolding readSheet
-done-inv sheet (Done y) x d e =
-    let z = done-clear (readTests version1 sheet) tt (contentsIn version1 sheet) y d .1 in
-    record { done = d ∙ ap Done (sym z); numbers = sym (ap numbersOf z ∙ cc) }
-done-inv sheet (Refused r s) x d e = absurd (let z : _≡_ {A = ℕ} 0 1 = cc in omega arith)
-
-pub read-as : (sheet : List ℕ) (x : Sheet) → Done x ≡ sheetRead (readSheet sheet) → ReadAs sheet x
-read-as sheet x e = done-inv sheet (readSheet sheet) x refl (sym e)
 
 module _ (sheet : List ℕ) where
   pub check-refused : (q : Refusal) (file : List ℕ) → Refused q tt ≡ sheetRead (readSheet sheet) → checkSheet sheet file ≡ Refused q tt
   unfolding readSheet checkSheet
   check-refused q file e =
-      more-refused (readTests version1 sheet) (passes (length file ∷ []) ⇒ TooLong ∷ []) tt (contentsIn version1 sheet) (compared (contentsIn version1 sheet) file) q
+      more-refused (readTests version1 sheet) (passes (length file ∷ []) ⇒ TooLong ∷ []) tt tt (contentsIn version1 sheet) (compared (contentsIn version1 sheet) file) q
       (refused-inv (readSheet sheet) q (sym e))
 
-  module _ {x : Sheet} (r : ReadAs sheet x) where
-    pub tests-clear : Clear (readTests version1 sheet)
-    unfolding readSheet
-    tests-clear = done-clear (readTests version1 sheet) tt (contentsIn version1 sheet) (contentsIn version1 sheet) (r .done) .0
-
-    pub check-done : (file : List ℕ) → checkSheet sheet file ≡ comparison sheet file
-    unfolding checkSheet
-    check-done file = more-clear (readTests version1 sheet) (passes (length file ∷ []) ⇒ TooLong ∷ []) tt (compared (contentsIn version1 sheet) file) tests-clear
+  pub check-done : {x : Sheet} → ReadAs sheet x → (file : List ℕ) → checkSheet sheet file ≡ comparison sheet file
+  unfolding checkSheet
+  check-done r file = more-clear (readTests version1 sheet) (passes (length file ∷ []) ⇒ TooLong ∷ []) tt (compared (contentsIn version1 sheet) file) (tests-clear sheet r)
 
 -- ---- the comparison, test by test
 
@@ -86,12 +57,6 @@ module _ (sheet file : List ℕ) where
 
 -- the numbers that a check goes by
 module _ (sheet : List ℕ) {x : Sheet} (r : ReadAs sheet x) where
-  pub sound : Sound (contentsIn version1 sheet)
-  sound = clear-contents sheet (tests-clear sheet r)
-
-  pub total : length sheet ≡ sheetSize version1 (pagesIn version1 sheet)
-  total = clear-total sheet (tests-clear sheet r)
-
   pub size-is : x .size ≡ contentsIn version1 sheet .pageSize
   size-is = ap (λ (y : Sheet). y .size) (r .numbers)
 
@@ -104,7 +69,7 @@ module _ (sheet : List ℕ) {x : Sheet} (r : ReadAs sheet x) where
   -- all fields of the pages are there
   pub pages-there : (file : List ℕ) → length file ≡ x .length → 19 + 8 * pagesLeft (x .size) file 0 ≤ length sheet
   unfolding contentsIn
-  pages-there file e = rw (total, sub-zero, e, length-is, size-is) (omega arith)
+  pages-there file e = rw (total sheet r, sub-zero, e, length-is, size-is) (omega arith)
 
 -- ---- the page that a check names
 

@@ -7,3 +7,4 @@ pub mod Changes
 pub mod Guarantee
 pub mod Steps
 pub mod Damages
+pub mod Known

@@ -128,6 +128,12 @@ pub record WellFormed (sheet : List ℕ) : Type 0 where
   pub sound : Sound contents
   pub bytes : sheet ≡ sheetBytes version1 contents
 
+-- the page fingerprints into lent words: the first ones, as far as the words reach; further words keep their value
+unfoldable pub readPages : List ℕ → List ℕ → Answer (List ℕ) (List ℕ)
+readPages sheet words =
+    let pages = contentsIn version1 sheet .pages in
+    firstOf (readTests version1 sheet) words (take (length words) pages ++ drop (length pages) words)
+
 -- ---- checking a file: all of reading, then 7
 
 pub data Outcome : Type 0 where

@@ -1,6 +1,7 @@
 use mathlib.Core.Path.{sym, ap, _∙_}
 use Rattle.sheets.specs.Sheets.{reading}
-use Rattle.sheet_checking.proofs.Laws.{read-as, check-refused, check-done}
+use Rattle.sheets.proofs.Known.{read-as}
+use Rattle.sheet_checking.proofs.Laws.{check-refused, check-done}
 use borrow.Author.Needs.{needs}
 use Rattle.sheet_checking.proofs.check.Statement.{statement}
 use Rattle.sheet_checking.proofs.check.Tie as tie

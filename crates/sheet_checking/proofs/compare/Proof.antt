@@ -7,8 +7,9 @@ use Rattle.gf2.proofs.Monics.{word-degree}
 use Rattle.sheets.specs.Layout.{numbersAt}
 use Rattle.sheets.specs.Sheets.{firstChange}
 use Rattle.sheets.specs.Parts.{pagesLeft, fingerprintsFrom}
+use Rattle.sheets.proofs.Known.{sound}
 use Rattle.sheets.proofs.Moduli.{Held, accepted-held}
-use Rattle.sheet_checking.proofs.Laws.{compare-long, compare-other, compare-pages, sound, size-is, key-is, length-is, pages-there}
+use Rattle.sheet_checking.proofs.Laws.{compare-long, compare-other, compare-pages, size-is, key-is, length-is, pages-there}
 use borrow.Author.Needs.{needs}
 use Rattle.sheet_checking.proofs.compare.Statement.{statement}
 use Rattle.sheet_checking.proofs.compare.Tie as tie

@@ -1,0 +1,68 @@
+-- What is known of a sheet that was read, and of one that was refused.
+use mathlib.Core.Path.{_≡_, refl, sym, ap, _∙_}
+use mathlib.Core.Bool.{true, false}
+use mathlib.Core.List.{List, [], _∷_, _++_, append-nil}
+use Prim.Native.Nat.{ℕ}
+use native.Mathlib.Omega.{arith}
+use lib.ListN.{length, take, drop}
+use Rattle.refusals.specs.declared.Refusal.{Refusal}
+use Rattle.refusals.specs.Refusals.{Answer, Done, Refused, Test, _⇒_, firstOf}
+use Rattle.sheets.specs.declared.Sheet.{Sheet}
+use Rattle.sheets.specs.Layout.{version1, pagesIn, sheetSize, Contents, contentsIn}
+use Rattle.sheets.specs.Sheets.{readTests, readSheet, readPages, numbersOf, sheetRead, Sound}
+use Rattle.sheets.specs.Parts.{ReadAs}
+use Rattle.sheets.proofs.Sound.{Clear, clear-done, done-clear, clear-total, clear-contents}
+
+-- ---- more tests behind a list, and another state
+
+pub more-refused : {A B S T : Type 0} (ts us : List Test) (s : S) (t : T) (v : A) (w : B) (q : Refusal) → firstOf ts s v ≡ Refused q s → firstOf (ts ++ us) t w ≡ Refused q t
+more-refused [] us s t v w q e = absurd (let z : _≡_ {A = ℕ} 0 1 = cc in omega arith)
+more-refused (true ⇒ r ∷ ts) us s t v w q e = let d : r ≡ q = cc in rw d
+more-refused (false ⇒ r ∷ ts) us s t v w q e = more-refused ts us s t v w q e
+
+pub more-clear : {B : Type 0} {S : Type 0} (ts us : List Test) (s : S) (w : B) → Clear ts → firstOf (ts ++ us) s w ≡ firstOf us s w
+more-clear [] us s w c = refl
+more-clear (b ⇒ r ∷ ts) us s w c = rw (c .0) (more-clear ts us s w (c .1))
+
+-- ---- what reading says
+
+pub refused-inv : (a : Answer Unit Contents) (q : Refusal) → sheetRead a ≡ Refused q tt → a ≡ Refused q tt
+refused-inv (Done x) q e = absurd (let z : _≡_ {A = ℕ} 0 1 = cc in omega arith)
+refused-inv (Refused r s) q e = let d : r ≡ q = cc in rw d
+
+done-inv : (sheet : List ℕ) (a : Answer Unit Contents) (x : Sheet) → readSheet sheet ≡ a → sheetRead a ≡ Done x → ReadAs sheet x
+unfolding readSheet
+done-inv sheet (Done y) x d e =
+    let z = done-clear (readTests version1 sheet) tt (contentsIn version1 sheet) y d .1 in
+    record { done = d ∙ ap Done (sym z); numbers = sym (ap numbersOf z ∙ cc) }
+done-inv sheet (Refused r s) x d e = absurd (let z : _≡_ {A = ℕ} 0 1 = cc in omega arith)
+
+pub read-as : (sheet : List ℕ) (x : Sheet) → Done x ≡ sheetRead (readSheet sheet) → ReadAs sheet x
+read-as sheet x e = done-inv sheet (readSheet sheet) x refl (sym e)
+
+-- ---- a sheet that was read
+
+module _ (sheet : List ℕ) {x : Sheet} (r : ReadAs sheet x) where
+  pub tests-clear : Clear (readTests version1 sheet)
+  unfolding readSheet
+  tests-clear = done-clear (readTests version1 sheet) tt (contentsIn version1 sheet) (contentsIn version1 sheet) (r .done) .0
+
+  pub sound : Sound (contentsIn version1 sheet)
+  sound = clear-contents sheet tests-clear
+
+  pub total : length sheet ≡ sheetSize version1 (pagesIn version1 sheet)
+  total = clear-total sheet tests-clear
+
+-- ---- its page fingerprints in lent words
+
+module _ (sheet words : List ℕ) where
+  pub pages-refused : (q : Refusal) → Refused q tt ≡ sheetRead (readSheet sheet) → readPages sheet words ≡ Refused q words
+  unfolding readSheet readPages
+  pages-refused q e =
+      ap (λ (ts : List Test). firstOf ts words _) (sym (append-nil (readTests version1 sheet)))
+      ∙ more-refused (readTests version1 sheet) [] tt words (contentsIn version1 sheet) _ q (refused-inv (readSheet sheet) q (sym e))
+
+  pub pages-done : {x : Sheet} → ReadAs sheet x
+      → readPages sheet words ≡ Done (take (length words) (contentsIn version1 sheet .pages) ++ drop (length (contentsIn version1 sheet .pages)) words)
+  unfolding readPages
+  pages-done r = clear-done (readTests version1 sheet) words _ (tests-clear sheet r)
