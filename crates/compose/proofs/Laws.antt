@@ -85,7 +85,7 @@ module _ {p : ℕ} (pos : 0 < p) (old new : List ℕ) (e : length old ≡ length
 
 -- ---- the tests of two marks do not depend on their order
 
-or-left-comm : (x y z : Bool) → (x || (y || z)) ≡ (y || (x || z))
+pub or-left-comm : (x y z : Bool) → (x || (y || z)) ≡ (y || (x || z))
 or-left-comm x y z = sym (or-assoc x y z) ∙ ap (λ (b : Bool). b || z) (or-comm x y) ∙ or-assoc y x z
 
 pub marks-swap : (key : ℕ) (x y : Mark) → marksTests key x y ≡ marksTests key y x

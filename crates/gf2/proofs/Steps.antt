@@ -1,13 +1,17 @@
 -- What the code computes modulo t^k with the coefficients `low` below it: one bit behind a residue, a product and a power bit by bit.
 use mathlib.Core.Path.{_≡_, sym, ap, ap₂, _∙_}
+use mathlib.Core.Bool.{_||_}
 use mathlib.Core.Logic.{_⊎_, inl, inr}
 use Prim.Native.Nat.{ℕ, zero, suc, _+_, _-_, _*_, _/_, _%_, _^_, _≤_, _<_, zero-le}
 use native.Mathlib.Nat.{le-refl, lt-of-lt-of-le, div-eq-of-lt, one-mul, zero-mul, mul-one, mul-zero, mod-lt, pow-suc, pow-succ', add-zero, div-lt-iff-lt-mul, div-div-eq-div-mul}
 use native.Mathlib.Numerals.{add-one, one-add}
+use native.Mathlib.Decide.{decLt}
 use native.Mathlib.Omega.{arith}
-use lib.Dec.{lit<}
+use lib.Bits.{bitOr, or-lt, or-add-and, and-le-l, and-le-r}
+use lib.Dec.{leb, lit<}
 use lib.Count.{leadingZeros, leading-length}
 use lib.Pow.{pow-pos, pow-mono, pow-lt, split, shl-exact, high, low, mod-pow-add}
+use borrow.Author.Tests.{le-leb, lt-leb}
 use Rattle.gf2.specs.Polynomials.{_⊕_, _⊗_, _⊗^_, monic, rem, Modulus}
 use Rattle.gf2.proofs.Sums.{⊕-append, ⊕-comm}
 use Rattle.gf2.proofs.Products.{⊗-zero, ⊗-⊕, ⊗-comm, ⊗-pow, shl-suc, bit-cases, by-bit}
@@ -20,6 +24,15 @@ use Rattle.gf2.proofs.Monics.{monic-⊕, monic-pos, monic-degree}
 -- the power 2 ^ n as the code makes it, by a shift of 1 in 64 bits
 pub shifted-one : (n : ℕ) → n < 64 → 1 * 2 ^ n % 2 ^ 64 ≡ 2 ^ n
 shifted-one n h = shl-exact 1 n 64 (lit< tt) (omega arith) ∙ one-mul (2 ^ n)
+
+-- numbers gathered by or reach 2 ^ n where one of them does
+pub or-leb : (n a b : ℕ) → leb (2 ^ n) (bitOr a b) ≡ (leb (2 ^ n) a || leb (2 ^ n) b)
+or-leb n a b = go (decLt a (2 ^ n)) (decLt b (2 ^ n))
+  where
+    go : Dec (a < 2 ^ n) → Dec (b < 2 ^ n) → leb (2 ^ n) (bitOr a b) ≡ (leb (2 ^ n) a || leb (2 ^ n) b)
+    go (yes h) (yes l) = rw (lt-leb (2 ^ n) (bitOr a b) (or-lt n a b h l), lt-leb (2 ^ n) a h, lt-leb (2 ^ n) b l)
+    go (yes h) (no l) = rw (le-leb (2 ^ n) (bitOr a b) (omega (arith, or-add-and a b, and-le-l a b)), lt-leb (2 ^ n) a h, le-leb (2 ^ n) b (omega arith))
+    go (no h) l = rw (le-leb (2 ^ n) (bitOr a b) (omega (arith, or-add-and a b, and-le-r a b)), le-leb (2 ^ n) a (omega arith))
 
 module _ (k c : ℕ) (h : c < 2 ^ k) where
   pub residue-lt : (x : ℕ) → rem (monic k c) x < 2 ^ k

@@ -155,7 +155,7 @@ pub fn feed_runs(
 }
 
 // A run with the residue y behind what has the residue x: t is the power of t by the bits of the run.
-fn joined(k: u32, low: u64, x: u64, t: u64, y: u64) -> u64
+pub fn joined(k: u32, low: u64, x: u64, t: u64, y: u64) -> u64
     requires { ⌜ Modulus k low × (x < 2 ^ k) × (t < 2 ^ k) ⌝ }
     ensures { λ r. ⌜ r ≡ rem (monic k low) (x ⊗ t) ⊕ y ⌝ }
 {

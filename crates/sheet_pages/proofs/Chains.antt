@@ -1,24 +1,26 @@
--- Laws of page marks joined: one field a turn, and in runs.
+-- Laws of page marks joined and of the bits of their fields: one field a turn, and in runs.
 use mathlib.Core.Path.{_≡_, refl, sym, ap, ap₂, _∙_}
-use mathlib.Core.Bool.{false}
-use mathlib.Core.List.{List, [], _∷_, _++_, append-assoc}
-use Prim.Native.Nat.{ℕ, zero, suc, _+_, _-_, _*_, _^_, _≤_, _<_}
-use native.Mathlib.Nat.{lt-of-lt-of-le, suc-add, add-comm, add-zero, zero-add, mul-assoc, mul-zero, mul-one, mul-suc, zero-mul}
+use mathlib.Core.Bool.{Bool, false, _||_, or-assoc, or-false}
+use mathlib.Core.List.{List, [], _∷_, _++_}
+use Prim.Native.Nat.{ℕ, zero, suc, _+_, _-_, _*_, _%_, _^_, _≤_, _<_}
+use native.Mathlib.Nat.{lt-of-lt-of-le, suc-add, add-comm, add-zero, zero-add, mul-assoc, mul-zero, mul-one, mul-suc, zero-mul, mod-eq-of-lt}
 use native.Mathlib.Omega.{arith}
+use lib.Bits.{bitOr}
 use lib.Dec.{leb}
 use lib.ListN.{length, getD}
 use lib.Pow.{pow-pos, pow-mono, pow-lt, pow-add}
-use borrow.Author.Tests.{leb-false}
+use borrow.Author.Tests.{lt-leb, leb-false}
 use Rattle.gf2.specs.Polynomials.{_⊕_, _⊗_, rem, monic, degree, Modulus}
 use Rattle.gf2.proofs.Sums.{zero-⊕, ⊕-zero, ⊕-assoc, ⊕-shl}
 use Rattle.gf2.proofs.Residues.{rem-lt, rem-small, rem-⊕}
 use Rattle.gf2.proofs.Powers.{rem-shl}
 use Rattle.gf2.proofs.Monics.{monic-pos, monic-degree}
+use Rattle.gf2.proofs.Steps.{or-leb}
 use Rattle.acceptance.proofs.Laws.{or-neither}
 use Rattle.files.specs.declared.Mark.{Mark}
 use Rattle.files.specs.Files.{bits, valueFrom, value, fingerprint, markOf}
 use Rattle.compose.specs.Composing.{joined}
-use Rattle.lookups.specs.declared.Runs.{Runs}
+use Rattle.compose.proofs.Laws.{or-left-comm}
 use Rattle.lookups.specs.Groups.{looked}
 use Rattle.shifts.specs.Shifts.{Shifts}
 use Rattle.lookups.proofs.Cut.{product-shift}
@@ -26,7 +28,8 @@ use Rattle.shifts.proofs.Products.{joined-by-table}
 use Rattle.sheets.specs.Layout.{numberAt, numbersAt}
 use Rattle.sheets.specs.Sheets.{someUnreduced, joinedPages}
 use Rattle.sheets.proofs.Numbers.{numbers-next, numbers-done, length-numbersAt}
-use Rattle.sheet_pages.specs.Chains.{chained, looping, FourChains}
+use Rattle.sheet_pages.specs.declared.joining.FourJoined.{FourJoined}
+use Rattle.sheet_pages.specs.Chains.{chained, looping, BitsOf, FourChains}
 
 -- ---- as the code goes: one field a turn
 
@@ -45,13 +48,18 @@ pub reduced-first : (k f : ℕ) (fs : List ℕ) → someUnreduced k (f ∷ fs) �
 unfolding someUnreduced
 reduced-first k f fs e = let o = or-neither (leb (2 ^ k) f) (someUnreduced k fs) e in (leb-false (2 ^ k) f (o .0), o .1)
 
-pub reduced-split : (k : ℕ) (fs gs : List ℕ) → someUnreduced k (fs ++ gs) ≡ false → (someUnreduced k fs ≡ false) × (someUnreduced k gs ≡ false)
+unreduced-first : (k f : ℕ) (fs : List ℕ) → someUnreduced k (f ∷ fs) ≡ (leb (2 ^ k) f || someUnreduced k fs)
 unfolding someUnreduced
-reduced-split k [] gs e = (refl, e)
-reduced-split k (f ∷ fs) gs e =
-    let o = or-neither (leb (2 ^ k) f) (someUnreduced k (fs ++ gs)) e in
-    let i = reduced-split k fs gs (o .1) in
-    (rw (o .0) (i .0), i .1)
+unreduced-first k f fs = refl
+
+unreduced-append : (k : ℕ) (fs gs : List ℕ) → someUnreduced k (fs ++ gs) ≡ (someUnreduced k fs || someUnreduced k gs)
+unfolding someUnreduced
+unreduced-append k [] gs = refl
+unreduced-append k (f ∷ fs) gs =
+    ap (λ (b : Bool). leb (2 ^ k) f || b) (unreduced-append k fs gs) ∙ sym (or-assoc (leb (2 ^ k) f) (someUnreduced k fs) (someUnreduced k gs))
+
+pub reduced-split : (k : ℕ) (fs gs : List ℕ) → someUnreduced k (fs ++ gs) ≡ false → (someUnreduced k fs ≡ false) × (someUnreduced k gs ≡ false)
+reduced-split k fs gs e = or-neither (someUnreduced k fs) (someUnreduced k gs) (sym (unreduced-append k fs gs) ∙ e)
 
 pub numbers-split : (m n place w : ℕ) (l : List ℕ) → numbersAt place w (m + n) l ≡ numbersAt place w m l ++ numbersAt (place + w * m) w n l
 unfolding numbersAt
@@ -60,6 +68,75 @@ numbers-split (suc m) n place w l =
     let e : place + w + w * m ≡ place + w * suc m = omega (arith, mul-suc w m) in
     ap (λ (c : ℕ). numbersAt place w c l) (suc-add m n)
     ∙ ap (λ (r : List ℕ). numberAt place w l ∷ r) (numbers-split m n (place + w) w l ∙ ap (λ (p : ℕ). numbersAt (place + w) w m l ++ numbersAt p w n l) e)
+
+-- n fields from each of four places on
+abbrev pub fourRuns : ℕ → ℕ → ℕ → List ℕ → List ℕ
+fourRuns place run n l = numbersAt place 8 n l ++ numbersAt (place + run) 8 n l ++ numbersAt (place + run + run) 8 n l ++ numbersAt (place + run + run + run) 8 n l
+
+four-runs : (q : ℕ) (l : List ℕ) → numbersAt 19 8 (4 * q) l ≡ fourRuns 19 (8 * q) q l
+four-runs q l =
+    let e : 4 * q ≡ q + q + q + q = omega arith in
+    let c : 19 + 8 * (q + q) ≡ 19 + 8 * q + 8 * q = omega arith in
+    let d : 19 + 8 * (q + q + q) ≡ 19 + 8 * q + 8 * q + 8 * q = omega arith in
+    rw (e, numbers-split (q + q + q) q 19 8 l, numbers-split (q + q) q 19 8 l, numbers-split q q 19 8 l, c, d)
+
+-- all n fields: four runs of q and the rest
+rest-behind : (n q : ℕ) (l : List ℕ) → 4 * q ≤ n → numbersAt 19 8 n l ≡ numbersAt 19 8 (4 * q) l ++ numbersAt (19 + 32 * q) 8 (n - 4 * q) l
+rest-behind n q l h =
+    let e : 4 * q + (n - 4 * q) ≡ n = omega arith in
+    let p : 19 + 8 * (4 * q) ≡ 19 + 32 * q = omega arith in
+    ap (λ (m : ℕ). numbersAt 19 8 m l) (sym e) ∙ rw p at (numbers-split (4 * q) (n - 4 * q) 19 8 l)
+
+-- ---- the bits of all fields: those that are gathered stand for their fields
+
+pub bits-next : (k bits place n g : ℕ) (l : List ℕ) → 0 < n → g ≡ numberAt place 8 l
+    → someUnreduced k (bitOr bits g ∷ numbersAt (place + 8) 8 (n - 1) l) ≡ someUnreduced k (bits ∷ numbersAt place 8 n l)
+unfolding someUnreduced
+bits-next k bits place n g l h e = rw (numbers-next place 8 n l h, ← e, or-leb k bits g) (or-assoc (leb (2 ^ k) bits) (leb (2 ^ k) g) _)
+
+pub bits-done : (k bits : ℕ) (fs : List ℕ) → fs ≡ [] → leb (2 ^ k) bits ≡ someUnreduced k (bits ∷ fs)
+unfolding someUnreduced
+bits-done k bits fs e = rw e (sym (or-false (leb (2 ^ k) bits)))
+
+-- none is gathered yet
+pub bits-none : (k : ℕ) (fs : List ℕ) → someUnreduced k (0 ∷ fs) ≡ someUnreduced k fs
+unfolding someUnreduced
+bits-none k fs = rw (lt-leb (2 ^ k) 0 (pow-pos k))
+
+-- the bits and four runs, each by itself
+bits-apart : (k bits : ℕ) (s t u v : List ℕ)
+    → someUnreduced k (bits ∷ (s ++ t ++ u ++ v)) ≡ (leb (2 ^ k) bits || (someUnreduced k s || (someUnreduced k t || (someUnreduced k u || someUnreduced k v))))
+bits-apart k bits s t u v = simp (unreduced-first, unreduced-append, or-assoc)
+
+-- four fields a turn
+pub bits-four : (k bits place run n e f g h : ℕ) (l : List ℕ) → 0 < n → e ≡ numberAt place 8 l → f ≡ numberAt (place + run) 8 l → g ≡ numberAt (place + run + run) 8 l
+    → h ≡ numberAt (place + run + run + run) 8 l
+    → someUnreduced k (bitOr (bitOr (bitOr (bitOr bits e) f) g) h ∷ fourRuns (place + 8) run (n - 1) l) ≡ someUnreduced k (bits ∷ fourRuns place run n l)
+bits-four k bits place run n e f g h l p ee ef eg eh =
+    let b : place + 8 + run ≡ place + run + 8 = omega arith in
+    let c : place + 8 + run + run ≡ place + run + run + 8 = omega arith in
+    let d : place + 8 + run + run + run ≡ place + run + run + run + 8 = omega arith in
+    rw (bits-apart k (bitOr (bitOr (bitOr (bitOr bits e) f) g) h), bits-apart k bits, d, c, b, numbers-next place 8 n l p, numbers-next (place + run) 8 n l p, numbers-next (place + run + run) 8 n l p, numbers-next (place + run + run + run) 8 n l p, ← ee, ← ef, ← eg, ← eh)
+    (simp (unreduced-first, or-leb, or-assoc, or-left-comm))
+
+pub bits-four-done : (k bits place run n q : ℕ) (l : List ℕ) → n ≡ 0 → someUnreduced k (bits ∷ fourRuns place run n l) ≡ someUnreduced k (0 ∷ fourRuns 19 (8 * q) q l)
+    → leb (2 ^ k) bits ≡ someUnreduced k (numbersAt 19 8 (4 * q) l)
+bits-four-done k bits place run n q l e h =
+    bits-done k bits (fourRuns place run n l) (simp (numbers-done, e)) ∙ h ∙ bits-none k (fourRuns 19 (8 * q) q l) ∙ ap (someUnreduced k) (sym (four-runs q l))
+
+-- four runs and the rest: all fields
+pub bits-all : (words sheet : List ℕ) (n q : ℕ) (x : FourJoined) (y : ℕ) → 4 * q ≤ n → FourChains words q sheet x → BitsOf (x .bits ∷ numbersAt (19 + 32 * q) 8 (n - 4 * q) sheet) y
+    → BitsOf (numbersAt 19 8 n sheet) y
+unfolding someUnreduced
+bits-all words sheet n q x y h four b k =
+    b k
+    ∙ ap (λ (z : Bool). z || someUnreduced k (numbersAt (19 + 32 * q) 8 (n - 4 * q) sheet)) (four .bits k)
+    ∙ sym (ap (someUnreduced k) (rest-behind n q sheet h) ∙ unreduced-append k (numbersAt 19 8 (4 * q) sheet) (numbersAt (19 + 32 * q) 8 (n - 4 * q) sheet))
+
+-- one field more at the end
+pub bits-last : (fs : List ℕ) (bits f : ℕ) → BitsOf fs bits → BitsOf (fs ++ f ∷ []) (bitOr bits f)
+unfolding someUnreduced
+bits-last fs bits f b k = rw (unreduced-append k fs (f ∷ []), or-leb k bits f, b k, or-false (leb (2 ^ k) f))
 
 -- ---- the chain
 
@@ -120,21 +197,26 @@ empty-print k low p h = rem-small (monic-pos k low h) 1 (rw (monic-degree k low 
 -- ---- runs
 
 -- a run of q fields, each for itself behind 0, joined behind what has the residue x
-module _ (k low : ℕ) (m : low < 2 ^ k) (e q : ℕ) where
-  pub run-behind : (u v : List ℕ) (x y t r : ℕ) → length v ≡ q → x ≡ chained (monic k low) e 1 u → y ≡ chained (monic k low) e 0 v → t ≡ rem (monic k low) (2 ^ (e * q))
-      → 0 < k → r ≡ rem (monic k low) (x ⊗ t) ⊕ y → r ≡ chained (monic k low) e 1 (u ++ v)
-  run-behind u v x y t r l ex ey et p er =
-      let pos = monic-pos k low m in
-      let small : 1 < 2 ^ degree (monic k low) = rw (monic-degree k low m) (pow-lt {i = 0} {j = k} p) in
+module _ (k low : ℕ) (md : Modulus k low) (e : ℕ) where
+  chain-lt : (x : ℕ) (u : List ℕ) → x ≡ chained (monic k low) e 1 u → x < 2 ^ k
+  chain-lt x u ex =
+      let deg = monic-degree k low (md .2) in
+      rw ex (rw deg at (chained-lt (monic-pos k low (md .2)) e 1 u (rw deg (pow-lt {i = 0} {j = k} (md .0)))))
+
+  pub run-behind : (q : ℕ) (u v : List ℕ) (x y t r : ℕ) → length v ≡ q → x ≡ chained (monic k low) e 1 u → y ≡ chained (monic k low) e 0 v → t ≡ rem (monic k low) (2 ^ (e * q))
+      → r ≡ rem (monic k low) (x % 2 ^ k ⊗ t) ⊕ y → r ≡ chained (monic k low) e 1 (u ++ v)
+  run-behind q u v x y t r l ex ey et er =
+      let pos = monic-pos k low (md .2) in
+      let small : chained (monic k low) e 1 u < 2 ^ degree (monic k low) = rw (monic-degree k low (md .2), ← ex) (chain-lt x u ex) in
       er
-      ∙ ap₂ (λ (a b : ℕ). a ⊕ b) (ap₂ (λ (a b : ℕ). rem (monic k low) (a ⊗ b)) ex et ∙ product-shift pos (chained (monic k low) e 1 u) (e * q)) ey
+      ∙ ap₂ (λ (a b : ℕ). a ⊕ b) (ap₂ (λ (a b : ℕ). rem (monic k low) (a ⊗ b)) (mod-eq-of-lt (chain-lt x u ex) ∙ ex) et ∙ product-shift pos (chained (monic k low) e 1 u) (e * q)) ey
       ∙ ap (λ (n : ℕ). rem (monic k low) (chained (monic k low) e 1 u * 2 ^ (e * n)) ⊕ chained (monic k low) e 0 v) (sym l)
-      ∙ sym (chained-start pos e (chained (monic k low) e 1 u) v (chained-lt pos e 1 u small))
+      ∙ sym (chained-start pos e (chained (monic k low) e 1 u) v small)
       ∙ sym (chained-append pos e 1 u v)
 
 -- four runs of q fields and the rest, n fields in all
 module _ (k low : ℕ) (md : Modulus k low) (s n q : ℕ) (fits : 4 * q ≤ n) (sheet words : List ℕ) (sh : Shifts (monic k low) (8 * s) words)
-    (r : someUnreduced k (numbersAt 19 8 n sheet) ≡ false) (x : Runs) (four : FourChains words q sheet x) (t : ℕ) (et : t ≡ rem (monic k low) (2 ^ (8 * s * q))) where
+    (r : someUnreduced k (numbersAt 19 8 n sheet) ≡ false) (x : FourJoined) (four : FourChains words q sheet x) (t : ℕ) (et : t ≡ rem (monic k low) (2 ^ (8 * s * q))) where
   runA : List ℕ
   runA = numbersAt 19 8 q sheet
 
@@ -150,20 +232,9 @@ module _ (k low : ℕ) (md : Modulus k low) (s n q : ℕ) (fits : 4 * q ≤ n) (
   rest : List ℕ
   rest = numbersAt (19 + 32 * q) 8 (n - 4 * q) sheet
 
-  all-fields : numbersAt 19 8 n sheet ≡ runA ++ (runB ++ (runC ++ (runD ++ rest)))
+  all-fields : numbersAt 19 8 n sheet ≡ runA ++ runB ++ runC ++ runD ++ rest
   unfolding runA runB runC runD rest
-  all-fields =
-      let e : q + (q + (q + (q + (n - 4 * q)))) ≡ n = omega arith in
-      let p : 19 + 8 * q + 8 * q + 8 * q + 8 * q ≡ 19 + 32 * q = omega arith in
-      ap (λ (m : ℕ). numbersAt 19 8 m sheet) (sym e)
-      ∙ numbers-split q (q + (q + (q + (n - 4 * q)))) 19 8 sheet
-      ∙ ap (λ (l : List ℕ). numbersAt 19 8 q sheet ++ l)
-      (numbers-split q (q + (q + (n - 4 * q))) (19 + 8 * q) 8 sheet
-      ∙ ap (λ (l : List ℕ). numbersAt (19 + 8 * q) 8 q sheet ++ l)
-      (numbers-split q (q + (n - 4 * q)) (19 + 8 * q + 8 * q) 8 sheet
-      ∙ ap (λ (l : List ℕ). numbersAt (19 + 8 * q + 8 * q) 8 q sheet ++ l)
-      (numbers-split q (n - 4 * q) (19 + 8 * q + 8 * q + 8 * q) 8 sheet
-      ∙ ap (λ (i : ℕ). numbersAt (19 + 8 * q + 8 * q + 8 * q) 8 q sheet ++ numbersAt i 8 (n - 4 * q) sheet) p)))
+  all-fields = rest-behind n q sheet fits ∙ ap (λ (l : List ℕ). l ++ rest) (four-runs q sheet)
 
   pos : 0 < monic k low
   pos = monic-pos k low (md .2)
@@ -177,66 +248,48 @@ module _ (k low : ℕ) (md : Modulus k low) (s n q : ℕ) (fits : 4 * q ≤ n) (
 
   reduced : (someUnreduced k runA ≡ false) × (someUnreduced k runB ≡ false) × (someUnreduced k runC ≡ false) × (someUnreduced k runD ≡ false) × (someUnreduced k rest ≡ false)
   reduced =
-      let a = reduced-split k runA (runB ++ (runC ++ (runD ++ rest))) (rw all-fields at r) in
-      let b = reduced-split k runB (runC ++ (runD ++ rest)) (a .1) in
-      let c = reduced-split k runC (runD ++ rest) (b .1) in
-      let d = reduced-split k runD rest (c .1) in
-      (a .0, b .0, c .0, d .0, d .1)
-
-  one-lt : 1 < 2 ^ k
-  one-lt = pow-lt {i = 0} {j = k} (md .0)
+      let d = reduced-split k (runA ++ runB ++ runC ++ runD) rest (rw all-fields at r) in
+      let c = reduced-split k (runA ++ runB ++ runC) runD (d .0) in
+      let b = reduced-split k (runA ++ runB) runC (c .0) in
+      let a = reduced-split k runA runB (b .0) in
+      (a .0, a .1, b .1, c .1, d .1)
 
   is-a : x .a ≡ chained (monic k low) (8 * s) 1 runA
   unfolding runA
-  is-a = four .a ∙ by-table 1 runA one-lt (reduced .0)
+  is-a = four .a ∙ by-table 1 runA (pow-lt {i = 0} {j = k} (md .0)) (reduced .0)
 
-  is-ab : (ab : ℕ) → ab ≡ rem (monic k low) (x .a ⊗ t) ⊕ x .b → ab ≡ chained (monic k low) (8 * s) 1 (runA ++ runB)
+  is-ab : (ab : ℕ) → ab ≡ rem (monic k low) (x .a % 2 ^ k ⊗ t) ⊕ x .b → ab ≡ chained (monic k low) (8 * s) 1 (runA ++ runB)
   unfolding runB
   is-ab ab e =
-      run-behind k low (md .2) (8 * s) q runA runB (x .a) (x .b) t ab (length-numbersAt (19 + 8 * q) 8 q sheet) is-a (four .b ∙ by-table 0 runB (pow-pos k) (reduced .1)) et (md .0) e
+      run-behind k low md (8 * s) q runA runB (x .a) (x .b) t ab (length-numbersAt (19 + 8 * q) 8 q sheet) is-a (four .b ∙ by-table 0 runB (pow-pos k) (reduced .1)) et e
 
-  is-abc : (ab abc : ℕ) → ab ≡ rem (monic k low) (x .a ⊗ t) ⊕ x .b → abc ≡ rem (monic k low) (ab ⊗ t) ⊕ x .c → abc ≡ chained (monic k low) (8 * s) 1 (runA ++ runB ++ runC)
+  is-abc : (ab abc : ℕ) → ab ≡ rem (monic k low) (x .a % 2 ^ k ⊗ t) ⊕ x .b → abc ≡ rem (monic k low) (ab % 2 ^ k ⊗ t) ⊕ x .c → abc ≡ chained (monic k low) (8 * s) 1 (runA ++ runB ++ runC)
   unfolding runC
   is-abc ab abc e f =
-      run-behind k low (md .2) (8 * s) q (runA ++ runB) runC ab (x .c) t abc (length-numbersAt (19 + 8 * q + 8 * q) 8 q sheet) (is-ab ab e)
-      (four .c ∙ by-table 0 runC (pow-pos k) (reduced .2)) et (md .0) f
+      run-behind k low md (8 * s) q (runA ++ runB) runC ab (x .c) t abc (length-numbersAt (19 + 8 * q + 8 * q) 8 q sheet) (is-ab ab e)
+      (four .c ∙ by-table 0 runC (pow-pos k) (reduced .2)) et f
 
-  is-abcd : (ab abc abcd : ℕ) → ab ≡ rem (monic k low) (x .a ⊗ t) ⊕ x .b → abc ≡ rem (monic k low) (ab ⊗ t) ⊕ x .c → abcd ≡ rem (monic k low) (abc ⊗ t) ⊕ x .d
-      → abcd ≡ chained (monic k low) (8 * s) 1 (runA ++ runB ++ runC ++ runD)
+  is-abcd : (ab abc abcd : ℕ) → ab ≡ rem (monic k low) (x .a % 2 ^ k ⊗ t) ⊕ x .b → abc ≡ rem (monic k low) (ab % 2 ^ k ⊗ t) ⊕ x .c
+      → abcd ≡ rem (monic k low) (abc % 2 ^ k ⊗ t) ⊕ x .d → abcd ≡ chained (monic k low) (8 * s) 1 (runA ++ runB ++ runC ++ runD)
   unfolding runD
   is-abcd ab abc abcd e f g =
-      run-behind k low (md .2) (8 * s) q (runA ++ runB ++ runC) runD abc (x .d) t abcd (length-numbersAt (19 + 8 * q + 8 * q + 8 * q) 8 q sheet) (is-abc ab abc e f)
-      (four .d ∙ by-table 0 runD (pow-pos k) (reduced .3)) et (md .0) g
+      run-behind k low md (8 * s) q (runA ++ runB ++ runC) runD abc (x .d) t abcd (length-numbersAt (19 + 8 * q + 8 * q + 8 * q) 8 q sheet) (is-abc ab abc e f)
+      (four .d ∙ by-table 0 runD (pow-pos k) (reduced .3)) et g
 
-  -- every such chain is reduced
-  chain-lt : (y : ℕ) (u : List ℕ) → y ≡ chained (monic k low) (8 * s) 1 u → y < 2 ^ k
-  chain-lt y u e = rw e (rw deg at (chained-lt pos (8 * s) 1 u (rw deg one-lt)))
-
-  pub a-lt : x .a < 2 ^ k
-  a-lt = chain-lt (x .a) runA is-a
-
-  pub ab-lt : (ab : ℕ) → ab ≡ rem (monic k low) (x .a ⊗ t) ⊕ x .b → ab < 2 ^ k
-  ab-lt ab e = chain-lt ab (runA ++ runB) (is-ab ab e)
-
-  pub abc-lt : (ab abc : ℕ) → ab ≡ rem (monic k low) (x .a ⊗ t) ⊕ x .b → abc ≡ rem (monic k low) (ab ⊗ t) ⊕ x .c → abc < 2 ^ k
-  abc-lt ab abc e f = chain-lt abc (runA ++ runB ++ runC) (is-abc ab abc e f)
-
-  pub all-joined : (ab abc abcd y : ℕ) → ab ≡ rem (monic k low) (x .a ⊗ t) ⊕ x .b → abc ≡ rem (monic k low) (ab ⊗ t) ⊕ x .c → abcd ≡ rem (monic k low) (abc ⊗ t) ⊕ x .d
+  pub all-joined : (ab abc abcd y : ℕ) → ab ≡ rem (monic k low) (x .a % 2 ^ k ⊗ t) ⊕ x .b → abc ≡ rem (monic k low) (ab % 2 ^ k ⊗ t) ⊕ x .c
+      → abcd ≡ rem (monic k low) (abc % 2 ^ k ⊗ t) ⊕ x .d
       → y ≡ looping words abcd (numbersAt (19 + 32 * q) 8 (n - 4 * q) sheet)
       → y ≡ joinedPages (monic k low) s (markOf (monic k low) []) (numbersAt 19 8 n sheet) .fingerprint
   unfolding rest
   all-joined ab abc abcd y e f g h =
       let d = is-abcd ab abc abcd e f g in
       h
-      ∙ by-table abcd rest (chain-lt abcd (runA ++ runB ++ runC ++ runD) d) (reduced .4)
+      ∙ by-table abcd rest (chain-lt k low md (8 * s) abcd (runA ++ runB ++ runC ++ runD) d) (reduced .4)
       ∙ ap (λ (z : ℕ). chained (monic k low) (8 * s) z rest) d
       ∙ sym (chained-append pos (8 * s) 1 (runA ++ runB ++ runC ++ runD) rest)
-      ∙ ap (chained (monic k low) (8 * s) 1) (regroup ∙ sym all-fields)
+      ∙ ap (chained (monic k low) (8 * s) 1) (sym all-fields)
       ∙ ap (λ (z : ℕ). chained (monic k low) (8 * s) z (numbersAt 19 8 n sheet)) (sym (empty-print k low (md .0) (md .2)))
       ∙ sym (joined-chained (monic k low) s (markOf (monic k low) []) (numbersAt 19 8 n sheet))
-    where
-      regroup : runA ++ runB ++ runC ++ runD ++ rest ≡ runA ++ (runB ++ (runC ++ (runD ++ rest)))
-      regroup = simp append-assoc
 
 -- few fields: one run
 pub few-joined : (k low : ℕ) → Modulus k low → (s n : ℕ) (sheet words : List ℕ) → Shifts (monic k low) (8 * s) words → someUnreduced k (numbersAt 19 8 n sheet) ≡ false

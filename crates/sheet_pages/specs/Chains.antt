@@ -1,12 +1,14 @@
--- What the inner functions promise of page marks joined in four runs: a reader of the promises need not read this page.
+-- What the inner functions promise of page marks joined, and of the bits of their fields: a reader of the promises need not read this page.
 use mathlib.Core.Path.{_≡_}
 use mathlib.Core.List.{List, [], _∷_}
 use Prim.Native.Nat.{ℕ, _+_, _*_, _^_}
+use lib.Dec.{leb}
 use lib.ListN.{getD}
 use Rattle.gf2.specs.Polynomials.{_⊕_, rem}
-use Rattle.lookups.specs.declared.Runs.{Runs}
 use Rattle.lookups.specs.Groups.{looked}
 use Rattle.sheets.specs.Layout.{numbersAt}
+use Rattle.sheets.specs.Sheets.{someUnreduced}
+use Rattle.sheet_pages.specs.declared.joining.FourJoined.{FourJoined}
 
 -- page marks joined behind the residue f, each page shifting by t^e; and the same by the table of that shift
 unfoldable pub chained : ℕ → ℕ → ℕ → List ℕ → ℕ
@@ -17,9 +19,14 @@ unfoldable pub looping : List ℕ → ℕ → List ℕ → ℕ
 looping words f [] = f
 looping words f (g ∷ gs) = looping words (looked 8 words 8 0 f ⊕ g ⊕ getD words 1 0) gs
 
--- four runs of q fields from a place on, the first behind 1 and the others behind 0
-pub record FourChains (words : List ℕ) (q : ℕ) (sheet : List ℕ) (r : Runs) : Type 0 where
+-- the bits of all fields: whatever k is, they are below 2^k exactly where each field is
+abbrev pub BitsOf : List ℕ → ℕ → Type 0
+BitsOf fs bits = (k : ℕ) → leb (2 ^ k) bits ≡ someUnreduced k fs
+
+-- four runs of q fields from a place on, the first behind 1 and the others behind 0; and the bits of all their fields
+pub record FourChains (words : List ℕ) (q : ℕ) (sheet : List ℕ) (r : FourJoined) : Type 0 where
   pub a : r .a ≡ looping words 1 (numbersAt 19 8 q sheet)
   pub b : r .b ≡ looping words 0 (numbersAt (19 + 8 * q) 8 q sheet)
   pub c : r .c ≡ looping words 0 (numbersAt (19 + 8 * q + 8 * q) 8 q sheet)
   pub d : r .d ≡ looping words 0 (numbersAt (19 + 8 * q + 8 * q + 8 * q) 8 q sheet)
+  pub bits : BitsOf (numbersAt 19 8 (4 * q) sheet) (r .bits)

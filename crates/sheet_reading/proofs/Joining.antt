@@ -1,40 +1,16 @@
--- Laws of reading's tests: reduced fields, and the rest of number 14.
+-- Laws of reading's tests: the rest of number 14.
 use mathlib.Core.Path.{_≡_, refl}
 use mathlib.Core.Bool.{Bool, true, false, _||_, not}
-use mathlib.Core.List.{List, [], _∷_, _++_}
-use Prim.Native.Nat.{ℕ, _+_, _-_, _*_, _^_, _≤_, _<_}
+use mathlib.Core.List.{List, []}
+use Prim.Native.Nat.{ℕ, _+_, _-_, _*_, _^_}
 use native.Mathlib.Omega.{arith}
-use lib.Dec.{leb, eqb}
+use lib.Dec.{eqb}
 use lib.ListN.{length}
-use borrow.Author.Tests.{le-leb, lt-leb, leb-false}
 use Rattle.gf2.specs.Polynomials.{rem, degree}
-use Rattle.acceptance.proofs.Laws.{or-neither}
 use Rattle.files.specs.Files.{fingerprint, markOf}
 use Rattle.sheets.specs.Layout.{version1, numberAt, numbersAt, pageCount, lengthIn, sizeIn, contentsIn}
 use Rattle.sheets.specs.Sheets.{bodyWrong, someUnreduced, joinedPages}
 use Rattle.sheets.proofs.Numbers.{length-numbersAt, numbers-last}
-
--- ---- reduced fields
-
-pub unreduced-here : (k f : ℕ) (fs : List ℕ) → 2 ^ k ≤ f → someUnreduced k (f ∷ fs) ≡ true
-unfolding someUnreduced
-unreduced-here k f fs l = rw (le-leb (2 ^ k) f l)
-
-pub unreduced-later : (k f : ℕ) (fs : List ℕ) → f < 2 ^ k → someUnreduced k (f ∷ fs) ≡ someUnreduced k fs
-unfolding someUnreduced
-unreduced-later k f fs l = rw (lt-leb (2 ^ k) f l)
-
-pub unreduced-none : (k : ℕ) (fs : List ℕ) → fs ≡ [] → someUnreduced k fs ≡ false
-unfolding someUnreduced
-unreduced-none k fs e = rw e
-
-pub reduced-last : (k : ℕ) (fs : List ℕ) (f : ℕ) → someUnreduced k (fs ++ f ∷ []) ≡ false → (someUnreduced k fs ≡ false) × (f < 2 ^ k)
-unfolding someUnreduced
-reduced-last k [] f e = (refl, leb-false (2 ^ k) f (or-neither (leb (2 ^ k) f) false e .0))
-reduced-last k (g ∷ fs) f e =
-    let o = or-neither (leb (2 ^ k) g) (someUnreduced k (fs ++ f ∷ [])) e in
-    let i = reduced-last k fs f (o .1) in
-    (rw (o .0) (i .0), i .1)
 
 pub twice : (b : Bool) → not (not b) ≡ b
 twice true = refl

@@ -74,12 +74,12 @@ fn put_pages(
 
 // The file's fingerprint: those of its whole pages, which a sheet holds, joined, and what is behind them fed.
 fn file_mark(sheet: &[u8], words: &[u64], k: u32, low: u64, size: u64, file: &[u8]) -> u64
-    requires { ⌜ TableOf k low (now words) × (16 ≤ size) × (size ≤ 4096) × (length (now file) < 2 ^ 32) × (19 + 8 * (length (now file) / size) ≤ length (now sheet))
+    requires { ⌜ TableOf k low (now words) × (k < 64) × (16 ≤ size) × (size ≤ 4096) × (length (now file) < 2 ^ 32) × (19 + 8 * (length (now file) / size) ≤ length (now sheet))
         × (numbersAt 19 8 (length (now file) / size) (now sheet) ≡ pageFingerprints (monic k low) size (length (now file) / size) (now file)) ⌝ }
     ensures { λ r. ⌜ r ≡ fingerprint (monic k low) (now (file .entry)) ⌝ }
 {
     let whole = file.len() as u64 / size;
-    let joined = sheet_pages::joining::pages_joined(sheet, k, low, size, whole);
+    let joined = sheet_pages::joining::pages_joined(sheet, k, low, size, whole).mark;
     let from = (whole * size) as usize;
     tables::feeding::fed(words, k, low, joined, &file[from..])
 }

@@ -21,17 +21,20 @@ whole n s = omega (arith, div-add-mod' n s)
 mark-below : (k low : ℕ) → low < 2 ^ k → (file : List ℕ) → fingerprint (monic k low) file < 2 ^ k
 mark-below k low m file = rw (monic-degree k low m) at (fingerprint-lt (monic-pos k low m) file)
 
--- the whole pages' marks joined
-joined : (c : tie.After-pages-joined) → c .pages-joined .result ≡ fingerprint (monic (c .before .before .before .before .args .k) (c .before .before .before .before .args .low))
+-- the whole pages' marks joined, which are reduced
+joined : (c : tie.After-pages-joined) → c .pages-joined .result .mark ≡ fingerprint (monic (c .before .before .before .before .args .k) (c .before .before .before .before .args .low))
     (take (length (c .before .before .before .before .args .file .now) / c .before .before .before .before .args .size * c .before .before .before .before .args .size) (c .before .before .before .before .args .file .now))
 joined c =
     let s = c .before .before .before .before in
     let a = s .args in
     let key = monic (a .k) (a .low) in
     let w = length (a .file .now) / a .size in
-    c .pages-joined .ensures
-    ∙ ap (λ (fs : List ℕ). joinedPages key (a .size) (markOf key []) fs .fingerprint) (s .pre .5)
-    ∙ whole-joined (monic-pos (a .k) (a .low) (s .pre .0 .0 .2)) (a .size) w (a .file .now) (whole (length (a .file .now)) (a .size))
+    let m = s .pre .0 .0 in
+    let pos = monic-pos (a .k) (a .low) (m .2) in
+    let small = rw (monic-degree (a .k) (a .low) (m .2)) at (fingerprints-lt pos w (a .size) (a .file .now)) in
+    c .pages-joined .ensures .0 (rw (s .pre .6) (list-reduced (a .k) (pageFingerprints key (a .size) w (a .file .now)) small))
+    ∙ ap (λ (fs : List ℕ). joinedPages key (a .size) (markOf key []) fs .fingerprint) (s .pre .6)
+    ∙ whole-joined pos (a .size) w (a .file .now) (whole (length (a .file .now)) (a .size))
 
 div-whole : tie.Need-div-whole
 div-whole c = search needs
@@ -41,10 +44,7 @@ pages-joined-requires c κs =
     let s = c .before .before .before in
     let a = s .args in
     let w = length (a .file .now) / a .size in
-    let m = s .pre .0 .0 in
-    let deg = monic-degree (a .k) (a .low) (m .2) in
-    let small = rw deg at (fingerprints-lt (monic-pos (a .k) (a .low) (m .2)) w (a .size) (a .file .now)) in
-    (m, s .pre .2, omega (arith, whole (length (a .file .now)) (a .size), mul-le-mul-left w (s .pre .1)), s .pre .4, rw (s .pre .5) (list-reduced (a .k) (pageFingerprints (monic (a .k) (a .low)) (a .size) w (a .file .now)) small))
+    (s .pre .0 .0, s .pre .1, s .pre .3, omega (arith, whole (length (a .file .now)) (a .size), mul-le-mul-left w (s .pre .2)), s .pre .5)
 
 mul-from : tie.Need-mul-from
 mul-from c = let a = c .before .before .before .before .args in omega (arith, whole (length (a .file .now)) (a .size))

@@ -93,6 +93,7 @@ file-mark-requires c κs =
     let head = c .before .before .before .before .before .before .before .before .before .before .put-head .kept .0 in
     let fits : 19 + 8 * count ≤ length b = omega (arith, head) in (
       (h .modulus, h .eight, c .before .before .before .before .before .before .before .before .before .before .before .before .before .before .before .before .fill .ensures),
+      h .word,
       s .pre .1,
       s .pre .2,
       s .pre .3,
