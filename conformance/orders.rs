@@ -138,6 +138,9 @@ fn sheets(tally: &mut Tally, long: &[u8]) {
             let what = format!("order, sheet {sheet:02x?}");
             let second = reference::read_sheet(&sheet);
             tally.same(&what, gfp::read_sheet(&sheet).map(|x| x.fingerprint), second.clone().map(|x| x.fingerprint));
+            let mut words = [7; 2];
+            let number = gfp::read_pages(&sheet, &mut words).err();
+            tally.same(&what, (number, words), (second.clone().err(), if second.is_ok() { [0xac, 7] } else { [7; 2] }));
             let file = if fault(6) { long } else { b"AB" };
             let number = second.err().or(if fault(6) { Some(7) } else { None });
             tally.same(&what, gfp::check_file(&sheet, file).err(), number);

@@ -31,8 +31,25 @@ fn write(tally: &mut Tally, key: u64, size: u64, file: &[u8], room: usize) -> Ve
     ours
 }
 
+/// The page fingerprints in as many words as lent, all of which hold 7 before.
+fn pages(sheet: &[u8], lent: usize) -> (u32, Vec<u64>) {
+    let mut words = vec![7; lent];
+    match reference::read_sheet(sheet) {
+        Err(number) => (number, words),
+        Ok(x) => {
+            words.iter_mut().zip(x.pages).for_each(|(word, page)| *word = page);
+            (0, words)
+        }
+    }
+}
+
 fn judge(tally: &mut Tally, what: &str, sheet: &[u8], file: &[u8]) {
     tally.same(&format!("read, {what}"), gfp::read_sheet(sheet), read(sheet));
+    for lent in [0, 1, sheet.len() / 8 + 1] {
+        let mut words = vec![7; lent];
+        let number = gfp::read_pages(sheet, &mut words).err().unwrap_or(0);
+        tally.same(&format!("pages into {lent} words, {what}"), (number, words), pages(sheet, lent));
+    }
     tally.same(&format!("check, {what}"), gfp::check_file(sheet, file), check(sheet, file));
 }
 
@@ -43,7 +60,9 @@ fn random(tally: &mut Tally, generator: &mut Generator) {
         1 => [16, 17, 4095, 4096][generator.below(4) as usize],
         _ => 16 + generator.below(200),
     };
-    let pages = generator.below(6);
+    // pages are taken in blocks of 64 and joined in four runs from 64 on
+    let many = 60 + generator.below(10) + [0, 64, 192][generator.below(3) as usize];
+    let pages = if size < 100 && generator.below(2) == 0 { many } else { generator.below(6) };
     let n = (pages * size.min(4096) + [0, 1, size.min(4096) - 1, generator.below(16)][generator.below(4) as usize]) as usize;
     let mut file = generator.bytes(n.min(30_000));
     let total = 27 + 8 * (file.len() as u64).div_ceil(size.clamp(16, 4096)) as usize;

@@ -82,6 +82,10 @@ uint32_t gfp_write_sheet(uint64_t key, uint64_t page_size, const uint8_t *file, 
 uint32_t gfp_read_sheet(const uint8_t *sheet, size_t sheet_length, uint64_t *key, uint64_t *length, uint64_t *page_size, uint64_t *pages,
                         uint64_t *fingerprint);
 
+/* The page fingerprints of a page sheet into the lent words: the first ones, as far as the words reach; further words keep their value. A sheet
+ * has as many as gfp_read_sheet writes to *pages. Refusals: those of gfp_read_sheet, in its order. */
+uint32_t gfp_read_pages(const uint8_t *sheet, size_t sheet_length, uint64_t *words, size_t words_length);
+
 #define GFP_SAME 0
 #define GFP_PAGE 1
 #define GFP_OTHER_LENGTH 2

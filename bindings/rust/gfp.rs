@@ -16,6 +16,7 @@ mod raw {
         pub fn gfp_search(key: u64, text: *const u8, text_length: usize, pattern: *const u8, pattern_length: usize, words: *mut u32, words_length: usize, places: *mut u32, alarms: *mut u32) -> u32;
         pub fn gfp_write_sheet(key: u64, page_size: u64, file: *const u8, file_length: usize, sheet: *mut u8, sheet_length: usize) -> u32;
         pub fn gfp_read_sheet(sheet: *const u8, sheet_length: usize, key: *mut u64, length: *mut u64, page_size: *mut u64, pages: *mut u64, fingerprint: *mut u64) -> u32;
+        pub fn gfp_read_pages(sheet: *const u8, sheet_length: usize, words: *mut u64, words_length: usize) -> u32;
         pub fn gfp_check_file(sheet: *const u8, sheet_length: usize, file: *const u8, file_length: usize, outcome: *mut u32, page: *mut u32) -> u32;
         pub fn gfp_draw(degree: u64, element: u64, key: *mut u64) -> u32;
     }
@@ -132,6 +133,11 @@ pub fn read_sheet(sheet: &[u8]) -> Result<Sheet, Refusal> {
         raw::gfp_read_sheet(sheet.as_ptr(), sheet.len(), &mut x.key, &mut x.length, &mut x.page_size, &mut x.pages, &mut x.fingerprint)
     };
     answer(number, x)
+}
+
+/// The page fingerprints of a page sheet, the first ones into `words`, as far as they reach.
+pub fn read_pages(sheet: &[u8], words: &mut [u64]) -> Result<(), Refusal> {
+    answer(unsafe { raw::gfp_read_pages(sheet.as_ptr(), sheet.len(), words.as_mut_ptr(), words.len()) }, ())
 }
 
 /// The answer of a check.

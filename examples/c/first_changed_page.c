@@ -17,6 +17,7 @@ int main(void) {
         printf("no page changed\n");
         return 1;
     }
-    printf("page %u changed: bytes %u to %u\n", (unsigned)page, (unsigned)(page * page_size), (unsigned)((page + 1) * page_size - 1));
+    uint64_t from = page * page_size, to = from + page_size < sizeof file ? from + page_size : sizeof file;
+    printf("page %u changed: bytes %u to %u\n", (unsigned)page, (unsigned)from, (unsigned)(to - 1));
     return 0;
 }

@@ -1,4 +1,4 @@
--- What is known of a sheet that was read, and of one that was refused.
+-- What is known of a sheet that was read or refused, and of a lent buffer after a call.
 use mathlib.Core.Path.{_≡_, refl, sym, ap, _∙_}
 use mathlib.Core.Bool.{true, false}
 use mathlib.Core.List.{List, [], _∷_, _++_, append-nil}
@@ -6,11 +6,14 @@ use Prim.Native.Nat.{ℕ}
 use native.Mathlib.Omega.{arith}
 use lib.ListN.{length, take, drop}
 use Rattle.refusals.specs.declared.Refusal.{Refusal}
-use Rattle.refusals.specs.Refusals.{Answer, Done, Refused, Test, _⇒_, firstOf}
+use Rattle.refusals.specs.Refusals.{Answer, Done, Refused, stateOf, Test, _⇒_, firstOf}
 use Rattle.sheets.specs.declared.Sheet.{Sheet}
+use Rattle.sheets.specs.declared.Written.{Written}
+use Rattle.sheets.specs.declared.Written.the-variants as written-cases
 use Rattle.sheets.specs.Layout.{version1, pagesIn, sheetSize, Contents, contentsIn}
-use Rattle.sheets.specs.Sheets.{readTests, readSheet, readPages, numbersOf, sheetRead, Sound}
+use Rattle.sheets.specs.Sheets.{readTests, readSheet, readPages, numbersOf, sheetRead, written, Sound}
 use Rattle.sheets.specs.Parts.{ReadAs}
+use Rattle.sheets.proofs.Numbers.{length-numbersAt}
 use Rattle.sheets.proofs.Sound.{Clear, clear-done, done-clear, clear-total, clear-contents}
 
 -- ---- more tests behind a list, and another state
@@ -53,16 +56,27 @@ module _ (sheet : List ℕ) {x : Sheet} (r : ReadAs sheet x) where
   pub total : length sheet ≡ sheetSize version1 (pagesIn version1 sheet)
   total = clear-total sheet tests-clear
 
+  pub pages-counted : x .pages ≡ pagesIn version1 sheet
+  unfolding contentsIn
+  pages-counted = ap (λ (y : Sheet). y .pages) (r .numbers) ∙ length-numbersAt 19 8 (pagesIn version1 sheet) sheet
+
 -- ---- its page fingerprints in lent words
 
 module _ (sheet words : List ℕ) where
   pub pages-refused : (q : Refusal) → Refused q tt ≡ sheetRead (readSheet sheet) → readPages sheet words ≡ Refused q words
   unfolding readSheet readPages
   pages-refused q e =
-      ap (λ (ts : List Test). firstOf ts words _) (sym (append-nil (readTests version1 sheet)))
-      ∙ more-refused (readTests version1 sheet) [] tt words (contentsIn version1 sheet) _ q (refused-inv (readSheet sheet) q (sym e))
+      let pages = contentsIn version1 sheet .pages in
+      let after = take (length words) pages ++ drop (length pages) words in
+      ap (λ (ts : List Test). firstOf ts words after) (sym (append-nil (readTests version1 sheet)))
+      ∙ more-refused (readTests version1 sheet) [] tt words (contentsIn version1 sheet) after q (refused-inv (readSheet sheet) q (sym e))
 
   pub pages-done : {x : Sheet} → ReadAs sheet x
       → readPages sheet words ≡ Done (take (length words) (contentsIn version1 sheet .pages) ++ drop (length (contentsIn version1 sheet .pages)) words)
   unfolding readPages
   pages-done r = clear-done (readTests version1 sheet) words _ (tests-clear sheet r)
+
+-- what a lent buffer holds after a call is what the answer says
+pub written-state : (r : Written) (buffer : List ℕ) → buffer ≡ stateOf (written r buffer)
+written-state written-cases.Done buffer = refl
+written-state (written-cases.Refused q) buffer = refl

@@ -5,7 +5,7 @@ ghost use Rattle.refusals.specs.Refusals.{numberOf, stateOf, valueOr};
 ghost use Rattle.bench.specs.Places.{markAt};
 ghost use Rattle.compose.specs.Composing.{joinBehind, joinInFront, replacePage};
 ghost use Rattle.search.specs.Searching.{search, wordsAfter};
-ghost use Rattle.sheets.specs.Sheets.{writeSheet, readSheet, sheetRead, checkSheet};
+ghost use Rattle.sheets.specs.Sheets.{writeSheet, readSheet, sheetRead, readPages, checkSheet};
 ghost use Rattle.site.specs.Places.{countsAt, sheetAt, toldAt, toldOr};
 use files::Mark;
 use marks::Running;
@@ -160,6 +160,20 @@ pub extern "C" fn gfp_read_sheet(
             0
         }
         Reading::Refused(r) => refusals::number(r),
+    }
+}
+
+// The page fingerprints of a sheet into the lent words, the first ones as far as they reach; further words keep their value. Numbers as above.
+#[no_mangle]
+pub extern "C" fn gfp_read_pages(sheet: &[u8], words: &mut [u64]) -> u32
+    ensures { λ r. ⌜
+        (r ≡ numberOf (readPages (now (sheet .entry)) (now (words .entry))))
+        × (now (words .exit) ≡ stateOf (readPages (now (sheet .entry)) (now (words .entry))))
+        ⌝ }
+{
+    match sheet_reading::read_pages(sheet, words) {
+        Written::Done => 0,
+        Written::Refused(r) => refusals::number(r),
     }
 }
 

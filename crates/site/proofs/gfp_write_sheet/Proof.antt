@@ -1,19 +1,12 @@
 -- The bytes are what the answer says of them.
-use mathlib.Core.Path.{_≡_, refl, sym, ap, _∙_}
-use mathlib.Core.List.{List}
-use Prim.Native.Nat.{ℕ}
+use mathlib.Core.Path.{sym, ap, _∙_}
 use Rattle.refusals.specs.Refusals.{numberOf, stateOf}
 use Rattle.sheets.specs.declared.Written.{Written}
-use Rattle.sheets.specs.declared.Written.the-variants as written-cases
 use Rattle.sheets.specs.Sheets.{written}
+use Rattle.sheets.proofs.Known.{written-state}
 use borrow.Author.Needs.{needs}
 use Rattle.site.proofs.gfp_write_sheet.Statement.{statement}
 use Rattle.site.proofs.gfp_write_sheet.Tie as tie
-
--- the bytes of an answer about a sheet are those that the buffer holds
-written-state : (r : Written) (bytes : List ℕ) → bytes ≡ stateOf (written r bytes)
-written-state written-cases.Done bytes = refl
-written-state (written-cases.Refused q) bytes = refl
 
 write-requires : tie.Need-write-requires
 write-requires c κs = search needs
