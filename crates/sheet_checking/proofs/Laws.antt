@@ -1,6 +1,6 @@
 -- How a check answers, by what reading answers.
-use mathlib.Core.Path.{_≡_, refl, sym, ap, ap₂, _∙_}
-use mathlib.Core.Bool.{true, false, not}
+use mathlib.Core.Path.{_≡_, sym, ap, ap₂, _∙_}
+use mathlib.Core.Bool.{not}
 use mathlib.Core.List.{List, [], _∷_, _++_}
 use Prim.Native.Nat.{ℕ, _+_, _*_, _^_, _≤_, _<_, min}
 use native.Mathlib.Nat.{sub-zero, mul-le-mul-left, le-of-suc-le-suc}
@@ -11,10 +11,10 @@ use lib.ListN.{length}
 use borrow.Author.Tests.{eq-eqb, ne-eqb, lt-ltb, le-ltb, ltb-false}
 use Rattle.refusals.specs.declared.Refusal.{Refusal}
 use Rattle.refusals.specs.declared.Refusal.the-variants.{TooLong}
-use Rattle.refusals.specs.Refusals.{Answer, Done, Refused, Test, _⇒_, firstOf, passes, longest}
+use Rattle.refusals.specs.Refusals.{Done, Refused, _⇒_, passes, longest}
 use Rattle.sheets.specs.declared.Sheet.{Sheet}
-use Rattle.sheets.specs.Layout.{version1, numberAt, numbersAt, pagesIn, sheetSize, Contents, contentsIn}
-use Rattle.sheets.specs.Sheets.{contentsOf, readTests, readSheet, numbersOf, sheetRead, Sound, Page, OtherLength, firstChange, compared, checkSheet, FromTo, rangeOf}
+use Rattle.sheets.specs.Layout.{version1, numberAt, numbersAt, contentsIn}
+use Rattle.sheets.specs.Sheets.{contentsOf, readTests, readSheet, sheetRead, Page, OtherLength, firstChange, compared, checkSheet, FromTo, rangeOf}
 use Rattle.sheets.specs.Parts.{pagesLeft, fingerprintsFrom, ReadAs, comparison}
 use Rattle.sheets.proofs.Sound.{Clear, done-clear, neither}
 use Rattle.sheets.proofs.Known.{more-refused, more-clear, refused-inv, tests-clear, total}

@@ -12,13 +12,11 @@ use lib.Dec.{eqb}
 use lib.ListN.{length, getD}
 use lib.Pow.{pow-add, pow-lt}
 use borrow.Author.Tests.{eqb-true, eq-eqb, not-false}
-use Rattle.gf2.specs.Polynomials.{_⊕_, _⊗_, degree, monic, rem}
+use Rattle.gf2.specs.Polynomials.{_⊗_, degree, monic, rem}
 use Rattle.gf2.specs.Lists.{listFrom}
 use Rattle.gf2.proofs.Products.{⊗-comm, ⊗-pow}
-use Rattle.gf2.proofs.Divisors.{dvd-by, dvd-refl}
-use Rattle.gf2.proofs.Residues.{rem-unique}
 use Rattle.gf2.proofs.Powers.{rem-⊗-right}
-use Rattle.gf2.proofs.Monics.{monic-⊕, monic-degree, monic-pos}
+use Rattle.gf2.proofs.Monics.{monic-degree, monic-pos}
 use Rattle.gf2.proofs.Lists.{length-list}
 use Rattle.acceptance.proofs.Laws.{or-neither}
 use Rattle.lookups.specs.Groups.{Rows, Reduces}
@@ -31,11 +29,6 @@ use Rattle.multiples.proofs.Doubling.{multiple-next}
 -- the residue of t^e
 abbrev pub power : ℕ → ℕ → ℕ
 power key e = rem key (2 ^ e)
-
--- row 0 has the multiples of t^k, whose residue is the coefficients below t^k
-pub power-low : (k low : ℕ) → low < 2 ^ k → power (monic k low) k ≡ low
-power-low k low h =
-    rem-unique (monic-pos k low h) (2 ^ k) low (rw (monic-degree k low h) h) (dvd-by (dvd-refl (monic k low)) (monic-⊕ k low h))
 
 -- t^b times the residue of t^e
 pub power-shl : {key : ℕ} (pos : 0 < key) (b e : ℕ) → rem key (2 ^ b ⊗ power key e) ≡ power key (e + b)

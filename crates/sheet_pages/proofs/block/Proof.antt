@@ -1,5 +1,4 @@
 -- `block` meets its contract: the quotient, or 64 where it is larger.
-use Prim.Native.Nat.{_*_, _/_}
 use native.Mathlib.Nat.{div-add-mod', le-div-iff-mul-le}
 use native.Mathlib.Omega.{arith}
 use borrow.Author.Needs.{needs}

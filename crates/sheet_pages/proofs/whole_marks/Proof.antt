@@ -1,6 +1,5 @@
 -- `whole_marks` meets its contract.
 use native.Mathlib.Omega.{arith}
-use lib.ListN.{length}
 use Rattle.gf2.specs.Polynomials.{monic}
 use Rattle.sheet_pages.proofs.Blocks.{block-is}
 use borrow.Author.Needs.{needs}

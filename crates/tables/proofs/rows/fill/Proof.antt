@@ -4,10 +4,10 @@ use Prim.Native.Nat.{_+_, _-_, _*_, _^_, _≤_}
 use native.Mathlib.Omega.{arith}
 use Rattle.gf2.specs.Polynomials.{monic}
 use Rattle.gf2.proofs.Monics.{monic-pos, monic-degree}
-use Rattle.gf2.proofs.Steps.{residue-lt}
+use Rattle.gf2.proofs.Steps.{residue-lt, residue-top}
 use Rattle.tables.specs.Tables.{word}
 use Rattle.multiples.specs.Rows.{Multiples}
-use Rattle.tables.proofs.Rule.{power, power-low, power-next, Follows, row-follows, table-is}
+use Rattle.tables.proofs.Rule.{power, power-next, Follows, row-follows, table-is}
 use lib.ListN.{length}
 use Rattle.tables.proofs.rows.fill.Statement.{statement}
 use Rattle.tables.proofs.rows.fill.Tie as tie
@@ -24,7 +24,7 @@ loop-holds c =
     let a = c .before .args in
     let p = c .before .pre in
     let e : a .k + 8 * 0 ≡ a .k = omega arith in
-    (omega arith, p .1, rw e (sym (power-low (a .k) (a .low) (p .0 .2))), λ n l. absurd (omega arith))
+    (omega arith, p .1, rw e (sym (residue-top (a .k) (a .low) (p .0 .2))), λ n l. absurd (omega arith))
 
 mul-at : tie.Need-mul-at Inv-loop μ-loop
 mul-at c = omega arith

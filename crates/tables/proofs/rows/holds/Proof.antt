@@ -6,10 +6,10 @@ use mathlib.Core.Bool.{true≢false}
 use borrow.Author.Tests.{not-true, not-false}
 use Rattle.gf2.specs.Polynomials.{monic}
 use Rattle.gf2.proofs.Monics.{monic-pos, monic-degree}
-use Rattle.gf2.proofs.Steps.{residue-lt}
+use Rattle.gf2.proofs.Steps.{residue-lt, residue-top}
 use Rattle.tables.specs.Tables.{word}
 use Rattle.multiples.specs.Rows.{Multiples}
-use Rattle.tables.proofs.Rule.{power, power-low, power-next, Follows, row-follows, follows-row, some-differs, none-differs}
+use Rattle.tables.proofs.Rule.{power, power-next, Follows, row-follows, follows-row, some-differs, none-differs}
 use lib.ListN.{length}
 use Rattle.tables.proofs.rows.holds.Statement.{statement}
 use Rattle.tables.proofs.rows.holds.Tie as tie
@@ -25,7 +25,7 @@ loop-holds c =
     let a = c .before .args in
     let p = c .before .pre in
     let e : a .k + 8 * 0 ≡ a .k = omega arith in
-    (omega arith, rw e (sym (power-low (a .k) (a .low) (p .0 .2))), λ n l. absurd (omega arith))
+    (omega arith, rw e (sym (residue-top (a .k) (a .low) (p .0 .2))), λ n l. absurd (omega arith))
 
 mul-at : tie.Need-mul-at Inv-loop μ-loop
 mul-at c = omega arith
