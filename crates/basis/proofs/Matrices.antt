@@ -3,14 +3,13 @@ use mathlib.Core.Path.{_≡_, sym, ap, ap₂, _∙_}
 use mathlib.Core.List.{List, [], _∷_}
 use Prim.Native.Nat.{ℕ, suc, _+_, _*_, _/_, _%_, _^_, _<_, suc-le-suc}
 use native.Mathlib.Nat.{zero-mul, mul-one, mul-assoc, mul-comm, zero-add, add-zero, add-suc, suc-add, pow-suc}
-use native.Mathlib.Decide.{ℕ-discrete}
 use native.Mathlib.Omega.{arith}
 use lib.Arith.{lt-one}
 use lib.ListN.{length, getD, set}
-use lib.Seq.{getD-set-same, getD-set-other}
 use Rattle.gf2.specs.Polynomials.{_⊕_}
 use Rattle.gf2.proofs.Sums.{⊕-comm, ⊕-shl}
 use Rattle.gf2.proofs.Products.{by-low}
+use Rattle.gf2.proofs.Lists.{stored}
 use Rattle.gf2.proofs.Degrees.{half-lt}
 use Rattle.gf2.proofs.Linear.{Additive, at-zero, at-bit}
 use Rattle.basis.specs.Rows.{sumOf, Matrix}
@@ -45,11 +44,7 @@ module _ {L : ℕ → ℕ} (add : Additive L) where
   Filled n rows = (j : ℕ) → j < n → getD rows j 0 ≡ L (2 ^ j)
 
   pub filled-more : (n : ℕ) (rows : List ℕ) (x : ℕ) → n < length rows → x ≡ L (2 ^ n) → Filled n rows → Filled (n + 1) (set rows n x)
-  filled-more n rows x l e h j m = go (ℕ-discrete j n)
-    where
-      go : Dec (j ≡ n) → getD (set rows n x) j 0 ≡ L (2 ^ j)
-      go (yes q) = rw q (getD-set-same rows n x 0 l ∙ e)
-      go (no q) = getD-set-other rows n j x 0 q ∙ h j (omega arith)
+  filled-more n rows x l e h j m = stored 0 (λ k y. y ≡ L (2 ^ k)) rows n x l e j (λ q. h j (omega (arith, q)))
 
   pub filled-matrix : (rows : List ℕ) → length rows ≡ 64 → Filled 64 rows → Matrix L rows
   filled-matrix rows e h x l =

@@ -1,12 +1,15 @@
 -- Laws of lists of numbers, of listed values, and tests of a whole list that the checker computes: of every entry, and that the list rises.
 use mathlib.Core.Path.{_≡_, refl, ap, ap₂, _∙_}
+use mathlib.Core.Logic.{_≢_}
 use mathlib.Core.Bool.{Bool, true, false, _&&_}
 use mathlib.Core.List.{List, [], _∷_, _++_, map}
 use Prim.Native.Nat.{ℕ, zero, suc, _+_, _<_}
 use native.Mathlib.Nat.{lt-trans, ne-of-gt, zero-add, add-zero, add-suc, suc-add, le-of-suc-le-suc, not-suc-le-zero}
+use native.Mathlib.Decide.{ℕ-discrete}
 use native.Mathlib.Omega.{arith}
 use lib.Dec.{T, ltb, ltb→lt}
-use lib.ListN.{length, getD}
+use lib.ListN.{length, getD, set}
+use lib.Seq.{getD-set-same, getD-set-other}
 use Rattle.gf2.specs.Lists.{listFrom, All, Distinct}
 
 pub all-map : {P Q : ℕ → Type 0} → ((x : ℕ) → P x → Q x) → (xs : List ℕ) → All P xs → All Q xs
@@ -91,3 +94,13 @@ list-same f g a b zero h = refl
 list-same f g a b (suc n) h =
     ap₂ {C = List ℕ} (λ (x : ℕ) (xs : List ℕ). x ∷ xs) (rw (add-zero, add-zero) at (h 0 (omega arith)))
     (list-same f g (suc a) (suc b) n (λ i l. rw (suc-add, suc-add, ← add-suc, ← add-suc) (h (suc i) (omega arith))))
+
+-- ---- a store: what holds of each entry at its place holds on, where it holds of what is stored
+
+module _ {A : Type 0} (d : A) (P : ℕ → A → Type 0) (xs : List A) (i : ℕ) (v : A) (l : i < length xs) (p : P i v) where
+  pub stored : (j : ℕ) → (j ≢ i → P j (getD xs j d)) → P j (getD (set xs i v) j d)
+  stored j f = go (ℕ-discrete j i)
+    where
+      go : Dec (j ≡ i) → P j (getD (set xs i v) j d)
+      go (yes e) = rw (e, getD-set-same xs i v d l) p
+      go (no n) = rw (getD-set-other xs i j v d n) (f n)

@@ -1,15 +1,14 @@
 -- Laws of a block of whole pages.
 use mathlib.Core.Path.{_≡_, refl, sym, ap, _∙_}
-use mathlib.Core.Logic.{_≢_}
 use mathlib.Core.List.{List, _∷_, _++_}
 use Prim.Native.Nat.{ℕ, zero, suc, _+_, _-_, _*_, _≤_, _<_}
 use native.Mathlib.Nat.{mul-le-mul-right, zero-mul, suc-mul}
-use native.Mathlib.Decide.{ℕ-discrete}
 use native.Mathlib.Omega.{arith}
 use lib.ListN.{length, getD, set, take, drop, length-drop, length-set}
-use lib.Seq.{drop-drop, length-take-le, take-add, getD-set-same, getD-set-other, getD-take}
+use lib.Seq.{drop-drop, length-take-le, take-add, getD-take}
 use Rattle.gf2.specs.Polynomials.{rem}
 use Rattle.gf2.specs.Lists.{listFrom}
+use Rattle.gf2.proofs.Lists.{stored}
 use Rattle.files.specs.Files.{bits, valueFrom, value, fingerprint}
 use Rattle.files.proofs.Values.{rem-from}
 use Rattle.files.proofs.Marks.{fed}
@@ -18,16 +17,7 @@ use Rattle.sheets.specs.Sheets.{filled, pageFingerprints}
 use Rattle.sheets.proofs.Pages.{filled-whole}
 use Rattle.sheet_pages.specs.Blocks.{pageFront, Begun, Finished}
 
--- ---- one place more follows a rule
-
-module _ (P : ℕ → ℕ → Type 0) (marks : List ℕ) (i v : ℕ) (l : i < length marks) (p : P i v) where
-  -- a place that is stored rightly, and the others as they were
-  pub stored : (j : ℕ) → (j ≢ i → P j (getD marks j 0)) → P j (getD (set marks i v) j 0)
-  stored j f = go (ℕ-discrete j i)
-    where
-      go : Dec (j ≡ i) → P j (getD (set marks i v) j 0)
-      go (yes e) = rw (e, getD-set-same marks i v 0 l) p
-      go (no n) = rw (getD-set-other marks i j v 0 n) (f n)
+-- ---- one page more, or two
 
 module _ (key s w : ℕ) (pages marks : List ℕ) (i : ℕ) where
   -- two pages more, the second the next one or the same
@@ -37,11 +27,11 @@ module _ (key s w : ℕ) (pages marks : List ℕ) (i : ℕ) where
       → Begun key s w (j + 1) pages (set (set marks i x) j y)
   begun-two j x y lo hi l f ex ey m b =
       let P : ℕ → ℕ → Type 0 = λ n z. rem key z ≡ rem key (valueFrom 1 (bits (pageFront s w pages n))) in
-      stored P (set marks i x) j y (simp length-set l) ey m (λ d. stored P marks i x (omega arith) ex m (λ e. f m (omega (arith, d, e))))
+      stored 0 P (set marks i x) j y (simp length-set l) ey m (λ d. stored 0 P marks i x (omega arith) ex m (λ e. f m (omega (arith, d, e))))
 
   -- one page more
   pub finished-more : (v : ℕ) → i < length marks → Finished key s i pages marks → v ≡ fingerprint key (pageFront s s pages i) → Finished key s (i + 1) pages (set marks i v)
-  finished-more v l f e m b = stored (λ n z. z ≡ fingerprint key (pageFront s s pages n)) marks i v l e m (λ d. f m (omega (arith, d)))
+  finished-more v l f e m b = stored 0 (λ n z. z ≡ fingerprint key (pageFront s s pages n)) marks i v l e m (λ d. f m (omega (arith, d)))
 
 -- ---- the bytes of a page in the block
 

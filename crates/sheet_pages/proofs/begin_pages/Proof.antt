@@ -24,44 +24,51 @@ loop-holds c = (omega arith, refl, λ i l. absurd (omega arith))
 beside-requires : tie.Need-beside-requires Inv-loop μ-loop
 beside-requires c κs = c .loop-test .taken
 
+-- the two pages at hand end inside the block
+first-fits : (c : tie.After-beside Inv-loop μ-loop) → c .before .before .loop .i * c .before .before .before .before .before .before .args .size + c .before .before .before .before .before .before .args .size ≤ length (c .before .before .before .before .before .before .args .pages .now)
+first-fits c = let s = c .before .before .before .before .before .before in place-fits (s .args .size) (s .args .n) (c .before .before .loop .i) (length (s .args .pages .now)) (c .before .loop-test .taken) (s .pre .5)
+
+second-fits : (c : tie.After-beside Inv-loop μ-loop) → c .beside .result * c .before .before .before .before .before .before .args .size + c .before .before .before .before .before .before .args .size ≤ length (c .before .before .before .before .before .before .args .pages .now)
+second-fits c = let s = c .before .before .before .before .before .before in place-fits (s .args .size) (s .args .n) (c .beside .result) (length (s .args .pages .now)) (c .beside .ensures .2) (s .pre .5)
+
 mul-a : tie.Need-mul-a Inv-loop μ-loop
-mul-a c = let s = c .before .before .before .before .before .before in omega (arith, s .pre .4, place-fits (s .args .size) (s .args .n) (c .before .before .loop .i) (length (s .args .pages .now)) (c .before .loop-test .taken) (s .pre .5))
+mul-a c = omega (arith, c .before .before .before .before .before .before .pre .4, first-fits c)
 
 mul-b : tie.Need-mul-b Inv-loop μ-loop
-mul-b c = let s = c .before .before .before .before .before .before in omega (arith, s .pre .4, place-fits (s .args .size) (s .args .n) (c .beside .result) (length (s .args .pages .now)) (c .beside .ensures .2) (s .pre .5))
+mul-b c = omega (arith, c .before .before .before .before .before .before .pre .4, second-fits c)
 
 add-feed-eights : tie.Need-add-feed-eights Inv-loop μ-loop
-add-feed-eights c = let s = c .before .before .before .before .before .before in omega (arith, s .pre .4, place-fits (s .args .size) (s .args .n) (c .before .before .loop .i) (length (s .args .pages .now)) (c .before .loop-test .taken) (s .pre .5))
+add-feed-eights c = omega (arith, c .before .before .before .before .before .before .pre .4, first-fits c)
 
 sub-feed-eights : tie.Need-sub-feed-eights Inv-loop μ-loop
-sub-feed-eights c = let s = c .before .before .before .before .before .before in omega (arith, s .pre .4, place-fits (s .args .size) (s .args .n) (c .before .before .loop .i) (length (s .args .pages .now)) (c .before .loop-test .taken) (s .pre .5))
+sub-feed-eights c = omega (arith, c .before .before .before .before .before .before .pre .4, first-fits c)
 
 part-feed-eights-start : tie.Need-part-feed-eights-start Inv-loop μ-loop
-part-feed-eights-start c = let s = c .before .before .before .before .before .before in omega (arith, s .pre .4, place-fits (s .args .size) (s .args .n) (c .before .before .loop .i) (length (s .args .pages .now)) (c .before .loop-test .taken) (s .pre .5))
+part-feed-eights-start c = omega (arith, c .before .before .before .before .before .before .pre .4, first-fits c)
 
 part-feed-eights-end : tie.Need-part-feed-eights-end Inv-loop μ-loop
-part-feed-eights-end c = let s = c .before .before .before .before .before .before in omega (arith, s .pre .4, place-fits (s .args .size) (s .args .n) (c .before .before .loop .i) (length (s .args .pages .now)) (c .before .loop-test .taken) (s .pre .5))
+part-feed-eights-end c = omega (arith, c .before .before .before .before .before .before .pre .4, first-fits c)
 
 add-feed-eights-2 : tie.Need-add-feed-eights-2 Inv-loop μ-loop
-add-feed-eights-2 c = let s = c .before .before .before .before .before .before .before in omega (arith, s .pre .4, place-fits (s .args .size) (s .args .n) (c .before .beside .result) (length (s .args .pages .now)) (c .before .beside .ensures .2) (s .pre .5))
+add-feed-eights-2 c = omega (arith, c .before .before .before .before .before .before .before .pre .4, second-fits (c .before))
 
 sub-feed-eights-2 : tie.Need-sub-feed-eights-2 Inv-loop μ-loop
-sub-feed-eights-2 c = let s = c .before .before .before .before .before .before .before in omega (arith, s .pre .4, place-fits (s .args .size) (s .args .n) (c .before .beside .result) (length (s .args .pages .now)) (c .before .beside .ensures .2) (s .pre .5))
+sub-feed-eights-2 c = omega (arith, c .before .before .before .before .before .before .before .pre .4, second-fits (c .before))
 
 part-feed-eights-start-2 : tie.Need-part-feed-eights-start-2 Inv-loop μ-loop
-part-feed-eights-start-2 c = let s = c .before .before .before .before .before .before .before in omega (arith, s .pre .4, place-fits (s .args .size) (s .args .n) (c .before .beside .result) (length (s .args .pages .now)) (c .before .beside .ensures .2) (s .pre .5))
+part-feed-eights-start-2 c = omega (arith, c .before .before .before .before .before .before .before .pre .4, second-fits (c .before))
 
 part-feed-eights-end-2 : tie.Need-part-feed-eights-end-2 Inv-loop μ-loop
-part-feed-eights-end-2 c = let s = c .before .before .before .before .before .before .before in omega (arith, s .pre .4, place-fits (s .args .size) (s .args .n) (c .before .beside .result) (length (s .args .pages .now)) (c .before .beside .ensures .2) (s .pre .5))
+part-feed-eights-end-2 c = omega (arith, c .before .before .before .before .before .before .before .pre .4, second-fits (c .before))
 
 feed-eights-requires : tie.Need-feed-eights-requires Inv-loop μ-loop
 feed-eights-requires c κs =
     let s = c .before .before .before .before .before .before .before .before in
     let a = s .args in
-    let i = c .before .before .before .before .loop .i in
-    let j = c .before .before .beside .result in
-    let p = run-length (a .pages .now) (i * a .size) (i * a .size + a .whole) (a .whole) refl (omega (arith, s .pre .4, place-fits (a .size) (a .n) i (length (a .pages .now)) (c .before .before .before .loop-test .taken) (s .pre .5))) in
-    let q = run-length (a .pages .now) (j * a .size) (j * a .size + a .whole) (a .whole) refl (omega (arith, s .pre .4, place-fits (a .size) (a .n) j (length (a .pages .now)) (c .before .before .beside .ensures .2) (s .pre .5))) in
+    let run : (i : ℕ) → i * a .size + a .size ≤ length (a .pages .now) → length (take (i * a .size + a .whole - i * a .size) (drop (i * a .size) (a .pages .now))) ≡ a .whole
+    = λ i l. run-length (a .pages .now) (i * a .size) (i * a .size + a .whole) (a .whole) refl (omega (arith, s .pre .4, l)) in
+    let p = run (c .before .before .before .before .loop .i) (first-fits (c .before .before)) in
+    let q = run (c .before .before .beside .result) (second-fits (c .before .before)) in
     (s .pre .0, s .pre .1, rw p (s .pre .2), rw p (s .pre .3), rw (p, q))
 
 mul-marks : tie.Need-mul-marks Inv-loop μ-loop

@@ -1,6 +1,6 @@
 -- `finish_pages` meets its contract: the numbers before place i are fingerprints, the others as they were.
 use mathlib.Core.Path.{_≡_, refl, ap, _∙_}
-use Prim.Native.Nat.{ℕ, _-_, _≤_}
+use Prim.Native.Nat.{ℕ, _+_, _-_, _*_, _≤_}
 use native.Mathlib.Omega.{arith}
 use lib.ListN.{length, getD, length-set}
 use lib.Seq.{getD-set-other}
@@ -21,8 +21,12 @@ abbrev μ-loop : tie.MeasureT-loop
 loop-holds : tie.Need-loop-holds Inv-loop μ-loop
 loop-holds c = (omega arith, refl, λ i l. absurd (omega arith), λ i l. refl)
 
+-- the page at hand ends inside the block
+fits : (c : tie.In-loop Inv-loop μ-loop) → c .before .loop .i * c .before .before .before .before .before .args .size + c .before .before .before .before .before .args .size ≤ length (c .before .before .before .before .before .args .pages .now)
+fits c = let s = c .before .before .before .before .before in place-fits (s .args .size) (s .args .n) (c .before .loop .i) (length (s .args .pages .now)) (c .loop-test .taken) (s .pre .2)
+
 mul-a : tie.Need-mul-a Inv-loop μ-loop
-mul-a c = let s = c .before .before .before .before .before in omega (arith, place-fits (s .args .size) (s .args .n) (c .before .loop .i) (length (s .args .pages .now)) (c .loop-test .taken) (s .pre .2))
+mul-a c = omega (arith, c .before .before .before .before .before .pre .1, fits c)
 
 mul-finished : tie.Need-mul-finished Inv-loop μ-loop
 mul-finished c = omega arith
@@ -31,19 +35,19 @@ slice-read-finished : tie.Need-slice-read-finished Inv-loop μ-loop
 slice-read-finished c = omega arith
 
 add-finished : tie.Need-add-finished Inv-loop μ-loop
-add-finished c = let s = c .before .before .before .before .before .before in omega (arith, place-fits (s .args .size) (s .args .n) (c .before .before .loop .i) (length (s .args .pages .now)) (c .before .loop-test .taken) (s .pre .2))
+add-finished c = omega (arith, c .before .before .before .before .before .before .pre .1, fits (c .before))
 
 add-finished-2 : tie.Need-add-finished-2 Inv-loop μ-loop
-add-finished-2 c = let s = c .before .before .before .before .before .before in omega (arith, place-fits (s .args .size) (s .args .n) (c .before .before .loop .i) (length (s .args .pages .now)) (c .before .loop-test .taken) (s .pre .2))
+add-finished-2 c = omega (arith, c .before .before .before .before .before .before .pre .1, fits (c .before))
 
 sub-finished : tie.Need-sub-finished Inv-loop μ-loop
 sub-finished c = let s = c .before .before .before .before .before .before in omega (arith, s .pre .1)
 
 part-finished-start : tie.Need-part-finished-start Inv-loop μ-loop
-part-finished-start c = let s = c .before .before .before .before .before .before in omega (arith, s .pre .1, place-fits (s .args .size) (s .args .n) (c .before .before .loop .i) (length (s .args .pages .now)) (c .before .loop-test .taken) (s .pre .2))
+part-finished-start c = omega (arith, c .before .before .before .before .before .before .pre .1, fits (c .before))
 
 part-finished-end : tie.Need-part-finished-end Inv-loop μ-loop
-part-finished-end c = let s = c .before .before .before .before .before .before in omega (arith, s .pre .1, place-fits (s .args .size) (s .args .n) (c .before .before .loop .i) (length (s .args .pages .now)) (c .before .loop-test .taken) (s .pre .2))
+part-finished-end c = omega (arith, c .before .before .before .before .before .before .pre .1, fits (c .before))
 
 finished-requires : tie.Need-finished-requires Inv-loop μ-loop
 finished-requires c κs = c .before .before .before .before .before .before .before .pre .0
