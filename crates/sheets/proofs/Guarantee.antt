@@ -16,7 +16,7 @@ use Rattle.refusals.specs.Refusals.{Done, _⇒_, passes, longest}
 use Rattle.acceptance.proofs.Laws.{or-neither, key-iff}
 use Rattle.files.specs.Files.{Bytes, fingerprint}
 use Rattle.sheets.specs.Layout.{version1, numberAt, pagePlace, sheetSize, pageCount, pagesIn, Contents, sheetBytes, contentsIn}
-use Rattle.sheets.specs.Sheets.{contentsOf, writeTests, writeSheet, readTests, readSheet, Sound, WellFormed, Same, Page, OtherLength, firstChange, pagesNow, compared, checkSheet, numbersOf, pageAt}
+use Rattle.sheets.specs.Sheets.{contentsOf, writeTests, writeSheet, readTests, readSheet, readPages, Sound, WellFormed, Same, Page, OtherLength, firstChange, pagesNow, compared, checkSheet, numbersOf, pageAt}
 use Rattle.sheets.proofs.Numbers.{length-numbersAt, numbers-one}
 use Rattle.sheets.proofs.Layouts.{length-sheet, fingerprint-back, read-back}
 use Rattle.sheets.proofs.Pages.{length-pages}
@@ -44,13 +44,24 @@ read-iff sheet b = (there, back)
     back : WellFormed sheet → readSheet sheet ≡ Done (contentsIn version1 sheet)
     back w = clear-done (readTests version1 sheet) tt (contentsIn version1 sheet) (rw (← (w .bytes)) at (sound-clear (w .contents) (w .sound)))
 
--- each page's fingerprint is given by its place
+contents-back : (sheet : List ℕ) (w : WellFormed sheet) → contentsIn version1 sheet ≡ w .contents
+contents-back sheet w = ap (contentsIn version1) (w .bytes) ∙ read-back version1 (w .contents) (sound-fits (w .contents) (w .sound))
+
+-- its pages' fingerprints are given in lent words
+pub pages-given : (sheet : List ℕ) (w : WellFormed sheet) (words : List ℕ)
+    → readPages sheet words ≡ Done (take (length words) (w .contents .pages) ++ drop (length (w .contents .pages)) words)
+unfolding readPages
+pages-given sheet w words =
+    clear-done (readTests version1 sheet) words _ (rw (← (w .bytes)) at (sound-clear (w .contents) (w .sound)))
+    ∙ ap (λ (y : Contents). Done (take (length words) (y .pages) ++ drop (length (y .pages)) words)) (contents-back sheet w)
+
+-- and each page's fingerprint by its place
 pub page-given : (sheet : List ℕ) (w : WellFormed sheet) (i : ℕ) → i < length (w .contents .pages)
     → pageAt (numbersOf (w .contents)) sheet i ≡ some (getD (w .contents .pages) i 0)
 unfolding pageAt contentsIn
 page-given sheet w i l =
     let x = w .contents in
-    let back : contentsIn version1 sheet ≡ x = ap (contentsIn version1) (w .bytes) ∙ read-back version1 x (sound-fits x (w .sound)) in
+    let back : contentsIn version1 sheet ≡ x = contents-back sheet w in
     let count : pagesIn version1 sheet ≡ length (x .pages) =
     sym (length-numbersAt 19 8 (pagesIn version1 sheet) sheet) ∙ ap (λ (y : Contents). length (y .pages)) back in
     let total : length sheet ≡ sheetSize version1 (length (x .pages)) = ap length (w .bytes) ∙ length-sheet version1 x in
