@@ -18,8 +18,15 @@ pub fn compare(
     found: Counts,
     words: &mut [u32],
 ) -> Counts
-    requires { ⌜ (size ≤ 1024) × (from + size + length (now pattern) ≤ length (now text) + 1) × (0 < length (now pattern)) × (length (now text) ≤ 4294967295) × (found .places ≤ from) × (found .alarms ≤ from) ⌝ }
-    ensures { λ r. ⌜ (r .places ≡ found .places + length (passing (flaggedPlace (now (flags .entry)) (now (text .entry)) (now (pattern .entry)) from) from size)) × (r .alarms ≡ found .alarms + length (passing (flaggedAlarm (now (flags .entry)) (now (text .entry)) (now (pattern .entry)) from) from size)) × (now (words .exit) ≡ sets (now (words .entry)) (found .places) (passing (flaggedPlace (now (flags .entry)) (now (text .entry)) (now (pattern .entry)) from) from size)) ⌝ }
+    requires { ⌜ (size ≤ 1024)
+        × (from + size + length (now pattern) ≤ length (now text) + 1)
+        × (0 < length (now pattern))
+        × (length (now text) ≤ 4294967295)
+        × (found .places ≤ from)
+        × (found .alarms ≤ from) ⌝ }
+    ensures { λ r. ⌜ (r .places ≡ found .places + length (passing (flaggedPlace (now (flags .entry)) (now (text .entry)) (now (pattern .entry)) from) from size))
+        × (r .alarms ≡ found .alarms + length (passing (flaggedAlarm (now (flags .entry)) (now (text .entry)) (now (pattern .entry)) from) from size))
+        × (now (words .exit) ≡ sets (now (words .entry)) (found .places) (passing (flaggedPlace (now (flags .entry)) (now (text .entry)) (now (pattern .entry)) from) from size)) ⌝ }
 {
     let m = pattern.len();
     let mut count = found.places;
