@@ -1,4 +1,4 @@
-// Feeding by rows of words: four bytes at a time, and a long part in four runs side by side. These functions are for the project's own crates:
+// Feeding by rows of words: one byte or four at a time, and a long part in four runs side by side. These functions are for the project's own crates:
 // what they require, every caller proves.
 ghost use mathlib.Core.Path.{_≡_};
 ghost use Prim.Native.Nat.{_+_, _*_, _%_, _^_, _≤_, _<_};

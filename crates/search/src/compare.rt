@@ -4,7 +4,7 @@ ghost use mathlib.Core.Path.{_≡_};
 ghost use Prim.Native.Nat.{_+_, _≤_, _<_};
 ghost use lib.ListN.{length};
 ghost use lib.Seq.{sets};
-ghost use Rattle.search.specs.Searching.{passing};
+ghost use Rattle.gf2.specs.Lists.{passing};
 ghost use Rattle.search.specs.Flagged.{flaggedPlace, flaggedAlarm};
 
 // The flagged windows of a block, added to what was found before. The comparison leaves off at the first byte that differs; a place is written
