@@ -12,7 +12,7 @@ use lib.Dec.{eqb}
 use lib.ListN.{length, getD}
 use lib.Pow.{pow-add, pow-lt}
 use borrow.Author.Tests.{eqb-true, eq-eqb, not-false}
-use Rattle.gf2.specs.Polynomials.{_⊕_, _⊗_, degree, monic, rem}
+use Rattle.gf2.specs.Polynomials.{_⊗_, degree, monic, rem}
 use Rattle.gf2.specs.Lists.{listFrom}
 use Rattle.gf2.proofs.Products.{⊗-comm, ⊗-pow}
 use Rattle.gf2.proofs.Divisors.{dvd-by, dvd-refl}
