@@ -38,7 +38,7 @@ unfolding anyBelow
 any-none f zero h = refl
 any-none f (suc n) h = rw (h n (le-refl (suc n))) (any-none f n (λ d l. h d (omega arith)))
 
-by-cases : (b : Bool) → (b ≡ true → ⊥) → b ≡ false
+pub by-cases : (b : Bool) → (b ≡ true → ⊥) → b ≡ false
 by-cases true h = absurd (h refl)
 by-cases false h = refl
 

@@ -10,13 +10,13 @@ unfoldable pub sumOf : ℕ → List ℕ → ℕ
 sumOf h [] = 0
 sumOf h (r ∷ rows) = h % 2 * r ⊕ sumOf (h / 2) rows
 
--- no choice of rows sums to 0 but that of none
-abbrev pub Independent : List ℕ → Type 0
-Independent rows = (h : ℕ) → h < 2 ^ length rows → sumOf h rows ≡ 0 → h ≡ 0
-
 -- no choice among the first n rows sums to 0 but that of none
 abbrev pub NoRelation : ℕ → List ℕ → Type 0
 NoRelation n rows = (x : ℕ) → x < 2 ^ n → sumOf x rows ≡ 0 → x ≡ 0
+
+-- no choice of rows sums to 0 but that of none
+abbrev pub Independent : List ℕ → Type 0
+Independent rows = NoRelation (length rows) rows
 
 -- a linear map by its rows: the value at x is the sum of the rows that the bits of x choose
 abbrev pub Matrix : (ℕ → ℕ) → List ℕ → Type 0

@@ -19,7 +19,7 @@ use Rattle.files.proofs.Values.{value-lt, value-change, length-bits}
 use Rattle.book.specs.Confusions.{Burst}
 
 -- a polynomial of degree 2 or more that is irreducible divides no power of t
-pub no-power : (p k s : ℕ) → Irreducible p → Degree p k → 2 ≤ k → Divides p (2 ^ s) → ⊥
+no-power : (p k s : ℕ) → Irreducible p → Degree p k → 2 ≤ k → Divides p (2 ^ s) → ⊥
 no-power p k zero i d l h = absurd (omega (arith, dvd-small k {a = 1} d h (lt-of-lt-of-le (omega arith) (pow-mono {i = 2} l))))
 no-power p k (suc s) i d l h = go (euclid-lemma p 2 (2 ^ s) i (dvd-by h (pow-succ' 2 s ∙ sym (⊗-pow s 2)))) (no-power p k s i d l)
   where

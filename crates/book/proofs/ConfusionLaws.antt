@@ -11,8 +11,8 @@ use lib.ListN.{length}
 use lib.Pow.{pow-mono}
 use borrow.Author.Tests.{eqb-true, eq-eqb}
 use Rattle.gf2.specs.Polynomials.{_⊕_, degree, Degree}
-use Rattle.gf2.specs.Lists.{All, Distinct}
-use Rattle.gf2.proofs.Lists.{all-map}
+use Rattle.gf2.specs.Lists.{passing, All, Distinct}
+use Rattle.gf2.proofs.Lists.{all-map, Passes, all-passing, distinct-passing}
 use Rattle.gf2.proofs.Sums.{⊕-eq, ⊕-lt}
 use Rattle.gf2.proofs.Degrees.{degree-is, degree-eq, deg-lo, deg-hi, deg-le, deg-intro}
 use Rattle.gf2.proofs.Residues.{dvd-of-rem}
@@ -23,8 +23,7 @@ use Rattle.files.specs.Files.{value, fingerprint, Bytes}
 use Rattle.files.proofs.Values.{value-degree, value-inj}
 use Rattle.book.specs.Confusions.{confused, Burst}
 use Rattle.book.specs.Claims.{ConfusionsCount, BurstsCount}
-use Rattle.book.proofs.CountLaws.{Chosen, chosen, length-chosen, all-chosen, distinct-chosen}
-use Rattle.book.proofs.Sums.{count-none}
+use Rattle.book.proofs.Sums.{length-passing, count-none}
 use Rattle.book.proofs.BurstLaws.{no-burst, burst-shifted}
 
 -- an accepted key of degree k under which the fingerprints are equal
@@ -93,19 +92,19 @@ module _ (k : ℕ) (a b : List ℕ) (ha : Bytes a) (hb : Bytes b) (ne : a ≢ b)
 -- ---- the keys that the test counts, as a list
 
 listed : ℕ → List ℕ → List ℕ → List ℕ
-listed k a b = chosen (confused a b) (2 ^ k) (2 ^ k)
+listed k a b = passing (confused a b) (2 ^ k) (2 ^ k)
 
 all-listed : (k : ℕ) (a b : List ℕ) → All (Equal k a b) (listed k a b)
 unfolding listed
 all-listed k a b =
-    all-map (λ key (c : Chosen (confused a b) (2 ^ k) (2 ^ k) key). equal-iff k a b key .1 (c .from, c .below, c .passes)) (listed k a b)
-    (all-chosen (confused a b) (2 ^ k) (2 ^ k))
+    all-map (λ key (p : Passes (confused a b) (2 ^ k) (2 ^ k) key). equal-iff k a b key .1 (p .from, p .below, p .holds)) (listed k a b)
+    (all-passing (confused a b) (2 ^ k) (2 ^ k))
 
 pub confusions-count : ConfusionsCount
 unfolding listed
 confusions-count k a b ha hb ne n la lb =
-    rw (length-chosen (confused a b) (2 ^ k) (2 ^ k)) at
-    (equal-keys k a b ha hb ne n la lb (listed k a b) (distinct-chosen (confused a b) (2 ^ k) (2 ^ k)) (all-listed k a b))
+    rw (length-passing (confused a b) (2 ^ k) (2 ^ k)) at
+    (equal-keys k a b ha hb ne n la lb (listed k a b) (distinct-passing (confused a b) (2 ^ k) (2 ^ k)) (all-listed k a b))
 
 pub bursts-count : BurstsCount
 bursts-count k a b ha hb ne s =

@@ -1,5 +1,4 @@
 pub mod RunLaws
-pub mod CountLaws
 pub mod Sums
 pub mod BurstLaws
 pub mod ConfusionLaws

@@ -1,12 +1,16 @@
--- Sums and counts over the n numbers from x on; and counting twice: what passes a test after a map, by the values that the map takes.
+-- Sums and counts over the n numbers from x on; a count as the length of a list; and counting twice: what passes a test after a map, by the
+-- values that the map takes.
 use mathlib.Core.Path.{_≡_, refl, sym, ap, ap₂, _∙_}
-use mathlib.Core.Bool.{Bool, true, false}
+use mathlib.Core.Bool.{Bool, true, false, false≢true}
+use mathlib.Core.List.{List}
 use Prim.Native.Nat.{ℕ, zero, suc, _+_, _*_, _≤_, _<_}
 use native.Mathlib.Nat.{le-refl, mul-zero, zero-mul, mul-one, mul-add, zero-add, add-zero}
 use native.Mathlib.Decide.{ℕ-discrete}
 use native.Mathlib.Omega.{arith}
 use lib.Dec.{eqb}
+use lib.ListN.{length}
 use borrow.Author.Tests.{eq-eqb, ne-eqb}
+use Rattle.gf2.specs.Lists.{keep, passing}
 use Rattle.book.specs.Confusions.{toOne, countFrom}
 
 unfoldable pub sumFrom : (ℕ → ℕ) → ℕ → ℕ → ℕ
@@ -46,6 +50,16 @@ count-all f x zero e = refl
 count-all f x (suc n) e =
     rw (e x (le-refl x) (omega arith), count-all f (suc x) n (λ y l m. e y (omega arith) (omega arith))) (omega arith)
 
+-- the list of the numbers that pass is as long as their count
+length-keep : (b : Bool) (x : ℕ) (xs : List ℕ) → length (keep b x xs) ≡ toOne b + length xs
+length-keep true x xs = omega arith
+length-keep false x xs = omega arith
+
+pub length-passing : (f : ℕ → Bool) (x n : ℕ) → length (passing f x n) ≡ countFrom f x n
+unfolding passing countFrom
+length-passing f x zero = refl
+length-passing f x (suc n) = length-keep (f x) x (passing f (suc x) n) ∙ ap (λ (m : ℕ). toOne (f x) + m) (length-passing f (suc x) n)
+
 -- ---- one number alone
 
 -- a sum over the places where y is v, of which there is none past v
@@ -76,10 +90,7 @@ count-one f v x n l m e only =
       where
         go : (t : Bool) → f y ≡ t → toOne t ≡ 1 * toOne (eqb v y)
         go true p = rw (eq-eqb v y (only y a b p))
-        go false p = rw (ne-eqb v y (λ q. clash (sym p ∙ ap f (sym q) ∙ e)))
-          where
-            clash : false ≡ true → ⊥
-            clash c = omega (arith, ap toOne c)
+        go false p = rw (ne-eqb v y (λ q. false≢true (sym p ∙ ap f (sym q) ∙ e)))
 
 -- a test that no number of the range passes
 pub count-none : (f : ℕ → Bool) (x n : ℕ) → ((y : ℕ) → x ≤ y → y < x + n → f y ≡ true → ⊥) → countFrom f x n ≡ 0

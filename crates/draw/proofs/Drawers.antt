@@ -17,13 +17,24 @@ use Rattle.gf2.proofs.Residues.{rem-lt, rem-of-dvd, dvd-of-rem-zero, dvd-of-rem
 use Rattle.gf2.proofs.Irreducibles.{euclid-lemma, pos-left}
 use Rattle.fields.specs.Fields.{compose, at, Field}
 use Rattle.fields.proofs.Values.{compose-zero, compose-step, compose-⊗, compose-id, compose-cong}
-use Rattle.fields.proofs.Squaring.{power, squares, squares-power}
+use Rattle.fields.proofs.Squaring.{power, squares}
 use Rattle.fields.proofs.Fermat.{fermat, fermat-all, frobenius-degree, frobenius-at, positive, one-lt, residues-differ}
-use Rattle.fields.proofs.Conjugates.{conjugates-differ}
+use Rattle.fields.proofs.Conjugates.{field-pos, field-degree, conjugates-differ}
 use Rattle.fields.proofs.Roots.{few-roots}
 use Rattle.fields.proofs.Pigeonhole.{Found, find}
 use Rattle.draw.specs.Drawing.{Draws}
-use Rattle.draw.proofs.Draws.{conjugate-draws, only-conjugates}
+use Rattle.draw.proofs.Draws.{conjugate-is, conjugate-draws, only-conjugates}
+
+-- ---- who draws p
+
+-- the k conjugates of one residue: elements to draw with, all different, each draws p, and no other does
+pub record Drawers (f k p : ℕ) : Type 0 where
+  pub element : ℕ → ℕ
+  pub above : (j : ℕ) → 1 < element j
+  pub below : (j : ℕ) → element j < 2 ^ k
+  pub different : (i j : ℕ) → i < j → j < k → element i ≢ element j
+  pub draw : (j : ℕ) → Draws f k (element j) p
+  pub all : (x : ℕ) → x < 2 ^ k → Draws f k x p → Found k x element
 
 -- ---- a root: p divides t^(2^k) - t, which has every residue modulo f for a root. The quotient has too low a degree for that.
 
@@ -58,7 +69,7 @@ module _ (f p k : ℕ) (irr-f : Irreducible f) (deg-f : Degree f k) (irr-p : Irr
       euclid-lemma f (compose q e) (compose p e) irr-f
       (dvd-by (fermat-all f k irr-f deg-f e) (sym (frobenius-at k e) ∙ ap (λ (x : ℕ). compose x e) (sym splits) ∙ compose-⊗ q p e))
 
-  pub has-root : Found (2 ^ k) 0 (at f p)
+  has-root : Found (2 ^ k) 0 (at f p)
   unfolding at
   has-root = go (find (at f p) 0 (2 ^ k))
     where
@@ -91,7 +102,7 @@ digit-value p c l = go (bit-cases c l)
 
 module _ (f k : ℕ) (h : Field f k) (p : ℕ) (irr : Irreducible p) (deg : Degree p k) where
   pos-f : 0 < f
-  pos-f = deg-pos f k (h .of-degree)
+  pos-f = field-pos f k h
 
   four-le : 4 ≤ 2 ^ k
   four-le = pow-mono {i = 2} {j = k} (h .prime .proper)
@@ -108,58 +119,43 @@ module _ (f k : ℕ) (h : Field f k) (p : ℕ) (irr : Irreducible p) (deg : Degr
       divisor : Divides (2 ⊕ c) p
       divisor = dvd-by (compose-cong (2 ⊕ c) p 2 c (dvd-refl (2 ⊕ c))) (rw (compose-id p, value-zero) (⊕-zero p))
 
-  pub root-proper : (e : ℕ) → at f p e ≡ 0 → 1 < e
+  root-proper : (e : ℕ) → at f p e ≡ 0 → 1 < e
   root-proper e z = go (decLt 1 e)
     where
       go : Dec (1 < e) → 1 < e
       go (yes l) = l
       go (no n) = absurd (no-digit-root e (omega arith) z)
 
--- ---- who draws p
+  -- ---- the conjugates of a root draw p
 
--- the k conjugates of one residue: elements to draw with, all different, each draws p, and no other does
-pub record Drawers (f k p : ℕ) : Type 0 where
-  pub element : ℕ → ℕ
-  pub above : (j : ℕ) → 1 < element j
-  pub below : (j : ℕ) → element j < 2 ^ k
-  pub different : (i j : ℕ) → i < j → j < k → element i ≢ element j
-  pub draw : (j : ℕ) → Draws f k (element j) p
-  pub all : (x : ℕ) → x < 2 ^ k → Draws f k x p → Found k x element
+  pub drawers : Drawers f k p
+  drawers =
+      record {
+        element = λ j. squares f j e;
+        above = λ j. root-proper (squares f j e) (each j .root);
+        below = λ j. rw (is j) (rw (field-degree f k h) at (rem-lt pos-f (power j e)));
+        different = λ i j l b s. conjugates-differ f k e h low high i j l b (dvd-of-rem pos-f (power i e) (power j e) (sym (is i) ∙ s ∙ is j));
+        draw = each;
+        all = λ x l a. only-conjugates f k h e low high p x draws l (a .root);
+      }
+    where
+      found : Found (2 ^ k) 0 (at f p)
+      found = has-root f p k (h .irreducible) (h .of-degree) irr deg
 
-pub drawers : (f k : ℕ) → Field f k → (p : ℕ) → Irreducible p → Degree p k → Drawers f k p
-drawers f k h p irr deg =
-    record {
-      element = λ j. squares f j e;
-      above = λ j. root-proper f k h p irr deg (squares f j e) (each j .root);
-      below = λ j. rw (is j) (rw full at (rem-lt pos-f (power j e)));
-      different = λ i j l b s. conjugates-differ f k e h low high i j l b (dvd-of-rem pos-f (power i e) (power j e) (sym (is i) ∙ s ∙ is j));
-      draw = each;
-      all = λ x l a. only-conjugates f k h e low high p x draws l (a .root);
-    }
-  where
-    found : Found (2 ^ k) 0 (at f p)
-    found = has-root f p k (h .irreducible) (h .of-degree) irr deg
+      e : ℕ
+      e = found .place
 
-    e : ℕ
-    e = found .place
+      high : e < 2 ^ k
+      high = found .before
 
-    high : e < 2 ^ k
-    high = found .before
+      low : 1 < e
+      low = root-proper e (found .is)
 
-    low : 1 < e
-    low = root-proper f k h p irr deg e (found .is)
+      draws : Draws f k e p
+      draws = record { of-degree = deg; root = found .is }
 
-    draws : Draws f k e p
-    draws = record { of-degree = deg; root = found .is }
+      is : (j : ℕ) → squares f j e ≡ rem f (power j e)
+      is = conjugate-is f k h e low high
 
-    full : degree f ≡ k
-    full = degree-eq f k (h .of-degree)
-
-    pos-f : 0 < f
-    pos-f = deg-pos f k (h .of-degree)
-
-    is : (j : ℕ) → squares f j e ≡ rem f (power j e)
-    is j = squares-power pos-f j e (rw full high)
-
-    each : (j : ℕ) → Draws f k (squares f j e) p
-    each j = conjugate-draws f k h e low high p j draws
+      each : (j : ℕ) → Draws f k (squares f j e) p
+      each j = conjugate-draws f k h e low high p j draws

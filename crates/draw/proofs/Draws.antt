@@ -18,7 +18,7 @@ use Rattle.gf2.proofs.Irreducibles.{irreducible, euclid-lemma, pos-left}
 use Rattle.fields.specs.Fields.{compose, at, Field}
 use Rattle.fields.proofs.Values.{compose-⊗, compose-cong, at-⊕}
 use Rattle.fields.proofs.Squaring.{power, compose-power, dvd-power, squares, squares-power}
-use Rattle.fields.proofs.Conjugates.{conjugates-differ}
+use Rattle.fields.proofs.Conjugates.{field-pos, field-degree, conjugates-differ}
 use Rattle.fields.proofs.Roots.{Different, few-roots}
 use Rattle.fields.proofs.Pigeonhole.{Collision, pigeonhole, Found, find}
 use Rattle.stock.proofs.Searches.{first-is}
@@ -26,15 +26,15 @@ use Rattle.draw.specs.Drawing.{Draws, drawn}
 
 module _ (f k : ℕ) (h : Field f k) where
   pos : 0 < f
-  pos = omega (arith, h .irreducible .proper)
+  pos = field-pos f k h
 
   full : degree f ≡ k
-  full = degree-eq f k (h .of-degree)
+  full = field-degree f k h
 
   two-lt : 2 < 2 ^ k
   two-lt = pow-lt {i = 1} {j = k} (h .prime .proper)
 
-  pub at-lt : (p e : ℕ) → at f p e < 2 ^ k
+  at-lt : (p e : ℕ) → at f p e < 2 ^ k
   unfolding at
   at-lt p e = rw full at (rem-lt pos (compose p e))
 
@@ -66,7 +66,7 @@ module _ (f k : ℕ) (h : Field f k) where
     draw = go (pigeonhole (2 ^ k) (λ p. at f p e) (λ p l. at-lt p e))
       where
         go : Collision (suc (2 ^ k)) (λ p. at f p e) → (p : ℕ) × Draws f k e p
-        go c = halvings (decLt j (2 ^ k))
+        go c = settle (decLt j (2 ^ k))
           where
             i : ℕ
             i = c .first
@@ -77,9 +77,9 @@ module _ (f k : ℕ) (h : Field f k) where
             i-lt : i < 2 ^ k
             i-lt = omega (arith, c .apart, c .below)
 
-            halvings : Dec (j < 2 ^ k) → (p : ℕ) × Draws f k e p
-            halvings (yes l) = absurd (omega (arith, c .apart, ⊕-eq i j (no-smaller (i ⊕ j) (⊕-lt k i j i-lt l) (same-value i j (c .same)))))
-            halvings (no n) = (
+            settle : Dec (j < 2 ^ k) → (p : ℕ) × Draws f k e p
+            settle (yes l) = absurd (omega (arith, c .apart, ⊕-eq i j (no-smaller (i ⊕ j) (⊕-lt k i j i-lt l) (same-value i j (c .same)))))
+            settle (no n) = (
               2 ^ k ⊕ i,
               record {
                 of-degree = deg-⊕ (2 ^ k) i k (div-self (pow-pos k)) i-lt;
@@ -150,7 +150,7 @@ module _ (f k : ℕ) (h : Field f k) where
 
     -- ---- its roots are the conjugates of e
 
-    conjugate-is : (j : ℕ) → squares f j e ≡ rem f (power j e)
+    pub conjugate-is : (j : ℕ) → squares f j e ≡ rem f (power j e)
     conjugate-is j = squares-power pos j e (rw full high)
 
     pub conjugate-draws : (p j : ℕ) → Draws f k e p → Draws f k (squares f j e) p

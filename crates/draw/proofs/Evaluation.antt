@@ -6,7 +6,7 @@ use native.Mathlib.Nat.{pow-suc, lt-of-lt-of-le}
 use native.Mathlib.Numerals.{add-one}
 use native.Mathlib.Omega.{arith}
 use lib.Pow.{pow-mono}
-use Rattle.gf2.specs.Polynomials.{_⊕_, _⊗_, Degree, rem, monic, Modulus}
+use Rattle.gf2.specs.Polynomials.{_⊗_, Degree, rem, monic, Modulus}
 use Rattle.gf2.proofs.Degrees.{deg-hi, deg-pos}
 use Rattle.gf2.proofs.Monics.{monic-pos, monic-degree}
 use Rattle.gf2.proofs.Products.{⊕-⊗, ⊗-comm, ⊗-pow}

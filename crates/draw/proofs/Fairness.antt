@@ -13,7 +13,8 @@ use lib.Dec.{T, T-not, leb, leb→le, eqb, eqb-refl}
 use lib.Pow.{pow-mono}
 use borrow.Author.Tests.{eqb-true, eq-eqb, ne-eqb}
 use Rattle.gf2.specs.Polynomials.{degree}
-use Rattle.gf2.proofs.Lists.{and-left, and-right}
+use Rattle.gf2.specs.Lists.{All}
+use Rattle.gf2.proofs.Lists.{and-left, and-right, every, all-by-test}
 use Rattle.gf2.proofs.Degrees.{degree-is, degree-eq, deg-lo, deg-hi, deg-intro}
 use Rattle.acceptance.specs.Keys.{accepted}
 use Rattle.acceptance.proofs.Laws.{accepted-iff, accepted-pos}
@@ -48,22 +49,18 @@ none-divides k (suc n) d t l h e = go (ℕ-discrete d (suc (suc n))) (λ b. none
 unfoldable prime-test : ℕ → Bool
 prime-test k = leb 11 k && leb k 61 && undivided k (k - 2)
 
-unfoldable every-listed : List ℕ → Bool
-every-listed [] = true
-every-listed (k ∷ ks) = prime-test k && every-listed ks
-
-at-listed : (ks : List ℕ) (k : ℕ) → T (every-listed ks) → among k ks ≡ true → T (prime-test k)
-unfolding every-listed among
+at-listed : (ks : List ℕ) (k : ℕ) → All (λ m. T (prime-test m)) ks → among k ks ≡ true → T (prime-test k)
+unfolding among
 at-listed [] k t e = absurd (true≢false (sym e))
-at-listed (m ∷ ks) k t e = go (eqb k m) refl e (at-listed ks k (and-right (prime-test m) (every-listed ks) t))
+at-listed (m ∷ ks) k t e = go (eqb k m) refl e (at-listed ks k (t .1))
   where
     go : (b : Bool) → eqb k m ≡ b → (b || among k ks) ≡ true → (among k ks ≡ true → T (prime-test k)) → T (prime-test k)
-    go true q e rest = rw (eqb-true k m q) (and-left (prime-test m) (every-listed ks) t)
+    go true q e rest = rw (eqb-true k m q) (t .0)
     go false q e rest = rest e
 
 listed-test : (k : ℕ) → among k degrees ≡ true → T (prime-test k)
-unfolding every-listed prime-test undivided
-listed-test k e = at-listed degrees k tt e
+unfolding every prime-test undivided
+listed-test k e = at-listed degrees k (all-by-test prime-test degrees tt) e
 
 module _ (k : ℕ) (listed : among k degrees ≡ true) where
   pub range : (11 ≤ k) × (k ≤ 61)
@@ -94,25 +91,33 @@ module _ (k : ℕ) (listed : among k degrees ≡ true) where
   four : 4 ≤ 2 ^ k
   four = pow-mono {i = 2} {j = k} (omega (arith, range .0))
 
+  -- ---- the key that e draws, and how many elements pass a test
+
+  abbrev key : ℕ → ℕ
+  key e = drawn (stockKey k) k e
+
+  abbrev elements : (ℕ → Bool) → ℕ
+  elements t = countFrom t 2 (2 ^ k - 2)
+
   -- ---- what an element draws is an accepted key of degree k
 
   module _ (e : ℕ) (low : 2 ≤ e) (high : e < 2 ^ k) where
-    pub key-drawn : Draws (stockKey k) k e (drawn (stockKey k) k e)
+    pub key-drawn : Draws (stockKey k) k e (key e)
     key-drawn = drawn-draws (stockKey k) k field e low high
 
-    pub key-degree : degree (drawn (stockKey k) k e) ≡ k
-    key-degree = degree-eq (drawn (stockKey k) k e) k (key-drawn .of-degree)
+    pub key-degree : degree (key e) ≡ k
+    key-degree = degree-eq (key e) k (key-drawn .of-degree)
 
-    pub key-accepted : accepted (drawn (stockKey k) k e) ≡ true
+    pub key-accepted : accepted (key e) ≡ true
     key-accepted =
-        accepted-iff (drawn (stockKey k) k e) .1 (
+        accepted-iff (key e) .1 (
           omega (arith, key-degree, range .0),
           omega (arith, key-degree, range .1),
-          drawn-irreducible (stockKey k) k field e low high (drawn (stockKey k) k e) key-drawn,
+          drawn-irreducible (stockKey k) k field e low high (key e) key-drawn,
         )
 
     -- and nothing else has degree k and the root e
-    pub key-only : (p : ℕ) → Draws (stockKey k) k e p → drawn (stockKey k) k e ≡ p
+    pub key-only : (p : ℕ) → Draws (stockKey k) k e p → key e ≡ p
     key-only p a = drawn-is (stockKey k) k field e low high p a
 
   -- ---- each accepted key of degree k is drawn by exactly k elements
@@ -122,19 +127,18 @@ module _ (k : ℕ) (listed : among k degrees ≡ true) where
     all-drawers =
         drawers (stockKey k) k field p (accepted-iff p .0 is-accepted .2) (rw of-degree at (degree-is p (accepted-pos p is-accepted)))
 
-    element : ℕ → ℕ
+    abbrev element : ℕ → ℕ
     element = all-drawers .element
 
     -- of the k elements one is e where e draws p, and none elsewhere
     one-place : (e : ℕ) → 2 ≤ e → e < 2 + (2 ^ k - 2)
-        → toOne true * countFrom (λ j. eqb (element j) e) 0 k ≡ toOne (eqb (drawn (stockKey k) k e) p)
-    unfolding element
-    one-place e low bound = one-mul (countFrom (λ j. eqb (all-drawers .element j) e) 0 k) ∙ go (ℕ-discrete (drawn (stockKey k) k e) p)
+        → toOne true * countFrom (λ j. eqb (element j) e) 0 k ≡ toOne (eqb (key e) p)
+    one-place e low bound = one-mul (countFrom (λ j. eqb (element j) e) 0 k) ∙ go (ℕ-discrete (key e) p)
       where
         high : e < 2 ^ k
         high = omega (arith, four)
 
-        no-other : (i j : ℕ) → i < k → j < k → all-drawers .element i ≡ all-drawers .element j → i ≡ j
+        no-other : (i j : ℕ) → i < k → j < k → element i ≡ element j → i ≡ j
         no-other i j a b s = settle (decLt i j) (decLt j i)
           where
             settle : Dec (i < j) → Dec (j < i) → i ≡ j
@@ -142,25 +146,24 @@ module _ (k : ℕ) (listed : among k degrees ≡ true) where
             settle (no l) (yes m) = absurd (all-drawers .different j i m a (sym s))
             settle (no l) (no m) = omega arith
 
-        go : Dec (drawn (stockKey k) k e ≡ p) → countFrom (λ j. eqb (all-drawers .element j) e) 0 k ≡ toOne (eqb (drawn (stockKey k) k e) p)
+        go : Dec (key e ≡ p) → countFrom (λ j. eqb (element j) e) 0 k ≡ toOne (eqb (key e) p)
         go (yes s) =
-            rw (eq-eqb (drawn (stockKey k) k e) p s)
-            (count-one (λ j. eqb (all-drawers .element j) e) (found .place) 0 k (omega arith) (omega (arith, found .before)) (eq-eqb (all-drawers .element (found .place)) e (found .is))
-            (λ j a b t. no-other (found .place) j (found .before) (omega arith) (found .is ∙ sym (eqb-true (all-drawers .element j) e t))))
+            rw (eq-eqb (key e) p s)
+            (count-one (λ j. eqb (element j) e) (found .place) 0 k (omega arith) (omega (arith, found .before)) (eq-eqb (element (found .place)) e (found .is))
+            (λ j a b t. no-other (found .place) j (found .before) (omega arith) (found .is ∙ sym (eqb-true (element j) e t))))
           where
-            found : Found k e (all-drawers .element)
+            found : Found k e element
             found = all-drawers .all e high (rw s at (key-drawn e low high))
         go (no s) =
-            rw (ne-eqb (drawn (stockKey k) k e) p s)
-            (count-none (λ j. eqb (all-drawers .element j) e) 0 k
-            (λ j a b t. s (key-only e low high p (rw (eqb-true (all-drawers .element j) e t) at (all-drawers .draw j)))))
+            rw (ne-eqb (key e) p s)
+            (count-none (λ j. eqb (element j) e) 0 k
+            (λ j a b t. s (key-only e low high p (rw (eqb-true (element j) e t) at (all-drawers .draw j)))))
 
-    pub drawers-count : countFrom (λ e. eqb (drawn (stockKey k) k e) p) 2 (2 ^ k - 2) ≡ k
-    unfolding element
+    pub drawers-count : elements (λ e. eqb (key e) p) ≡ k
     drawers-count =
-        count-is-sum (λ e. eqb (drawn (stockKey k) k e) p) 2 (2 ^ k - 2)
-        ∙ sym (sum-same (λ e. toOne true * countFrom (λ j. eqb (all-drawers .element j) e) 0 k) (λ e. toOne (eqb (drawn (stockKey k) k e) p)) 2 (2 ^ k - 2) one-place)
-        ∙ sym (count-twice (all-drawers .element) (λ x. true) 0 k 2 (2 ^ k - 2)
+        count-is-sum (λ e. eqb (key e) p) 2 (2 ^ k - 2)
+        ∙ sym (sum-same (λ e. toOne true * countFrom (λ j. eqb (element j) e) 0 k) (λ e. toOne (eqb (key e) p)) 2 (2 ^ k - 2) one-place)
+        ∙ sym (count-twice element (λ x. true) 0 k 2 (2 ^ k - 2)
         (λ j a b. (all-drawers .above j, omega (arith, all-drawers .below j, four))))
         ∙ count-all (λ x. true) 0 k (λ j a b. refl)
 
@@ -168,27 +171,27 @@ module _ (k : ℕ) (listed : among k degrees ≡ true) where
 
   module _ (t : ℕ → Bool) (of-accepted : (p : ℕ) → t p ≡ true → accepted p ≡ true) where
     -- a key that passes is drawn by k elements; what does not pass is not counted
-    fibre : (p : ℕ) → 2 ^ k ≤ p → p < 2 ^ k + 2 ^ k → toOne (t p) * countFrom (λ e. eqb (drawn (stockKey k) k e) p) 2 (2 ^ k - 2) ≡ toOne (t p) * k
+    fibre : (p : ℕ) → 2 ^ k ≤ p → p < 2 ^ k + 2 ^ k → toOne (t p) * elements (λ e. eqb (key e) p) ≡ toOne (t p) * k
     fibre p a b = go (t p) refl
       where
-        go : (c : Bool) → t p ≡ c → toOne c * countFrom (λ e. eqb (drawn (stockKey k) k e) p) 2 (2 ^ k - 2) ≡ toOne c * k
+        go : (c : Bool) → t p ≡ c → toOne c * elements (λ e. eqb (key e) p) ≡ toOne c * k
         go true q = ap (λ (n : ℕ). 1 * n) (drawers-count p (of-accepted p q) (degree-eq p k (deg-intro p k a (omega (arith, two-pow-succ k)))))
-        go false q = zero-mul (countFrom (λ e. eqb (drawn (stockKey k) k e) p) 2 (2 ^ k - 2)) ∙ sym (zero-mul k)
+        go false q = zero-mul (elements (λ e. eqb (key e) p)) ∙ sym (zero-mul k)
 
-    pub elements-count : countFrom (λ e. t (drawn (stockKey k) k e)) 2 (2 ^ k - 2) ≡ countFrom t (2 ^ k) (2 ^ k) * k
+    pub elements-count : elements (λ e. t (key e)) ≡ countFrom t (2 ^ k) (2 ^ k) * k
     elements-count =
-        count-twice (drawn (stockKey k) k) t 2 (2 ^ k - 2) (2 ^ k) (2 ^ k) into
-        ∙ sum-same (λ p. toOne (t p) * countFrom (λ e. eqb (drawn (stockKey k) k e) p) 2 (2 ^ k - 2)) (λ p. toOne (t p) * k) (2 ^ k) (2 ^ k) fibre
+        count-twice key t 2 (2 ^ k - 2) (2 ^ k) (2 ^ k) into
+        ∙ sum-same (λ p. toOne (t p) * elements (λ e. eqb (key e) p)) (λ p. toOne (t p) * k) (2 ^ k) (2 ^ k) fibre
         ∙ sum-times (λ p. toOne (t p)) k (2 ^ k) (2 ^ k)
         ∙ ap (λ (n : ℕ). n * k) (sym (count-is-sum t (2 ^ k) (2 ^ k)))
       where
-        into : (e : ℕ) → 2 ≤ e → e < 2 + (2 ^ k - 2) → (2 ^ k ≤ drawn (stockKey k) k e) × (drawn (stockKey k) k e < 2 ^ k + 2 ^ k)
+        into : (e : ℕ) → 2 ≤ e → e < 2 + (2 ^ k - 2) → (2 ^ k ≤ key e) × (key e < 2 ^ k + 2 ^ k)
         into e a b =
             let d = key-drawn e a (omega (arith, four)) .of-degree in
-            (deg-lo (drawn (stockKey k) k e) k d, omega (arith, deg-hi (drawn (stockKey k) k e) k d, two-pow-succ k))
+            (deg-lo (key e) k d, omega (arith, deg-hi (key e) k d, two-pow-succ k))
 
   -- Rabin's Lemma 1: (the number of accepted keys of degree k) × k = 2^k - 2
   pub keys-count : countFrom accepted (2 ^ k) (2 ^ k) * k ≡ 2 ^ k - 2
   keys-count =
       sym (elements-count accepted (λ p e. e))
-      ∙ count-all (λ e. accepted (drawn (stockKey k) k e)) 2 (2 ^ k - 2) (λ e a b. key-accepted e a (omega (arith, four)))
+      ∙ count-all (λ e. accepted (key e)) 2 (2 ^ k - 2) (λ e a b. key-accepted e a (omega (arith, four)))

@@ -15,6 +15,14 @@ use Rattle.fields.proofs.Squaring.{power, power-zero, power-suc, power-
 use Rattle.fields.proofs.Fermat.{fermat-all}
 use Rattle.fields.specs.Fields.{Field}
 
+-- the modulus of a field is not 0 and has its degree
+module _ (f k : ℕ) (h : Field f k) where
+  pub field-pos : 0 < f
+  field-pos = omega (arith, h .irreducible .proper)
+
+  pub field-degree : degree f ≡ k
+  field-degree = degree-eq f k (h .of-degree)
+
 -- squaring j times gives e back
 abbrev Period : ℕ → ℕ → ℕ → Type 0
 Period f e j = Divides f (power j e ⊕ e)
@@ -67,18 +75,15 @@ module _ (f k e : ℕ) (h : Field f k) where
       go (yes o) rest = rw o at p
       go (no ne) rest = rest (omega arith)
 
-  pos-f : 0 < f
-  pos-f = omega (arith, h .irreducible .proper)
-
-  full : degree f ≡ k
-  full = degree-eq f k (h .of-degree)
-
   module _ (low : 1 < e) (high : e < 2 ^ k) where
     no-period : (d : ℕ) → 0 < d → d < k → Period f e d → ⊥
     no-period d pos s p = irreducible-rigid f (h .irreducible) .no-idempotent e low residue fixed-by-squaring
       where
+        pos-f : 0 < f
+        pos-f = field-pos f k h
+
         residue : e < 2 ^ degree f
-        residue = rw full high
+        residue = rw (field-degree f k h) high
 
         fixed-by-squaring : rem f (e ⊗ e) ≡ e
         fixed-by-squaring =

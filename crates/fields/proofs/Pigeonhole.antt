@@ -1,5 +1,4 @@
 -- The numbers g 0, g 1, .., of which the first n are searched for one, or for two that are equal; the pigeonhole principle.
---
 use mathlib.Core.Path.{_≡_}
 use mathlib.Core.Logic.{_≢_, _⊎_, inl, inr}
 use Prim.Native.Nat.{ℕ, zero, suc, _-_, _≤_, _<_, min}

@@ -7,7 +7,7 @@ use native.Mathlib.Nat.{zero-add, suc-add}
 use Rattle.gf2.specs.Polynomials.{_⊕_, _⊗_, degree, Divides, rem, Irreducible}
 use Rattle.gf2.proofs.Products.{square-⊕}
 use Rattle.gf2.proofs.Divisors.{dvd-by, dvd-⊗}
-use Rattle.gf2.proofs.Residues.{rem-⊗, rem-cong, rem-small, dvd-of-rem}
+use Rattle.gf2.proofs.Residues.{rem-⊗, rem-small}
 use Rattle.gf2.proofs.Irreducibles.{euclid-lemma}
 use Rattle.fields.specs.Fields.{compose}
 use Rattle.fields.proofs.Values.{compose-id, compose-⊗, compose-square, compose-cong, mulmod}
@@ -79,10 +79,3 @@ module _ {f : ℕ} (pos : 0 < f) where
   unfolding squares mulmod power
   squares-power zero x h = sym (rem-small pos x h)
   squares-power (suc j) x h = ap (λ (z : ℕ). rem f (z ⊗ z)) (squares-power j x h) ∙ sym (rem-⊗ pos (power j x) (power j x))
-
-  -- if squaring t k times modulo f gives t, squaring any residue k times gives it back
-  pub squares-back : (k x : ℕ) → 2 < 2 ^ degree f → squares f k 2 ≡ 2 → x < 2 ^ degree f → squares f k x ≡ x
-  squares-back k x two e h =
-      squares-power k x h
-      ∙ rem-cong pos (power k x) x (all-fixed f k x (dvd-of-rem pos (power k 2) 2 (sym (squares-power k 2 two) ∙ e ∙ sym (rem-small pos 2 two))))
-      ∙ rem-small pos x h

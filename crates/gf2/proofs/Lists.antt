@@ -1,16 +1,17 @@
--- Laws of lists of numbers, of listed values, and tests of a whole list that the checker computes: of every entry, and that the list rises.
+-- Laws of lists of numbers, of listed values and of the numbers that pass a test, and tests of a whole list that the checker computes: of
+-- every entry, that two lists are the same, and that a list rises.
 use mathlib.Core.Path.{_≡_, refl, ap, ap₂, _∙_}
 use mathlib.Core.Logic.{_≢_}
 use mathlib.Core.Bool.{Bool, true, false, _&&_}
 use mathlib.Core.List.{List, [], _∷_, _++_, map}
-use Prim.Native.Nat.{ℕ, zero, suc, _+_, _<_}
+use Prim.Native.Nat.{ℕ, zero, suc, _+_, _≤_, _<_}
 use native.Mathlib.Nat.{lt-trans, ne-of-gt, zero-add, add-zero, add-suc, suc-add, le-of-suc-le-suc, not-suc-le-zero}
 use native.Mathlib.Decide.{ℕ-discrete}
 use native.Mathlib.Omega.{arith}
-use lib.Dec.{T, ltb, ltb→lt}
+use lib.Dec.{T, ltb, ltb→lt, eqb, eqb→eq}
 use lib.ListN.{length, getD, set}
 use lib.Seq.{getD-set-same, getD-set-other}
-use Rattle.gf2.specs.Lists.{listFrom, All, Distinct}
+use Rattle.gf2.specs.Lists.{listFrom, keep, passing, same, All, Distinct}
 
 pub all-map : {P Q : ℕ → Type 0} → ((x : ℕ) → P x → Q x) → (xs : List ℕ) → All P xs → All Q xs
 all-map f [] p = tt
@@ -38,6 +39,16 @@ pub all-by-test : (f : ℕ → Bool) (xs : List ℕ) → T (every f xs) → All 
 unfolding every
 all-by-test f [] t = tt
 all-by-test f (x ∷ xs) t = (and-left (f x) (every f xs) t, all-by-test f xs (and-right (f x) (every f xs) t))
+
+-- ---- the same entries
+
+pub same-eq : (xs ys : List ℕ) → T (same xs ys) → xs ≡ ys
+unfolding same
+same-eq [] [] t = refl
+same-eq [] (y ∷ ys) t = absurd t
+same-eq (x ∷ xs) [] t = absurd t
+same-eq (x ∷ xs) (y ∷ ys) t =
+    ap₂ {C = List ℕ} (λ (v : ℕ) (vs : List ℕ). v ∷ vs) (eqb→eq x y (and-left (eqb x y) (same xs ys) t)) (same-eq xs ys (and-right (eqb x y) (same xs ys) t))
 
 -- ---- sorted, so different
 
@@ -104,3 +115,39 @@ module _ {A : Type 0} (d : A) (P : ℕ → A → Type 0) (xs : List A) (i : ℕ)
       go : Dec (j ≡ i) → P j (getD (set xs i v) j d)
       go (yes e) = rw (e, getD-set-same xs i v d l) p
       go (no n) = rw (getD-set-other xs i j v d n) (f n)
+
+-- ---- the numbers that pass a test
+
+-- y is one of the c numbers from n on, and passes
+pub record Passes (test : ℕ → Bool) (n c y : ℕ) : Type 0 where
+  pub from : n ≤ y
+  pub below : y < n + c
+  pub holds : test y ≡ true
+
+module _ (test : ℕ → Bool) where
+  all-keep : (P : ℕ → Type 0) (b : Bool) (n : ℕ) (xs : List ℕ) → (b ≡ true → P n) → All P xs → All P (keep b n xs)
+  all-keep P true n xs h p = (h refl, p)
+  all-keep P false n xs h p = p
+
+  wider : (n c y : ℕ) → Passes test (suc n) c y → Passes test n (suc c) y
+  wider n c y p = record { from = omega (arith, p .from); below = omega (arith, p .below); holds = p .holds }
+
+  pub all-passing : (n c : ℕ) → All (Passes test n c) (passing test n c)
+  unfolding passing
+  all-passing n zero = tt
+  all-passing n (suc c) =
+      all-keep (Passes test n (suc c)) (test n) n (passing test (suc n) c) (λ e. record { from = omega arith; below = omega arith; holds = e })
+      (all-map (wider n c) (passing test (suc n) c) (all-passing (suc n) c))
+
+  -- each is above those before it
+  pub passing-above : (n c : ℕ) → All (λ y. n < y) (passing test (suc n) c)
+  passing-above n c = all-map (λ y p. p .from) (passing test (suc n) c) (all-passing (suc n) c)
+
+  distinct-keep : (b : Bool) (n : ℕ) (xs : List ℕ) → All (λ y. n < y) xs → Distinct xs → Distinct (keep b n xs)
+  distinct-keep true n xs h d = (all-map (λ y l. ne-of-gt l) xs h, d)
+  distinct-keep false n xs h d = d
+
+  pub distinct-passing : (n c : ℕ) → Distinct (passing test n c)
+  unfolding passing
+  distinct-passing n zero = tt
+  distinct-passing n (suc c) = distinct-keep (test n) n (passing test (suc n) c) (passing-above n c) (distinct-passing (suc n) c)

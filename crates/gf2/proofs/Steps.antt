@@ -69,7 +69,7 @@ residue-one k c m = residue-small k c (m .2) 1 (pow-lt (m .0))
 
 -- ---- one bit behind a residue
 
-less-one : (j : ℕ) → suc j - 1 ≡ j
+pub less-one : (j : ℕ) → suc j - 1 ≡ j
 less-one j = omega arith
 
 -- the coefficient that falls out is a bit, and the others have room for one more

@@ -1,12 +1,31 @@
--- Lists of numbers: the values of a function, what holds of every entry, of at least one entry, and that no entry stands twice.
+-- Lists of numbers: the values of a function, the numbers that pass a test, whether two lists are the same, what holds of every entry, of at
+-- least one entry, and that no entry stands twice.
 use mathlib.Core.Logic.{_≢_, _⊎_}
+use mathlib.Core.Bool.{Bool, true, false, _&&_}
 use mathlib.Core.List.{List, [], _∷_}
 use Prim.Native.Nat.{ℕ, zero, suc}
+use lib.Dec.{eqb}
 
 -- f i, f (i + 1), ..: n of them
 unfoldable pub listFrom : (ℕ → ℕ) → ℕ → ℕ → List ℕ
 listFrom f i zero = []
 listFrom f i (suc n) = f i ∷ listFrom f (suc i) n
+
+-- of the c numbers from n on those that pass the test, rising
+abbrev pub keep : Bool → ℕ → List ℕ → List ℕ
+keep true n rest = n ∷ rest
+keep false n rest = rest
+
+unfoldable pub passing : (ℕ → Bool) → ℕ → ℕ → List ℕ
+passing test n zero = []
+passing test n (suc c) = keep (test n) n (passing test (suc n) c)
+
+-- the same numbers in the same order
+unfoldable pub same : List ℕ → List ℕ → Bool
+same [] [] = true
+same [] (y ∷ ys) = false
+same (x ∷ xs) [] = false
+same (x ∷ xs) (y ∷ ys) = eqb x y && same xs ys
 
 abbrev pub All : (ℕ → Type 0) → List ℕ → Type 0
 All P [] = Unit {0}

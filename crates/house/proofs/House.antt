@@ -6,7 +6,7 @@ use Prim.Native.Nat.{ℕ}
 use native.Mathlib.Omega.{arith}
 use lib.Dec.{T}
 use Rattle.gf2.specs.Polynomials.{degree, monic}
-use Rattle.gf2.specs.Lists.{listFrom}
+use Rattle.gf2.specs.Lists.{listFrom, same}
 use Rattle.gf2.proofs.Degrees.{degree-eq}
 use Rattle.acceptance.specs.Keys.{accepted}
 use Rattle.keys.proofs.Laws.{accepted-passed, first-passed}
@@ -14,7 +14,7 @@ use Rattle.files.specs.declared.Mark.{Mark}
 use Rattle.marks.specs.Feeding.{feedTests, fedMark, feedBits}
 use Rattle.tables.specs.Tables.{word, houseKey, feedHouse}
 use Rattle.stock.proofs.Table.{stock-smallest, stock-61}
-use Rattle.house.proofs.Rows.{same, rows, table-by-test}
+use Rattle.house.proofs.Rows.{rows, table-by-test}
 
 pub house-degree : degree houseKey ≡ 61
 house-degree = degree-eq houseKey 61 refl

@@ -1,15 +1,14 @@
 -- A table made by doubling, as the checker computes it: each row of multiples is its first half, and that half with one multiple added.
 -- For every key, every width of group and every number of rows.
 use mathlib.Core.Path.{_≡_, refl, sym, ap, ap₂, _∙_}
-use mathlib.Core.Bool.{Bool, true, false, _&&_}
 use mathlib.Core.List.{List, [], _∷_, _++_, map}
 use Prim.Native.Nat.{ℕ, zero, suc, _+_, _*_, _^_, _<_}
 use native.Mathlib.Nat.{zero-add, zero-mul, suc-mul, pow-suc}
 use native.Mathlib.Omega.{arith}
-use lib.Dec.{T, eqb, eqb→eq}
+use lib.Dec.{T}
 use Rattle.gf2.specs.Polynomials.{_⊕_, longProduct, _⊗_, halvings, degree, reduce, longDivision, rem}
-use Rattle.gf2.specs.Lists.{listFrom}
-use Rattle.gf2.proofs.Lists.{and-left, and-right, list-append, list-map, list-same}
+use Rattle.gf2.specs.Lists.{listFrom, same}
+use Rattle.gf2.proofs.Lists.{same-eq, list-append, list-map, list-same}
 use Rattle.tables.specs.Tables.{word}
 use Rattle.tables.proofs.Rule.{power, word-row}
 use Rattle.multiples.proofs.Doubling.{multiple-zero, multiple-double}
@@ -27,21 +26,6 @@ unfoldable pub rows : ℕ → ℕ → ℕ → List ℕ
 unfolding row doubled rem longDivision reduce degree halvings _⊗_ longProduct _⊕_
 rows w key zero = []
 rows w key (suc c) = rows w key c ++ row key (power key (degree key + w * c)) w
-
--- the test: the words are those
-unfoldable pub same : List ℕ → List ℕ → Bool
-same [] [] = true
-same [] (y ∷ ys) = false
-same (x ∷ xs) [] = false
-same (x ∷ xs) (y ∷ ys) = eqb x y && same xs ys
-
-same-eq : (xs ys : List ℕ) → T (same xs ys) → xs ≡ ys
-unfolding same
-same-eq [] [] t = refl
-same-eq [] (y ∷ ys) t = absurd t
-same-eq (x ∷ xs) [] t = absurd t
-same-eq (x ∷ xs) (y ∷ ys) t =
-    ap₂ {C = List ℕ} (λ (v : ℕ) (ws : List ℕ). v ∷ ws) (eqb→eq x y (and-left (eqb x y) (same xs ys) t)) (same-eq xs ys (and-right (eqb x y) (same xs ys) t))
 
 -- ---- the rows are the table's
 

@@ -15,7 +15,7 @@ use marks::Running;
 use refusals::Refusal;
 use words::HOUSE;
 
-// The house key has degree 61.
+// The house key t^61 + t^5 + t^2 + t + 1: its degree, its coefficients below t^61, and the whole of it.
 const DEGREE: u32 = 61;
 
 const LOW: u64 = 0x27;

@@ -13,7 +13,7 @@ use Rattle.gf2.proofs.Sums.{⊕-append, ⊕-shl, ⊕-comm, ⊕-assoc, ⊕-zero}
 use Rattle.gf2.proofs.Products.{⊗-pow}
 use Rattle.gf2.proofs.Powers.{rem-⊗-right}
 use Rattle.gf2.proofs.Residues.{rem-zero, rem-small, rem-⊕}
-use Rattle.lookups.specs.Groups.{looked, Rows}
+use Rattle.lookups.specs.Groups.{looked, Rows, ReducesByte, Reduces}
 
 -- what stands at t^(n + j) and above in a number with n new low digits, and what stands below
 module _ (f v n j : ℕ) (h : v < 2 ^ n) where
@@ -91,6 +91,10 @@ pub top-lt : (f n k : ℕ) → n ≤ k → f < 2 ^ k → f / 2 ^ (k - n) < 2 ^ n
 top-lt f n k l h =
     let e : k ≡ n + (k - n) = omega arith in
     shr-lt {n = f} n (k - n) (rw e at h)
+
+-- words for four bytes are words for one
+pub first-row : (k low : ℕ) (words : List ℕ) → Reduces k low words → ReducesByte k low words
+first-row k low words r = (r .0, r .1, omega (arith, r .2), λ j l. r .3 j (omega arith))
 
 -- ---- the sums as the code has them
 

@@ -15,6 +15,10 @@ looked w words (suc n) j h = getD words (j * 2 ^ w + h % 2 ^ w) 0 ⊕ looked w w
 abbrev pub Rows : ℕ → ℕ → ℕ → ℕ → List ℕ → Type 0
 Rows w e key c words = (j : ℕ) → j < c → Multiples key (rem key (2 ^ (e + w * j))) (j * 2 ^ w) (2 ^ w) words
 
--- the words reduce four bytes modulo a polynomial of degree k, at least 8, with the coefficients low below t^k
+-- the first 256 words reduce one byte modulo a polynomial of degree k, at least 8, with the coefficients low below t^k
+abbrev pub ReducesByte : ℕ → ℕ → List ℕ → Type 0
+ReducesByte k low words = Modulus k low × (8 ≤ k) × (256 ≤ length words) × Rows 8 k (monic k low) 1 words
+
+-- 1,024 words reduce four bytes modulo it
 abbrev pub Reduces : ℕ → ℕ → List ℕ → Type 0
 Reduces k low words = Modulus k low × (8 ≤ k) × (length words ≡ 1024) × Rows 8 k (monic k low) 4 words

@@ -1,11 +1,11 @@
-// Feeding by rows of words: four bytes at a time, and a long part in four runs side by side. These functions are for the project's own crates:
+// Feeding by rows of words: one byte or four at a time, and a long part in four runs side by side. These functions are for the project's own crates:
 // what they require, every caller proves.
 ghost use mathlib.Core.Path.{_≡_};
 ghost use Prim.Native.Nat.{_+_, _*_, _%_, _^_, _≤_, _<_};
 ghost use lib.ListN.{length, take, drop};
 ghost use Rattle.gf2.specs.Polynomials.{_⊕_, _⊗_, monic, rem, Modulus};
 ghost use Rattle.files.specs.Files.{bits, valueFrom};
-ghost use Rattle.lookups.specs.Groups.{looked, Reduces};
+ghost use Rattle.lookups.specs.Groups.{looked, ReducesByte, Reduces};
 
 fn wide(x: u8) -> u64
     ensures { λ r. ⌜ (r ≡ x) × (r < 256) ⌝ }
@@ -61,8 +61,8 @@ fn feed_four(words: &[u64], k: u32, low: u64, f: u64, v: u64) -> u64
 }
 
 // One byte behind a residue.
-fn feed_one(words: &[u64], k: u32, low: u64, f: u64, b: u8) -> u64
-    requires { ⌜ Reduces k low (now words) × (f < 2 ^ k) ⌝ }
+pub fn feed_one(words: &[u64], k: u32, low: u64, f: u64, b: u8) -> u64
+    requires { ⌜ ReducesByte k low (now words) × (f < 2 ^ k) ⌝ }
     ensures { λ r. ⌜ r ≡ rem (monic k low) (f * 2 ^ 8 + b) ⌝ }
 {
     let cut = k - 8;
@@ -136,8 +136,14 @@ pub fn feed_runs(
     r: &[u8],
     s: &[u8],
 ) -> Runs
-    requires { ⌜ Reduces k low (now words) × (f .a < 2 ^ k) × (f .b < 2 ^ k) × (f .c < 2 ^ k) × (f .d < 2 ^ k) × (length (now p) % 4 ≡ 0) × (length (now q) ≡ length (now p)) × (length (now r) ≡ length (now p)) × (length (now s) ≡ length (now p)) ⌝ }
-    ensures { λ x. ⌜ (x .a ≡ rem (monic k low) (valueFrom (f .a) (bits (now (p .entry))))) × (x .b ≡ rem (monic k low) (valueFrom (f .b) (bits (now (q .entry))))) × (x .c ≡ rem (monic k low) (valueFrom (f .c) (bits (now (r .entry))))) × (x .d ≡ rem (monic k low) (valueFrom (f .d) (bits (now (s .entry))))) ⌝ }
+    requires { ⌜ Reduces k low (now words)
+        × (f .a < 2 ^ k) × (f .b < 2 ^ k) × (f .c < 2 ^ k) × (f .d < 2 ^ k)
+        × (length (now p) % 4 ≡ 0)
+        × (length (now q) ≡ length (now p)) × (length (now r) ≡ length (now p)) × (length (now s) ≡ length (now p)) ⌝ }
+    ensures { λ x. ⌜ (x .a ≡ rem (monic k low) (valueFrom (f .a) (bits (now (p .entry)))))
+        × (x .b ≡ rem (monic k low) (valueFrom (f .b) (bits (now (q .entry)))))
+        × (x .c ≡ rem (monic k low) (valueFrom (f .c) (bits (now (r .entry)))))
+        × (x .d ≡ rem (monic k low) (valueFrom (f .d) (bits (now (s .entry))))) ⌝ }
 {
     let mut a = f.a;
     let mut b = f.b;

@@ -2,7 +2,7 @@
 use mathlib.Core.Path.{_≡_, refl, sym, ap, _∙_}
 use mathlib.Core.Bool.{Bool, true, false, cond, _&&_, and-false}
 use mathlib.Core.List.{List, [], _∷_}
-use Prim.Native.Nat.{ℕ, zero, suc, _+_, _-_, _*_, _^_, _≤_, _<_, min}
+use Prim.Native.Nat.{ℕ, zero, suc, _+_, _*_, _^_, _≤_, _<_, min}
 use lib.Pow.{pow-add}
 use native.Mathlib.Nat.{zero-add, min-zero, zero-min, suc-min-suc, min-eq-left, min-eq-right}
 use native.Mathlib.Decide.{decLe, decLt}
@@ -93,9 +93,9 @@ index-take b (suc m) [] = sym (min-zero (suc m))
 index-take b (suc m) (x ∷ xs) = index-more (eqb x b) m (indexOf b (take m xs)) (indexOf b xs) (index-take b m xs)
 
 -- a line of at most 16 bytes, in 17 bytes and in the whole
-same : (n : ℕ) (input : List ℕ) → n < 17 → keyBefore n (take 17 input) ≡ keyBefore n input
+line-same : (n : ℕ) (input : List ℕ) → n < 17 → keyBefore n (take 17 input) ≡ keyBefore n input
 unfolding keyBefore
-same n input h = rw (take-take n 17 input (omega arith), length-take 17 input, room)
+line-same n input h = rw (take-take n 17 input (omega arith), length-take 17 input, room)
   where
     room : ltb n (min 17 (length input)) ≡ ltb n (length input)
     room = go (decLt n (length input))
@@ -117,4 +117,4 @@ head-decides input = go (decLe (indexOf 10 input) 16)
         rw (e, long-line 17 (take 17 input) (omega arith)) (sym (long-line n input (omega arith)))
     go (yes q) =
         let e : indexOf 10 (take 17 input) ≡ n = index-take 10 17 input ∙ min-eq-right (omega arith) in
-        rw e (same n input (omega arith))
+        rw e (line-same n input (omega arith))

@@ -6,6 +6,7 @@ use native.Mathlib.Decide.{decLt}
 use native.Mathlib.Omega.{arith}
 use borrow.Author.Tests.{lt-ltb, le-ltb}
 use Rattle.io.specs.Digits.{digits, Fewest}
+use Rattle.gf2.proofs.Steps.{less-one}
 use Rattle.printing.specs.Printing.{digitsOf, numeral}
 
 module _ (b : ℕ) (two : 1 < b) where
@@ -15,9 +16,6 @@ module _ (b : ℕ) (two : 1 < b) where
 
   pos-base : 0 < b
   pos-base = omega arith
-
-  less-one : (j : ℕ) → suc j - 1 ≡ j
-  less-one j = omega arith
 
   -- a number below the base has one digit, any other has more
   single : (n j : ℕ) → n < b → Fewest b 1 n (suc j) → j ≡ 0

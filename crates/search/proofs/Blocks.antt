@@ -8,22 +8,23 @@ use native.Mathlib.Omega.{arith}
 use borrow.Author.Tests.{eq-eqb}
 use lib.ListN.{length, getD}
 use lib.Seq.{sets}
+use Rattle.gf2.specs.Lists.{passing}
 use Rattle.files.specs.Files.{fingerprint}
 use Rattle.search.specs.declared.Counts.{Counts}
 use Rattle.windows.specs.declared.rolling.Setup.{Setup}
-use Rattle.search.specs.Searching.{windows, isPlace, alike, isAlarm, passing, places, alarms, counts, overlay}
+use Rattle.search.specs.Searching.{windows, isPlace, alike, isAlarm, places, alarms, counts, overlay}
 use Rattle.windows.specs.Rolling.{window, residue, keyOf, Filled, hit}
 use Rattle.windows.proofs.Windows.{window-length}
 use Rattle.search.specs.Flagged.{flaggedPlace, flaggedAlarm}
-use Rattle.search.proofs.Comparing.{same-iff}
+use Rattle.search.proofs.Comparing.{same-is}
 use Rattle.windows.proofs.Residues.{without-one}
 use Rattle.search.proofs.Numbers.{passing-same, overlay-sets}
 
 -- a place has the pattern's fingerprint
-pub place-alike : (p : ℕ) (text pattern : List ℕ) (i : ℕ) → isPlace text pattern i ≡ true → alike p text pattern i ≡ true
+place-alike : (p : ℕ) (text pattern : List ℕ) (i : ℕ) → isPlace text pattern i ≡ true → alike p text pattern i ≡ true
 unfolding isPlace alike
 place-alike p text pattern i e =
-    eq-eqb (fingerprint p (window (length pattern) text i)) (fingerprint p pattern) (ap (fingerprint p) (same-iff (window (length pattern) text i) pattern e))
+    eq-eqb (fingerprint p (window (length pattern) text i)) (fingerprint p pattern) (ap (fingerprint p) (same-is (window (length pattern) text i) pattern e))
 
 and-implied : (a b : Bool) → (b ≡ true → a ≡ true) → (a && b) ≡ b
 and-implied true b h = refl

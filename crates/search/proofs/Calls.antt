@@ -6,13 +6,14 @@ use native.Mathlib.Omega.{arith}
 use lib.Dec.{eqb}
 use lib.ListN.{length}
 use borrow.Author.Tests.{lt-ltb, le-ltb, eq-eqb, ne-eqb}
+use Rattle.gf2.specs.Lists.{passing}
 use Rattle.refusals.specs.declared.Refusal.{Refusal}
 use Rattle.refusals.specs.declared.Refusal.the-variants.{TooLong, EmptyPattern}
 use Rattle.refusals.specs.Refusals.{Answer, Done, Refused, stateOf, Test, _⇒_, firstOf, longest, passes}
 use Rattle.keys.specs.Testing.{testKey}
 use Rattle.keys.proofs.Laws.{Passed, first-passed, first-refused}
 use Rattle.search.specs.declared.Counts.{Counts}
-use Rattle.search.specs.Searching.{windows, passing, places, alarms, counts, overlay, searchTests, search, wordsAfter}
+use Rattle.search.specs.Searching.{windows, places, alarms, counts, overlay, searchTests, search, wordsAfter}
 
 -- numbers 7 and 11, after those of the key
 module _ {S A : Type 0} (key : ℕ) (text pattern : List ℕ) (s : S) (v : A) where

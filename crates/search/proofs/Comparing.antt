@@ -1,28 +1,22 @@
 -- Laws of comparing two lists byte by byte, and of flagged windows.
-use mathlib.Core.Path.{_≡_, refl, ap, ap₂}
-use mathlib.Core.Bool.{Bool, true, false, not, false≢true}
+use mathlib.Core.Path.{_≡_, refl, ap}
+use mathlib.Core.Bool.{Bool, true, false, not}
 use mathlib.Core.List.{List, [], _∷_}
 use Prim.Native.Nat.{ℕ, _+_, _-_, _≤_, _<_}
 use native.Mathlib.Numerals.{add-one}
 use native.Mathlib.Omega.{arith}
-use borrow.Author.Tests.{eq-eqb, ne-eqb, eqb-true}
-use lib.Dec.{eqb}
+use borrow.Author.Tests.{eq-eqb, ne-eqb}
 use lib.ListN.{length, drop, getD, drop-of-length-le}
 use lib.Seq.{drop-cons}
-use Rattle.acceptance.proofs.Laws.{and-both}
-use Rattle.search.specs.Searching.{same, isPlace}
+use Rattle.gf2.specs.Lists.{same}
+use Rattle.gf2.proofs.Lists.{same-eq}
+use Rattle.search.specs.Searching.{isPlace}
 use Rattle.search.specs.Flagged.{flaggedPlace, flaggedAlarm}
 
 -- ---- the same bytes
 
-pub same-iff : (a b : List ℕ) → same a b ≡ true → a ≡ b
-unfolding same
-same-iff [] [] e = refl
-same-iff [] (y ∷ b) e = absurd (false≢true e)
-same-iff (x ∷ a) [] e = absurd (false≢true e)
-same-iff (x ∷ a) (y ∷ b) e =
-    let h = and-both (eqb x y) (same a b) e in
-    ap₂ {C = List ℕ} (λ (z : ℕ) (c : List ℕ). z ∷ c) (eqb-true x y (h .0)) (same-iff a b (h .1))
+pub same-is : (a b : List ℕ) → same a b ≡ true → a ≡ b
+same-is a b e = same-eq a b (rw e tt)
 
 pub same-refl : (a : List ℕ) → same a a ≡ true
 unfolding same

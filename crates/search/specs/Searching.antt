@@ -1,9 +1,10 @@
 -- The search for a pattern in a text (document 01, "Searching a log"). Both are lists of bytes; a place is an offset from 0.
-use mathlib.Core.Bool.{Bool, true, false, _&&_, not}
+use mathlib.Core.Bool.{Bool, _&&_, not}
 use mathlib.Core.List.{List, [], _∷_, _++_}
-use Prim.Native.Nat.{ℕ, zero, suc, _+_, _-_}
+use Prim.Native.Nat.{ℕ, _+_, _-_}
 use lib.Dec.{eqb}
 use lib.ListN.{length}
+use Rattle.gf2.specs.Lists.{passing, same}
 use Rattle.refusals.specs.declared.Refusal.the-variants.{TooLong, EmptyPattern}
 use Rattle.refusals.specs.Refusals.{Answer, Done, Refused, stateOf, Test, _⇒_, firstOf, passes}
 use Rattle.acceptance.specs.Keys.{keyTests}
@@ -17,13 +18,6 @@ use Rattle.search.specs.declared.Searched.the-variants as cases
 unfoldable pub windows : List ℕ → List ℕ → ℕ
 windows text pattern = length text + 1 - length pattern
 
--- the same bytes
-unfoldable pub same : List ℕ → List ℕ → Bool
-same [] [] = true
-same [] (y ∷ b) = false
-same (x ∷ a) [] = false
-same (x ∷ a) (y ∷ b) = eqb x y && same a b
-
 -- the pattern stands at the place i
 unfoldable pub isPlace : List ℕ → List ℕ → ℕ → Bool
 isPlace text pattern i = same (window (length pattern) text i) pattern
@@ -36,15 +30,7 @@ alike key text pattern i = eqb (fingerprint key (window (length pattern) text i)
 unfoldable pub isAlarm : ℕ → List ℕ → List ℕ → ℕ → Bool
 isAlarm key text pattern i = alike key text pattern i && not (isPlace text pattern i)
 
--- of the c numbers from n on those that pass the test, rising
-abbrev pub keep : Bool → ℕ → List ℕ → List ℕ
-keep true n rest = n ∷ rest
-keep false n rest = rest
-
-unfoldable pub passing : (ℕ → Bool) → ℕ → ℕ → List ℕ
-passing test n zero = []
-passing test n (suc c) = keep (test n) n (passing test (suc n) c)
-
+-- the places, and the false alarms, rising
 unfoldable pub places : List ℕ → List ℕ → List ℕ
 places text pattern = passing (isPlace text pattern) 0 (windows text pattern)
 

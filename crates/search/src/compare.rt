@@ -4,7 +4,7 @@ ghost use mathlib.Core.Path.{_≡_};
 ghost use Prim.Native.Nat.{_+_, _≤_, _<_};
 ghost use lib.ListN.{length};
 ghost use lib.Seq.{sets};
-ghost use Rattle.search.specs.Searching.{passing};
+ghost use Rattle.gf2.specs.Lists.{passing};
 ghost use Rattle.search.specs.Flagged.{flaggedPlace, flaggedAlarm};
 
 // The flagged windows of a block, added to what was found before. The comparison leaves off at the first byte that differs; a place is written
@@ -18,8 +18,15 @@ pub fn compare(
     found: Counts,
     words: &mut [u32],
 ) -> Counts
-    requires { ⌜ (size ≤ 1024) × (from + size + length (now pattern) ≤ length (now text) + 1) × (0 < length (now pattern)) × (length (now text) ≤ 4294967295) × (found .places ≤ from) × (found .alarms ≤ from) ⌝ }
-    ensures { λ r. ⌜ (r .places ≡ found .places + length (passing (flaggedPlace (now (flags .entry)) (now (text .entry)) (now (pattern .entry)) from) from size)) × (r .alarms ≡ found .alarms + length (passing (flaggedAlarm (now (flags .entry)) (now (text .entry)) (now (pattern .entry)) from) from size)) × (now (words .exit) ≡ sets (now (words .entry)) (found .places) (passing (flaggedPlace (now (flags .entry)) (now (text .entry)) (now (pattern .entry)) from) from size)) ⌝ }
+    requires { ⌜ (size ≤ 1024)
+        × (from + size + length (now pattern) ≤ length (now text) + 1)
+        × (0 < length (now pattern))
+        × (length (now text) ≤ 4294967295)
+        × (found .places ≤ from)
+        × (found .alarms ≤ from) ⌝ }
+    ensures { λ r. ⌜ (r .places ≡ found .places + length (passing (flaggedPlace (now (flags .entry)) (now (text .entry)) (now (pattern .entry)) from) from size))
+        × (r .alarms ≡ found .alarms + length (passing (flaggedAlarm (now (flags .entry)) (now (text .entry)) (now (pattern .entry)) from) from size))
+        × (now (words .exit) ≡ sets (now (words .entry)) (found .places) (passing (flaggedPlace (now (flags .entry)) (now (text .entry)) (now (pattern .entry)) from) from size)) ⌝ }
 {
     let m = pattern.len();
     let mut count = found.places;

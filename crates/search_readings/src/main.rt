@@ -51,11 +51,6 @@ fn with_one(what: &[u8], key: u64, text: &[u8], pattern: &[u8]) {
     io::write_all(1, b"\n");
 }
 
-// No bytes.
-fn none(bytes: &[u8]) -> &[u8] {
-    &bytes[..0]
-}
-
 fn main() {
     let aaa: [u8; 3] = [0x61, 0x61, 0x61];
     let aa: [u8; 2] = [0x61, 0x61];
@@ -66,8 +61,8 @@ fn main() {
     with_two(b"01 1B in 00 00: ", 0x11B, &zeros, &other);
     with_two(b"00 00 in 00 00: ", 0x11B, &zeros, &zeros);
     with_two(b"61 61 61 in 61 61: ", 0x11B, &aa, &aaa);
-    with_two(b"the empty pattern: ", 0x11B, &aa, none(&aa));
-    with_two(b"61 61 in the empty text: ", 0x11B, none(&aa), &aa);
+    with_two(b"the empty pattern: ", 0x11B, &aa, b"");
+    with_two(b"61 61 in the empty text: ", 0x11B, b"", &aa);
     with_two(b"key ff: ", 0xFF, &aaa, &aa);
-    with_two(b"key 101, the empty pattern: ", 0x101, &aaa, none(&aa));
+    with_two(b"key 101, the empty pattern: ", 0x101, &aaa, b"");
 }

@@ -1,7 +1,6 @@
 // The table of a modulus, which is four rows of multiples: made, and tested.
 ghost use mathlib.Core.Path.{_≡_};
 ghost use mathlib.Core.Bool.{not};
-ghost use Prim.Native.Nat.{_+_};
 ghost use lib.ListN.{length};
 ghost use Rattle.gf2.specs.Polynomials.{monic, Modulus};
 ghost use Rattle.gf2.specs.Lists.{listFrom};

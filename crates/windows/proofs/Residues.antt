@@ -15,7 +15,6 @@ use Rattle.gf2.proofs.Sums.{⊕-cancel, ⊕-comm, ⊕-move}
 use Rattle.gf2.proofs.Products.{⊗-pow}
 use Rattle.gf2.proofs.Residues.{rem-zero, rem-⊕}
 use Rattle.gf2.proofs.Powers.{rem-⊗-right, rem-shl}
-use Rattle.gf2.proofs.Monics.{monic-pos}
 use Rattle.gf2.proofs.Steps.{residue-lt, residue-top}
 use Rattle.multiples.specs.Rows.{Multiples}
 use Rattle.lookups.specs.Groups.{Rows}
@@ -129,18 +128,13 @@ hit-is s text from j x e = ap (λ (y : ℕ). eqb y (s .wanted)) e
 
 -- ---- the tables
 
-module _ {p : ℕ} (pos : 0 < p) (c : ℕ) where
-  -- the multiples of a residue are those of what it is the residue of
-  pub multiples-of : (table : List ℕ) → Multiples p (rem p c) 0 256 table → Multiples p c 0 256 table
-  multiples-of table t i h = t i h ∙ rem-⊗-right pos i c
+-- the multiples of a residue are those of what it is the residue of
+pub multiples-of : {p : ℕ} (pos : 0 < p) (c : ℕ) (table : List ℕ) → Multiples p (rem p c) 0 256 table → Multiples p c 0 256 table
+multiples-of pos c table t i h = t i h ∙ rem-⊗-right pos i c
 
--- t^k is the low word
-pub multiples-top : (k c : ℕ) → c < 2 ^ k → (table : List ℕ) → Multiples (monic k c) c 0 256 table → Multiples (monic k c) (2 ^ k) 0 256 table
-multiples-top k c h table t = multiples-of (monic-pos k c h) (2 ^ k) table (rw (residue-top k c h) t)
-
--- they are the one row of words that takes a byte at t^k and above off
-pub one-row : (k c : ℕ) → c < 2 ^ k → (table : List ℕ) → Multiples (monic k c) (2 ^ k) 0 256 table → Rows 8 k (monic k c) 1 table
+-- t^k is the low word, so its multiples are the one row of words that takes a byte at t^k and above off
+pub one-row : (k c : ℕ) → c < 2 ^ k → (table : List ℕ) → Multiples (monic k c) c 0 256 table → Rows 8 k (monic k c) 1 table
 one-row k c h table t j l i b =
     let z : j ≡ 0 = omega arith in
     let e : k + 8 * 0 ≡ k = omega arith in
-    rw (z, e) (t i b ∙ sym (rem-⊗-right (monic-pos k c h) i (2 ^ k)))
+    rw (z, e, residue-top k c h) (t i b)

@@ -5,8 +5,9 @@ use mathlib.Core.List.{List}
 use Prim.Native.Nat.{ℕ, _+_, _*_, _^_, _≤_, _<_}
 use lib.Dec.{eqb}
 use lib.ListN.{length, take, drop, getD}
-use Rattle.gf2.specs.Polynomials.{monic, rem, Modulus}
+use Rattle.gf2.specs.Polynomials.{monic, rem}
 use Rattle.multiples.specs.Rows.{Multiples}
+use Rattle.lookups.specs.Groups.{ReducesByte}
 use Rattle.files.specs.Files.{bits, valueFrom}
 use Rattle.windows.specs.declared.rolling.Setup.{Setup}
 
@@ -27,10 +28,8 @@ keyOf s = monic (s .k) (s .low)
 
 -- the two tables of 256 words: the multiples of t^k, for the byte that comes in, and of t^(8m), for the one that goes out
 pub record Ready (s : Setup) (reduceTable outgoingTable : List ℕ) : Type 0 where
-  pub modulus : Modulus (s .k) (s .low)
-  pub wide : 8 ≤ s .k
   pub some : 0 < s .m
-  pub reduce : Multiples (keyOf s) (2 ^ s .k) 0 256 reduceTable
+  pub reduce : ReducesByte (s .k) (s .low) reduceTable
   pub outgoing : Multiples (keyOf s) (2 ^ (8 * s .m)) 0 256 outgoingTable
 
 -- of the window j places behind `from`: it has the wanted residue

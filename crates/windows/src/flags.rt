@@ -3,8 +3,9 @@ use super::rolling;
 use super::rolling::Setup;
 ghost use mathlib.Core.Path.{_≡_};
 ghost use mathlib.Core.Bool.{false};
-ghost use Prim.Native.Nat.{_+_, _-_, _≤_, _<_};
+ghost use Prim.Native.Nat.{_+_, _≤_, _<_};
 ghost use lib.ListN.{length};
+ghost use Rattle.lookups.specs.Groups.{ReducesByte};
 ghost use Rattle.windows.specs.Rolling.{window, residue, keyOf, Ready, hit, Filled, Marked};
 
 // The residues of three windows.
@@ -21,15 +22,11 @@ pub struct Block {
 }
 
 // The residues of the windows 256, 512 and 768 places behind `from`.
-fn three_windows(
-    s: Setup,
-    reduce: &[u64; 256],
-    outgoing: &[u64; 256],
-    text: &[u8],
-    from: usize,
-) -> Three
-    requires { ⌜ Ready s (now reduce) (now outgoing) × (from + 768 + s .m ≤ length (now text)) ⌝ }
-    ensures { λ r. ⌜ (r .b ≡ residue (keyOf s) (window (s .m) (now (text .entry)) (from + 256))) × (r .c ≡ residue (keyOf s) (window (s .m) (now (text .entry)) (from + 512))) × (r .d ≡ residue (keyOf s) (window (s .m) (now (text .entry)) (from + 768))) ⌝ }
+fn three_windows(s: Setup, reduce: &[u64], text: &[u8], from: usize) -> Three
+    requires { ⌜ ReducesByte (s .k) (s .low) (now reduce) × (from + 768 + s .m ≤ length (now text)) ⌝ }
+    ensures { λ r. ⌜ (r .b ≡ residue (keyOf s) (window (s .m) (now (text .entry)) (from + 256)))
+        × (r .c ≡ residue (keyOf s) (window (s .m) (now (text .entry)) (from + 512)))
+        × (r .d ≡ residue (keyOf s) (window (s .m) (now (text .entry)) (from + 768))) ⌝ }
 {
     let mut b: u64 = 0;
     let mut c: u64 = 0;
@@ -37,9 +34,9 @@ fn three_windows(
     let mut j: usize = 0;
     while j < s.m {
         let i = from + j;
-        b = rolling::append(s.k, s.low, reduce, b, text[i + 256]);
-        c = rolling::append(s.k, s.low, reduce, c, text[i + 512]);
-        d = rolling::append(s.k, s.low, reduce, d, text[i + 768]);
+        b = lookups::feed_one(reduce, s.k, s.low, b, text[i + 256]);
+        c = lookups::feed_one(reduce, s.k, s.low, c, text[i + 512]);
+        d = lookups::feed_one(reduce, s.k, s.low, d, text[i + 768]);
         j += 1;
     }
     Three { b, c, d }
@@ -48,17 +45,22 @@ fn three_windows(
 // 1,024 windows in four runs of 256, rolled side by side: a step waits for the last one of its own run alone.
 fn four_runs(
     s: Setup,
-    reduce: &[u64; 256],
+    reduce: &[u64],
     outgoing: &[u64; 256],
     text: &[u8],
     from: usize,
     g: u64,
     flags: &mut [bool; 1024],
 ) -> u64
-    requires { ⌜ Ready s (now reduce) (now outgoing) × (length (now flags) ≡ 1024) × (from + 1024 + s .m ≤ length (now text)) × (g ≡ residue (keyOf s) (window (s .m) (now text) from)) ⌝ }
-    ensures { λ r. ⌜ (r ≡ residue (keyOf s) (window (s .m) (now (text .entry)) (from + 1024))) × Filled false (hit s (now (text .entry)) from) 0 1024 (now (flags .exit)) × (length (now (flags .exit)) ≡ 1024) ⌝ }
+    requires { ⌜ Ready s (now reduce) (now outgoing)
+        × (length (now flags) ≡ 1024)
+        × (from + 1024 + s .m ≤ length (now text))
+        × (g ≡ residue (keyOf s) (window (s .m) (now text) from)) ⌝ }
+    ensures { λ r. ⌜ (r ≡ residue (keyOf s) (window (s .m) (now (text .entry)) (from + 1024)))
+        × Filled false (hit s (now (text .entry)) from) 0 1024 (now (flags .exit))
+        × (length (now (flags .exit)) ≡ 1024) ⌝ }
 {
-    let starts = three_windows(s, reduce, outgoing, text, from);
+    let starts = three_windows(s, reduce, text, from);
     let mut a = g;
     let mut b = starts.b;
     let mut c = starts.c;
@@ -82,7 +84,7 @@ fn four_runs(
 // `size` windows, one after the other. There is no next residue behind the text's last window.
 fn one_by_one(
     s: Setup,
-    reduce: &[u64; 256],
+    reduce: &[u64],
     outgoing: &[u64; 256],
     text: &[u8],
     from: usize,
@@ -90,7 +92,11 @@ fn one_by_one(
     g: u64,
     flags: &mut [bool; 1024],
 ) -> u64
-    requires { ⌜ Ready s (now reduce) (now outgoing) × (length (now flags) ≡ 1024) × (from + size + s .m ≤ length (now text) + 1) × (size ≤ 1024) × (g ≡ residue (keyOf s) (window (s .m) (now text) from)) ⌝ }
+    requires { ⌜ Ready s (now reduce) (now outgoing)
+        × (length (now flags) ≡ 1024)
+        × (from + size + s .m ≤ length (now text) + 1)
+        × (size ≤ 1024)
+        × (g ≡ residue (keyOf s) (window (s .m) (now text) from)) ⌝ }
     ensures { λ r. ⌜ Marked s (now (text .entry)) from size r (now (flags .exit)) × (length (now (flags .exit)) ≡ 1024) ⌝ }
 {
     let mut a = g;
@@ -115,15 +121,22 @@ fn least(a: usize, b: usize) -> usize
 // The next windows, at most 1,024. Four runs pay off where the windows that three of them start with are not too long to read.
 pub fn mark_block(
     s: Setup,
-    reduce: &[u64; 256],
+    reduce: &[u64],
     outgoing: &[u64; 256],
     text: &[u8],
     from: usize,
     g: u64,
     flags: &mut [bool; 1024],
 ) -> Block
-    requires { ⌜ Ready s (now reduce) (now outgoing) × (length (now flags) ≡ 1024) × (from + s .m ≤ length (now text)) × (g ≡ residue (keyOf s) (window (s .m) (now text) from)) ⌝ }
-    ensures { λ r. ⌜ (0 < r .size) × (r .size ≤ 1024) × (from + r .size + s .m ≤ length (now (text .entry)) + 1) × Marked s (now (text .entry)) from (r .size) (r .next) (now (flags .exit)) × (length (now (flags .exit)) ≡ 1024) ⌝ }
+    requires { ⌜ Ready s (now reduce) (now outgoing)
+        × (length (now flags) ≡ 1024)
+        × (from + s .m ≤ length (now text))
+        × (g ≡ residue (keyOf s) (window (s .m) (now text) from)) ⌝ }
+    ensures { λ r. ⌜ (0 < r .size)
+        × (r .size ≤ 1024)
+        × (from + r .size + s .m ≤ length (now (text .entry)) + 1)
+        × Marked s (now (text .entry)) from (r .size) (r .next) (now (flags .exit))
+        × (length (now (flags .exit)) ≡ 1024) ⌝ }
 {
     let left = text.len() - s.m + 1 - from;
     if s.m <= 512 {

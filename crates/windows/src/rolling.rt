@@ -3,8 +3,8 @@
 ghost use mathlib.Core.Path.{_≡_};
 ghost use Prim.Native.Nat.{_+_, _*_, _^_, _≤_, _<_};
 ghost use lib.ListN.{length};
-ghost use Rattle.gf2.specs.Polynomials.{monic, rem, Modulus};
-ghost use Rattle.multiples.specs.Rows.{Multiples};
+ghost use Rattle.gf2.specs.Polynomials.{monic, rem};
+ghost use Rattle.lookups.specs.Groups.{ReducesByte};
 ghost use Rattle.windows.specs.Rolling.{window, residue, keyOf, Ready};
 
 // What stays the same from window to window: the key's degree and low word, the pattern's length and its residue.
@@ -22,54 +22,34 @@ pub struct Start {
     pub shift: u64,
 }
 
-fn wide(x: u8) -> u64
-    ensures { λ r. ⌜ (r ≡ x) × (r < 256) ⌝ }
-{
-    x as u64
-}
-
-// A byte behind a residue, by the table of the multiples of t^k.
-pub fn append(k: u32, low: u64, reduce: &[u64; 256], f: u64, b: u8) -> u64
-    requires { ⌜ Modulus k low × (8 ≤ k) × (f < 2 ^ k) × Multiples (monic k low) (2 ^ k) 0 256 (now reduce) ⌝ }
-    ensures { λ r. ⌜ r ≡ rem (monic k low) (f * 256 + b) ⌝ }
-{
-    let cut = k - 8;
-    let rest = gf2::low_bits(f, cut);
-    let top = (f >> cut) as usize;
-    (rest * 256 + wide(b)) ^ reduce[top]
-}
-
 // The residue of the window at i + 1 from that of the window at i: a byte comes in behind, and the first one, times t^(8m), goes out.
-pub fn roll(
-    s: Setup,
-    reduce: &[u64; 256],
-    outgoing: &[u64; 256],
-    text: &[u8],
-    i: usize,
-    g: u64,
-) -> u64
-    requires { ⌜ Ready s (now reduce) (now outgoing) × (i + s .m < length (now text)) × (g ≡ residue (keyOf s) (window (s .m) (now text) i)) ⌝ }
+pub fn roll(s: Setup, reduce: &[u64], outgoing: &[u64; 256], text: &[u8], i: usize, g: u64) -> u64
+    requires { ⌜ Ready s (now reduce) (now outgoing)
+        × (i + s .m < length (now text))
+        × (g ≡ residue (keyOf s) (window (s .m) (now text) i)) ⌝ }
     ensures { λ r. ⌜ r ≡ residue (keyOf s) (window (s .m) (now (text .entry)) (i + 1)) ⌝ }
 {
-    let longer = append(s.k, s.low, reduce, g, text[i + s.m]);
+    let longer = lookups::feed_one(reduce, s.k, s.low, g, text[i + s.m]);
     let first = text[i] as usize;
     let gone = outgoing[first];
     longer ^ gone
 }
 
 // Reads the first window and the pattern.
-pub fn read_first(k: u32, low: u64, reduce: &[u64; 256], text: &[u8], pattern: &[u8]) -> Start
-    requires { ⌜ Modulus k low × (8 ≤ k) × Multiples (monic k low) (2 ^ k) 0 256 (now reduce) × (length (now pattern) ≤ length (now text)) ⌝ }
-    ensures { λ r. ⌜ (r .first ≡ residue (monic k low) (window (length (now (pattern .entry))) (now (text .entry)) 0)) × (r .wanted ≡ residue (monic k low) (now (pattern .entry))) × (r .shift ≡ rem (monic k low) (2 ^ (8 * length (now (pattern .entry))))) ⌝ }
+pub fn read_first(k: u32, low: u64, reduce: &[u64], text: &[u8], pattern: &[u8]) -> Start
+    requires { ⌜ ReducesByte k low (now reduce) × (length (now pattern) ≤ length (now text)) ⌝ }
+    ensures { λ r. ⌜ (r .first ≡ residue (monic k low) (window (length (now (pattern .entry))) (now (text .entry)) 0))
+        × (r .wanted ≡ residue (monic k low) (now (pattern .entry)))
+        × (r .shift ≡ rem (monic k low) (2 ^ (8 * length (now (pattern .entry))))) ⌝ }
 {
     let mut first: u64 = 0;
     let mut wanted: u64 = 0;
     let mut shift: u64 = 1;
     let mut i: usize = 0;
     while i < pattern.len() {
-        first = append(k, low, reduce, first, text[i]);
-        wanted = append(k, low, reduce, wanted, pattern[i]);
-        shift = append(k, low, reduce, shift, 0);
+        first = lookups::feed_one(reduce, k, low, first, text[i]);
+        wanted = lookups::feed_one(reduce, k, low, wanted, pattern[i]);
+        shift = lookups::feed_one(reduce, k, low, shift, 0);
         i += 1;
     }
     Start {

@@ -1,6 +1,6 @@
 use mathlib.Core.Path.{_≡_, refl, ap, _∙_}
 use mathlib.Core.List.{List, map, _++_}
-use Prim.Native.Nat.{ℕ, _+_, _-_, _≤_}
+use Prim.Native.Nat.{ℕ, _-_, _≤_}
 use native.Mathlib.Omega.{arith}
 use lib.Bits.{bitXor}
 use lib.ListN.{length, take, drop, getD}
@@ -9,9 +9,6 @@ use Rattle.basis.specs.Rows.{clear}
 use Rattle.basis.proofs.Mapping.{map-at, map-more, map-whole, length-mapped}
 use Rattle.basis.proofs.clear_column.Statement.{statement}
 use Rattle.basis.proofs.clear_column.Tie as tie
-use Rattle.basis.proofs.clear_column.Reads as reads
-use Rattle.basis.proofs.clear_column.Lts as lts
-use Rattle.basis.proofs.chosen_from.Reads as chosen-from-reads
 
 abbrev Inv-loop : tie.InvT-loop
 Inv-loop rows₀ v c i₀ i-end rows i = (i ≤ length rows₀) × (rows ≡ map (clear c v) (take i rows₀) ++ drop i rows₀)

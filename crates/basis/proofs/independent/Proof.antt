@@ -10,10 +10,6 @@ use Rattle.basis.proofs.Parts.{last-zero, turn-before}
 use Rattle.basis.proofs.Elimination.{no-rows}
 use Rattle.basis.proofs.independent.Statement.{statement}
 use Rattle.basis.proofs.independent.Tie as tie
-use Rattle.basis.proofs.independent.Reads as reads
-use Rattle.basis.proofs.independent.Lts as lts
-use Rattle.basis.proofs.lowest_one.Reads as lowest-one-reads
-use Rattle.basis.proofs.clear_column.Reads as clear-column-reads
 
 abbrev Inv-loop : tie.InvT-loop
 Inv-loop rows₀ n₀ rows n = (n ≤ length rows₀) × (length rows ≡ length rows₀) × (Independent rows₀ ↔ Independent (take n rows))

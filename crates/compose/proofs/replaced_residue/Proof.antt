@@ -9,11 +9,6 @@ use Rattle.files.specs.Files.{fingerprint}
 use Rattle.compose.proofs.Laws.{replaced-is}
 use Rattle.compose.proofs.replaced_residue.Statement.{statement}
 use Rattle.compose.proofs.replaced_residue.Tie as tie
-use Rattle.compose.proofs.replaced_residue.Reads as reads
-use Rattle.compose.proofs.replaced_residue.Lts as lts
-use Rattle.gf2.proofs.power_of_t.Reads as power-of-t-reads
-use Rattle.gf2.proofs.product.Reads as product-reads
-use Rattle.compose.proofs.difference.Reads as difference-reads
 
 difference-requires : tie.Need-difference-requires
 difference-requires c κs = let s = c .before .before in (s .pre .0, s .pre .2)

@@ -1,3 +1,4 @@
+-- `draw::draw` meets its contract: each return follows from the tests before it, and the last from `minimal_polynomial`.
 use mathlib.Core.Path.{_≡_, sym, ap, _∙_}
 use mathlib.Core.Bool.{true, false, _||_}
 use Prim.Native.Nat.{ℕ, _%_, _^_}

@@ -1,3 +1,4 @@
+-- `draw::listed` meets its contract: the match names the degrees of the list.
 use Rattle.draw.specs.Drawing.{degrees}
 use Rattle.draw.proofs.Lists.{one-among, none-among}
 use Rattle.draw.proofs.listed.Statement.{statement}

@@ -1,3 +1,4 @@
+-- `draw::minimal_polynomial` meets its contract: the relation among the powers is the polynomial that e draws.
 use Rattle.gf2.specs.Polynomials.{monic}
 use Rattle.draw.proofs.Evaluation.{none-smaller, one-there, relation-drawn}
 use Rattle.draw.proofs.minimal_polynomial.Statement.{statement}

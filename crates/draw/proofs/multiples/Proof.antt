@@ -1,4 +1,4 @@
--- The loop's invariant: the rows before j are in, and x is row j. The measure is the number of rows that are left.
+-- `draw::multiples` meets its contract. The loop's invariant: the rows before j are in, and x is row j. The measure is the number of rows that are left.
 use mathlib.Core.Path.{_≡_, sym, ap, _∙_}
 use Prim.Native.Nat.{ℕ, _-_, _^_, _≤_, _<_}
 use native.Mathlib.Omega.{arith}

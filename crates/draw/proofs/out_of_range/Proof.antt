@@ -1,3 +1,4 @@
+-- `draw::out_of_range` meets its contract: 1 shifted by k is 2^k.
 use mathlib.Core.Path.{ap}
 use Prim.Native.Nat.{ℕ}
 use borrow.Author.Needs.{needs}

@@ -1,4 +1,4 @@
--- The loop's invariant: the powers before the i-th are in, and the i-th is at hand. The measure is the number of powers that are left.
+-- `draw::powers` meets its contract. The loop's invariant: the powers before the i-th are in, and the i-th is at hand. The measure is the number of powers that are left.
 use mathlib.Core.Path.{_≡_, sym, _∙_}
 use Prim.Native.Nat.{ℕ, _-_, _^_, _≤_, _<_}
 use native.Mathlib.Omega.{arith}

@@ -1,3 +1,4 @@
+-- `count_keys` is safe and ends: the counts keep their length.
 use mathlib.Core.Path.{_≡_, refl, ap, _∙_}
 use mathlib.Core.Logic.{⊎-elim}
 use Prim.Native.Nat.{_-_}

@@ -1,3 +1,4 @@
+-- `key_of` meets its contract: by the answer's two cases.
 use mathlib.Core.Path.{sym, ap, _∙_}
 use borrow.Author.Needs.{needs}
 use Rattle.refusals.specs.Refusals.{valueOr}

@@ -1,3 +1,4 @@
+-- `places_with` is safe and ends: every index is below the length.
 use Prim.Native.Nat.{_-_}
 use native.Mathlib.Omega.{arith}
 use borrow.Author.Needs.{needs}

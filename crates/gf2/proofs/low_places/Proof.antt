@@ -1,5 +1,5 @@
 -- The loop's invariant: the bits of n from place i on are a number below k. The measure is i.
-use Prim.Native.Nat.{_-_, _/_, _^_, _≤_, _<_}
+use Prim.Native.Nat.{_/_, _^_, _≤_, _<_}
 use native.Mathlib.Omega.{arith}
 use lib.Count.{leading-le}
 use Rattle.gf2.proofs.Steps.{no-bits}

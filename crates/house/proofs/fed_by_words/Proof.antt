@@ -3,9 +3,10 @@ use mathlib.Core.Path.{ap, _∙_}
 use Prim.Native.Nat.{ℕ}
 use native.Mathlib.Omega.{arith}
 use borrow.Author.Needs.{needs}
+use Rattle.gf2.specs.Lists.{same}
 use Rattle.gf2.specs.Polynomials.{monic, rem}
 use Rattle.files.specs.Files.{bits, valueFrom}
-use Rattle.house.proofs.Rows.{same, rows}
+use Rattle.house.proofs.Rows.{rows}
 use Rattle.house.proofs.House.{house-monic, house-table}
 use Rattle.house.proofs.fed_by_words.Statement.{statement}
 use Rattle.house.proofs.fed_by_words.Tie as tie

@@ -14,8 +14,6 @@ use Rattle.tables.specs.Tables.{houseKey, feedHouse}
 use Rattle.house.proofs.House.{house-degree}
 use Rattle.house.proofs.feed_house.Statement.{statement}
 use Rattle.house.proofs.feed_house.Tie as tie
-use Rattle.house.proofs.feed_house.Reads as reads
-use Rattle.house.proofs.feed_house.Lts as lts
 
 fits-requires : tie.Need-fits-requires
 fits-requires c κs = search needs

@@ -5,10 +5,10 @@ use Prim.Native.Nat.{ℕ}
 use lib.ListN.{getD, List·getD-eq-default}
 use borrow.Author.Needs.{needs}
 use borrow.Table.Row as Row
-use Rattle.gf2.specs.Lists.{listFrom}
+use Rattle.gf2.specs.Lists.{listFrom, same}
 use Rattle.gf2.proofs.Lists.{length-list}
 use Rattle.tables.specs.Tables.{word, houseKey}
-use Rattle.house.proofs.Rows.{same, rows}
+use Rattle.house.proofs.Rows.{rows}
 use Rattle.house.proofs.House.{house-table}
 use Rattle.house.proofs.house_word.Statement.{statement}
 use Rattle.house.proofs.house_word.Tie as tie

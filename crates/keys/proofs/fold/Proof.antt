@@ -8,10 +8,6 @@ use Rattle.keys.specs.Squares.{folded}
 use Rattle.keys.proofs.Folding.{fold-next, fold-done}
 use Rattle.keys.proofs.fold.Statement.{statement}
 use Rattle.keys.proofs.fold.Tie as tie
-use Rattle.keys.proofs.fold.Reads as reads
-use Rattle.keys.proofs.fold.Lts as lts
-use Rattle.keys.proofs.odd_part.Reads as odd-part-reads
-use Rattle.keys.proofs.even_root.Reads as even-root-reads
 
 abbrev Inv-loop : tie.InvT-loop
 Inv-loop x rest₀ sum₀ n₀ rest sum n = sum ⊕ folded n rest ≡ folded 6 x

@@ -12,10 +12,6 @@ use Rattle.keys.specs.Squares.{folded}
 use Rattle.keys.proofs.Filling.{length-filled, filled-at, fill, fill-whole}
 use Rattle.keys.proofs.independent_differences.Statement.{statement}
 use Rattle.keys.proofs.independent_differences.Tie as tie
-use Rattle.keys.proofs.independent_differences.Reads as reads
-use Rattle.keys.proofs.independent_differences.Lts as lts
-use Rattle.basis.proofs.independent.Reads as independent-reads
-use Rattle.keys.proofs.fold.Reads as fold-reads
 
 -- row j in the end
 abbrev value : ℕ → List ℕ → ℕ → ℕ

@@ -1,6 +1,6 @@
 use mathlib.Core.Path.{_≡_, refl, sym, ap, _∙_}
 use mathlib.Core.List.{List, _++_}
-use Prim.Native.Nat.{ℕ, _+_, _-_, _≤_}
+use Prim.Native.Nat.{ℕ, _-_, _≤_}
 use borrow.Author.Needs.{needs}
 use native.Mathlib.Nat.{zero-add}
 use native.Mathlib.Omega.{arith}
@@ -10,10 +10,6 @@ use Rattle.keys.specs.Squares.{oddPart}
 use Rattle.keys.proofs.Filling.{length-filled, filled-at, fill, fill-whole}
 use Rattle.keys.proofs.independent_squares.Statement.{statement}
 use Rattle.keys.proofs.independent_squares.Tie as tie
-use Rattle.keys.proofs.independent_squares.Reads as reads
-use Rattle.keys.proofs.independent_squares.Lts as lts
-use Rattle.basis.proofs.independent.Reads as independent-reads
-use Rattle.keys.proofs.odd_part.Reads as odd-part-reads
 
 abbrev Inv-loop : tie.InvT-loop
 Inv-loop rows₀ i₀ i-end rows i = (i ≤ length rows₀) × (rows ≡ listFrom (λ j. oddPart (getD rows₀ j 0)) 0 i ++ drop i rows₀)

@@ -20,13 +20,6 @@ use Rattle.keys.proofs.Decision.{irreducible-squares, irreducible-diffe
 use borrow.Author.Needs.{needs}
 use Rattle.keys.proofs.irreducible.Statement.{statement}
 use Rattle.keys.proofs.irreducible.Tie as tie
-use Rattle.keys.proofs.irreducible.Reads as reads
-use Rattle.keys.proofs.irreducible.Lts as lts
-use Rattle.gf2.proofs.degree.Reads as degree-reads
-use Rattle.gf2.proofs.low_bits.Reads as low-bits-reads
-use Rattle.keys.proofs.independent_differences.Reads as independent-differences-reads
-use Rattle.keys.proofs.independent_squares.Reads as independent-squares-reads
-use Rattle.keys.proofs.square_rows.Reads as square-rows-reads
 
 degree-requires : tie.Need-degree-requires
 degree-requires c κs = search needs

@@ -12,9 +12,6 @@ use Rattle.keys.specs.Squares.{square}
 use Rattle.keys.proofs.Filling.{length-filled, fill, fill-whole, next-square}
 use Rattle.keys.proofs.square_rows.Statement.{statement}
 use Rattle.keys.proofs.square_rows.Tie as tie
-use Rattle.keys.proofs.square_rows.Reads as reads
-use Rattle.keys.proofs.square_rows.Lts as lts
-use Rattle.gf2.proofs.step.Reads as step-reads
 
 -- w is the square before the next row's
 abbrev Inv-loop : tie.InvT-loop

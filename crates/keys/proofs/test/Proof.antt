@@ -14,11 +14,6 @@ use Rattle.stock.proofs.Table.{stock-smallest}
 use Rattle.keys.specs.Testing.{testKey}
 use Rattle.keys.proofs.test.Statement.{statement}
 use Rattle.keys.proofs.test.Tie as tie
-use Rattle.keys.proofs.test.Reads as reads
-use Rattle.keys.proofs.test.Lts as lts
-use Rattle.gf2.proofs.degree.Reads as degree-reads
-use Rattle.keys.proofs.irreducible.Reads as irreducible-reads
-use Rattle.stock.proofs.stock_key.Reads as stock-key-reads
 
 returns : tie.Need-returns
 unfolding testKey

@@ -1,10 +1,9 @@
+-- `accepted_between` is safe and ends: the keys that are left grow fewer.
 use Prim.Native.Nat.{_-_}
 use native.Mathlib.Omega.{arith}
 use borrow.Author.Needs.{needs}
 use Rattle.keys_readings.proofs.accepted_between.Statement.{statement}
 use Rattle.keys_readings.proofs.accepted_between.Tie as tie
-use Rattle.keys_readings.proofs.accepted_between.Reads as reads
-use Rattle.keys_readings.proofs.accepted_between.Lts as lts
 
 abbrev Inv-loop : tie.InvT-loop
 Inv-loop from to count₀ key₀ count key = Unit {0}

@@ -1,13 +1,10 @@
+-- `number_of` meets its contract: by the answer's two cases.
 use mathlib.Core.Path.{sym, ap, _∙_}
 use borrow.Author.Needs.{needs}
 use Rattle.refusals.specs.Refusals.{numberOf}
 use Rattle.keys.specs.Testing.{tested}
 use Rattle.keys_readings.proofs.number_of.Statement.{statement}
 use Rattle.keys_readings.proofs.number_of.Tie as tie
-use Rattle.keys_readings.proofs.number_of.Reads as reads
-use Rattle.keys_readings.proofs.number_of.Lts as lts
-use Rattle.keys.proofs.test.Reads as test-reads
-use Rattle.refusals.proofs.number.Reads as number-reads
 
 test-requires : tie.Need-test-requires
 test-requires c κs = search needs

@@ -59,7 +59,7 @@ returns c =
     let b : a .b < 2 ^ 8 = omega (arith, c .before .wide .ensures) in
     ap₂ (λ (x y : ℕ). (x * 256 + y) ⊕ getD ws h 0) (c .before .before .low-bits .ensures) (c .before .wide .ensures .0)
     ∙ look-one ws (a .f % 2 ^ (a .k - 8) * 256 + a .b) h (top-lt (a .f) 8 (a .k) (p .0 .1) (p .1))
-    ∙ cut-high 8 (a .k) (monic-pos (a .k) (a .low) (p .0 .0 .2)) (monic-degree (a .k) (a .low) (p .0 .0 .2)) ws 4 (p .0 .3) 1 (a .f) (a .b) (omega arith) (p .1) b (a .k - 8) (omega arith)
+    ∙ cut-high 8 (a .k) (monic-pos (a .k) (a .low) (p .0 .0 .2)) (monic-degree (a .k) (a .low) (p .0 .0 .2)) ws 1 (p .0 .3) 1 (a .f) (a .b) (omega arith) (p .1) b (a .k - 8) (omega arith)
 
 pub feed-one-spec : {M : Type 1} → statement M
 feed-one-spec =

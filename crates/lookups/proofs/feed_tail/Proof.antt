@@ -7,6 +7,7 @@ use Rattle.gf2.specs.Polynomials.{monic, rem}
 use Rattle.gf2.proofs.Monics.{monic-pos, monic-degree}
 use Rattle.files.specs.Files.{bits, valueFrom}
 use Rattle.gf2.proofs.Steps.{residue-lt}
+use Rattle.lookups.proofs.Cut.{first-row}
 use Rattle.lookups.proofs.Parts.{fed-byte, fed-all}
 use Rattle.lookups.proofs.feed_tail.Statement.{statement}
 use Rattle.lookups.proofs.feed_tail.Tie as tie
@@ -25,7 +26,9 @@ shared-slice-read-feed-one : tie.Need-shared-slice-read-feed-one Inv-loop μ-loo
 shared-slice-read-feed-one c = omega arith
 
 feed-one-requires : tie.Need-feed-one-requires Inv-loop μ-loop
-feed-one-requires c κs = (c .before .before .before .before .before .pre .0, c .before .before .loop .inv .1)
+feed-one-requires c κs =
+    let s = c .before .before .before .before .before in
+    (first-row (s .args .k) (s .args .low) (s .args .words .now) (s .pre .0), c .before .before .loop .inv .1)
 
 add-i : tie.Need-add-i Inv-loop μ-loop
 add-i c = omega arith

@@ -1,5 +1,4 @@
 -- `four_at` meets its contract.
-use Prim.Native.Nat.{_-_}
 use native.Mathlib.Omega.{arith}
 use Rattle.lookups.proofs.Parts.{value-four}
 use Rattle.lookups.proofs.four_at.Statement.{statement}

@@ -1,6 +1,6 @@
 -- `joined` meets its contract.
 use mathlib.Core.Path.{ap}
-use Prim.Native.Nat.{ℕ, _-_}
+use Prim.Native.Nat.{ℕ}
 use Rattle.gf2.specs.Polynomials.{_⊕_}
 use borrow.Author.Needs.{needs}
 use Rattle.lookups.proofs.joined.Statement.{statement}

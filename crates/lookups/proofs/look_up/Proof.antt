@@ -1,5 +1,4 @@
 -- `look_up` meets its contract.
-use Prim.Native.Nat.{_-_}
 use native.Mathlib.Omega.{arith}
 use Rattle.gf2.specs.Polynomials.{_⊕_}
 use Rattle.lookups.proofs.Cut.{look-four}

@@ -9,6 +9,7 @@ use Rattle.gf2.proofs.Residues.{rem-append}
 use Rattle.gf2.proofs.Powers.{rem-rem}
 use Rattle.gf2.proofs.Monics.{monic-pos}
 use Rattle.gf2.proofs.Steps.{residue-lt}
+use Rattle.lookups.proofs.Cut.{first-row}
 use Rattle.lookups.proofs.reduced.Statement.{statement}
 use Rattle.lookups.proofs.reduced.Tie as tie
 
@@ -32,7 +33,7 @@ feed-one-requires : tie.Need-feed-one-requires
 feed-one-requires c κs =
     let s = c .before .before in
     let h : s .args .x / 256 < 2 ^ 56 = omega arith in
-    (s .pre, lt-of-lt-of-le h (pow-mono {i = 56} {j = s .args .k} (c .if1 .taken)))
+    (first-row (s .args .k) (s .args .low) (s .args .words .now) (s .pre), lt-of-lt-of-le h (pow-mono {i = 56} {j = s .args .k} (c .if1 .taken)))
 
 returns : tie.Need-returns
 returns c =

@@ -1,6 +1,5 @@
 -- `printing::refusal` meets its contract: the label with the number, and a newline behind it.
 use mathlib.Core.List.{_++_}
-use Prim.Native.Nat.{_+_}
 use native.Mathlib.Omega.{arith}
 use borrow.Author.Needs.{needs}
 use Rattle.refusals.specs.Refusals.{number}

@@ -1,6 +1,5 @@
 -- `printing::report` meets its contract: each text goes behind the one before it.
 use mathlib.Core.List.{_++_}
-use Prim.Native.Nat.{_+_}
 use native.Mathlib.Omega.{arith}
 use borrow.Author.Needs.{needs}
 use lib.ListN.{length}

@@ -34,7 +34,7 @@ add-windows c = omega arith
 
 loop-holds : tie.Need-loop-holds Inv-loop μ-loop
 loop-holds c =
-    let s = c .before .before .before in
+    let s = c .before .before .before .before in
     let a = s .args in
     let n = length (a .text .now) - length (a .pattern .now) + 1 in (
       omega arith,
@@ -47,7 +47,7 @@ loop-holds c =
 
 mark-block-requires : tie.Need-mark-block-requires Inv-loop μ-loop
 mark-block-requires c κs =
-    let s = c .before .before .before .before .before .before in
+    let s = c .before .before .before .before .before .before .before in
     let l = c .before .before .loop in
     let h = c .before .loop-test .taken in
     let e = s .pre .1 in
@@ -55,7 +55,7 @@ mark-block-requires c κs =
 
 compare-requires : tie.Need-compare-requires Inv-loop μ-loop
 compare-requires c κs =
-    let s = c .before .before .before .before .before .before .before .before .before in
+    let s = c .before .before .before .before .before .before .before .before .before .before in
     let l = c .before .before .before .before .before .loop in
     let block = c .before .before .mark-block .ensures in
     let e = s .pre .1 in
@@ -70,7 +70,7 @@ loop-less c = omega arith
 
 loop-again : tie.Need-loop-again Inv-loop μ-loop
 loop-again c =
-    let s = c .before .before .before .before .before .before .before .before .before .before .before .before .before in
+    let s = c .before .before .before .before .before .before .before .before .before .before .before .before .before .before in
     let a = s .args in
     let l = c .before .before .before .before .before .before .before .before .before .loop in
     let t = a .text .now in
@@ -80,7 +80,7 @@ loop-again c =
     let size = block .result .size in
     let b = block .ensures in
     let found = c .before .before .before .compare .ensures in
-    let pos = monic-pos (a .s .k) (a .s .low) (s .pre .0 .modulus .2) in
+    let pos = monic-pos (a .s .k) (a .s .low) (s .pre .0 .reduce .0 .2) in
     let fits : l .from + size + length q ≤ length t + 1 = omega (arith, b .2, e) in
     let ps = flagged-places (a .s) t q (l .from) size _ pos e (s .pre .2) fits (b .3 .flags) in
     let fs = flagged-alarms (a .s) t q (l .from) size _ pos e (s .pre .2) fits (b .3 .flags) in
@@ -98,7 +98,7 @@ loop-again c =
 
 same-length : tie.Need-same-length Inv-loop μ-loop
 same-length c =
-    let a = c .before .before .before .before .before .args in
+    let a = c .before .before .before .before .before .before .args in
     let l = c .before .loop in
     let n = length (a .text .now) - length (a .pattern .now) + 1 in
     tally-length (isPlace (a .text .now) (a .pattern .now)) (isAlarm (keyOf (a .s)) (a .text .now) (a .pattern .now)) 0 n (a .words .now) 0 0 (l .words) (l .found .places) (l .found .alarms) (l .from) (l .inv .5)
@@ -110,7 +110,7 @@ windows-is t q h = omega arith
 
 returns : tie.Need-returns Inv-loop μ-loop
 returns c =
-    let s = c .before .before .before .before .before in
+    let s = c .before .before .before .before .before .before in
     let a = s .args in
     let t = a .text .now in
     let q = a .pattern .now in

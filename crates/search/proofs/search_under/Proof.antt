@@ -6,7 +6,7 @@ use borrow.Author.Needs.{needs}
 use lib.ListN.{length}
 use Rattle.gf2.proofs.Monics.{monic-pos}
 use Rattle.gf2.proofs.Steps.{residue-lt}
-use Rattle.windows.proofs.Residues.{multiples-of, multiples-top}
+use Rattle.windows.proofs.Residues.{multiples-of, one-row}
 use Rattle.search.proofs.search_under.Statement.{statement}
 use Rattle.search.proofs.search_under.Tie as tie
 
@@ -16,11 +16,15 @@ slice-aggregate-fill-row c = search needs
 fill-row-requires : tie.Need-fill-row-requires
 fill-row-requires c κs = search needs
 
+slice-aggregate-read-first : tie.Need-slice-aggregate-read-first
+slice-aggregate-read-first c = search needs
+
 read-first-requires : tie.Need-read-first-requires
 read-first-requires c κs =
     let s = c .before .before .before .before .before .before .before in
     let a = s .args in
-    (s .pre .0, s .pre .1, multiples-top (a .k) (a .low) (s .pre .0 .2) (c .before .before .fill-row .last .0) (c .before .before .fill-row .ensures .0), s .pre .3)
+    let row = c .before .before .fill-row in
+    ((s .pre .0, s .pre .1, omega arith, one-row (a .k) (a .low) (s .pre .0 .2) (row .last .0) (row .ensures .0)), s .pre .3)
 
 slice-aggregate-fill-row-2 : tie.Need-slice-aggregate-fill-row-2
 slice-aggregate-fill-row-2 c = search needs
@@ -31,18 +35,21 @@ fill-row-requires-2 c κs =
     let a = s .args in
     (s .pre .0, rw (c .before .read-first .ensures .2) (residue-lt (a .k) (a .low) (s .pre .0 .2) (2 ^ (8 * length (a .pattern .now)))), omega arith)
 
+slice-aggregate-search-blocks : tie.Need-slice-aggregate-search-blocks
+slice-aggregate-search-blocks c = search needs
+
 search-blocks-requires : tie.Need-search-blocks-requires
 search-blocks-requires c κs =
     let s = c .before .before .before .before .before .before .before .before .before .before .before .before .before .before in
     let a = s .args in
     let m = s .pre .0 in
+    let row = c .before .before .before .before .before .before .before .before .before .fill-row in
+    let out = c .before .before .before .before .fill-row2 in
     let begin = c .before .before .before .before .before .before .read-first .ensures in (
       record {
-        modulus = m;
-        wide = s .pre .1;
         some = s .pre .2;
-        reduce = multiples-top (a .k) (a .low) (m .2) (c .before .before .before .before .before .before .before .before .before .fill-row .last .0) (c .before .before .before .before .before .before .before .before .before .fill-row .ensures .0);
-        outgoing = multiples-of (monic-pos (a .k) (a .low) (m .2)) (2 ^ (8 * length (a .pattern .now))) (c .before .before .before .before .fill-row2 .last .0) (rw (begin .2) at (c .before .before .before .before .fill-row2 .ensures .0));
+        reduce = (m, s .pre .1, omega arith, one-row (a .k) (a .low) (m .2) (row .last .0) (row .ensures .0));
+        outgoing = multiples-of (monic-pos (a .k) (a .low) (m .2)) (2 ^ (8 * length (a .pattern .now))) (out .last .0) (rw (begin .2) at (out .ensures .0));
       },
       refl,
       begin .1,
@@ -63,9 +70,11 @@ search-under-spec =
     (tie.spec
     slice-aggregate-fill-row
     fill-row-requires
+    slice-aggregate-read-first
     read-first-requires
     slice-aggregate-fill-row-2
     fill-row-requires-2
+    slice-aggregate-search-blocks
     search-blocks-requires
     same-length
     returns)

@@ -1,6 +1,6 @@
 -- `make` meets its contract: each return follows from the tests before it, and the last from `rows::fill`.
 use mathlib.Core.Path.{_≡_, sym, ap, _∙_}
-use Prim.Native.Nat.{ℕ, _-_}
+use Prim.Native.Nat.{ℕ}
 use native.Mathlib.Omega.{arith}
 use Rattle.gf2.specs.Polynomials.{degree, monic}
 use Rattle.gf2.specs.Lists.{listFrom}

@@ -1,6 +1,6 @@
 -- `test` meets its contract: each return follows from the tests before it.
 use mathlib.Core.Path.{_≡_, sym, ap, _∙_}
-use Prim.Native.Nat.{ℕ, _-_}
+use Prim.Native.Nat.{ℕ}
 use native.Mathlib.Omega.{arith}
 use mathlib.Core.Bool.{not}
 use Rattle.gf2.specs.Polynomials.{degree, monic}

@@ -1,4 +1,4 @@
--- `fill` meets its contract: every index is below the length.
+-- `fill` is safe and ends: every index is below the length.
 use mathlib.Core.Path.{_≡_}
 use Prim.Native.Nat.{_-_, _≤_}
 use native.Mathlib.Omega.{arith}

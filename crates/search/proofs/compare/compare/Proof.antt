@@ -8,7 +8,8 @@ use native.Mathlib.Omega.{arith}
 use borrow.Author.Tests.{not-true, not-false}
 use lib.ListN.{length, drop, set}
 use lib.Seq.{set-out}
-use Rattle.search.specs.Searching.{same, isPlace}
+use Rattle.gf2.specs.Lists.{same}
+use Rattle.search.specs.Searching.{isPlace}
 use Rattle.search.specs.Flagged.{flaggedPlace, flaggedAlarm}
 use Rattle.windows.specs.Rolling.{window}
 use Rattle.windows.proofs.Windows.{window-length, window-at}

@@ -3,8 +3,7 @@ use mathlib.Core.Path.{_≡_, _∙_}
 use mathlib.Core.Bool.{false}
 use Prim.Native.Nat.{_+_, _-_, _≤_}
 use native.Mathlib.Omega.{arith}
-use Rattle.windows.specs.Rolling.{window}
-use Rattle.windows.specs.Rolling.{residue, keyOf, hit}
+use Rattle.windows.specs.Rolling.{window, residue, keyOf, hit}
 use Rattle.windows.proofs.Residues.{same-place, hit-is}
 use Rattle.windows.proofs.Filling.{Runs, runs-begin, runs-more, runs-end}
 use Rattle.windows.proofs.flags.four_runs.Statement.{statement}
@@ -23,11 +22,11 @@ abbrev μ-loop : tie.MeasureT-loop
 μ-loop s reduce outgoing text from g flags₀ a₀ b₀ c₀ d₀ j₀ flags a b c d j = 256 - j
 
 three-windows-requires : tie.Need-three-windows-requires Inv-loop μ-loop
-three-windows-requires c κs = (c .before .pre .0, omega arith)
+three-windows-requires c κs = (c .before .before .pre .0 .reduce, omega arith)
 
 loop-holds : tie.Need-loop-holds Inv-loop μ-loop
 loop-holds c =
-    let s = c .before .before in
+    let s = c .before .before .before in
     let a = s .args in
     let z = c .three-windows .ensures in (
       omega arith,
@@ -64,43 +63,43 @@ add-i c = omega arith
 
 roll-requires : tie.Need-roll-requires Inv-loop μ-loop
 roll-requires c κs =
-    let s = c .before .before .before .before .before .before .before .before in
+    let s = c .before .before .before .before .before .before .before .before .before in
     let a = s .args in
     let l = c .before .before .before .before .before .loop in
     (s .pre .0, omega (arith, s .pre .2, l .inv .0), l .inv .1)
 
 add-roll : tie.Need-add-roll Inv-loop μ-loop
 add-roll c =
-    let s = c .before .before .before .before .before .before .before .before .before in
+    let s = c .before .before .before .before .before .before .before .before .before .before in
     omega (arith, s .pre .2, s .good .1 .1 .1 .0 .0)
 
 roll-requires-2 : tie.Need-roll-requires-2 Inv-loop μ-loop
 roll-requires-2 c κs =
-    let s = c .before .before .before .before .before .before .before .before .before in
+    let s = c .before .before .before .before .before .before .before .before .before .before in
     let a = s .args in
     let l = c .before .before .before .before .before .before .loop in
     (s .pre .0, omega (arith, s .pre .2, l .inv .0), l .inv .2 ∙ same-place (keyOf (a .s)) (a .s .m) (a .text .now) (a .from + (l .j + 256)) (a .from + l .j + 256) (omega arith))
 
 add-roll-2 : tie.Need-add-roll-2 Inv-loop μ-loop
 add-roll-2 c =
-    let s = c .before .before .before .before .before .before .before .before .before .before in
+    let s = c .before .before .before .before .before .before .before .before .before .before .before in
     omega (arith, s .pre .2, s .good .1 .1 .1 .0 .0)
 
 roll-requires-3 : tie.Need-roll-requires-3 Inv-loop μ-loop
 roll-requires-3 c κs =
-    let s = c .before .before .before .before .before .before .before .before .before .before in
+    let s = c .before .before .before .before .before .before .before .before .before .before .before in
     let a = s .args in
     let l = c .before .before .before .before .before .before .before .loop in
     (s .pre .0, omega (arith, s .pre .2, l .inv .0), l .inv .3 ∙ same-place (keyOf (a .s)) (a .s .m) (a .text .now) (a .from + (l .j + 512)) (a .from + l .j + 512) (omega arith))
 
 add-roll-3 : tie.Need-add-roll-3 Inv-loop μ-loop
 add-roll-3 c =
-    let s = c .before .before .before .before .before .before .before .before .before .before .before in
+    let s = c .before .before .before .before .before .before .before .before .before .before .before .before in
     omega (arith, s .pre .2, s .good .1 .1 .1 .0 .0)
 
 roll-requires-4 : tie.Need-roll-requires-4 Inv-loop μ-loop
 roll-requires-4 c κs =
-    let s = c .before .before .before .before .before .before .before .before .before .before .before in
+    let s = c .before .before .before .before .before .before .before .before .before .before .before .before in
     let a = s .args in
     let l = c .before .before .before .before .before .before .before .before .loop in
     (s .pre .0, omega (arith, s .pre .2, c .before .before .before .before .before .before .before .loop-test .taken), l .inv .4 ∙ same-place (keyOf (a .s)) (a .s .m) (a .text .now) (a .from + (l .j + 768)) (a .from + l .j + 768) (omega arith))
@@ -113,7 +112,7 @@ loop-less c = omega arith
 
 loop-again : tie.Need-loop-again Inv-loop μ-loop
 loop-again c =
-    let s = c .before .before .before .before .before .before .before .before .before .before .before .before in
+    let s = c .before .before .before .before .before .before .before .before .before .before .before .before .before in
     let a = s .args in
     let l = c .before .before .before .before .before .before .before .before .before .loop in
     let place = same-place (keyOf (a .s)) (a .s .m) (a .text .now) in
@@ -133,7 +132,7 @@ loop-again c =
 
 returns : tie.Need-returns Inv-loop μ-loop
 returns c =
-    let a = c .before .before .before .before .args in
+    let a = c .before .before .before .before .before .args in
     let l = c .before .loop in
     let e : l .j ≡ 256 = omega arith in
     let runs = rw e at (l .inv .5) in (

@@ -5,8 +5,7 @@ use mathlib.Core.Bool.{false}
 use Prim.Native.Nat.{_+_, _-_, _≤_}
 use native.Mathlib.Omega.{arith}
 use lib.ListN.{length, length-set}
-use Rattle.windows.specs.Rolling.{window}
-use Rattle.windows.specs.Rolling.{residue, keyOf, Filled, hit}
+use Rattle.windows.specs.Rolling.{window, residue, keyOf, Filled, hit}
 use Rattle.windows.proofs.Residues.{same-place, hit-is}
 use Rattle.windows.proofs.Filling.{filled-none, filled-more}
 use Rattle.windows.proofs.flags.one_by_one.Statement.{statement}
@@ -24,7 +23,7 @@ abbrev μ-loop : tie.MeasureT-loop
 
 loop-holds : tie.Need-loop-holds Inv-loop μ-loop
 loop-holds c =
-    let s = c .before in
+    let s = c .before .before in
     let a = s .args in (
       omega arith,
       s .pre .1,
@@ -43,7 +42,7 @@ add-if1 c = omega arith
 
 roll-requires : tie.Need-roll-requires Inv-loop μ-loop
 roll-requires c κs =
-    let s = c .before .before .before .before .before .before in
+    let s = c .before .before .before .before .before .before .before in
     let l = c .before .before .before .before .loop in
     (s .pre .0, c .if1 .taken, l .inv .2 (omega arith))
 
@@ -55,7 +54,7 @@ loop-less c = omega arith
 
 loop-again : tie.Need-loop-again Inv-loop μ-loop
 loop-again c =
-    let s = c .before .before .before .before .before .before in
+    let s = c .before .before .before .before .before .before .before in
     let a = s .args in
     let l = c .before .before .before .before .loop in
     let t = a .text .now in (
@@ -69,7 +68,7 @@ loop-again c =
 
 returns : tie.Need-returns Inv-loop μ-loop
 returns c =
-    let a = c .before .before .before .args in
+    let a = c .before .before .before .before .args in
     let l = c .before .loop in
     let e : l .j ≡ a .size = omega arith in
     (record { flags = rw e at (l .inv .3); next = rw e at (l .inv .2) }, l .inv .1)

@@ -7,8 +7,7 @@ use lib.ListN.{length}
 use Rattle.gf2.specs.Polynomials.{monic, rem}
 use Rattle.gf2.proofs.Monics.{monic-pos}
 use Rattle.gf2.proofs.Steps.{residue-lt, residue-one}
-use Rattle.windows.specs.Rolling.{window}
-use Rattle.windows.specs.Rolling.{residue}
+use Rattle.windows.specs.Rolling.{window, residue}
 use Rattle.windows.proofs.Windows.{window-none, window-whole}
 use Rattle.windows.proofs.Residues.{residue-none, read-on, residue-below, shift-next}
 use Rattle.windows.proofs.rolling.read_first.Statement.{statement}
@@ -26,41 +25,41 @@ abbrev μ-loop : tie.MeasureT-loop
 
 loop-holds : tie.Need-loop-holds Inv-loop μ-loop
 loop-holds c =
-    let s = c .before .before in
+    let s = c .before .before .before in
     let a = s .args in
-    let zero = residue-none (monic-pos (a .k) (a .low) (s .pre .0 .2)) in (
+    let zero = residue-none (monic-pos (a .k) (a .low) (s .pre .0 .0 .2)) in (
       omega arith,
       sym (rw window-none zero),
       sym (rw window-none zero),
-      sym (residue-one (a .k) (a .low) (s .pre .0)),
+      sym (residue-one (a .k) (a .low) (s .pre .0 .0)),
     )
 
-shared-slice-read-append : tie.Need-shared-slice-read-append Inv-loop μ-loop
-shared-slice-read-append c = omega arith
+shared-slice-read-feed-one : tie.Need-shared-slice-read-feed-one Inv-loop μ-loop
+shared-slice-read-feed-one c = omega arith
 
-append-requires : tie.Need-append-requires Inv-loop μ-loop
-append-requires c κs =
-    let s = c .before .before .before .before .before in
+feed-one-requires : tie.Need-feed-one-requires Inv-loop μ-loop
+feed-one-requires c κs =
+    let s = c .before .before .before .before .before .before in
     let a = s .args in
     let l = c .before .before .loop in
-    (s .pre .0, s .pre .1, rw (l .inv .1) (residue-below (a .k) (a .low) (s .pre .0 .2) (window (l .i) (a .text .now) 0)), s .pre .2)
+    (s .pre .0, rw (l .inv .1) (residue-below (a .k) (a .low) (s .pre .0 .0 .2) (window (l .i) (a .text .now) 0)))
 
-shared-slice-read-append-2 : tie.Need-shared-slice-read-append-2 Inv-loop μ-loop
-shared-slice-read-append-2 c = omega arith
+shared-slice-read-feed-one-2 : tie.Need-shared-slice-read-feed-one-2 Inv-loop μ-loop
+shared-slice-read-feed-one-2 c = omega arith
 
-append-requires-2 : tie.Need-append-requires-2 Inv-loop μ-loop
-append-requires-2 c κs =
-    let s = c .before .before .before .before .before .before .before in
-    let a = s .args in
-    let l = c .before .before .before .before .loop in
-    (s .pre .0, s .pre .1, rw (l .inv .2) (residue-below (a .k) (a .low) (s .pre .0 .2) (window (l .i) (a .pattern .now) 0)), s .pre .2)
-
-append-requires-3 : tie.Need-append-requires-3 Inv-loop μ-loop
-append-requires-3 c κs =
+feed-one-requires-2 : tie.Need-feed-one-requires-2 Inv-loop μ-loop
+feed-one-requires-2 c κs =
     let s = c .before .before .before .before .before .before .before .before in
     let a = s .args in
+    let l = c .before .before .before .before .loop in
+    (s .pre .0, rw (l .inv .2) (residue-below (a .k) (a .low) (s .pre .0 .0 .2) (window (l .i) (a .pattern .now) 0)))
+
+feed-one-requires-3 : tie.Need-feed-one-requires-3 Inv-loop μ-loop
+feed-one-requires-3 c κs =
+    let s = c .before .before .before .before .before .before .before .before .before in
+    let a = s .args in
     let l = c .before .before .before .before .before .loop in
-    (s .pre .0, s .pre .1, rw (l .inv .3) (residue-lt (a .k) (a .low) (s .pre .0 .2) (2 ^ (8 * l .i))), s .pre .2)
+    (s .pre .0, rw (l .inv .3) (residue-lt (a .k) (a .low) (s .pre .0 .0 .2) (2 ^ (8 * l .i))))
 
 add-i : tie.Need-add-i Inv-loop μ-loop
 add-i c = omega arith
@@ -70,22 +69,22 @@ loop-less c = omega arith
 
 loop-again : tie.Need-loop-again Inv-loop μ-loop
 loop-again c =
-    let s = c .before .before .before .before .before .before .before .before .before in
+    let s = c .before .before .before .before .before .before .before .before .before .before in
     let a = s .args in
     let l = c .before .before .before .before .before .before .loop in
-    let pos = monic-pos (a .k) (a .low) (s .pre .0 .2) in
+    let pos = monic-pos (a .k) (a .low) (s .pre .0 .0 .2) in
     let z = zero-add (l .i) in (
       omega arith,
-      read-on pos (l .i) (a .text .now) 0 (l .i) (l .first) _ z (omega arith) (omega (arith, c .before .before .before .before .shared-slice-known3 .given (l .i))) (l .inv .1)
-          (c .before .before .before .append .ensures),
-      read-on pos (l .i) (a .pattern .now) 0 (l .i) (l .wanted) _ z (omega arith) (omega (arith, c .before .before .shared-slice-known4 .given (l .i))) (l .inv .2)
-          (c .before .append2 .ensures),
-      c .append3 .ensures ∙ rw (l .inv .3) (shift-next pos (l .i)),
+      read-on pos (l .i) (a .text .now) 0 (l .i) (l .first) _ z (omega arith) (omega (arith, c .before .before .before .before .shared-slice-known4 .given (l .i))) (l .inv .1)
+          (c .before .before .before .feed-one .ensures),
+      read-on pos (l .i) (a .pattern .now) 0 (l .i) (l .wanted) _ z (omega arith) (omega (arith, c .before .before .shared-slice-known5 .given (l .i))) (l .inv .2)
+          (c .before .feed-one2 .ensures),
+      c .feed-one3 .ensures ∙ rw (l .inv .3) (shift-next pos (l .i)),
     )
 
 returns : tie.Need-returns Inv-loop μ-loop
 returns c =
-    let a = c .before .before .before .before .args in
+    let a = c .before .before .before .before .before .args in
     let l = c .before .loop in
     let e : l .i ≡ length (a .pattern .now) = omega arith in
     (rw e at (l .inv .1), (rw (e, window-whole) at (l .inv .2)), rw e at (l .inv .3))
@@ -97,11 +96,11 @@ read-first-spec =
     Inv-loop
     μ-loop
     loop-holds
-    shared-slice-read-append
-    append-requires
-    shared-slice-read-append-2
-    append-requires-2
-    append-requires-3
+    shared-slice-read-feed-one
+    feed-one-requires
+    shared-slice-read-feed-one-2
+    feed-one-requires-2
+    feed-one-requires-3
     add-i
     loop-less
     loop-again

@@ -11,49 +11,49 @@ use Rattle.windows.proofs.Residues.{rolled, residue-below}
 use Rattle.windows.proofs.rolling.roll.Statement.{statement}
 use Rattle.windows.proofs.rolling.roll.Tie as tie
 
-add-append : tie.Need-add-append
-add-append c = search needs
+add-feed-one : tie.Need-add-feed-one
+add-feed-one c = search needs
 
-shared-slice-read-append : tie.Need-shared-slice-read-append
-shared-slice-read-append c = search needs
+shared-slice-read-feed-one : tie.Need-shared-slice-read-feed-one
+shared-slice-read-feed-one c = search needs
 
-append-requires : tie.Need-append-requires
-append-requires c κs =
-    let s = c .before .before .before in
+feed-one-requires : tie.Need-feed-one-requires
+feed-one-requires c κs =
+    let s = c .before .before .before .before in
     let a = s .args in
     let r = s .pre .0 in
-    (r .modulus, r .wide, rw (s .pre .2) (residue-below (a .s .k) (a .s .low) (r .modulus .2) (window (a .s .m) (a .text .now) (a .i))), r .reduce)
+    (r .reduce, rw (s .pre .2) (residue-below (a .s .k) (a .s .low) (r .reduce .0 .2) (window (a .s .m) (a .text .now) (a .i))))
 
 shared-slice-read-first : tie.Need-shared-slice-read-first
 shared-slice-read-first c = search needs
 
 cast-first : tie.Need-cast-first
-cast-first c = omega (arith, c .shared-slice-known3 .given (c .before .before .before .before .before .args .i))
+cast-first c = omega (arith, c .shared-slice-known4 .given (c .before .before .before .before .before .before .args .i))
 
 mul-gone : tie.Need-mul-gone
-mul-gone c = omega (arith, c .shared-slice-known3 .given (c .before .before .before .before .before .args .i))
+mul-gone c = omega (arith, c .shared-slice-known4 .given (c .before .before .before .before .before .before .args .i))
 
 element-copy-out-gone : tie.Need-element-copy-out-gone
-element-copy-out-gone c = omega (arith, c .shared-slice-known3 .given (c .before .before .before .before .before .args .i))
+element-copy-out-gone c = omega (arith, c .shared-slice-known4 .given (c .before .before .before .before .before .before .args .i))
 
 returns : tie.Need-returns
 unfolding _⊕_
 returns c =
-    let s = c .before .before .before .before .before .before in
+    let s = c .before .before .before .before .before .before .before in
     let a = s .args in
     let r = s .pre .0 in
-    let byte = c .before .shared-slice-known3 .given in
-    rolled (monic-pos (a .s .k) (a .s .low) (r .modulus .2)) (a .s .m) (a .text .now) (a .outgoing .now) (a .i) (a .i + a .s .m) (a .g) _
+    let byte = c .before .shared-slice-known4 .given in
+    rolled (monic-pos (a .s .k) (a .s .low) (r .reduce .0 .2)) (a .s .m) (a .text .now) (a .outgoing .now) (a .i) (a .i + a .s .m) (a .g) _
     refl (s .pre .1) (omega (arith, byte (a .i))) (omega (arith, byte (a .i + a .s .m))) (r .outgoing) (s .pre .2)
-    (ap (λ (x : ℕ). x ⊕ getD (a .outgoing .now) (getD (a .text .now) (a .i) 0) 0) (c .before .before .append .ensures))
+    (ap (λ (x : ℕ). x ⊕ getD (a .outgoing .now) (getD (a .text .now) (a .i) 0) 0) (c .before .before .feed-one .ensures))
 
 pub roll-spec : {M : Type 1} → statement M
 roll-spec =
     tie.close
     (tie.spec
-    add-append
-    shared-slice-read-append
-    append-requires
+    add-feed-one
+    shared-slice-read-feed-one
+    feed-one-requires
     shared-slice-read-first
     cast-first
     mul-gone
