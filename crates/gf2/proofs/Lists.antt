@@ -1,16 +1,17 @@
 -- Laws of lists of numbers, of listed values and of the numbers that pass a test, and tests of a whole list that the checker computes: of
 -- every entry, that two lists are the same, and that a list rises.
-use mathlib.Core.Path.{_≡_, refl, ap, ap₂, _∙_}
+use mathlib.Core.Path.{_≡_, refl, sym, ap, ap₂, _∙_}
 use mathlib.Core.Logic.{_≢_}
 use mathlib.Core.Bool.{Bool, true, false, _&&_}
 use mathlib.Core.List.{List, [], _∷_, _++_, map}
 use Prim.Native.Nat.{ℕ, zero, suc, _+_, _≤_, _<_}
 use native.Mathlib.Nat.{lt-trans, ne-of-gt, zero-add, add-zero, add-suc, suc-add, le-of-suc-le-suc, not-suc-le-zero}
+use native.Mathlib.Numerals.{add-one}
 use native.Mathlib.Decide.{ℕ-discrete}
 use native.Mathlib.Omega.{arith}
 use lib.Dec.{T, ltb, ltb→lt, eqb, eqb→eq}
-use lib.ListN.{length, getD, set}
-use lib.Seq.{getD-set-same, getD-set-other}
+use lib.ListN.{length, getD, set, drop}
+use lib.Seq.{getD-set-same, getD-set-other, drop-cons, set-at, append-snoc}
 use Rattle.gf2.specs.Lists.{listFrom, keep, passing, same, All, Distinct}
 
 pub all-map : {P Q : ℕ → Type 0} → ((x : ℕ) → P x → Q x) → (xs : List ℕ) → All P xs → All Q xs
@@ -115,6 +116,13 @@ module _ {A : Type 0} (d : A) (P : ℕ → A → Type 0) (xs : List A) (i : ℕ)
       go : Dec (j ≡ i) → P j (getD (set xs i v) j d)
       go (yes e) = rw (e, getD-set-same xs i v d l) p
       go (no n) = rw (getD-set-other xs i j v d n) (f n)
+
+-- a store behind what is written already
+pub written-next : {A : Type 0} (xs before : List A) (i : ℕ) (d v : A) → length xs ≡ i → i < length before
+    → set (xs ++ drop i before) i v ≡ (xs ++ v ∷ []) ++ drop (i + 1) before
+written-next xs before i d v e l =
+    let next : drop i before ≡ getD before i d ∷ drop (i + 1) before = rw add-one (drop-cons before i d l) in
+    rw next (set-at xs (getD before i d) (drop (i + 1) before) v i e) ∙ sym (append-snoc xs v (drop (i + 1) before))
 
 -- ---- the numbers that pass a test
 

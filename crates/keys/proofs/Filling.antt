@@ -3,14 +3,13 @@ use mathlib.Core.Path.{_≡_, sym, ap, _∙_}
 use mathlib.Core.List.{List, [], _∷_, _++_, append-nil}
 use Prim.Native.Nat.{ℕ, suc, _+_, _*_, _^_, _≤_, _<_}
 use native.Mathlib.Nat.{zero-add, add-zero, pow-suc}
-use native.Mathlib.Numerals.{add-one}
 use native.Mathlib.Omega.{arith}
 use lib.ListN.{length, drop, getD, set, length-append, length-drop}
-use lib.Seq.{drop-cons, drop-length, append-snoc, set-at, getD-at}
+use lib.Seq.{drop-cons, drop-length, getD-at}
 use Rattle.gf2.specs.Polynomials.{rem}
 use Rattle.gf2.specs.Lists.{listFrom}
 use Rattle.gf2.proofs.Powers.{rem-shl}
-use Rattle.gf2.proofs.Lists.{length-list, list-at, list-more, list-same}
+use Rattle.gf2.proofs.Lists.{length-list, list-at, list-more, list-same, written-next}
 use Rattle.keys.specs.Squares.{square}
 
 -- listed values, each put through g with its place
@@ -28,12 +27,8 @@ module _ (f : ℕ → ℕ) (a i : ℕ) (rows : List ℕ) where
 
   pub fill : (v : ℕ) → i < length rows → v ≡ f (a + i) → set (listFrom f a i ++ drop i rows) i v ≡ listFrom f a (i + 1) ++ drop (i + 1) rows
   fill v h e =
-      rw (drop-cons rows i 0 h) (set-at (listFrom f a i) (getD rows i 0) (drop (suc i) rows) v i (length-list f a i))
-      ∙ sym (append-snoc (listFrom f a i) v (drop (suc i) rows))
-      ∙ last
-    where
-      last : listFrom f a i ++ (v ∷ []) ++ drop (suc i) rows ≡ listFrom f a (i + 1) ++ drop (i + 1) rows
-      last = rw (list-more f a i, add-one, e)
+      written-next (listFrom f a i) rows i 0 v (length-list f a i) h
+      ∙ ap (λ (l : List ℕ). l ++ drop (i + 1) rows) (ap (λ (x : ℕ). listFrom f a i ++ x ∷ []) e ∙ sym (list-more f a i))
 
   pub fill-whole : i ≡ length rows → listFrom f a i ++ drop i rows ≡ listFrom f a (length rows)
   fill-whole e = rw (e, drop-length) (append-nil (listFrom f a (length rows)))

@@ -1,7 +1,7 @@
 -- What the callers of the test rely on. A caller that takes the answer t apart has `tested t ≡ testKey key` and, of its arm, t ≡ Accepted or
 -- t ≡ Refused q.
 use mathlib.Core.Path.{_≡_, sym, ap, _∙_}
-use mathlib.Core.Bool.{Bool, true, false}
+use mathlib.Core.Bool.{true, false}
 use mathlib.Core.List.{List, [], _∷_, _++_}
 use Prim.Native.Nat.{ℕ, _%_, _^_, _≤_, _<_}
 use native.Mathlib.Omega.{arith}
@@ -53,13 +53,7 @@ module _ {S A : Type 0} (key : ℕ) (ts : List Test) (s : S) (v : A) where
 
   pub first-refused : (q : Refusal) → testKey key ≡ Refused q tt → firstOf (keyTests key ++ ts) s v ≡ Refused q s
   unfolding testKey
-  first-refused q e = go (ltb key 256) (reducible key) e
-    where
-      go : (x y : Bool) → firstOf (x ⇒ KeyBelow256 ∷ y ⇒ KeyReducible ∷ []) (tt {0}) (tt {0}) ≡ Refused q tt
-          → firstOf (x ⇒ KeyBelow256 ∷ y ⇒ KeyReducible ∷ ts) s v ≡ Refused q s
-      go true y f = cc
-      go false true f = cc
-      go false false f = let z : _≡_ {A = ℕ} 0 1 = cc in absurd (omega arith)
+  first-refused q e = refusals.more-refused (keyTests key) ts tt s tt v q e
 
 -- ---- a key that passed
 

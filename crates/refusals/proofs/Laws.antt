@@ -12,7 +12,7 @@ use Rattle.gf2.specs.Lists.{All}
 use Rattle.gf2.proofs.Lists.{all-map, rising, and-left, and-right}
 use Rattle.refusals.specs.declared.Refusal.{Refusal}
 use Rattle.refusals.specs.declared.Refusal.the-variants.{KeyBelow256, KeyReducible, DegreeNotListed, ElementOutOfRange, TableSize, TableWord, TooLong, MarkNotReduced, PageLengthsDiffer, PagePastEnd, EmptyPattern, PageSize, BufferShort, SheetMalformed}
-use Rattle.refusals.specs.Refusals.{number, Refused, numberOf, stateOf, Test, _⇒_, firstOf, numbers, applying, least, lowest}
+use Rattle.refusals.specs.Refusals.{number, Done, Refused, numberOf, stateOf, Test, _⇒_, firstOf, numbers, applying, least, lowest}
 
 -- ---- the lowest number that applies
 
@@ -71,6 +71,38 @@ module _ {S A : Type 0} where
   passed [] us false r x y e = refl
   passed (true ⇒ q ∷ ts) us b r x y e = absurd (no-zero q e)
   passed (false ⇒ q ∷ ts) us b r x y e = passed ts us b r x y e
+
+-- ---- a list of tests of which none holds
+
+abbrev pub Clear : List Test → Type 0
+Clear [] = Unit {0}
+Clear (b ⇒ r ∷ ts) = (b ≡ false) × Clear ts
+
+pub clear-done : {S A : Type 0} (ts : List Test) (x : S) (y : A) → Clear ts → firstOf ts x y ≡ Done y
+clear-done [] x y h = refl
+clear-done (true ⇒ r ∷ ts) x y h = absurd (let z : _≡_ {A = ℕ} 0 1 = cc (h .0) in omega arith)
+clear-done (false ⇒ r ∷ ts) x y h = clear-done ts x y (h .1)
+
+pub done-clear : {S A : Type 0} (ts : List Test) (x : S) (y z : A) → firstOf ts x y ≡ Done z → Clear ts × (y ≡ z)
+done-clear [] x y z e = (tt, cc)
+done-clear (true ⇒ r ∷ ts) x y z e = absurd (let z : _≡_ {A = ℕ} 0 1 = cc in omega arith)
+done-clear (false ⇒ r ∷ ts) x y z e = let i = done-clear ts x y z e in ((refl, i .0), i .1)
+
+pub clear-append : (ts us : List Test) → Clear ts → Clear us → Clear (ts ++ us)
+clear-append [] us h k = k
+clear-append (b ⇒ r ∷ ts) us h k = (h .0, clear-append ts us (h .1) k)
+
+-- more tests behind a list, and another state
+pub more-refused : {A B S T : Type 0} (ts us : List Test) (s : S) (t : T) (v : A) (w : B) (q : Refusal) → firstOf ts s v ≡ Refused q s → firstOf (ts ++ us) t w ≡ Refused q t
+more-refused [] us s t v w q e = absurd (let z : _≡_ {A = ℕ} 0 1 = cc in omega arith)
+more-refused (true ⇒ r ∷ ts) us s t v w q e = let d : r ≡ q = cc in rw d
+more-refused (false ⇒ r ∷ ts) us s t v w q e = more-refused ts us s t v w q e
+
+pub more-clear : {B : Type 0} {S : Type 0} (ts us : List Test) (s : S) (w : B) → Clear ts → firstOf (ts ++ us) s w ≡ firstOf us s w
+more-clear [] us s w c = refl
+more-clear (b ⇒ r ∷ ts) us s w c = rw (c .0) (more-clear ts us s w (c .1))
+
+-- ---- two sides
 
 -- the same tests on two sides: the same refusal, and on both sides what was kept or what comes next
 pub agree : {A B : Type 0} (f : B → A) (ts : List Test) (kept next : B) (nxt : A) → (numberOf (firstOf ts kept next) ≡ 0 → nxt ≡ f next)

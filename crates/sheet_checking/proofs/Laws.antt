@@ -16,8 +16,9 @@ use Rattle.sheets.specs.declared.Sheet.{Sheet}
 use Rattle.sheets.specs.Layout.{version1, numberAt, numbersAt, contentsIn}
 use Rattle.sheets.specs.Sheets.{contentsOf, readTests, readSheet, sheetRead, Page, OtherLength, firstChange, compared, checkSheet, FromTo, rangeOf}
 use Rattle.sheets.specs.Parts.{pagesLeft, fingerprintsFrom, ReadAs, comparison}
-use Rattle.sheets.proofs.Sound.{Clear, done-clear, neither}
-use Rattle.sheets.proofs.Known.{more-refused, more-clear, refused-inv, tests-clear, total}
+use Rattle.refusals.proofs.Laws.{Clear, done-clear, more-refused, more-clear}
+use Rattle.sheets.proofs.Sound.{neither}
+use Rattle.sheets.proofs.Known.{refused-inv, tests-clear, total}
 use Rattle.sheets.proofs.Changes.{not-other}
 use Rattle.sheets.proofs.Guarantee.{other-length}
 

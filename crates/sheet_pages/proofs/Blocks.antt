@@ -4,7 +4,7 @@ use mathlib.Core.List.{List, _∷_, _++_}
 use Prim.Native.Nat.{ℕ, zero, suc, _+_, _-_, _*_, _≤_, _<_}
 use native.Mathlib.Nat.{mul-le-mul-right, zero-mul, suc-mul}
 use native.Mathlib.Omega.{arith}
-use lib.ListN.{length, getD, set, take, drop, length-drop, length-set}
+use lib.ListN.{length, set, take, drop, length-drop, length-set}
 use lib.Seq.{drop-drop, length-take-le, take-add, getD-take}
 use Rattle.gf2.specs.Polynomials.{rem}
 use Rattle.gf2.specs.Lists.{listFrom}

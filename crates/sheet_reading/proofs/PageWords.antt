@@ -1,12 +1,12 @@
 -- Laws of a sheet's page fingerprints in lent words.
 use mathlib.Core.Path.{_≡_, sym, ap, ap₂, _∙_}
-use mathlib.Core.List.{List, [], _∷_, _++_, append-assoc}
+use mathlib.Core.List.{List, [], _∷_, _++_}
 use Prim.Native.Nat.{ℕ, _+_, _-_, _*_, _≤_, _<_, min}
 use native.Mathlib.Decide.{decLe}
-use native.Mathlib.Numerals.{add-one}
 use native.Mathlib.Omega.{arith}
-use lib.ListN.{length, getD, set, take, drop, drop-of-length-le}
-use lib.Seq.{drop-cons, set-append-seam, take-all, take-append-seam}
+use lib.ListN.{length, set, take, drop, drop-of-length-le}
+use lib.Seq.{take-all, take-append-seam}
+use Rattle.gf2.proofs.Lists.{written-next}
 use Rattle.sheets.specs.Layout.{numberAt, numbersAt}
 use Rattle.sheets.proofs.Numbers.{length-numbersAt, numbers-append, numbers-last}
 
@@ -15,12 +15,9 @@ pub word-next : (sheet before words : List ℕ) (i v : ℕ) → words ≡ number
     → set words i v ≡ numbersAt 19 8 (i + 1) sheet ++ drop (i + 1) before
 word-next sheet before words i v e l ev =
     let xs = numbersAt 19 8 i sheet in
-    let ys = drop (i + 1) before in
-    let next : drop i before ≡ getD before i 0 ∷ ys = drop-cons before i 0 l ∙ ap (λ (n : ℕ). getD before i 0 ∷ drop n before) (sym (add-one i)) in
-    ap₂ (λ (ws : List ℕ) (n : ℕ). set ws n v) (e ∙ ap (λ (r : List ℕ). xs ++ r) next) (sym (length-numbersAt 19 8 i sheet))
-    ∙ set-append-seam xs (getD before i 0) ys v
-    ∙ sym (append-assoc xs (v ∷ []) ys)
-    ∙ ap (λ (r : List ℕ). r ++ ys) (ap (λ (x : ℕ). xs ++ x ∷ []) ev ∙ sym (numbers-last 19 8 i sheet))
+    ap (λ (ws : List ℕ). set ws i v) e
+    ∙ written-next xs before i 0 v (length-numbersAt 19 8 i sheet) l
+    ∙ ap (λ (r : List ℕ). r ++ drop (i + 1) before) (ap (λ (x : ℕ). xs ++ x ∷ []) ev ∙ sym (numbers-last 19 8 i sheet))
 
 -- as many fields as there are, or as there are words
 pub words-are : (sheet words : List ℕ) (c m : ℕ) → m ≡ min c (length words)

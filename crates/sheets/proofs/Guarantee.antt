@@ -13,6 +13,7 @@ use lib.Seq.{take-at}
 use borrow.Author.Tests.{eq-eqb, ne-eqb, lt-ltb, le-ltb, le-leb, ltb-false}
 use Rattle.refusals.specs.declared.Refusal.the-variants.{TooLong}
 use Rattle.refusals.specs.Refusals.{Done, _⇒_, passes, longest}
+use Rattle.refusals.proofs.Laws.{Clear, clear-done, clear-append, done-clear}
 use Rattle.acceptance.proofs.Laws.{or-neither, key-iff}
 use Rattle.files.specs.Files.{Bytes, fingerprint}
 use Rattle.sheets.specs.Layout.{version1, numberAt, pagePlace, sheetSize, pageCount, pagesIn, Contents, sheetBytes, contentsIn}
@@ -20,7 +21,7 @@ use Rattle.sheets.specs.Sheets.{contentsOf, writeTests, writeSheet, read
 use Rattle.sheets.proofs.Numbers.{length-numbersAt, numbers-one}
 use Rattle.sheets.proofs.Layouts.{length-sheet, fingerprint-back, read-back}
 use Rattle.sheets.proofs.Pages.{length-pages}
-use Rattle.sheets.proofs.Sound.{Clear, clear-done, clear-append, done-clear, sound-fits, sound-clear, clear-sound, file-sound}
+use Rattle.sheets.proofs.Sound.{sound-fits, sound-clear, clear-sound, file-sound}
 use Rattle.sheets.proofs.Changes.{First, same-equal, equal-same, page-first, first-page}
 
 -- ---- reading

@@ -1,12 +1,12 @@
 -- What is known of a sheet that was read or refused, and of a lent buffer after a call.
 use mathlib.Core.Path.{_≡_, refl, sym, ap, _∙_}
-use mathlib.Core.Bool.{true, false}
-use mathlib.Core.List.{List, [], _∷_, _++_, append-nil}
+use mathlib.Core.List.{List, [], _++_, append-nil}
 use Prim.Native.Nat.{ℕ}
 use native.Mathlib.Omega.{arith}
 use lib.ListN.{length, take, drop}
 use Rattle.refusals.specs.declared.Refusal.{Refusal}
-use Rattle.refusals.specs.Refusals.{Answer, Done, Refused, stateOf, Test, _⇒_, firstOf}
+use Rattle.refusals.proofs.Laws.{Clear, clear-done, done-clear, more-refused}
+use Rattle.refusals.specs.Refusals.{Answer, Done, Refused, stateOf, Test, firstOf}
 use Rattle.sheets.specs.declared.Sheet.{Sheet}
 use Rattle.sheets.specs.declared.Written.{Written}
 use Rattle.sheets.specs.declared.Written.the-variants as written-cases
@@ -14,18 +14,7 @@ use Rattle.sheets.specs.Layout.{version1, pagesIn, sheetSize, Contents, 
 use Rattle.sheets.specs.Sheets.{readTests, readSheet, readPages, numbersOf, sheetRead, written, Sound}
 use Rattle.sheets.specs.Parts.{ReadAs}
 use Rattle.sheets.proofs.Numbers.{length-numbersAt}
-use Rattle.sheets.proofs.Sound.{Clear, clear-done, done-clear, clear-total, clear-contents}
-
--- ---- more tests behind a list, and another state
-
-pub more-refused : {A B S T : Type 0} (ts us : List Test) (s : S) (t : T) (v : A) (w : B) (q : Refusal) → firstOf ts s v ≡ Refused q s → firstOf (ts ++ us) t w ≡ Refused q t
-more-refused [] us s t v w q e = absurd (let z : _≡_ {A = ℕ} 0 1 = cc in omega arith)
-more-refused (true ⇒ r ∷ ts) us s t v w q e = let d : r ≡ q = cc in rw d
-more-refused (false ⇒ r ∷ ts) us s t v w q e = more-refused ts us s t v w q e
-
-pub more-clear : {B : Type 0} {S : Type 0} (ts us : List Test) (s : S) (w : B) → Clear ts → firstOf (ts ++ us) s w ≡ firstOf us s w
-more-clear [] us s w c = refl
-more-clear (b ⇒ r ∷ ts) us s w c = rw (c .0) (more-clear ts us s w (c .1))
+use Rattle.sheets.proofs.Sound.{clear-total, clear-contents}
 
 -- ---- what reading says
 

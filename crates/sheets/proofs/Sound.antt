@@ -12,7 +12,8 @@ use borrow.Author.Tests.{eq-eqb, le-ltb, lt-leb, ltb-false, leb-false, eqb-true,
 use Rattle.gf2.specs.Lists.{All}
 use Rattle.gf2.specs.Polynomials.{degree, rem}
 use Rattle.gf2.proofs.Lists.{all-map}
-use Rattle.refusals.specs.Refusals.{Done, Test, _⇒_, firstOf, longest}
+use Rattle.refusals.specs.Refusals.{longest}
+use Rattle.refusals.proofs.Laws.{Clear}
 use Rattle.acceptance.specs.Keys.{accepted}
 use Rattle.acceptance.proofs.Laws.{or-neither, accepted-iff, accepted-pos, accepted-small, key-iff}
 use Rattle.files.specs.Files.{Bytes, fingerprint}
@@ -21,26 +22,6 @@ use Rattle.sheets.specs.Sheets.{contentsOf, someUnreduced, pagesJoined, 
 use Rattle.sheets.proofs.Numbers.{number-lt, length-numbersAt}
 use Rattle.sheets.proofs.Layouts.{Fits, length-sheet, letters-back, version-back, read-back, write-back}
 use Rattle.sheets.proofs.Pages.{fingerprint-lt, fingerprints-lt, length-pages, pages-joined}
-
--- ---- lists of tests of which none holds
-
-abbrev pub Clear : List Test → Type 0
-Clear [] = Unit {0}
-Clear (b ⇒ r ∷ ts) = (b ≡ false) × Clear ts
-
-pub clear-done : {S A : Type 0} (ts : List Test) (x : S) (y : A) → Clear ts → firstOf ts x y ≡ Done y
-clear-done [] x y h = refl
-clear-done (true ⇒ r ∷ ts) x y h = absurd (let z : _≡_ {A = ℕ} 0 1 = cc (h .0) in omega arith)
-clear-done (false ⇒ r ∷ ts) x y h = clear-done ts x y (h .1)
-
-pub done-clear : {S A : Type 0} (ts : List Test) (x : S) (y z : A) → firstOf ts x y ≡ Done z → Clear ts × (y ≡ z)
-done-clear [] x y z e = (tt, cc)
-done-clear (true ⇒ r ∷ ts) x y z e = absurd (let z : _≡_ {A = ℕ} 0 1 = cc in omega arith)
-done-clear (false ⇒ r ∷ ts) x y z e = let i = done-clear ts x y z e in ((refl, i .0), i .1)
-
-pub clear-append : (ts us : List Test) → Clear ts → Clear us → Clear (ts ++ us)
-clear-append [] us h k = k
-clear-append (b ⇒ r ∷ ts) us h k = (h .0, clear-append ts us (h .1) k)
 
 -- ---- reduced fingerprints
 
