@@ -11,7 +11,7 @@ use Rattle.gf2.proofs.Degrees.{degree-eq}
 use Rattle.gf2.proofs.Divisors.{dvd-by, dvd-zero, dvd-⊕}
 use Rattle.gf2.proofs.Residues.{rem-cong, rem-small}
 use Rattle.acceptance.proofs.Criterion.{irreducible-rigid}
-use Rattle.fields.proofs.Squaring.{power, power-zero, power-suc, power-power, power-cong, power-cancel}
+use Rattle.fields.proofs.Squaring.{power, power-zero, power-suc, power-power, power-cong, same-power}
 use Rattle.fields.proofs.Fermat.{fermat-all}
 use Rattle.fields.specs.Fields.{Field}
 
@@ -92,9 +92,4 @@ module _ (f k e : ℕ) (h : Field f k) where
             ∙ rem-small pos-f e residue
 
     pub conjugates-differ : (i j : ℕ) → i < j → j < k → Divides f (power i e ⊕ power j e) → ⊥
-    conjugates-differ i j l s p =
-        no-period (j - i) (omega arith) (omega arith)
-        (dvd-by (power-cancel f i e (power (j - i) e) (h .irreducible) (dvd-by p (ap (λ (x : ℕ). power i e ⊕ x) (sym back)))) (simp xor))
-      where
-        back : power i (power (j - i) e) ≡ power j e
-        back = power-power i (j - i) e ∙ ap (λ (x : ℕ). power x e) (omega arith)
+    conjugates-differ i j l s p = no-period (j - i) (omega arith) (omega arith) (same-power f i j e (h .irreducible) l p)

@@ -9,13 +9,13 @@ use native.Mathlib.Decide.{decLt}
 use native.Mathlib.Omega.{arith}
 use lib.Pow.{pow-lt, pow-mono}
 use Rattle.gf2.specs.Polynomials.{_⊕_, Degree, Divides, rem, Irreducible}
-use Rattle.gf2.proofs.Sums.{⊕-eq, ⊕-lt, ⊕-comm}
+use Rattle.gf2.proofs.Sums.{⊕-eq, ⊕-lt}
 use Rattle.gf2.proofs.Degrees.{deg-hi, deg-pos, deg-⊗, deg-⊕}
 use Rattle.gf2.proofs.Divisors.{dvd-by, dvd-refl, dvd-small}
 use Rattle.gf2.proofs.Residues.{rem-cong, dvd-of-rem}
 use Rattle.fields.specs.Fields.{compose}
 use Rattle.fields.proofs.Values.{compose-⊕, compose-two, compose-id}
-use Rattle.fields.proofs.Squaring.{power, power-power, power-compose, compose-power, dvd-power, power-cancel, all-fixed}
+use Rattle.fields.proofs.Squaring.{power, power-compose, compose-power, dvd-power, same-power, all-fixed}
 use Rattle.fields.proofs.Roots.{Different, few-roots}
 use Rattle.fields.proofs.Pigeonhole.{Collision, collide}
 
@@ -84,12 +84,7 @@ module _ (p k : ℕ) (irr : Irreducible p) (of-degree : Degree p k) where
   -- from a collision of conjugates, a period
   period : (i j : ℕ) → i < j → conjugate i ≡ conjugate j → Divides p (power (j - i) 2 ⊕ 2)
   unfolding conjugate
-  period i j l e =
-      dvd-by (power-cancel p i 2 (power (j - i) 2) irr (dvd-by (dvd-of-rem pos (power i 2) (power j 2) e) (ap (λ (x : ℕ). power i 2 ⊕ x) (sym back))))
-      (⊕-comm 2 (power (j - i) 2))
-    where
-      back : power i (power (j - i) 2) ≡ power j 2
-      back = power-power i (j - i) 2 ∙ ap (λ (x : ℕ). power x 2) (omega arith)
+  period i j l e = same-power p i j 2 irr l (dvd-of-rem pos (power i 2) (power j 2) e)
 
   pub fermat : Divides p (power k 2 ⊕ 2)
   fermat = go (collide (suc k) conjugate)

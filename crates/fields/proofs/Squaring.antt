@@ -2,9 +2,11 @@
 -- after k times, it gives every residue back.
 use mathlib.Core.Path.{_≡_, refl, sym, ap, ap₂, _∙_}
 use mathlib.Core.Logic.{⊎-elim}
-use Prim.Native.Nat.{ℕ, zero, suc, _+_, _^_, _<_}
+use Prim.Native.Nat.{ℕ, zero, suc, _+_, _-_, _^_, _<_}
 use native.Mathlib.Nat.{zero-add, suc-add}
+use native.Mathlib.Omega.{arith}
 use Rattle.gf2.specs.Polynomials.{_⊕_, _⊗_, degree, Divides, rem, Irreducible}
+use Rattle.gf2.proofs.Sums.{⊕-comm}
 use Rattle.gf2.proofs.Products.{square-⊕}
 use Rattle.gf2.proofs.Divisors.{dvd-by, dvd-⊗}
 use Rattle.gf2.proofs.Residues.{rem-⊗, rem-small}
@@ -51,7 +53,7 @@ unfolding power
 dvd-power f zero x h = h
 dvd-power f (suc j) x h = dvd-⊗ (power j x) (dvd-power f j x h)
 
-pub dvd-of-power : (f j x : ℕ) → Irreducible f → Divides f (power j x) → Divides f x
+dvd-of-power : (f j x : ℕ) → Irreducible f → Divides f (power j x) → Divides f x
 unfolding power
 dvd-of-power f zero x i h = h
 dvd-of-power f (suc j) x i h = dvd-of-power f j x i (⊎-elim (λ l. l) (λ r. r) (euclid-lemma f (power j x) (power j x) i h))
@@ -59,8 +61,16 @@ dvd-of-power f (suc j) x i h = dvd-of-power f j x i (⊎-elim (λ l. l) (λ r. r
 pub power-cong : (f j a b : ℕ) → Divides f (a ⊕ b) → Divides f (power j a ⊕ power j b)
 power-cong f j a b h = dvd-by (dvd-power f j (a ⊕ b) h) (power-⊕ j a b)
 
-pub power-cancel : (f j a b : ℕ) → Irreducible f → Divides f (power j a ⊕ power j b) → Divides f (a ⊕ b)
+power-cancel : (f j a b : ℕ) → Irreducible f → Divides f (power j a ⊕ power j b) → Divides f (a ⊕ b)
 power-cancel f j a b i h = dvd-of-power f j (a ⊕ b) i (dvd-by h (sym (power-⊕ j a b)))
+
+-- where squaring i times and j times gives the same, squaring j - i times gives x back
+pub same-power : (f i j x : ℕ) → Irreducible f → i < j → Divides f (power i x ⊕ power j x) → Divides f (power (j - i) x ⊕ x)
+same-power f i j x irr l h =
+    dvd-by (power-cancel f i x (power (j - i) x) irr (dvd-by h (ap (λ (y : ℕ). power i x ⊕ y) (sym back)))) (⊕-comm x (power (j - i) x))
+  where
+    back : power i (power (j - i) x) ≡ power j x
+    back = power-power i (j - i) x ∙ ap (λ (n : ℕ). power n x) (omega arith)
 
 -- t, squared k times, is t: so is every polynomial, since it is its own value at t
 pub all-fixed : (f k x : ℕ) → Divides f (power k 2 ⊕ 2) → Divides f (power k x ⊕ x)

@@ -15,7 +15,7 @@ use Rattle.windows.specs.declared.rolling.Setup.{Setup}
 use Rattle.search.specs.Searching.{windows, isPlace, alike, isAlarm, places, alarms, counts, overlay}
 use Rattle.windows.specs.Rolling.{window, residue, keyOf, Filled, hit}
 use Rattle.windows.proofs.Windows.{window-length}
-use Rattle.search.specs.Flagged.{flaggedPlace, flaggedAlarm}
+use Rattle.search.specs.Flagged.{flaggedPlace, flaggedAlarm, flaggedPlaces, flaggedAlarms}
 use Rattle.search.proofs.Comparing.{same-is}
 use Rattle.windows.proofs.Residues.{without-one}
 use Rattle.search.proofs.Numbers.{passing-same, overlay-sets}
@@ -31,7 +31,9 @@ and-implied true b h = refl
 and-implied false true h = h refl
 and-implied false false h = refl
 
-module _ (s : Setup) (text pattern : List ℕ) (from size : ℕ) (flags : List Bool) (pos : 0 < keyOf s) (em : s .m ≡ length pattern) (ew : s .wanted ≡ residue (keyOf s) pattern) (fits : from + size + length pattern ≤ length text + 1) (marked : Filled false (hit s text from) 0 size flags) where
+module _ (s : Setup) (text pattern : List ℕ) (from size : ℕ) (flags : List Bool) (pos : 0 < keyOf s) (em : s .m ≡ length pattern)
+    (ew : s .wanted ≡ residue (keyOf s) pattern) (fits : from + size + length pattern ≤ length text + 1)
+    (marked : Filled false (hit s text from) 0 size flags) where
   flag-alike : (i : ℕ) → from ≤ i → i < from + size → getD flags (i - from) false ≡ alike (keyOf s) text pattern i
   unfolding hit alike
   flag-alike i l h =
@@ -40,7 +42,7 @@ module _ (s : Setup) (text pattern : List ℕ) (from size : ℕ) (flags : List B
       ∙ rw (e, em, ew)
       (sym (without-one pos (window (length pattern) text i) pattern (window-length (length pattern) text i (omega arith))))
 
-  pub flagged-places : passing (flaggedPlace flags text pattern from) from size ≡ passing (isPlace text pattern) (0 + from) size
+  pub flagged-places : flaggedPlaces flags text pattern from size ≡ passing (isPlace text pattern) (0 + from) size
   unfolding flaggedPlace
   flagged-places =
       rw (zero-add from)
@@ -48,7 +50,7 @@ module _ (s : Setup) (text pattern : List ℕ) (from size : ℕ) (flags : List B
       (λ i l h. ap (λ (b : Bool). b && isPlace text pattern i) (flag-alike i l h)
       ∙ and-implied (alike (keyOf s) text pattern i) (isPlace text pattern i) (place-alike (keyOf s) text pattern i)))
 
-  pub flagged-alarms : passing (flaggedAlarm flags text pattern from) from size ≡ passing (isAlarm (keyOf s) text pattern) (0 + from) size
+  pub flagged-alarms : flaggedAlarms flags text pattern from size ≡ passing (isAlarm (keyOf s) text pattern) (0 + from) size
   unfolding flaggedAlarm isAlarm
   flagged-alarms =
       rw (zero-add from)

@@ -52,36 +52,25 @@ module _ (key : ℕ) (text pattern words : List ℕ) where
   abbrev pub Answers : Answer Unit Counts → List ℕ → Type 0
   Answers r after = (r ≡ search key text pattern) × (after ≡ wordsAfter key text pattern words)
 
-  pub call-key : (q : Refusal) → testKey key ≡ Refused q tt → Answers (Refused q tt) words
+  -- both are what the tests say, whatever is kept on refusal
+  refuses : (q : Refusal) → ((S A : Type 0) (s : S) (v : A) → firstOf (searchTests key text pattern) s v ≡ Refused q s) → Answers (Refused q tt) words
   unfolding search wordsAfter
-  call-key q e = (
-    sym (key-refused key text pattern tt (counts key text pattern) q e),
-    sym (ap stateOf (key-refused key text pattern words (overlay (places text pattern) words) q e)),
-  )
+  refuses q e = (sym (e Unit Counts tt (counts key text pattern)), sym (ap stateOf (e (List ℕ) (List ℕ) words (overlay (places text pattern) words))))
+
+  pub call-key : (q : Refusal) → testKey key ≡ Refused q tt → Answers (Refused q tt) words
+  call-key q e = refuses q (λ S A s v. key-refused key text pattern s v q e)
 
   module _ (h : Passed key) where
     pub call-text : longest < length text → Answers (Refused TooLong tt) words
-    unfolding search wordsAfter
-    call-text l = (
-      sym (text-long key text pattern tt (counts key text pattern) h l),
-      sym (ap stateOf (text-long key text pattern words (overlay (places text pattern) words) h l)),
-    )
+    call-text l = refuses TooLong (λ S A s v. text-long key text pattern s v h l)
 
     module _ (lt : length text ≤ longest) where
       pub call-pattern : longest < length pattern → Answers (Refused TooLong tt) words
-      unfolding search wordsAfter
-      call-pattern l = (
-        sym (pattern-long key text pattern tt (counts key text pattern) h lt l),
-        sym (ap stateOf (pattern-long key text pattern words (overlay (places text pattern) words) h lt l)),
-      )
+      call-pattern l = refuses TooLong (λ S A s v. pattern-long key text pattern s v h lt l)
 
       module _ (lp : length pattern ≤ longest) where
         pub call-empty : length pattern ≡ 0 → Answers (Refused EmptyPattern tt) words
-        unfolding search wordsAfter
-        call-empty e = (
-          sym (pattern-empty key text pattern tt (counts key text pattern) h lt lp e),
-          sym (ap stateOf (pattern-empty key text pattern words (overlay (places text pattern) words) h lt lp e)),
-        )
+        call-empty e = refuses EmptyPattern (λ S A s v. pattern-empty key text pattern s v h lt lp e)
 
         pub call-done : (length pattern ≡ 0 → ⊥) → Answers (Done (counts key text pattern)) (overlay (places text pattern) words)
         unfolding search wordsAfter

@@ -107,65 +107,65 @@ overlay-sets (p ∷ ps) (w ∷ l) = ap (λ (r : List ℕ). p ∷ r) (overlay-set
 -- ---- a count under way: what was found, and what is left to find of c numbers, make what there is to find
 -- p and a are the numbers that passed the tests P and A so far, and those of P were written to the words
 
-module _ (P A : ℕ → Bool) (n c : ℕ) (words₀ : List ℕ) (p₀ a₀ : ℕ) where
-  pub record Tally (words : List ℕ) (p a i : ℕ) : Type 0 where
-    pub placed : p + length (passing P (n + i) (c - i)) ≡ p₀ + length (passing P n c)
-    pub alarmed : a + length (passing A (n + i) (c - i)) ≡ a₀ + length (passing A n c)
-    pub written : sets words p (passing P (n + i) (c - i)) ≡ sets words₀ p₀ (passing P n c)
+pub record Tally (P A : ℕ → Bool) (n c : ℕ) (words₀ : List ℕ) (p₀ a₀ : ℕ) (words : List ℕ) (p a i : ℕ) : Type 0 where
+  pub placed : p + length (passing P (n + i) (c - i)) ≡ p₀ + length (passing P n c)
+  pub alarmed : a + length (passing A (n + i) (c - i)) ≡ a₀ + length (passing A n c)
+  pub written : sets words p (passing P (n + i) (c - i)) ≡ sets words₀ p₀ (passing P n c)
 
-  pub tally-begin : Tally words₀ p₀ a₀ 0
+module _ {P A : ℕ → Bool} {n c : ℕ} {words₀ : List ℕ} {p₀ a₀ : ℕ} where
+  pub tally-begin : Tally P A n c words₀ p₀ a₀ words₀ p₀ a₀ 0
   tally-begin = record { placed = rw (left-all P n c); alarmed = rw (left-all A n c); written = rw (left-all P n c) }
 
-  module _ (words : List ℕ) (p a i : ℕ) (h : i < c) (t : Tally words p a i) where
-    pub tally-skip : P (n + i) ≡ false → A (n + i) ≡ false → Tally words p a (i + 1)
-    tally-skip e f =
+  module _ {words : List ℕ} {p a i : ℕ} (t : Tally P A n c words₀ p₀ a₀ words p a i) where
+    module _ (h : i < c) where
+      pub tally-skip : P (n + i) ≡ false → A (n + i) ≡ false → Tally P A n c words₀ p₀ a₀ words p a (i + 1)
+      tally-skip e f =
+          record {
+            placed = rw (left-miss P n i c h e) at (t .placed);
+            alarmed = rw (left-miss A n i c h f) at (t .alarmed);
+            written = rw (left-miss P n i c h e) at (t .written);
+          }
+
+      pub tally-alarm : P (n + i) ≡ false → A (n + i) ≡ true → Tally P A n c words₀ p₀ a₀ words p (a + 1) (i + 1)
+      tally-alarm e f =
+          record {
+            placed = rw (left-miss P n i c h e) at (t .placed);
+            alarmed = (let q = rw (left-hit A n i c h f) at (t .alarmed) in omega arith);
+            written = rw (left-miss P n i c h e) at (t .written);
+          }
+
+      pub tally-place : P (n + i) ≡ true → A (n + i) ≡ false → Tally P A n c words₀ p₀ a₀ (set words p (n + i)) (p + 1) a (i + 1)
+      tally-place e f =
+          record {
+            placed = (let q = rw (left-hit P n i c h e) at (t .placed) in omega arith);
+            alarmed = rw (left-miss A n i c h f) at (t .alarmed);
+            written = rw (add-one p) (rw (left-hit P n i c h e) at (t .written));
+          }
+
+    -- s numbers at once
+    pub tally-block : (next : List ℕ) (s q b : ℕ) → i + s ≤ c → next ≡ sets words p (passing P (n + i) s)
+        → q ≡ p + length (passing P (n + i) s) → b ≡ a + length (passing A (n + i) s) → Tally P A n c words₀ p₀ a₀ next q b (i + s)
+    tally-block next s q b h en eq eb =
         record {
-          placed = rw (left-miss P n i c h e) at (t .placed);
-          alarmed = rw (left-miss A n i c h f) at (t .alarmed);
-          written = rw (left-miss P n i c h e) at (t .written);
+          placed = count P p q eq (t .placed);
+          alarmed = count A a b eb (t .alarmed);
+          written =
+              rw (en, eq)
+              (sym (sets-append words p (passing P (n + i) s) (passing P (n + (i + s)) (c - (i + s)))) ∙ ap (sets words p) (sym (left-block P n i s c h)) ∙ t .written);
         }
+      where
+        count : (T : ℕ → Bool) (x y : ℕ) {z : ℕ} → y ≡ x + length (passing T (n + i) s) → x + length (passing T (n + i) (c - i)) ≡ z
+            → y + length (passing T (n + (i + s)) (c - (i + s))) ≡ z
+        count T x y ey ex =
+            let parts = ap length (left-block T n i s c h) ∙ length-append (passing T (n + i) s) (passing T (n + (i + s)) (c - (i + s))) in
+            omega arith
 
-    pub tally-alarm : P (n + i) ≡ false → A (n + i) ≡ true → Tally words p (a + 1) (i + 1)
-    tally-alarm e f =
-        record {
-          placed = rw (left-miss P n i c h e) at (t .placed);
-          alarmed = (let q = rw (left-hit A n i c h f) at (t .alarmed) in omega arith);
-          written = rw (left-miss P n i c h e) at (t .written);
-        }
+    pub tally-end : c ≤ i → (p ≡ p₀ + length (passing P n c)) × (a ≡ a₀ + length (passing A n c)) × (words ≡ sets words₀ p₀ (passing P n c))
+    tally-end h =
+        let placed = rw (left-none P n i c h) at (t .placed) in
+        let alarmed = rw (left-none A n i c h) at (t .alarmed) in
+        (omega arith, omega arith, (rw (left-none P n i c h) at (t .written)))
 
-    pub tally-place : P (n + i) ≡ true → A (n + i) ≡ false → Tally (set words p (n + i)) (p + 1) a (i + 1)
-    tally-place e f =
-        record {
-          placed = (let q = rw (left-hit P n i c h e) at (t .placed) in omega arith);
-          alarmed = rw (left-miss A n i c h f) at (t .alarmed);
-          written = rw (add-one p) (rw (left-hit P n i c h e) at (t .written));
-        }
-
-  -- s numbers at once
-  pub tally-block : (words next : List ℕ) (p a i s q b : ℕ) → i + s ≤ c → Tally words p a i → next ≡ sets words p (passing P (n + i) s)
-      → q ≡ p + length (passing P (n + i) s) → b ≡ a + length (passing A (n + i) s) → Tally next q b (i + s)
-  tally-block words next p a i s q b h t en eq eb =
-      record {
-        placed = count P p q eq (t .placed);
-        alarmed = count A a b eb (t .alarmed);
-        written =
-            rw (en, eq)
-            (sym (sets-append words p (passing P (n + i) s) (passing P (n + (i + s)) (c - (i + s)))) ∙ ap (sets words p) (sym (left-block P n i s c h)) ∙ t .written);
-      }
-    where
-      count : (T : ℕ → Bool) (x y : ℕ) {z : ℕ} → y ≡ x + length (passing T (n + i) s) → x + length (passing T (n + i) (c - i)) ≡ z
-          → y + length (passing T (n + (i + s)) (c - (i + s))) ≡ z
-      count T x y ey ex =
-          let parts = ap length (left-block T n i s c h) ∙ length-append (passing T (n + i) s) (passing T (n + (i + s)) (c - (i + s))) in
-          omega arith
-
-  pub tally-end : (words : List ℕ) (p a i : ℕ) → c ≤ i → Tally words p a i
-      → (p ≡ p₀ + length (passing P n c)) × (a ≡ a₀ + length (passing A n c)) × (words ≡ sets words₀ p₀ (passing P n c))
-  tally-end words p a i h t =
-      let placed = rw (left-none P n i c h) at (t .placed) in
-      let alarmed = rw (left-none A n i c h) at (t .alarmed) in
-      (omega arith, omega arith, (rw (left-none P n i c h) at (t .written)))
-
-  pub tally-length : (words : List ℕ) (p a i : ℕ) → Tally words p a i → length words ≡ length words₀
-  tally-length words p a i t =
-      sym (length-sets words p (passing P (n + i) (c - i))) ∙ ap length (t .written) ∙ length-sets words₀ p₀ (passing P n c)
+    pub tally-length : length words ≡ length words₀
+    tally-length =
+        sym (length-sets words p (passing P (n + i) (c - i))) ∙ ap length (t .written) ∙ length-sets words₀ p₀ (passing P n c)

@@ -4,8 +4,7 @@ ghost use mathlib.Core.Path.{_≡_};
 ghost use Prim.Native.Nat.{_+_, _≤_, _<_};
 ghost use lib.ListN.{length};
 ghost use lib.Seq.{sets};
-ghost use Rattle.gf2.specs.Lists.{passing};
-ghost use Rattle.search.specs.Flagged.{flaggedPlace, flaggedAlarm};
+ghost use Rattle.search.specs.Flagged.{flaggedPlaces, flaggedAlarms};
 
 // The flagged windows of a block, added to what was found before. The comparison leaves off at the first byte that differs; a place is written
 // behind the earlier ones, as far as the words reach.
@@ -24,9 +23,9 @@ pub fn compare(
         × (length (now text) ≤ 4294967295)
         × (found .places ≤ from)
         × (found .alarms ≤ from) ⌝ }
-    ensures { λ r. ⌜ (r .places ≡ found .places + length (passing (flaggedPlace (now (flags .entry)) (now (text .entry)) (now (pattern .entry)) from) from size))
-        × (r .alarms ≡ found .alarms + length (passing (flaggedAlarm (now (flags .entry)) (now (text .entry)) (now (pattern .entry)) from) from size))
-        × (now (words .exit) ≡ sets (now (words .entry)) (found .places) (passing (flaggedPlace (now (flags .entry)) (now (text .entry)) (now (pattern .entry)) from) from size)) ⌝ }
+    ensures { λ r. ⌜ (r .places ≡ found .places + length (flaggedPlaces (now (flags .entry)) (now (text .entry)) (now (pattern .entry)) from size))
+        × (r .alarms ≡ found .alarms + length (flaggedAlarms (now (flags .entry)) (now (text .entry)) (now (pattern .entry)) from size))
+        × (now (words .exit) ≡ sets (now (words .entry)) (found .places) (flaggedPlaces (now (flags .entry)) (now (text .entry)) (now (pattern .entry)) from size)) ⌝ }
 {
     let m = pattern.len();
     let mut count = found.places;

@@ -34,15 +34,13 @@ add-windows c = omega arith
 
 loop-holds : tie.Need-loop-holds Inv-loop μ-loop
 loop-holds c =
-    let s = c .before .before .before .before in
-    let a = s .args in
-    let n = length (a .text .now) - length (a .pattern .now) + 1 in (
+    let s = c .before .before .before .before in (
       omega arith,
       refl,
       omega arith,
       omega arith,
       (λ h. s .pre .3),
-      tally-begin (isPlace (a .text .now) (a .pattern .now)) (isAlarm (keyOf (a .s)) (a .text .now) (a .pattern .now)) 0 n (a .words .now) 0 0,
+      tally-begin,
     )
 
 mark-block-requires : tie.Need-mark-block-requires Inv-loop μ-loop
@@ -85,23 +83,17 @@ loop-again c =
     let ps = flagged-places (a .s) t q (l .from) size _ pos e (s .pre .2) fits (b .3 .flags) in
     let fs = flagged-alarms (a .s) t q (l .from) size _ pos e (s .pre .2) fits (b .3 .flags) in
     let np = found .0 ∙ ap (λ x. l .found .places + length x) ps in
-    let na = found .1 ∙ ap (λ x. l .found .alarms + length x) fs in
-    let n = length t - length q + 1 in (
+    let na = found .1 ∙ ap (λ x. l .found .alarms + length x) fs in (
       omega (arith, fits),
       b .4,
       omega (arith, np, passing-length (isPlace t q) (0 + l .from) size, l .inv .2),
       omega (arith, na, passing-length (isAlarm (keyOf (a .s)) t q) (0 + l .from) size, l .inv .3),
       (λ h. b .3 .next (omega (arith, h, e))),
-      tally-block (isPlace t q) (isAlarm (keyOf (a .s)) t q) 0 n (a .words .now) 0 0 (l .words) _ (l .found .places) (l .found .alarms) (l .from) size _ _ (omega (arith, fits)) (l .inv .5)
-          (found .2 ∙ ap (sets (l .words) (l .found .places)) ps) np na,
+      tally-block (l .inv .5) _ size _ _ (omega (arith, fits)) (found .2 ∙ ap (sets (l .words) (l .found .places)) ps) np na,
     )
 
 same-length : tie.Need-same-length Inv-loop μ-loop
-same-length c =
-    let a = c .before .before .before .before .before .before .args in
-    let l = c .before .loop in
-    let n = length (a .text .now) - length (a .pattern .now) + 1 in
-    tally-length (isPlace (a .text .now) (a .pattern .now)) (isAlarm (keyOf (a .s)) (a .text .now) (a .pattern .now)) 0 n (a .words .now) 0 0 (l .words) (l .found .places) (l .found .alarms) (l .from) (l .inv .5)
+same-length c = tally-length (c .before .loop .inv .5)
 
 -- the number of windows as the code counts them
 windows-is : (t q : List ℕ) → length q ≤ length t → length t - length q + 1 ≡ windows t q
@@ -117,7 +109,7 @@ returns c =
     let l = c .before .loop in
     let n = length t - length q + 1 in
     all-found (keyOf (a .s)) t q (a .words .now) (l .words) (l .found) n (windows-is t q (s .pre .4))
-    (tally-end (isPlace t q) (isAlarm (keyOf (a .s)) t q) 0 n (a .words .now) 0 0 (l .words) (l .found .places) (l .found .alarms) (l .from) (omega arith) (l .inv .5))
+    (tally-end (l .inv .5) (omega arith))
 
 pub search-blocks-spec : {M : Type 1} → statement M
 search-blocks-spec =

@@ -39,9 +39,7 @@ abbrev μ-windows : tie.MeasureT-windows
 μ-windows text pattern flags from size words₀ m count₀ alarms₀ i₀ words count alarms i = size - i
 
 windows-holds : tie.Need-windows-holds Inv-loop μ-loop Inv-windows μ-windows
-windows-holds c =
-    let a = c .args in
-    (omega arith, omega arith, omega arith, tally-begin (flaggedPlace (a .flags .now) (a .text .now) (a .pattern .now) (a .from)) (flaggedAlarm (a .flags .now) (a .text .now) (a .pattern .now) (a .from)) (a .from) (a .size) (a .words .now) (a .found .places) (a .found .alarms))
+windows-holds c = (omega arith, omega arith, omega arith, tally-begin)
 
 element-copy-out-if1 : tie.Need-element-copy-out-if1 Inv-loop μ-loop Inv-windows μ-windows
 element-copy-out-if1 c = omega arith
@@ -58,7 +56,7 @@ windows-again c =
     let w = c .before .before .before .windows in
     let e = unflagged-place (a .flags .now) (a .text .now) (a .pattern .now) (a .from) (w .i) (not-true _ (c .if1 .taken)) in
     let f = unflagged-alarm (a .flags .now) (a .text .now) (a .pattern .now) (a .from) (w .i) (not-true _ (c .if1 .taken)) in
-    (omega arith, omega arith, omega arith, tally-skip _ _ (a .from) (a .size) (a .words .now) (a .found .places) (a .found .alarms) (w .words) (w .count) (w .alarms) (w .i) (omega arith) (w .inv .3) e f)
+    (omega arith, omega arith, omega arith, tally-skip (w .inv .3) (omega arith) e f)
 
 add-at : tie.Need-add-at Inv-loop μ-loop Inv-windows μ-windows
 add-at c = omega arith
@@ -97,7 +95,7 @@ windows-again-2 c =
     let z = l .inv .3 ∙ same-differs (window (length q) t at) q (l .j) (omega arith) (omega arith) (λ e. c .if2 .taken (sym (window-at (length q) t at (l .j) (omega arith)) ∙ e)) in
     let e = flagged-place (a .flags .now) t q (a .from) (w .i) false (not-false _ (c .before .before .before .before .before .if1 .left)) z in
     let f = flagged-alarm (a .flags .now) t q (a .from) (w .i) false (not-false _ (c .before .before .before .before .before .if1 .left)) z in
-    let done = tally-alarm _ _ (a .from) (a .size) (a .words .now) (a .found .places) (a .found .alarms) (w .words) (w .count) (w .alarms) (w .i) (omega arith) (w .inv .3) e f in
+    let done = tally-alarm (w .inv .3) (omega arith) e f in
     (omega arith, omega arith, omega arith, rw (l .inv .0, l .inv .1) done)
 
 add-j : tie.Need-add-j Inv-loop μ-loop Inv-windows μ-windows
@@ -161,20 +159,16 @@ windows-again-3 c =
     let z = l .inv .3 ∙ same-end (window (length q) t at) q (l .j) (omega arith) (omega arith) in
     let e = flagged-place (a .flags .now) t q (a .from) (w .i) true (not-false _ (c .before .before .before .if1 .left)) z in
     let f = flagged-alarm (a .flags .now) t q (a .from) (w .i) true (not-false _ (c .before .before .before .if1 .left)) z in
-    let done = tally-place _ _ (a .from) (a .size) (a .words .now) (a .found .places) (a .found .alarms) (w .words) (w .count) (w .alarms) (w .i) (omega arith) (w .inv .3) e f in
+    let done = tally-place (w .inv .3) (omega arith) e f in
     (omega arith, omega arith, omega arith, rw (l .inv .0, l .inv .1, stored c) done)
 
 same-length : tie.Need-same-length Inv-loop μ-loop Inv-windows μ-windows
 same-length c =
-    let a = c .before .before .args in
-    let w = c .before .windows in
-    tally-length _ _ (a .from) (a .size) (a .words .now) (a .found .places) (a .found .alarms) (w .words) (w .count) (w .alarms) (w .i) (w .inv .3)
+    tally-length (c .before .windows .inv .3)
 
 returns : tie.Need-returns Inv-loop μ-loop Inv-windows μ-windows
 returns c =
-    let a = c .before .before .args in
-    let w = c .before .windows in
-    tally-end _ _ (a .from) (a .size) (a .words .now) (a .found .places) (a .found .alarms) (w .words) (w .count) (w .alarms) (w .i) (omega arith) (w .inv .3)
+    tally-end (c .before .windows .inv .3) (omega arith)
 
 pub compare-spec : {M : Type 1} → statement M
 compare-spec =

@@ -64,7 +64,6 @@ add-i c = omega arith
 roll-requires : tie.Need-roll-requires Inv-loop μ-loop
 roll-requires c κs =
     let s = c .before .before .before .before .before .before .before .before .before in
-    let a = s .args in
     let l = c .before .before .before .before .before .loop in
     (s .pre .0, omega (arith, s .pre .2, l .inv .0), l .inv .1)
 
