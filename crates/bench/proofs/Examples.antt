@@ -15,7 +15,8 @@ use Rattle.files.specs.Files.{lowBits, bits, valueFrom, value, fingerprint, mar
 use Rattle.keys.proofs.Laws.{accepted-passed, first-passed}
 use Rattle.marks.specs.Feeding.{sumTest}
 use Rattle.marks.proofs.Laws.{empty-mark}
-use Rattle.tables.specs.Tables.{word, differs, houseKey}
+use Rattle.tables.specs.Tables.{word, differs}
+use Rattle.house.specs.House.{houseKey}
 use Rattle.house.proofs.House.{house-accepted}
 use Rattle.book.specs.Runs.{bookStep, run, Honest}
 use Rattle.book.specs.Confusions.{Confuses}

@@ -12,7 +12,8 @@ use Rattle.files.specs.declared.Mark.{Mark}
 use Rattle.files.specs.Files.{markOf}
 use Rattle.marks.specs.Feeding.{unreduced, sumTest, feedTests, fedMark, feedBits}
 use Rattle.marks.proofs.Laws.{leave-out-8, fed-true}
-use Rattle.tables.specs.Tables.{tableTests, feedTable, houseKey, feedHouse}
+use Rattle.tables.specs.Tables.{tableTests, feedTable}
+use Rattle.house.specs.House.{houseKey, feedHouse}
 use Rattle.book.specs.Runs.{bookStep}
 use Rattle.book.proofs.RunLaws.{Keeps}
 use Rattle.bench.specs.Book.{Call, ByBits, ByTable, ByHouse, step, bookTests, written, Brings, bench}

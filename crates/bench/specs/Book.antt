@@ -8,7 +8,8 @@ use Rattle.refusals.specs.Refusals.{Answer, Done, Test}
 use Rattle.acceptance.specs.Keys.{keyTests}
 use Rattle.files.specs.declared.Mark.{Mark}
 use Rattle.marks.specs.Feeding.{sumTest, begin, feedBits}
-use Rattle.tables.specs.Tables.{tableTests, feedTable, houseKey, feedHouse}
+use Rattle.tables.specs.Tables.{tableTests, feedTable}
+use Rattle.house.specs.House.{houseKey, feedHouse}
 use Rattle.book.specs.Runs.{Level, Leaves}
 
 -- feeding, by bits or by tables; by the house table no key is handed in

@@ -9,7 +9,8 @@ use Rattle.refusals.specs.Refusals.{longest}
 use Rattle.acceptance.specs.Keys.{accepted}
 use Rattle.files.specs.declared.Mark.{Mark}
 use Rattle.files.specs.Files.{markOf, True}
-use Rattle.tables.specs.Tables.{word, houseKey}
+use Rattle.tables.specs.Tables.{word}
+use Rattle.house.specs.House.{houseKey}
 use Rattle.book.specs.Runs.{run}
 use Rattle.bench.specs.Book.{Call, ByBits, ByTable, ByHouse, step}
 

@@ -117,12 +117,15 @@ module _ {A : Type 0} (d : A) (P : ℕ → A → Type 0) (xs : List A) (i : ℕ)
       go (yes e) = rw (e, getD-set-same xs i v d l) p
       go (no n) = rw (getD-set-other xs i j v d n) (f n)
 
+-- the entries from a place on: the first, and the others
+pub drop-next : {A : Type 0} (xs : List A) (i : ℕ) (d : A) → i < length xs → drop i xs ≡ getD xs i d ∷ drop (i + 1) xs
+drop-next xs i d l = rw add-one (drop-cons xs i d l)
+
 -- a store behind what is written already
 pub written-next : {A : Type 0} (xs before : List A) (i : ℕ) (d v : A) → length xs ≡ i → i < length before
     → set (xs ++ drop i before) i v ≡ (xs ++ v ∷ []) ++ drop (i + 1) before
 written-next xs before i d v e l =
-    let next : drop i before ≡ getD before i d ∷ drop (i + 1) before = rw add-one (drop-cons before i d l) in
-    rw next (set-at xs (getD before i d) (drop (i + 1) before) v i e) ∙ sym (append-snoc xs v (drop (i + 1) before))
+    rw (drop-next before i d l) (set-at xs (getD before i d) (drop (i + 1) before) v i e) ∙ sym (append-snoc xs v (drop (i + 1) before))
 
 -- ---- the numbers that pass a test
 

@@ -12,7 +12,8 @@ use Rattle.acceptance.specs.Keys.{accepted}
 use Rattle.keys.proofs.Laws.{accepted-passed, first-passed}
 use Rattle.files.specs.declared.Mark.{Mark}
 use Rattle.marks.specs.Feeding.{feedTests, fedMark, feedBits}
-use Rattle.tables.specs.Tables.{word, houseKey, feedHouse}
+use Rattle.tables.specs.Tables.{word}
+use Rattle.house.specs.House.{houseKey, feedHouse}
 use Rattle.stock.proofs.Table.{stock-smallest, stock-61}
 use Rattle.house.proofs.Rows.{rows, table-by-test}
 

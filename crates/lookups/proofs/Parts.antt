@@ -3,11 +3,11 @@ use mathlib.Core.Path.{_≡_, refl, sym, ap, ap₂, _∙_}
 use mathlib.Core.List.{List, [], _∷_, _++_}
 use Prim.Native.Nat.{ℕ, _+_, _-_, _*_, _^_, _≤_, _<_}
 use native.Mathlib.Nat.{le-refl, mod-eq-of-lt}
-use native.Mathlib.Numerals.{add-one}
 use native.Mathlib.Omega.{arith}
 use lib.ListN.{length, getD, take, drop, take-append-drop, length-drop, drop-of-length-le}
 use lib.Seq.{drop-cons, drop-drop, length-take-le, take-add, take-all}
 use Rattle.gf2.specs.Polynomials.{_⊕_, _⊗_, degree, monic, rem}
+use Rattle.gf2.proofs.Lists.{drop-next}
 use Rattle.gf2.proofs.Sums.{⊕-lt}
 use Rattle.gf2.proofs.Products.{⊗-pow}
 use Rattle.gf2.proofs.Residues.{rem-⊕, rem-small}
@@ -30,16 +30,16 @@ four a b c d ha hb hc hd =
     ∙ byte (((0 * 256 + a) * 256 + b) * 256 + c) d [] hd
     ∙ unfold valueFrom bits in (omega arith)
 
-drop-next : (p : List ℕ) (i n : ℕ) → n ≡ i + 1 → i < length p → drop i p ≡ getD p i 0 ∷ drop n p
-drop-next p i n e l = drop-cons p i 0 l ∙ ap (λ (m : ℕ). getD p i 0 ∷ drop m p) (sym (e ∙ add-one i))
+drop-to : (p : List ℕ) (i n : ℕ) → n ≡ i + 1 → i < length p → drop i p ≡ getD p i 0 ∷ drop n p
+drop-to p i n e l = rw e (drop-next p i 0 l)
 
 take-four : (p : List ℕ) (i : ℕ) → i + 4 ≤ length p → take 4 (drop i p) ≡ getD p i 0 ∷ getD p (i + 1) 0 ∷ getD p (i + 2) 0 ∷ getD p (i + 3) 0 ∷ []
 take-four p i l =
     rw (
-      drop-next p i (i + 1) refl (omega arith),
-      drop-next p (i + 1) (i + 2) (omega arith) (omega arith),
-      drop-next p (i + 2) (i + 3) (omega arith) (omega arith),
-      drop-next p (i + 3) (i + 4) (omega arith) (omega arith),
+      drop-to p i (i + 1) refl (omega arith),
+      drop-to p (i + 1) (i + 2) (omega arith) (omega arith),
+      drop-to p (i + 2) (i + 3) (omega arith) (omega arith),
+      drop-to p (i + 3) (i + 4) (omega arith) (omega arith),
     )
 
 pub value-four : (p : List ℕ) (i : ℕ) → i + 4 ≤ length p → getD p i 0 < 256 → getD p (i + 1) 0 < 256 → getD p (i + 2) 0 < 256 → getD p (i + 3) 0 < 256

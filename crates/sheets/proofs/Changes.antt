@@ -8,8 +8,8 @@ use native.Mathlib.Decide.{ℕ-discrete}
 use native.Mathlib.Numerals.{add-one}
 use native.Mathlib.Omega.{arith}
 use lib.ListN.{length, getD, drop, drop-of-length-le}
-use lib.Seq.{drop-cons}
 use borrow.Author.Tests.{eq-eqb, ne-eqb}
+use Rattle.gf2.proofs.Lists.{drop-next}
 use Rattle.sheets.specs.Layout.{numberAt, numbersAt}
 use Rattle.sheets.specs.Parts.{agreeing}
 use Rattle.sheets.proofs.Numbers.{numbers-next}
@@ -161,7 +161,7 @@ module _ (place : ℕ) (sheet gs : List ℕ) (i : ℕ) (l : i < length gs) where
   heads =
       let e : length gs - i - 1 ≡ length gs - (i + 1) = omega arith in
       ap₂ agreeing (numbers-next place 8 (length gs - i) sheet (omega arith) ∙ ap (λ (n : ℕ). numberAt place 8 sheet ∷ numbersAt (place + 8) 8 n sheet) e)
-      (drop-cons gs i 0 l ∙ ap (λ (n : ℕ). getD gs i 0 ∷ drop n gs) (sym (add-one i)))
+      (drop-next gs i 0 l)
 
   pub agree-on : numberAt place 8 sheet ≡ getD gs i 0
       → agreeing (numbersAt place 8 (length gs - i) sheet) (drop i gs) ≡ suc (agreeing (numbersAt (place + 8) 8 (length gs - (i + 1)) sheet) (drop (i + 1) gs))

@@ -48,11 +48,3 @@ testTable key words = firstOf (keyTests key ++ tableTests key words) tt tt
 -- All words are tested first, so the value is the one of feeding by bits: a reader need not believe how the words are used.
 unfoldable pub feedTable : ℕ → Mark → List ℕ → List ℕ → Answer Mark Mark
 feedTable key m words part = firstOf (keyTests key ++ tableTests key words ++ feedTests key m part) m (fedMark key m part)
-
--- the key of document 01's house table: the stock key of degree 61
-abbrev pub houseKey : ℕ
-houseKey = 0x2000000000000027
-
--- feeding under the house key, by the constant table
-unfoldable pub feedHouse : Mark → List ℕ → Answer Mark Mark
-feedHouse m part = firstOf (feedTests houseKey m part) m (fedMark houseKey m part)

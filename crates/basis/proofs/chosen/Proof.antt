@@ -1,3 +1,4 @@
+-- `chosen` meets its contract.
 use borrow.Author.Needs.{needs}
 use Rattle.basis.proofs.Elimination.{masked}
 use Rattle.basis.proofs.chosen.Statement.{statement}

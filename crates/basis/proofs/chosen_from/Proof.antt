@@ -1,3 +1,4 @@
+-- `chosen_from` meets its contract.
 use borrow.Author.Needs.{needs}
 use Rattle.basis.proofs.Elimination.{masked-from}
 use Rattle.basis.proofs.chosen_from.Statement.{statement}

@@ -1,3 +1,4 @@
+-- `lowest_one` meets its contract.
 use Rattle.basis.proofs.Elimination.{lowest-one}
 use Rattle.basis.proofs.lowest_one.Statement.{statement}
 use Rattle.basis.proofs.lowest_one.Tie as tie

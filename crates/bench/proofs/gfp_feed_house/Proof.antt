@@ -1,6 +1,6 @@
 -- The answer, stored.
 use borrow.Author.Needs.{needs}
-use Rattle.tables.specs.Tables.{houseKey, feedHouse}
+use Rattle.house.specs.House.{houseKey, feedHouse}
 use Rattle.bench.specs.Places.{markAt}
 use Rattle.bench.proofs.Answers.{stored}
 use Rattle.bench.proofs.gfp_feed_house.Statement.{statement}

@@ -10,7 +10,7 @@ use Rattle.refusals.specs.Refusals.{Done}
 use Rattle.refusals.proofs.Laws.{holds, fails}
 use Rattle.marks.specs.Feeding.{unreduced, fedMark, fedUnder}
 use Rattle.marks.proofs.Laws.{sum-within, feed-long, feed-unreduced, feed-passed}
-use Rattle.tables.specs.Tables.{houseKey, feedHouse}
+use Rattle.house.specs.House.{houseKey, feedHouse}
 use Rattle.house.proofs.House.{house-degree}
 use Rattle.house.proofs.feed_house.Statement.{statement}
 use Rattle.house.proofs.feed_house.Tie as tie

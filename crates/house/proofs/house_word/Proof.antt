@@ -7,7 +7,8 @@ use borrow.Author.Needs.{needs}
 use borrow.Table.Row as Row
 use Rattle.gf2.specs.Lists.{listFrom, same}
 use Rattle.gf2.proofs.Lists.{length-list}
-use Rattle.tables.specs.Tables.{word, houseKey}
+use Rattle.tables.specs.Tables.{word}
+use Rattle.house.specs.House.{houseKey}
 use Rattle.house.proofs.Rows.{rows}
 use Rattle.house.proofs.House.{house-table}
 use Rattle.house.proofs.house_word.Statement.{statement}

@@ -1,3 +1,4 @@
+-- `even_root` meets its contract.
 use Rattle.gf2.specs.Polynomials.{_⊕_}
 use Rattle.keys.proofs.Folding.{closed-root}
 use Rattle.keys.proofs.even_root.Statement.{statement}

@@ -1,3 +1,4 @@
+-- `odd_part` meets its contract.
 use mathlib.Core.Path.{refl}
 use Rattle.keys.specs.Squares.{oddPart}
 use Rattle.keys.proofs.odd_part.Statement.{statement}

@@ -1,3 +1,4 @@
+-- `fits` meets its contract.
 use native.Mathlib.Omega.{arith}
 use Rattle.marks.proofs.Laws.{sum-passes, room}
 use Rattle.marks.proofs.fits.Statement.{statement}

@@ -1,3 +1,4 @@
+-- `reduced` meets its contract.
 use borrow.Author.Needs.{needs}
 use Rattle.marks.proofs.Laws.{below-test}
 use Rattle.marks.proofs.reduced.Statement.{statement}

@@ -1,3 +1,4 @@
+-- `check` meets its contract.
 use mathlib.Core.Path.{sym, ap, _∙_}
 use Rattle.sheets.specs.Sheets.{reading}
 use Rattle.sheets.proofs.Known.{read-as}

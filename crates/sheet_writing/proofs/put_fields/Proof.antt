@@ -1,11 +1,11 @@
 -- `put_fields` meets its contract: the fingerprints from the i-th on, stored behind those that stand there, give them all.
 use mathlib.Core.Path.{_≡_, refl, sym, ap, _∙_}
-use mathlib.Core.List.{List, _∷_}
+use mathlib.Core.List.{List}
 use Prim.Native.Nat.{ℕ, _+_, _-_, _*_, _≤_}
-use native.Mathlib.Numerals.{add-one}
 use native.Mathlib.Omega.{arith}
 use lib.ListN.{length, getD, drop, drop-of-length-le}
-use lib.Seq.{sets, drop-cons}
+use lib.Seq.{sets}
+use Rattle.gf2.proofs.Lists.{drop-next}
 use Rattle.sheets.specs.Layout.{fieldsOf}
 use Rattle.sheets.proofs.Numbers.{fields-behind}
 use Rattle.sheet_writing.proofs.put_fields.Statement.{statement}
@@ -45,7 +45,7 @@ loop-again c =
     let a = c .before .before .before .before .before .before .before .before .before .args in
     let l = c .before .before .before .before .before .before .loop in
     let f = getD (a .marks .now) (l .i) 0 in
-    let next : drop (l .i) (a .marks .now) ≡ f ∷ drop (l .i + 1) (a .marks .now) = drop-cons (a .marks .now) (l .i) 0 (omega arith) ∙ ap (λ (n : ℕ). f ∷ drop n (a .marks .now)) (sym (add-one (l .i))) in (
+    let next = drop-next (a .marks .now) (l .i) 0 (omega arith) in (
       omega arith,
       omega (arith, l .inv .1),
       c .before .before .put .kept .0 ∙ l .inv .2,

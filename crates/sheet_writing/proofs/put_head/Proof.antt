@@ -1,3 +1,4 @@
+-- `put_head` meets its contract.
 use Rattle.sheet_writing.proofs.Stores.{head-stores}
 use borrow.Author.Needs.{needs}
 use Rattle.sheet_writing.proofs.put_head.Statement.{statement}

@@ -1,3 +1,4 @@
+-- `write` meets its contract.
 use mathlib.Core.Path.{_≡_, sym, ap, _∙_}
 use mathlib.Core.Bool.{false, _||_}
 use Prim.Native.Nat.{_^_, _≤_, _<_}

@@ -1,3 +1,4 @@
+-- `join` meets its contract.
 use Rattle.gf2.specs.Polynomials.{_⊕_}
 use borrow.Author.Needs.{needs}
 use Rattle.shifts.proofs.join.Statement.{statement}

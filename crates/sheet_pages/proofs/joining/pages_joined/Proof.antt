@@ -1,3 +1,4 @@
+-- `pages_joined` meets its contract.
 use mathlib.Core.Path.{_∙_}
 use Prim.Native.Nat.{_-_, _/_}
 use native.Mathlib.Nat.{mul-le-mul-right, mod-lt}

@@ -1,3 +1,4 @@
+-- `size_right` meets its contract.
 use native.Mathlib.Omega.{arith}
 use borrow.Author.Tests.{lt-ltb, le-ltb}
 use Rattle.sheets.proofs.fields.size_right.Statement.{statement}
