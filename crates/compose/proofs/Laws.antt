@@ -2,39 +2,41 @@
 -- reduced first.
 use mathlib.Core.Path.{_≡_, sym, ap, ap₂, _∙_}
 use mathlib.Core.Bool.{Bool, _||_, or-assoc, or-comm}
-use mathlib.Core.List.{List, [], _∷_}
+use mathlib.Core.List.{List, [], _∷_, _++_}
 use Prim.Native.Nat.{ℕ, _+_, _*_, _^_, _<_}
 use native.Mathlib.Nat.{add-comm, zero-add, zero-mul}
 use native.Mathlib.Omega.{arith}
 use lib.Dec.{ltb}
-use lib.ListN.{length, getD, drop, length-drop}
+use lib.ListN.{length, getD, drop, length-drop, length-append}
 use Rattle.gf2.specs.Polynomials.{_⊕_, _⊗_, monic, rem}
 use Rattle.gf2.proofs.Sums.{⊕-self, ⊕-zero, ⊕-assoc, ⊕-append, ⊕-lt}
-use Rattle.gf2.proofs.Products.{⊗-pow}
 use Rattle.gf2.proofs.Residues.{rem-⊕}
-use Rattle.gf2.proofs.Powers.{rem-⊗-right}
+use Rattle.gf2.proofs.Powers.{rem-⊗-pow}
 use Rattle.gf2.proofs.Monics.{monic-pos}
 use Rattle.gf2.proofs.Steps.{residue-small}
 use Rattle.refusals.specs.declared.Refusal.the-variants.{TooLong, MarkNotReduced}
 use Rattle.refusals.specs.Refusals.{_⇒_, longest, passes}
 use Rattle.files.specs.declared.Mark.{Mark}
-use Rattle.files.specs.Files.{bits, valueFrom, value, fingerprint}
+use Rattle.files.specs.Files.{bits, valueFrom, value, fingerprint, markOf}
 use Rattle.files.proofs.Values.{length-bits, rem-from, value-next, value-starts}
+use Rattle.files.proofs.Marks.{mark-eq, join}
 use Rattle.marks.specs.Feeding.{unreduced}
-use Rattle.compose.specs.Composing.{marksTests}
+use Rattle.compose.specs.Composing.{joined, marksTests}
 
 module _ (k c : ℕ) (h : c < 2 ^ k) where
-  shifted : (f n : ℕ) → rem (monic k c) (f * 2 ^ n) ≡ rem (monic k c) (f ⊗ rem (monic k c) (2 ^ n))
-  shifted f n = ap (rem (monic k c)) (sym (⊗-pow n f)) ∙ sym (rem-⊗-right (monic-pos k c h) f (2 ^ n))
-
   pub joined-is : (f g n : ℕ) → g < 2 ^ k
       → rem (monic k c) (f * 2 ^ n ⊕ g ⊕ 2 ^ n) ≡ rem (monic k c) (f ⊗ rem (monic k c) (2 ^ n)) ⊕ g ⊕ rem (monic k c) (2 ^ n)
   joined-is f g n l =
-      rw (rem-⊕ (monic-pos k c h) (f * 2 ^ n ⊕ g) (2 ^ n), rem-⊕ (monic-pos k c h) (f * 2 ^ n) g, residue-small k c h g l, shifted f n)
+      rw (rem-⊕ (monic-pos k c h) (f * 2 ^ n ⊕ g) (2 ^ n), rem-⊕ (monic-pos k c h) (f * 2 ^ n) g, residue-small k c h g l, rem-⊗-pow (monic-pos k c h) f n)
 
   pub replaced-is : (f d n : ℕ) → f < 2 ^ k
       → rem (monic k c) (f ⊕ d * 2 ^ n) ≡ f ⊕ rem (monic k c) (d ⊗ rem (monic k c) (2 ^ n))
-  replaced-is f d n l = rw (rem-⊕ (monic-pos k c h) f (d * 2 ^ n), residue-small k c h f l, shifted d n)
+  replaced-is f d n l = rw (rem-⊕ (monic-pos k c h) f (d * 2 ^ n), residue-small k c h f l, rem-⊗-pow (monic-pos k c h) d n)
+
+-- true marks joined are true of the files joined
+pub joined-true : {p : ℕ} (pos : 0 < p) (a b : List ℕ) → joined p (markOf p a) (markOf p b) ≡ markOf p (a ++ b)
+unfolding joined markOf
+joined-true pos a b = mark-eq (join pos a b) (sym (length-append a b))
 
 -- ---- two pages of one length, fed side by side
 

@@ -41,6 +41,10 @@ module _ {p : ℕ} (pos : 0 < p) where
   pub rem-⊗-right : (a b : ℕ) → rem p (a ⊗ rem p b) ≡ rem p (a ⊗ b)
   rem-⊗-right a b = ap (rem p) (⊗-comm a (rem p b)) ∙ rem-⊗-left b a ∙ ap (rem p) (⊗-comm b a)
 
+  -- a power of t may be reduced first
+  pub rem-⊗-pow : (a n : ℕ) → rem p (a ⊗ rem p (2 ^ n)) ≡ rem p (a * 2 ^ n)
+  rem-⊗-pow a n = rem-⊗-right a (2 ^ n) ∙ ap (rem p) (⊗-pow n a)
+
   -- the base may be reduced first
   pub rem-pow : (a n : ℕ) → rem p (rem p a ⊗^ n) ≡ rem p (a ⊗^ n)
   rem-pow a zero = rw (pow-zero, pow-zero)

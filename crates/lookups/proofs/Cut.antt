@@ -10,8 +10,7 @@ use lib.ListN.{getD}
 use lib.Pow.{pow-pos, pow-mono, pow-add, shr-lt, shr-shr, split, high, low, mod-pow-add}
 use Rattle.gf2.specs.Polynomials.{_⊕_, _⊗_, degree, rem}
 use Rattle.gf2.proofs.Sums.{⊕-append, ⊕-shl, ⊕-comm, ⊕-assoc, ⊕-zero}
-use Rattle.gf2.proofs.Products.{⊗-pow}
-use Rattle.gf2.proofs.Powers.{rem-⊗-right}
+use Rattle.gf2.proofs.Powers.{rem-⊗-pow}
 use Rattle.gf2.proofs.Residues.{rem-zero, rem-small, rem-⊕}
 use Rattle.lookups.specs.Groups.{looked, Rows, ReducesByte, Reduces}
 
@@ -33,10 +32,6 @@ below-fits f v n j h l = lt-of-lt-of-le (rw (← (pow-add 2 j n)) at (digits-lt 
 pub all-fits : (f v n k : ℕ) → f < 2 ^ k → v < 2 ^ n → k + n ≤ 64 → f * 2 ^ n + v < 2 ^ 64
 all-fits f v n k hf h l = lt-of-lt-of-le (rw (← (pow-add 2 k n)) at (digits-lt hf h)) (pow-mono {i = k + n} {j = 64} l)
 
--- times the residue of a power of t
-pub product-shift : {key : ℕ} (pos : 0 < key) (a e : ℕ) → rem key (a ⊗ rem key (2 ^ e)) ≡ rem key (a * 2 ^ e)
-product-shift {key} pos a e = rem-⊗-right pos a (2 ^ e) ∙ ap (rem key) (⊗-pow e a)
-
 -- a number is its low w bits and the others
 digits : (w h e : ℕ) → h % 2 ^ w * 2 ^ e ⊕ h / 2 ^ w * 2 ^ (e + w) ≡ h * 2 ^ e
 digits w h e =
@@ -50,7 +45,7 @@ pub groups : (w e c : ℕ) {key : ℕ} (pos : 0 < key) (words : List ℕ) → Ro
 unfolding looked
 groups w e c {key} pos words rows zero j h l b = rw (lt-one (rw mul-zero at b), zero-mul) (sym (rem-zero key))
 groups w e c {key} pos words rows (suc n) j h l b =
-    ap₂ (λ (x y : ℕ). x ⊕ y) (rows j (omega arith) (h % 2 ^ w) (mod-lt h (pow-pos w)) ∙ product-shift pos (h % 2 ^ w) (e + w * j))
+    ap₂ (λ (x y : ℕ). x ⊕ y) (rows j (omega arith) (h % 2 ^ w) (mod-lt h (pow-pos w)) ∙ rem-⊗-pow pos (h % 2 ^ w) (e + w * j))
     (groups w e c pos words rows n (suc j) (h / 2 ^ w) (omega arith) (shr-lt {n = h} (w * n) w (rw mul-suc at b)))
     ∙ sym (rem-⊕ pos (h % 2 ^ w * 2 ^ (e + w * j)) (h / 2 ^ w * 2 ^ (e + w * suc j)))
     ∙ ap (λ (x : ℕ). rem key (h % 2 ^ w * 2 ^ (e + w * j) ⊕ h / 2 ^ w * 2 ^ x)) (omega arith)

@@ -13,7 +13,7 @@ use borrow.Author.Tests.{lt-leb, leb-false}
 use Rattle.gf2.specs.Polynomials.{_⊕_, _⊗_, rem, monic, degree, Modulus}
 use Rattle.gf2.proofs.Sums.{zero-⊕, ⊕-zero, ⊕-assoc, ⊕-shl}
 use Rattle.gf2.proofs.Residues.{rem-lt, rem-small, rem-⊕}
-use Rattle.gf2.proofs.Powers.{rem-shl}
+use Rattle.gf2.proofs.Powers.{rem-shl, rem-⊗-pow}
 use Rattle.gf2.proofs.Monics.{monic-pos, monic-degree}
 use Rattle.gf2.proofs.Steps.{or-leb}
 use Rattle.acceptance.proofs.Laws.{or-neither}
@@ -23,7 +23,6 @@ use Rattle.compose.specs.Composing.{joined}
 use Rattle.compose.proofs.Laws.{or-left-comm}
 use Rattle.lookups.specs.Groups.{looked}
 use Rattle.shifts.specs.Shifts.{Shifts}
-use Rattle.lookups.proofs.Cut.{product-shift}
 use Rattle.shifts.proofs.Products.{joined-by-table}
 use Rattle.sheets.specs.Layout.{numberAt, numbersAt}
 use Rattle.sheets.specs.Sheets.{someUnreduced, joinedPages}
@@ -209,7 +208,7 @@ module _ (k low : ℕ) (md : Modulus k low) (e : ℕ) where
       let pos = monic-pos k low (md .2) in
       let small : chained (monic k low) e 1 u < 2 ^ degree (monic k low) = rw (monic-degree k low (md .2), ← ex) (chain-lt x u ex) in
       er
-      ∙ ap₂ (λ (a b : ℕ). a ⊕ b) (ap₂ (λ (a b : ℕ). rem (monic k low) (a ⊗ b)) (mod-eq-of-lt (chain-lt x u ex) ∙ ex) et ∙ product-shift pos (chained (monic k low) e 1 u) (e * q)) ey
+      ∙ ap₂ (λ (a b : ℕ). a ⊕ b) (ap₂ (λ (a b : ℕ). rem (monic k low) (a ⊗ b)) (mod-eq-of-lt (chain-lt x u ex) ∙ ex) et ∙ rem-⊗-pow pos (chained (monic k low) e 1 u) (e * q)) ey
       ∙ ap (λ (n : ℕ). rem (monic k low) (chained (monic k low) e 1 u * 2 ^ (e * n)) ⊕ chained (monic k low) e 0 v) (sym l)
       ∙ sym (chained-start pos e (chained (monic k low) e 1 u) v small)
       ∙ sym (chained-append pos e 1 u v)

@@ -14,8 +14,9 @@ use Rattle.gf2.proofs.Residues.{rem-lt}
 use Rattle.files.specs.declared.Mark.{Mark}
 use Rattle.files.specs.Files.{bits, valueFrom, value, fingerprint, markOf}
 use Rattle.files.proofs.Values.{value-byte}
-use Rattle.files.proofs.Marks.{mark-eq, fed, join}
+use Rattle.files.proofs.Marks.{fed}
 use Rattle.compose.specs.Composing.{joined}
+use Rattle.compose.proofs.Laws.{joined-true}
 use Rattle.sheets.specs.Layout.{pageCount, numberAt, numbersAt}
 use Rattle.sheets.proofs.Numbers.{pow-next}
 use Rattle.sheets.specs.Sheets.{filled, pageFingerprints, joinedPages}
@@ -100,8 +101,8 @@ pages-are (suc c) s file h = go (decLe s (length file)) (pages-are c s (drop s f
 
 module _ {p : ℕ} (pos : 0 < p) where
   joined-is : (a b : List ℕ) (n : ℕ) → length b ≡ n → joined p (markOf p a) (record { fingerprint = fingerprint p b; length = n }) ≡ markOf p (a ++ b)
-  unfolding joined markOf
-  joined-is a b n e = rw (← e) (mark-eq (join pos a b) (sym (length-append a b)))
+  unfolding markOf
+  joined-is a b n e = rw (← e) (joined-true pos a b)
 
   pub joined-pages : (c s : ℕ) (pre file : List ℕ) → joinedPages p s (markOf p pre) (pageFingerprints p s c file) ≡ markOf p (pre ++ filledPages s c file)
   unfolding joinedPages pageFingerprints filledPages

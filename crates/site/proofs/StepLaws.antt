@@ -15,9 +15,10 @@ use Rattle.refusals.proofs.Laws.{passed}
 use Rattle.acceptance.specs.Keys.{keyTests}
 use Rattle.files.specs.declared.Mark.{Mark}
 use Rattle.files.specs.Files.{fingerprint, markOf, True}
-use Rattle.files.proofs.Marks.{mark-eq, join, page}
+use Rattle.files.proofs.Marks.{mark-eq, page}
 use Rattle.marks.specs.Feeding.{unreduced, sumTest}
 use Rattle.marks.proofs.Laws.{true-reduced, leave-out-8}
+use Rattle.compose.proofs.Laws.{joined-true}
 use Rattle.compose.specs.Composing.{joined, joinTests, joinBehind, joinInFront, replaced, replacePage}
 use Rattle.book.specs.Runs.{bookStep}
 use Rattle.book.proofs.RunLaws.{Keeps}
@@ -39,17 +40,13 @@ module _ (key : ℕ) (pos : 0 < key) (file : List ℕ) where
   join-tests other x y =
       ap (λ (b : Bool). firstOf (keyTests key ++ sumTest (length file) (other .length) ∷ (b || unreduced key other) ⇒ MarkNotReduced ∷ []) x y) (true-reduced key pos file)
 
-  joined-is : (a b : List ℕ) → joined key (markOf key a) (markOf key b) ≡ markOf key (a ++ b)
-  unfolding joined markOf
-  joined-is a b = mark-eq (join pos a b) (sym (length-append a b))
-
   behind-agrees : (other : Mark) (its : List ℕ) → (numberOf (bookStep site key file (Behind other its)) ≡ 0 → True key its other)
       → Agrees key (step key (markOf key file) (Behind other its)) (bookStep site key file (Behind other its))
   unfolding step joinBehind bookStep bookTests written
   behind-agrees other its h =
       agrees-by key (joinBehind key (markOf key file) other) (bookTests key (length file) (Behind other its)) file (file ++ its) (joined key (markOf key file) other)
       (join-tests other (markOf key file) (joined key (markOf key file) other))
-      (λ e. ap (joined key (markOf key file)) (h e) ∙ joined-is file its)
+      (λ e. ap (joined key (markOf key file)) (h e) ∙ joined-true pos file its)
 
   front-agrees : (other : Mark) (its : List ℕ) → (numberOf (bookStep site key file (InFront other its)) ≡ 0 → True key its other)
       → Agrees key (step key (markOf key file) (InFront other its)) (bookStep site key file (InFront other its))
@@ -57,7 +54,7 @@ module _ (key : ℕ) (pos : 0 < key) (file : List ℕ) where
   front-agrees other its h =
       agrees-by key (joinInFront key (markOf key file) other) (bookTests key (length file) (InFront other its)) file (its ++ file) (joined key other (markOf key file))
       (join-tests other (markOf key file) (joined key other (markOf key file)))
-      (λ e. ap (λ (x : Mark). joined key x (markOf key file)) (h e) ∙ joined-is its file)
+      (λ e. ap (λ (x : Mark). joined key x (markOf key file)) (h e) ∙ joined-true pos its file)
 
   -- a page replaced in a file that has the old one there
   replaced-is : (place : ℕ) (old new : List ℕ) → length old ≡ length new → place + length old ≤ length file → take (length old) (drop place file) ≡ old

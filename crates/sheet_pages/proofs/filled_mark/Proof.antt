@@ -4,11 +4,11 @@ use Prim.Native.Nat.{ℕ, _-_, _*_}
 use lib.ListN.{length}
 use lib.Pow.{pow-lt}
 use Rattle.gf2.specs.Polynomials.{_⊗_, monic, rem}
+use Rattle.gf2.proofs.Powers.{rem-⊗-pow}
 use Rattle.gf2.proofs.Monics.{monic-pos}
 use Rattle.gf2.proofs.Steps.{residue-lt}
 use Rattle.files.specs.Files.{value, fingerprint}
 use Rattle.sheets.specs.Sheets.{filled}
-use Rattle.lookups.proofs.Cut.{product-shift}
 use Rattle.sheets.proofs.Pages.{with-zeros}
 use borrow.Author.Needs.{needs}
 use Rattle.sheet_pages.proofs.filled_mark.Statement.{statement}
@@ -42,7 +42,7 @@ returns c =
     let m = a .size - length (a .page .now) in
     c .product .ensures
     ∙ ap₂ (λ (x y : ℕ). rem key (x ⊗ y)) (c .before .before .fed .ensures) (c .before .power-of-t .ensures)
-    ∙ product-shift pos (fingerprint key (a .page .now)) (8 * m)
+    ∙ rem-⊗-pow pos (fingerprint key (a .page .now)) (8 * m)
     ∙ with-zeros pos m (a .page .now)
 
 pub filled-mark-spec : {M : Type 1} → statement M

@@ -9,6 +9,7 @@ use lib.Dec.{leb}
 use lib.ListN.{length}
 use borrow.Author.Tests.{eq-eqb, ne-eqb, leb-false, not-true, not-false}
 use Rattle.gf2.specs.Polynomials.{_⊗_, monic, degree, rem}
+use Rattle.gf2.proofs.Powers.{rem-⊗-pow}
 use Rattle.gf2.proofs.Steps.{residue-lt, or-leb}
 use Rattle.gf2.proofs.Monics.{word-degree}
 use Rattle.acceptance.proofs.Laws.{or-neither}
@@ -17,7 +18,6 @@ use Rattle.sheets.specs.Layout.{numberAt, numbersAt}
 use Rattle.sheets.specs.Sheets.{someUnreduced, joinedPages}
 use Rattle.sheets.proofs.Numbers.{numbers-last}
 use Rattle.sheets.proofs.Pages.{count-covers, count-tight, count-small}
-use Rattle.lookups.proofs.Cut.{product-shift}
 use Rattle.sheets.proofs.Moduli.{Held, held}
 use Rattle.sheet_pages.proofs.Chains.{bits-last}
 use Rattle.sheet_reading.proofs.Joining.{twice, body-is}
@@ -150,7 +150,7 @@ returns-3 c =
     c .before .product .ensures
     ∙ ap₂ (λ (x y : ℕ). rem (monic k low) (x ⊗ y)) (c .before .before .before .before .before .before .number-at .ensures .0) (c .before .before .power-of-t .ensures)
     ∙ ap (λ (m : ℕ). rem m (numberAt (19 + 8 * n) 8 l ⊗ rem m (2 ^ (8 * (n * size - s .args .n))))) (h .whole)
-    ∙ product-shift pos (numberAt (19 + 8 * n) 8 l) (8 * (n * size - s .args .n)) in
+    ∙ rem-⊗-pow pos (numberAt (19 + 8 * n) 8 l) (8 * (n * size - s .args .n)) in
     rw (body-is l key (s .args .n) size n (q .5) (q .6) (q .7) (c .before .before .before .before .before .before .before .before .before .before .before .page-count .ensures), eq-eqb (length l) (27 + 8 * n) (c .before .before .before .before .before .before .before .before .before .before .if1 .left), t, joined, product)
     (sym (twice _))
 
