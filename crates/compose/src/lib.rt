@@ -97,7 +97,8 @@ fn within(a: u64, b: u64, c: u64) -> bool
 // A page changed, after the test of the key.
 fn replace(m: Running, place: u64, old: &[u8], new: &[u8]) -> Fed
     requires { ⌜ 256 ≤ m .key ⌝ }
-    ensures { λ r. ⌜ fed r ≡ fedUnder (m .key) (firstOf (pageTests (m .key) (markIn m) place (now (old .entry)) (now (new .entry))) (markIn m) (replaced (m .key) (markIn m) place (now (old .entry)) (now (new .entry)))) ⌝ }
+    ensures { λ r. ⌜ fed r ≡ fedUnder (m .key) (firstOf (pageTests (m .key) (markIn m) place (now (old .entry)) (now (new .entry))) (markIn m)
+        (replaced (m .key) (markIn m) place (now (old .entry)) (now (new .entry)))) ⌝ }
 {
     let key = m.key;
     let f = m.fingerprint;

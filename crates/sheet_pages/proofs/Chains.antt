@@ -2,8 +2,8 @@
 use mathlib.Core.Path.{_≡_, refl, sym, ap, ap₂, _∙_}
 use mathlib.Core.Bool.{Bool, false, _||_, or-assoc, or-false}
 use mathlib.Core.List.{List, [], _∷_, _++_}
-use Prim.Native.Nat.{ℕ, zero, suc, _+_, _-_, _*_, _%_, _^_, _≤_, _<_}
-use native.Mathlib.Nat.{lt-of-lt-of-le, suc-add, add-comm, add-zero, zero-add, mul-assoc, mul-zero, mul-one, mul-suc, zero-mul, mod-eq-of-lt}
+use Prim.Native.Nat.{ℕ, suc, _+_, _-_, _*_, _%_, _^_, _≤_, _<_}
+use native.Mathlib.Nat.{lt-of-lt-of-le, add-comm, mul-assoc, mul-zero, mul-one, mul-suc, zero-mul, mod-eq-of-lt}
 use native.Mathlib.Omega.{arith}
 use lib.Bits.{bitOr}
 use lib.Dec.{leb}
@@ -26,7 +26,7 @@ use Rattle.shifts.specs.Shifts.{Shifts}
 use Rattle.shifts.proofs.Products.{joined-by-table}
 use Rattle.sheets.specs.Layout.{numberAt, numbersAt}
 use Rattle.sheets.specs.Sheets.{someUnreduced, joinedPages}
-use Rattle.sheets.proofs.Numbers.{numbers-next, numbers-done, length-numbersAt}
+use Rattle.sheets.proofs.Numbers.{numbers-next, numbers-done, numbers-append, length-numbersAt}
 use Rattle.sheet_pages.specs.declared.joining.FourJoined.{FourJoined}
 use Rattle.sheet_pages.specs.Chains.{chained, looping, BitsOf, FourChains}
 
@@ -60,14 +60,6 @@ unreduced-append k (f ∷ fs) gs =
 pub reduced-split : (k : ℕ) (fs gs : List ℕ) → someUnreduced k (fs ++ gs) ≡ false → (someUnreduced k fs ≡ false) × (someUnreduced k gs ≡ false)
 reduced-split k fs gs e = or-neither (someUnreduced k fs) (someUnreduced k gs) (sym (unreduced-append k fs gs) ∙ e)
 
-pub numbers-split : (m n place w : ℕ) (l : List ℕ) → numbersAt place w (m + n) l ≡ numbersAt place w m l ++ numbersAt (place + w * m) w n l
-unfolding numbersAt
-numbers-split zero n place w l = ap₂ (λ (c p : ℕ). numbersAt p w c l) (zero-add n) (sym (rw (mul-zero w) (add-zero place)))
-numbers-split (suc m) n place w l =
-    let e : place + w + w * m ≡ place + w * suc m = omega (arith, mul-suc w m) in
-    ap (λ (c : ℕ). numbersAt place w c l) (suc-add m n)
-    ∙ ap (λ (r : List ℕ). numberAt place w l ∷ r) (numbers-split m n (place + w) w l ∙ ap (λ (p : ℕ). numbersAt (place + w) w m l ++ numbersAt p w n l) e)
-
 -- n fields from each of four places on
 abbrev pub fourRuns : ℕ → ℕ → ℕ → List ℕ → List ℕ
 fourRuns place run n l = numbersAt place 8 n l ++ numbersAt (place + run) 8 n l ++ numbersAt (place + run + run) 8 n l ++ numbersAt (place + run + run + run) 8 n l
@@ -77,14 +69,14 @@ four-runs q l =
     let e : 4 * q ≡ q + q + q + q = omega arith in
     let c : 19 + 8 * (q + q) ≡ 19 + 8 * q + 8 * q = omega arith in
     let d : 19 + 8 * (q + q + q) ≡ 19 + 8 * q + 8 * q + 8 * q = omega arith in
-    rw (e, numbers-split (q + q + q) q 19 8 l, numbers-split (q + q) q 19 8 l, numbers-split q q 19 8 l, c, d)
+    rw (e, numbers-append 19 8 (q + q + q) q l, numbers-append 19 8 (q + q) q l, numbers-append 19 8 q q l, c, d)
 
 -- all n fields: four runs of q and the rest
 rest-behind : (n q : ℕ) (l : List ℕ) → 4 * q ≤ n → numbersAt 19 8 n l ≡ numbersAt 19 8 (4 * q) l ++ numbersAt (19 + 32 * q) 8 (n - 4 * q) l
 rest-behind n q l h =
     let e : 4 * q + (n - 4 * q) ≡ n = omega arith in
     let p : 19 + 8 * (4 * q) ≡ 19 + 32 * q = omega arith in
-    ap (λ (m : ℕ). numbersAt 19 8 m l) (sym e) ∙ rw p at (numbers-split (4 * q) (n - 4 * q) 19 8 l)
+    ap (λ (m : ℕ). numbersAt 19 8 m l) (sym e) ∙ rw p at (numbers-append 19 8 (4 * q) (n - 4 * q) l)
 
 -- ---- the bits of all fields: those that are gathered stand for their fields
 

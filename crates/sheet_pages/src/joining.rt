@@ -28,7 +28,8 @@ pub struct FourJoined {
 // n fields from a place on, behind f and behind the bits of the fields before, by the table of the shift by a page.
 fn join_run(shift: &[u64], sheet: &[u8], from: usize, n: u64, f: u64, before: u64) -> Joined
     requires { ⌜ (length (now shift) ≡ 2048) × (from + 8 * n ≤ length (now sheet)) ⌝ }
-    ensures { λ r. ⌜ (r .mark ≡ looping (now (shift .entry)) f (numbersAt from 8 n (now (sheet .entry)))) × BitsOf (before ∷ numbersAt from 8 n (now (sheet .entry))) (r .bits) ⌝ }
+    ensures { λ r. ⌜ (r .mark ≡ looping (now (shift .entry)) f (numbersAt from 8 n (now (sheet .entry))))
+        × BitsOf (before ∷ numbersAt from 8 n (now (sheet .entry))) (r .bits) ⌝ }
 {
     let mut x = f;
     let mut bits = before;
@@ -77,7 +78,8 @@ fn join_runs(shift: &[u64], sheet: &[u8], q: u64) -> FourJoined
 // below 2^k shows in the bits. The mark then means nothing: a chain may reach 2^k too, and the products take its low bits.
 pub fn pages_joined(sheet: &[u8], k: u32, low: u64, size: u64, n: u64) -> Joined
     requires { ⌜ Modulus k low × (k < 64) × (size ≤ 4096) × (n < 2 ^ 29) × (19 + 8 * n ≤ length (now sheet)) ⌝ }
-    ensures { λ r. ⌜ (someUnreduced k (numbersAt 19 8 n (now (sheet .entry))) ≡ false → r .mark ≡ joinedPages (monic k low) size (markOf (monic k low) []) (numbersAt 19 8 n (now (sheet .entry))) .fingerprint)
+    ensures { λ r. ⌜ (someUnreduced k (numbersAt 19 8 n (now (sheet .entry))) ≡ false
+        → r .mark ≡ joinedPages (monic k low) size (markOf (monic k low) []) (numbersAt 19 8 n (now (sheet .entry))) .fingerprint)
         × BitsOf (numbersAt 19 8 n (now (sheet .entry))) (r .bits) ⌝ }
 {
     let mut shift = [0u64; 2048];
