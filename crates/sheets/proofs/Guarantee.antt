@@ -21,7 +21,7 @@ use Rattle.sheets.specs.Sheets.{contentsOf, writeTests, writeSheet, read
 use Rattle.sheets.proofs.Numbers.{length-numbersAt, numbers-one}
 use Rattle.sheets.proofs.Layouts.{length-sheet, fingerprint-back, read-back}
 use Rattle.sheets.proofs.Pages.{length-pages}
-use Rattle.sheets.proofs.Sound.{sound-fits, sound-clear, clear-sound, file-sound}
+use Rattle.sheets.proofs.Sound.{size-bounds, sound-fits, sound-clear, clear-sound, file-sound}
 use Rattle.sheets.proofs.Changes.{First, same-equal, equal-same, page-first, first-page}
 
 -- ---- reading
@@ -82,8 +82,8 @@ module _ (key s : ℕ) (file buffer after : List ℕ) (fits : key < 2 ^ 64) (don
   sound =
       let c = cleared .0 in
       let p = or-neither (ltb longest (length file)) false (c .1 .1 .0) in
-      let z = or-neither (ltb s 16) (ltb 4096 s) (c .1 .1 .1 .0) in
-      file-sound key s file (key-iff key fits .1 (c .0, c .1 .0)) (ltb-false longest (length file) (p .0)) (ltb-false s 16 (z .0)) (ltb-false 4096 s (z .1))
+      let z = size-bounds s (c .1 .1 .1 .0) in
+      file-sound key s file (key-iff key fits .1 (c .0, c .1 .0)) (ltb-false longest (length file) (p .0)) (z .0) (z .1)
 
   written : take (sheetSize version1 (pageCount s (length file))) after ≡ sheetBytes version1 (contentsOf key s file)
   unfolding contentsOf

@@ -5,6 +5,5 @@ pub mod Pages
 pub mod Sound
 pub mod Changes
 pub mod Guarantee
-pub mod Steps
 pub mod Damages
 pub mod Known

@@ -63,8 +63,12 @@ sound-fits x h =
 
 -- ---- the tests of reading
 
+-- number 12 does not apply where the page size is 16 to 4,096, and only there
 size-clear : (s : ℕ) → 16 ≤ s → s ≤ 4096 → (ltb s 16 || ltb 4096 s) ≡ false
 size-clear s a b = rw (le-ltb s 16 a, le-ltb 4096 s b)
+
+pub size-bounds : (s : ℕ) → (ltb s 16 || ltb 4096 s) ≡ false → (16 ≤ s) × (s ≤ 4096)
+size-bounds s e = let o = or-neither (ltb s 16) (ltb 4096 s) e in (ltb-false s 16 (o .0), ltb-false 4096 s (o .1))
 
 or-clear : {a b c : Bool} → a ≡ false → b ≡ false → c ≡ false → (a || b || c) ≡ false
 or-clear x y z = rw (x, y, z)
@@ -123,12 +127,11 @@ module _ (sheet : List ℕ) (c : Clear (readTests version1 sheet)) where
       let long = ltb-false (length sheet) 27 (head .0) in
       let small = number-lt 5 8 sheet (omega arith) in
       let n = number-lt 13 4 sheet (omega arith) in
-      let s = or-neither (ltb (x .pageSize) 16) (ltb 4096 (x .pageSize)) (c .1 .1 .1 .0) in
       let fs = none-unreduced (degree (x .key)) (x .pages) (x .fingerprint) (body .1) in
       record {
         key = key-iff (x .key) small .1 (c .1 .0, c .1 .1 .0);
         length = omega arith;
-        pageSize = (ltb-false (x .pageSize) 16 (s .0), ltb-false 4096 (x .pageSize) (s .1));
+        pageSize = size-bounds (x .pageSize) (c .1 .1 .1 .0);
         count = count;
         pages = fs .0;
         fingerprint = fs .1;

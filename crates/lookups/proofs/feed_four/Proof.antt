@@ -3,7 +3,7 @@ use mathlib.Core.Path.{ap, _∙_}
 use Prim.Native.Nat.{ℕ, _+_, _-_, _*_, _/_, _^_}
 use native.Mathlib.Omega.{arith}
 use borrow.Author.Needs.{needs}
-use Rattle.gf2.specs.Polynomials.{_⊕_, monic}
+use Rattle.gf2.specs.Polynomials.{_⊕_}
 use Rattle.gf2.proofs.Monics.{monic-pos, monic-degree}
 use Rattle.lookups.specs.Groups.{looked}
 use Rattle.lookups.proofs.Cut.{below-fits, all-fits, cut-behind, cut-high}
@@ -36,7 +36,6 @@ returns c =
     let s = c .before .before .before .before in
     let a = s .args in
     let p = s .pre in
-    let key = monic (a .k) (a .low) in
     let ws = a .words .now in
     c .look-up .ensures
     ∙ ap (λ (x : ℕ). x ⊕ looked 8 ws 4 0 ((a .f * 2 ^ 32 + a .v) / 2 ^ a .k)) (c .before .low-bits .ensures)
@@ -73,7 +72,6 @@ returns-2 c =
     let s = c .before .before .before .before in
     let a = s .args in
     let p = s .pre in
-    let key = monic (a .k) (a .low) in
     let ws = a .words .now in
     c .look-up2 .ensures
     ∙ ap (λ (x : ℕ). (x * 2 ^ 32 + a .v) ⊕ looked 8 ws 4 0 (a .f / 2 ^ (a .k - 32))) (c .before .low-bits2 .ensures)

@@ -4,7 +4,7 @@ use Prim.Native.Nat.{ℕ, _+_, _-_, _*_, _/_, _%_, _^_, _<_}
 use native.Mathlib.Omega.{arith}
 use borrow.Author.Needs.{needs}
 use lib.ListN.{getD}
-use Rattle.gf2.specs.Polynomials.{_⊕_, monic}
+use Rattle.gf2.specs.Polynomials.{_⊕_}
 use Rattle.gf2.proofs.Monics.{monic-pos, monic-degree}
 use Rattle.lookups.proofs.Cut.{below-fits, top-lt, cut-high, look-one}
 use Rattle.lookups.proofs.feed_one.Statement.{statement}
@@ -53,7 +53,6 @@ returns c =
     let s = c .before .before .before .before in
     let a = s .args in
     let p = s .pre in
-    let key = monic (a .k) (a .low) in
     let ws = a .words .now in
     let h = a .f / 2 ^ (a .k - 8) in
     let b : a .b < 2 ^ 8 = omega (arith, c .before .wide .ensures) in

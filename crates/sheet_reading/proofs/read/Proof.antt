@@ -12,7 +12,7 @@ use Rattle.keys.proofs.Laws.{Passed, passed, refused, passed-low}
 use Rattle.sheets.specs.Layout.{version1, numberAt, pageCount, sizeIn, pagesIn}
 use Rattle.sheets.specs.Sheets.{headWrong, sheetRead}
 use Rattle.refusals.proofs.Laws.{holds, fails}
-use Rattle.sheets.proofs.Steps.{size-bounds}
+use Rattle.sheets.proofs.Sound.{size-bounds}
 use Rattle.sheet_reading.proofs.Answers.{numbers-are, body-total, head-long, read-head, read-key, read-size, read-body, read-done}
 use borrow.Author.Needs.{needs}
 use Rattle.sheet_reading.proofs.read.Statement.{statement}

@@ -7,7 +7,7 @@ use lib.Dec.{ltb}
 use Rattle.refusals.specs.Refusals.{Done}
 use Rattle.keys.proofs.Laws.{Passed, passed, refused, passed-low}
 use Rattle.refusals.proofs.Laws.{holds, fails}
-use Rattle.sheets.proofs.Steps.{size-bounds}
+use Rattle.sheets.proofs.Sound.{size-bounds}
 use Rattle.sheets.proofs.Pages.{count-small}
 use Rattle.sheet_writing.proofs.Answers.{write-key, write-long, write-size, write-short, write-done}
 use borrow.Author.Needs.{needs}

@@ -5,12 +5,23 @@ use native.Mathlib.Omega.{arith}
 use mathlib.Core.Bool.{not}
 use Rattle.gf2.specs.Polynomials.{degree, monic}
 use Rattle.refusals.proofs.Laws.{holds, fails}
-use Rattle.keys.proofs.Laws.{passed, refused, passed-pos, passed-monic, passed-word, passed-modulus}
+use Rattle.keys.proofs.Laws.{Passed, passed, refused, passed-pos, passed-monic, passed-word, passed-modulus}
 use Rattle.tables.specs.Tables.{word, differs}
 use Rattle.tables.proofs.Calls.{test-key, test-size, test-word, test-done}
 use borrow.Author.Needs.{needs}
 use Rattle.tables.proofs.test.Statement.{statement}
 use Rattle.tables.proofs.test.Tie as tie
+
+-- what is known where the key is accepted
+key-passed : (c : tie.After-enum-told) → Passed (c .before .before .before .before .args .key)
+key-passed c = let t = c .before .before .test in passed (t .result) (c .before .before .before .before .args .key) (t .ensures) (c .enum-told .given .1)
+
+words-tested : (c : tie.After-holds) → c .holds .result ≡ not (differs (word 8 (c .before .before .before .before .before .before .before .before .args .key)) 0 (c .before .before .before .before .before .before .before .before .args .words .now))
+words-tested c =
+    let d = c .before .before .degree in
+    let l = c .before .low-bits in
+    let p : monic (d .result) (l .result) ≡ c .before .before .before .before .before .before .before .before .args .key = rw (l .ensures, d .ensures) (passed-monic (key-passed (c .before .before .before .before))) in
+    c .holds .ensures ∙ ap (λ (q : ℕ). not (differs (word 8 q) 0 (c .before .before .before .before .before .before .before .before .args .words .now))) p
 
 test-requires : tie.Need-test-requires
 test-requires c κs = search needs
@@ -29,66 +40,26 @@ enum-told : tie.Need-enum-told
 enum-told c = search needs
 
 returns-2 : tie.Need-returns-2
-returns-2 c =
-    let e = c in
-    let s = e .before .before .before .before .before in
-    let a = s .args in
-    let t = e .before .before .before .test in
-    let h = passed (t .result) (a .key) (t .ensures) (e .before .enum-told .given .1) in
-    sym (test-size (a .key) (a .words .now) h (c .if1 .taken))
+returns-2 c = let a = c .before .before .before .before .before .args in sym (test-size (a .key) (a .words .now) (key-passed (c .before)) (c .if1 .taken))
 
 degree-requires : tie.Need-degree-requires
-degree-requires c κs =
-    let e = c in
-    let s = e .before .before .before .before .before in
-    let a = s .args in
-    let t = e .before .before .before .test in
-    let h = passed (t .result) (a .key) (t .ensures) (e .before .enum-told .given .1) in
-    passed-pos h
+degree-requires c κs = passed-pos (key-passed (c .before))
 
 low-bits-requires : tie.Need-low-bits-requires
-low-bits-requires c κs =
-    let e = c .before in
-    let s = e .before .before .before .before .before in
-    let a = s .args in
-    let t = e .before .before .before .test in
-    let h = passed (t .result) (a .key) (t .ensures) (e .before .enum-told .given .1) in
-    omega (arith, c .degree .ensures, passed-word h (omega arith))
+low-bits-requires c κs = omega (arith, c .degree .ensures, passed-word (key-passed (c .before .before)) (omega arith))
 
 holds-requires : tie.Need-holds-requires
-holds-requires c κs =
-    let e = c .before .before in
-    let s = e .before .before .before .before .before in
-    let a = s .args in
-    let t = e .before .before .before .test in
-    let h = passed (t .result) (a .key) (t .ensures) (e .before .enum-told .given .1) in
-    rw (c .low-bits .ensures, c .before .degree .ensures) (passed-modulus h (omega arith), e .if1 .left)
+holds-requires c κs = rw (c .low-bits .ensures, c .before .degree .ensures) (passed-modulus (key-passed (c .before .before .before)) (omega arith), c .before .before .if1 .left)
 
 returns-3 : tie.Need-returns-3
 returns-3 c =
-    let e = c .before .before .before .before in
-    let s = e .before .before .before .before .before in
-    let a = s .args in
-    let t = e .before .before .before .test in
-    let h = passed (t .result) (a .key) (t .ensures) (e .before .enum-told .given .1) in
-    let d = c .before .before .before .degree in
-    let l = c .before .before .low-bits in
-    let p : monic (d .result) (l .result) ≡ a .key = rw (l .ensures, d .ensures) (passed-monic h) in
-    let r = c .before .holds .ensures ∙ ap (λ (q : ℕ). not (differs (word 8 q) 0 (a .words .now))) p in
-    sym (test-word (a .key) (a .words .now) h (e .if1 .left) (holds (c .before .holds .result) (differs (word 8 (a .key)) 0 (a .words .now)) r (c .if2 .taken)))
+    let a = c .before .before .before .before .before .before .before .before .before .args in
+    sym (test-word (a .key) (a .words .now) (key-passed (c .before .before .before .before .before)) (c .before .before .before .before .if1 .left) (holds (c .before .holds .result) _ (words-tested (c .before)) (c .if2 .taken)))
 
 returns-4 : tie.Need-returns-4
 returns-4 c =
-    let e = c .before .before .before .before in
-    let s = e .before .before .before .before .before in
-    let a = s .args in
-    let t = e .before .before .before .test in
-    let h = passed (t .result) (a .key) (t .ensures) (e .before .enum-told .given .1) in
-    let d = c .before .before .before .degree in
-    let l = c .before .before .low-bits in
-    let p : monic (d .result) (l .result) ≡ a .key = rw (l .ensures, d .ensures) (passed-monic h) in
-    let r = c .before .holds .ensures ∙ ap (λ (q : ℕ). not (differs (word 8 q) 0 (a .words .now))) p in
-    sym (test-done (a .key) (a .words .now) h (e .if1 .left) (fails (c .before .holds .result) (differs (word 8 (a .key)) 0 (a .words .now)) r (c .if2 .left)))
+    let a = c .before .before .before .before .before .before .before .before .before .args in
+    sym (test-done (a .key) (a .words .now) (key-passed (c .before .before .before .before .before)) (c .before .before .before .before .if1 .left) (fails (c .before .holds .result) _ (words-tested (c .before)) (c .if2 .left)))
 
 pub test-spec : {M : Type 1} → statement M
 test-spec =

@@ -7,11 +7,12 @@ use native.Mathlib.Omega.{arith}
 use lib.Bits.{bitOr}
 use lib.Dec.{leb}
 use lib.ListN.{length}
-use borrow.Author.Tests.{eq-eqb, ne-eqb, leb-false, not-true, not-false}
+use borrow.Author.Tests.{eq-eqb, ne-eqb, leb-false}
 use Rattle.gf2.specs.Polynomials.{_⊗_, monic, degree, rem}
 use Rattle.gf2.proofs.Powers.{rem-⊗-pow}
 use Rattle.gf2.proofs.Steps.{residue-lt, or-leb}
 use Rattle.gf2.proofs.Monics.{word-degree}
+use Rattle.refusals.proofs.Laws.{holds, fails}
 use Rattle.acceptance.proofs.Laws.{or-neither}
 use Rattle.files.specs.Files.{markOf}
 use Rattle.sheets.specs.Layout.{numberAt, numbersAt}
@@ -58,7 +59,7 @@ fields c =
     let k = c .before .before .before .before .before .before .degree .result in
     let joined = c .before .before .before .before .pages-joined in
     let file = c .before .before .before .number-at .result in
-    let o = or-neither (leb (2 ^ k) (joined .result .bits)) (leb (2 ^ k) file) (sym (or-leb k (joined .result .bits) file) ∙ not-true _ (sym (c .before .reduced .ensures) ∙ not-false _ (c .if2 .left))) in
+    let o = or-neither (leb (2 ^ k) (joined .result .bits)) (leb (2 ^ k) file) (sym (or-leb k (joined .result .bits) file) ∙ fails _ _ (c .before .reduced .ensures) (c .if2 .left)) in
     (sym (joined .ensures .1 k) ∙ o .0, leb-false (2 ^ k) file (o .1))
 
 page-count-requires : tie.Need-page-count-requires
@@ -109,7 +110,7 @@ returns-2 c =
     let n = c .before .before .before .before .before .before .before .before .page-count .result in
     let l = s .args .sheet .now in
     let t : someUnreduced (degree (s .args .key)) (numbersAt 19 8 (n + 1) l) ≡ true =
-    sym (tested (c .before)) ∙ not-false _ (sym (c .before .reduced .ensures) ∙ not-true _ (c .if2 .taken)) in
+    sym (tested (c .before)) ∙ holds _ _ (c .before .reduced .ensures) (c .if2 .taken) in
     rw (body-is l (s .args .key) (s .args .n) (s .args .size) n (q .5) (q .6) (q .7) (c .before .before .before .before .before .before .before .before .page-count .ensures), eq-eqb (length l) (27 + 8 * n) (c .before .before .before .before .before .before .before .if1 .left), t)
 
 mul-power-of-t : tie.Need-mul-power-of-t
@@ -142,7 +143,7 @@ returns-3 c =
     let k = c .before .before .before .before .before .before .before .before .before .degree .result in
     let low = c .before .before .before .before .before .before .before .before .low-bits .result in
     let t : someUnreduced (degree key) (numbersAt 19 8 (n + 1) l) ≡ false =
-    sym (tested (c .before .before .before .before)) ∙ not-true _ (sym (c .before .before .before .before .reduced .ensures) ∙ not-false _ (c .before .before .before .if2 .left)) in
+    sym (tested (c .before .before .before .before)) ∙ fails _ _ (c .before .before .before .before .reduced .ensures) (c .before .before .before .if2 .left) in
     let size = s .args .size in
     let joined : c .before .before .before .before .before .before .before .pages-joined .result .mark ≡ joinedPages key size (markOf key []) (numbersAt 19 8 n l) .fingerprint =
     c .before .before .before .before .before .before .before .pages-joined .ensures .0 (fields (c .before .before .before) .0) ∙ ap (λ (m : ℕ). joinedPages m size (markOf m []) (numbersAt 19 8 n l) .fingerprint) (h .whole) in
