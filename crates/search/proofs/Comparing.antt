@@ -3,6 +3,7 @@ use mathlib.Core.Path.{_≡_, refl, ap}
 use mathlib.Core.Bool.{Bool, true, false, not}
 use mathlib.Core.List.{List, [], _∷_}
 use Prim.Native.Nat.{ℕ, _+_, _-_, _≤_, _<_}
+use native.Mathlib.Decide.{decLt}
 use native.Mathlib.Numerals.{add-one}
 use native.Mathlib.Omega.{arith}
 use borrow.Author.Tests.{eq-eqb, ne-eqb}
@@ -38,6 +39,14 @@ module _ (a b : List ℕ) where
   same-end j h g = rw (drop-of-length-le a {i = j} h, drop-of-length-le b {i = j} g)
 
 -- ---- flagged windows
+
+pub none-more : (flags : List Bool) (first i : ℕ) → ((j : ℕ) → first ≤ j → j < i → getD flags j false ≡ false) → getD flags i false ≡ false
+    → (j : ℕ) → first ≤ j → j < i + 1 → getD flags j false ≡ false
+none-more flags first i before last j l h = go (decLt j i)
+  where
+    go : Dec (j < i) → getD flags j false ≡ false
+    go (yes g) = before j l g
+    go (no g) = let e : j ≡ i = omega arith in rw e last
 
 module _ (flags : List Bool) (text pattern : List ℕ) (from i : ℕ) where
   behind : from + i - from ≡ i

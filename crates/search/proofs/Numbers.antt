@@ -26,6 +26,10 @@ module _ (test : ℕ → Bool) where
   unfolding passing
   passing-miss n c e = rw e
 
+  pub passing-no : (n c : ℕ) → ((i : ℕ) → n ≤ i → i < n + c → test i ≡ false) → passing test n c ≡ []
+  passing-no n zero h = passing-none n
+  passing-no n (suc c) h = passing-miss n c (h n (le-refl n) (omega arith)) ∙ passing-no (suc n) c (λ i a b. h i (omega arith) (omega arith))
+
   keep-append : (b : Bool) (n : ℕ) (x y : List ℕ) → keep b n (x ++ y) ≡ keep b n x ++ y
   keep-append true n x y = refl
   keep-append false n x y = refl
@@ -118,14 +122,6 @@ module _ {P A : ℕ → Bool} {n c : ℕ} {words₀ : List ℕ} {p₀ a₀ : ℕ
 
   module _ {words : List ℕ} {p a i : ℕ} (t : Tally P A n c words₀ p₀ a₀ words p a i) where
     module _ (h : i < c) where
-      pub tally-skip : P (n + i) ≡ false → A (n + i) ≡ false → Tally P A n c words₀ p₀ a₀ words p a (i + 1)
-      tally-skip e f =
-          record {
-            placed = rw (left-miss P n i c h e) at (t .placed);
-            alarmed = rw (left-miss A n i c h f) at (t .alarmed);
-            written = rw (left-miss P n i c h e) at (t .written);
-          }
-
       pub tally-alarm : P (n + i) ≡ false → A (n + i) ≡ true → Tally P A n c words₀ p₀ a₀ words p (a + 1) (i + 1)
       tally-alarm e f =
           record {
@@ -159,6 +155,16 @@ module _ {P A : ℕ → Bool} {n c : ℕ} {words₀ : List ℕ} {p₀ a₀ : ℕ
         count T x y ey ex =
             let parts = ap length (left-block T n i s c h) ∙ length-append (passing T (n + i) s) (passing T (n + (i + s)) (c - (i + s))) in
             omega arith
+
+    -- numbers that pass neither test
+    pub tally-skip : (next : ℕ) → i ≤ next → next ≤ c → ((j : ℕ) → i ≤ j → j < next → (P (n + j) ≡ false) × (A (n + j) ≡ false))
+        → Tally P A n c words₀ p₀ a₀ words p a next
+    tally-skip next g h misses =
+        let s = next - i in
+        let end : i + (next - i) ≡ next = omega arith in
+        let none-P = passing-no P (n + i) s (λ j u v. let z : n + (j - n) ≡ j = omega arith in rw z at (misses (j - n) (omega arith) (omega arith) .0)) in
+        let none-A = passing-no A (n + i) s (λ j u v. let z : n + (j - n) ≡ j = omega arith in rw z at (misses (j - n) (omega arith) (omega arith) .1)) in
+        rw end at (tally-block words s p a (omega arith) (rw none-P) (rw (none-P, add-zero p)) (rw (none-A, add-zero a)))
 
     pub tally-end : c ≤ i → (p ≡ p₀ + length (passing P n c)) × (a ≡ a₀ + length (passing A n c)) × (words ≡ sets words₀ p₀ (passing P n c))
     tally-end h =

@@ -1,10 +1,18 @@
 -- What the comparison of flagged windows with the pattern finds: for the crate's own functions.
-use mathlib.Core.Bool.{Bool, false, _&&_, not}
+use mathlib.Core.Path.{_≡_}
+use mathlib.Core.Bool.{Bool, true, false, _&&_, not}
 use mathlib.Core.List.{List}
-use Prim.Native.Nat.{ℕ, _-_}
+use Prim.Native.Nat.{ℕ, _-_, _≤_, _<_}
 use lib.ListN.{getD}
 use Rattle.gf2.specs.Lists.{passing}
 use Rattle.search.specs.Searching.{isPlace}
+
+-- the first flagged window from `first` on, or `size` where there is none
+pub record NextFlagged (flags : List Bool) (first size next : ℕ) : Type 0 where
+  pub low : first ≤ next
+  pub high : next ≤ size
+  pub none : (j : ℕ) → first ≤ j → j < next → getD flags j false ≡ false
+  pub flagged : next < size → getD flags next false ≡ true
 
 -- a flagged window that is a place, and one that is not
 unfoldable pub flaggedPlace : List Bool → List ℕ → List ℕ → ℕ → ℕ → Bool
