@@ -1,6 +1,6 @@
 -- Laws of comparing two lists byte by byte, and of flagged windows.
-use mathlib.Core.Path.{_≡_, refl, ap}
-use mathlib.Core.Bool.{Bool, true, false, not}
+use mathlib.Core.Path.{_≡_, refl, sym, ap}
+use mathlib.Core.Bool.{Bool, true, false, not, _||_, false≢true}
 use mathlib.Core.List.{List, [], _∷_}
 use Prim.Native.Nat.{ℕ, _+_, _-_, _≤_, _<_}
 use native.Mathlib.Decide.{decLt}
@@ -12,7 +12,7 @@ use lib.Seq.{drop-cons}
 use Rattle.gf2.specs.Lists.{same}
 use Rattle.gf2.proofs.Lists.{same-eq}
 use Rattle.search.specs.Searching.{isPlace}
-use Rattle.search.specs.Flagged.{flaggedPlace, flaggedAlarm}
+use Rattle.search.specs.Flagged.{NoneFlagged, NextFlagged, flaggedPlace, flaggedAlarm}
 
 -- ---- the same bytes
 
@@ -40,13 +40,47 @@ module _ (a b : List ℕ) where
 
 -- ---- flagged windows
 
-pub none-more : (flags : List Bool) (first i : ℕ) → ((j : ℕ) → first ≤ j → j < i → getD flags j false ≡ false) → getD flags i false ≡ false
-    → (j : ℕ) → first ≤ j → j < i + 1 → getD flags j false ≡ false
-none-more flags first i before last j l h = go (decLt j i)
-  where
-    go : Dec (j < i) → getD flags j false ≡ false
-    go (yes g) = before j l g
-    go (no g) = let e : j ≡ i = omega arith in rw e last
+module _ (flags : List Bool) where
+  pub none-join : (first i next : ℕ) → NoneFlagged flags first i → NoneFlagged flags i next → NoneFlagged flags first next
+  none-join first i next before behind j l h = go (decLt j i)
+    where
+      go : Dec (j < i) → getD flags j false ≡ false
+      go (yes g) = before j l g
+      go (no g) = behind j (omega arith) h
+
+  pub none-more : (first i next : ℕ) → next ≤ i + 1 → NoneFlagged flags first i → getD flags i false ≡ false → NoneFlagged flags first next
+  none-more first i next s before last = none-join first i next before (λ j l h. let e : j ≡ i = omega arith in rw e last)
+
+  -- windows in front without a flag
+  pub next-further : (first i size next : ℕ) → first ≤ i → NoneFlagged flags first i → NextFlagged flags i size next → NextFlagged flags first size next
+  next-further first i size next s before f =
+      record { low = omega (arith, f .low); high = f .high; none = none-join first i next before (f .none); flagged = f .flagged }
+
+  both : (a b : Bool) → (a || b) ≡ false → (a ≡ false) × (b ≡ false)
+  both true b e = absurd (false≢true (sym e))
+  both false b e = (refl, e)
+
+  abbrev flag : ℕ → Bool
+  flag i = getD flags i false
+
+  pub none-eight : (i : ℕ) → ((flag i || flag (i + 1) || flag (i + 2) || flag (i + 3)) || (flag (i + 4) || flag (i + 5) || flag (i + 6) || flag (i + 7))) ≡ false
+      → NoneFlagged flags i (i + 8)
+  none-eight i e =
+      let halves = both _ _ e in
+      let l₂ = both _ _ (halves .0) in
+      let l₁ = both _ _ (l₂ .0) in
+      let l₀ = both _ _ (l₁ .0) in
+      let h₂ = both _ _ (halves .1) in
+      let h₁ = both _ _ (h₂ .0) in
+      let h₀ = both _ _ (h₁ .0) in
+      let n₀ = none-more i i (i + 1) (omega arith) (λ j a b. absurd (omega arith)) (l₀ .0) in
+      let n₁ = none-more i (i + 1) (i + 2) (omega arith) n₀ (l₀ .1) in
+      let n₂ = none-more i (i + 2) (i + 3) (omega arith) n₁ (l₁ .1) in
+      let n₃ = none-more i (i + 3) (i + 4) (omega arith) n₂ (l₂ .1) in
+      let n₄ = none-more i (i + 4) (i + 5) (omega arith) n₃ (h₀ .0) in
+      let n₅ = none-more i (i + 5) (i + 6) (omega arith) n₄ (h₀ .1) in
+      let n₆ = none-more i (i + 6) (i + 7) (omega arith) n₅ (h₁ .1) in
+      none-more i (i + 7) (i + 8) (omega arith) n₆ (h₂ .1)
 
 module _ (flags : List Bool) (text pattern : List ℕ) (from i : ℕ) where
   behind : from + i - from ≡ i

@@ -7,11 +7,15 @@ use lib.ListN.{getD}
 use Rattle.gf2.specs.Lists.{passing}
 use Rattle.search.specs.Searching.{isPlace}
 
+-- no window from `first` to `next` is flagged
+abbrev pub NoneFlagged : List Bool → ℕ → ℕ → Type 0
+NoneFlagged flags first next = (j : ℕ) → first ≤ j → j < next → getD flags j false ≡ false
+
 -- the first flagged window from `first` on, or `size` where there is none
 pub record NextFlagged (flags : List Bool) (first size next : ℕ) : Type 0 where
   pub low : first ≤ next
   pub high : next ≤ size
-  pub none : (j : ℕ) → first ≤ j → j < next → getD flags j false ≡ false
+  pub none : NoneFlagged flags first next
   pub flagged : next < size → getD flags next false ≡ true
 
 -- a flagged window that is a place, and one that is not

@@ -1,14 +1,25 @@
 // The bytes of the flagged windows against the pattern's.
 use super::Counts;
 ghost use mathlib.Core.Path.{_≡_};
+ghost use mathlib.Core.Bool.{false};
 ghost use Prim.Native.Nat.{_+_, _≤_, _<_};
 ghost use lib.ListN.{length};
 ghost use lib.Seq.{sets};
 ghost use Rattle.search.specs.Searching.{isPlace};
-ghost use Rattle.search.specs.Flagged.{NextFlagged, flaggedPlaces, flaggedAlarms};
+ghost use Rattle.search.specs.Flagged.{NoneFlagged, NextFlagged, flaggedPlaces, flaggedAlarms};
+
+// Whether one of eight windows is flagged.
+fn one_of_eight(flags: &[bool; 1024], i: usize) -> bool
+    requires { ⌜ i + 8 ≤ 1024 ⌝ }
+    ensures { λ r. ⌜ (r ≡ false → NoneFlagged (now (flags .entry)) i (i + 8)) ⌝ }
+{
+    let low = flags[i] | flags[i + 1] | flags[i + 2] | flags[i + 3];
+    let high = flags[i + 4] | flags[i + 5] | flags[i + 6] | flags[i + 7];
+    low | high
+}
 
 // The first flagged window from the given one on, or `size` where there is none.
-fn next_flagged(flags: &[bool; 1024], first: usize, size: usize) -> usize
+fn flagged_from(flags: &[bool; 1024], first: usize, size: usize) -> usize
     requires { ⌜ (first ≤ size) × (size ≤ 1024) ⌝ }
     ensures { λ r. ⌜ NextFlagged (now (flags .entry)) first size r ⌝ }
 {
@@ -20,6 +31,21 @@ fn next_flagged(flags: &[bool; 1024], first: usize, size: usize) -> usize
         i += 1;
     }
     i
+}
+
+// The same, eight windows at a time as long as none of them is flagged.
+fn next_flagged(flags: &[bool; 1024], first: usize, size: usize) -> usize
+    requires { ⌜ (first ≤ size) × (size ≤ 1024) ⌝ }
+    ensures { λ r. ⌜ NextFlagged (now (flags .entry)) first size r ⌝ }
+{
+    let mut i = first;
+    while 8 <= size - i {
+        if one_of_eight(flags, i) {
+            return flagged_from(flags, i, size);
+        }
+        i += 8;
+    }
+    flagged_from(flags, i, size)
 }
 
 // Whether the pattern stands at a place of the text. The comparison leaves off at the first byte that differs.

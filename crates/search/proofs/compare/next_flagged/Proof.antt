@@ -1,15 +1,13 @@
 -- `search::compare::next_flagged` meets its contract: no window from the first one to the i-th is flagged.
-use mathlib.Core.Path.{_≡_}
-use mathlib.Core.Bool.{false}
-use Prim.Native.Nat.{ℕ, _-_, _≤_, _<_}
+use Prim.Native.Nat.{_+_, _-_, _≤_}
 use native.Mathlib.Omega.{arith}
-use lib.ListN.{getD}
-use Rattle.search.proofs.Comparing.{none-more}
+use Rattle.search.specs.Flagged.{NoneFlagged}
+use Rattle.search.proofs.Comparing.{none-join, next-further}
 use Rattle.search.proofs.compare.next_flagged.Statement.{statement}
 use Rattle.search.proofs.compare.next_flagged.Tie as tie
 
 abbrev Inv-loop : tie.InvT-loop
-Inv-loop flags first size i₀ i = (first ≤ i) × (i ≤ size) × ((j : ℕ) → first ≤ j → j < i → getD flags j false ≡ false)
+Inv-loop flags first size i₀ i = (first ≤ i) × (i ≤ size) × NoneFlagged flags first i
 
 abbrev μ-loop : tie.MeasureT-loop
 μ-loop flags first size i₀ i = size - i
@@ -17,13 +15,20 @@ abbrev μ-loop : tie.MeasureT-loop
 loop-holds : tie.Need-loop-holds Inv-loop μ-loop
 loop-holds c = (omega arith, omega arith, λ j a b. absurd (omega arith))
 
-element-copy-out-if1 : tie.Need-element-copy-out-if1 Inv-loop μ-loop
-element-copy-out-if1 c = omega arith
+sub-loop : tie.Need-sub-loop Inv-loop μ-loop
+sub-loop c = omega arith
+
+one-of-eight-requires : tie.Need-one-of-eight-requires Inv-loop μ-loop
+one-of-eight-requires c κs = omega arith
+
+flagged-from-requires : tie.Need-flagged-from-requires Inv-loop μ-loop
+flagged-from-requires c κs = (omega arith, omega arith)
 
 returns : tie.Need-returns Inv-loop μ-loop
 returns c =
-    let l = c .before .before .before .loop in
-    record { low = l .inv .0; high = l .inv .1; none = l .inv .2; flagged = λ h. c .if1 .taken }
+    let a = c .before .before .before .before .before .args in
+    let l = c .before .before .before .before .loop in
+    next-further (a .flags .now) (a .first) (l .i) (a .size) (c .flagged-from .result) (l .inv .0) (l .inv .2) (c .flagged-from .ensures)
 
 add-i : tie.Need-add-i Inv-loop μ-loop
 add-i c = omega arith
@@ -35,12 +40,30 @@ loop-again : tie.Need-loop-again Inv-loop μ-loop
 loop-again c =
     let a = c .before .before .before .before .args in
     let l = c .before .before .before .loop in
-    (omega arith, omega arith, none-more (a .flags .now) (a .first) (l .i) (l .inv .2) (c .if1 .left))
+    (omega arith, omega arith, none-join (a .flags .now) (a .first) (l .i) (l .i + 8) (l .inv .2) (c .before .one-of-eight .ensures (c .if1 .left)))
+
+flagged-from-requires-2 : tie.Need-flagged-from-requires-2 Inv-loop μ-loop
+flagged-from-requires-2 c κs = (omega arith, omega arith)
 
 returns-2 : tie.Need-returns-2 Inv-loop μ-loop
 returns-2 c =
-    let l = c .before .loop in
-    record { low = l .inv .0; high = l .inv .1; none = l .inv .2; flagged = λ h. absurd (omega arith) }
+    let a = c .before .before .before .args in
+    let l = c .before .before .loop in
+    next-further (a .flags .now) (a .first) (l .i) (a .size) (c .flagged-from2 .result) (l .inv .0) (l .inv .2) (c .flagged-from2 .ensures)
 
 pub next-flagged-spec : {M : Type 1} → statement M
-next-flagged-spec = tie.close (tie.spec Inv-loop μ-loop loop-holds element-copy-out-if1 returns add-i loop-less loop-again returns-2)
+next-flagged-spec =
+    tie.close
+    (tie.spec
+    Inv-loop
+    μ-loop
+    loop-holds
+    sub-loop
+    one-of-eight-requires
+    flagged-from-requires
+    returns
+    add-i
+    loop-less
+    loop-again
+    flagged-from-requires-2
+    returns-2)

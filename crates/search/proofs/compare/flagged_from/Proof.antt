@@ -1,0 +1,44 @@
+-- `search::compare::flagged_from` meets its contract: no window from the first one to the i-th is flagged.
+use Prim.Native.Nat.{_+_, _-_, _≤_}
+use native.Mathlib.Omega.{arith}
+use Rattle.search.specs.Flagged.{NoneFlagged}
+use Rattle.search.proofs.Comparing.{none-more}
+use Rattle.search.proofs.compare.flagged_from.Statement.{statement}
+use Rattle.search.proofs.compare.flagged_from.Tie as tie
+
+abbrev Inv-loop : tie.InvT-loop
+Inv-loop flags first size i₀ i = (first ≤ i) × (i ≤ size) × NoneFlagged flags first i
+
+abbrev μ-loop : tie.MeasureT-loop
+μ-loop flags first size i₀ i = size - i
+
+loop-holds : tie.Need-loop-holds Inv-loop μ-loop
+loop-holds c = (omega arith, omega arith, λ j a b. absurd (omega arith))
+
+element-copy-out-if1 : tie.Need-element-copy-out-if1 Inv-loop μ-loop
+element-copy-out-if1 c = omega arith
+
+returns : tie.Need-returns Inv-loop μ-loop
+returns c =
+    let l = c .before .before .before .loop in
+    record { low = l .inv .0; high = l .inv .1; none = l .inv .2; flagged = λ h. c .if1 .taken }
+
+add-i : tie.Need-add-i Inv-loop μ-loop
+add-i c = omega arith
+
+loop-less : tie.Need-loop-less Inv-loop μ-loop
+loop-less c = omega arith
+
+loop-again : tie.Need-loop-again Inv-loop μ-loop
+loop-again c =
+    let a = c .before .before .before .before .args in
+    let l = c .before .before .before .loop in
+    (omega arith, omega arith, none-more (a .flags .now) (a .first) (l .i) (l .i + 1) (omega arith) (l .inv .2) (c .if1 .left))
+
+returns-2 : tie.Need-returns-2 Inv-loop μ-loop
+returns-2 c =
+    let l = c .before .loop in
+    record { low = l .inv .0; high = l .inv .1; none = l .inv .2; flagged = λ h. absurd (omega arith) }
+
+pub flagged-from-spec : {M : Type 1} → statement M
+flagged-from-spec = tie.close (tie.spec Inv-loop μ-loop loop-holds element-copy-out-if1 returns add-i loop-less loop-again returns-2)
