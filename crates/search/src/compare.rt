@@ -5,7 +5,6 @@ ghost use mathlib.Core.Bool.{false};
 ghost use Prim.Native.Nat.{_+_, _≤_, _<_};
 ghost use lib.ListN.{length};
 ghost use lib.Seq.{sets};
-ghost use Rattle.search.specs.Searching.{isPlace};
 ghost use Rattle.search.specs.Flagged.{NoneFlagged, NextFlagged, flaggedPlaces, flaggedAlarms};
 
 // Whether one of eight windows is flagged.
@@ -48,22 +47,8 @@ fn next_flagged(flags: &[bool; 1024], first: usize, size: usize) -> usize
     flagged_from(flags, i, size)
 }
 
-// Whether the pattern stands at a place of the text. The comparison leaves off at the first byte that differs.
-fn has_pattern(text: &[u8], pattern: &[u8], at: usize) -> bool
-    requires { ⌜ at + length (now pattern) ≤ length (now text) ⌝ }
-    ensures { λ r. ⌜ r ≡ isPlace (now (text .entry)) (now (pattern .entry)) at ⌝ }
-{
-    let mut j: usize = 0;
-    while j < pattern.len() {
-        if text[at + j] != pattern[j] {
-            return false;
-        }
-        j += 1;
-    }
-    true
-}
-
-// The flagged windows of a block, added to what was found before. A place is written behind the earlier ones, as far as the words reach.
+// The flagged windows of a block, added to what was found before. The comparison leaves off at the first byte that differs; a place is written
+// behind the earlier ones, as far as the words reach.
 pub fn compare(
     text: &[u8],
     pattern: &[u8],
@@ -83,21 +68,26 @@ pub fn compare(
         × (r .alarms ≡ found .alarms + length (flaggedAlarms (now (flags .entry)) (now (text .entry)) (now (pattern .entry)) from size))
         × (now (words .exit) ≡ sets (now (words .entry)) (found .places) (flaggedPlaces (now (flags .entry)) (now (text .entry)) (now (pattern .entry)) from size)) ⌝ }
 {
+    let m = pattern.len();
     let mut count = found.places;
     let mut alarms = found.alarms;
     let mut i = next_flagged(flags, 0, size);
-    while i < size {
+    'windows: while i < size {
         let at = from + i;
-        if has_pattern(text, pattern, at) {
-            let n = count as usize;
-            if n < words.len() {
-                words[n] = at as u32;
-            }
-            count += 1;
-        } else {
-            alarms += 1;
-        }
         i = next_flagged(flags, i + 1, size);
+        let mut j: usize = 0;
+        while j < m {
+            if text[at + j] != pattern[j] {
+                alarms += 1;
+                continue 'windows;
+            }
+            j += 1;
+        }
+        let n = count as usize;
+        if n < words.len() {
+            words[n] = at as u32;
+        }
+        count += 1;
     }
     Counts {
         places: count,
