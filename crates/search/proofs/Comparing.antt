@@ -1,6 +1,6 @@
 -- Laws of comparing two lists byte by byte, and of flagged windows.
-use mathlib.Core.Path.{_≡_, refl, sym, ap}
-use mathlib.Core.Bool.{Bool, true, false, not, _||_, false≢true}
+use mathlib.Core.Path.{_≡_, refl, ap}
+use mathlib.Core.Bool.{Bool, true, false, not, _||_}
 use mathlib.Core.List.{List, [], _∷_}
 use Prim.Native.Nat.{ℕ, _+_, _-_, _≤_, _<_}
 use native.Mathlib.Decide.{decLt}
@@ -11,6 +11,7 @@ use lib.ListN.{length, drop, getD, drop-of-length-le}
 use lib.Seq.{drop-cons}
 use Rattle.gf2.specs.Lists.{same}
 use Rattle.gf2.proofs.Lists.{same-eq}
+use Rattle.acceptance.proofs.Laws.{or-neither}
 use Rattle.search.specs.Searching.{isPlace}
 use Rattle.search.specs.Flagged.{NoneFlagged, NextFlagged, flaggedPlace, flaggedAlarm}
 
@@ -56,23 +57,19 @@ module _ (flags : List Bool) where
   next-further first i size next s before f =
       record { low = omega (arith, f .low); high = f .high; none = none-join first i next before (f .none); flagged = f .flagged }
 
-  both : (a b : Bool) → (a || b) ≡ false → (a ≡ false) × (b ≡ false)
-  both true b e = absurd (false≢true (sym e))
-  both false b e = (refl, e)
-
   abbrev flag : ℕ → Bool
   flag i = getD flags i false
 
   pub none-eight : (i : ℕ) → ((flag i || flag (i + 1) || flag (i + 2) || flag (i + 3)) || (flag (i + 4) || flag (i + 5) || flag (i + 6) || flag (i + 7))) ≡ false
       → NoneFlagged flags i (i + 8)
   none-eight i e =
-      let halves = both _ _ e in
-      let l₂ = both _ _ (halves .0) in
-      let l₁ = both _ _ (l₂ .0) in
-      let l₀ = both _ _ (l₁ .0) in
-      let h₂ = both _ _ (halves .1) in
-      let h₁ = both _ _ (h₂ .0) in
-      let h₀ = both _ _ (h₁ .0) in
+      let halves = or-neither _ _ e in
+      let l₂ = or-neither _ _ (halves .0) in
+      let l₁ = or-neither _ _ (l₂ .0) in
+      let l₀ = or-neither _ _ (l₁ .0) in
+      let h₂ = or-neither _ _ (halves .1) in
+      let h₁ = or-neither _ _ (h₂ .0) in
+      let h₀ = or-neither _ _ (h₁ .0) in
       let n₀ = none-more i i (i + 1) (omega arith) (λ j a b. absurd (omega arith)) (l₀ .0) in
       let n₁ = none-more i (i + 1) (i + 2) (omega arith) n₀ (l₀ .1) in
       let n₂ = none-more i (i + 2) (i + 3) (omega arith) n₁ (l₁ .1) in
