@@ -9,20 +9,13 @@ use native.Mathlib.Omega.{arith}
 use lib.Dec.{leb, ltb, eqb}
 use lib.Pow.{pow-mono}
 use borrow.Author.Tests.{leb-true, eqb-true, le-leb, eq-eqb, not-true, le-ltb, ltb-false}
+use Rattle.lists.proofs.Truth.{and-both, or-neither, by-cases}
 use Rattle.gf2.specs.Polynomials.{halvings, degree, rem, Divides, Irreducible}
 use Rattle.gf2.proofs.Degrees.{degree-is, degree-from, deg-lo, deg-hi, deg-le}
 use Rattle.gf2.proofs.Monics.{word-degree}
 use Rattle.gf2.proofs.Residues.{rem-of-dvd, dvd-of-rem-zero}
 use Rattle.gf2.proofs.Irreducibles.{irreducible, no-divisor}
 use Rattle.acceptance.specs.Keys.{anyBelow, reducible, accepted}
-
-pub and-both : (a b : Bool) → (a && b) ≡ true → (a ≡ true) × (b ≡ true)
-and-both true b e = (refl, e)
-and-both false b e = absurd (false≢true e)
-
-pub or-neither : (a b : Bool) → (a || b) ≡ false → (a ≡ false) × (b ≡ false)
-or-neither true b e = absurd (true≢false e)
-or-neither false b e = (refl, e)
 
 any-false : (f : ℕ → Bool) (n d : ℕ) → anyBelow f n ≡ false → d < n → f d ≡ false
 unfolding anyBelow
@@ -37,10 +30,6 @@ any-none : (f : ℕ → Bool) (n : ℕ) → ((d : ℕ) → d < n → f d ≡ fal
 unfolding anyBelow
 any-none f zero h = refl
 any-none f (suc n) h = rw (h n (le-refl (suc n))) (any-none f n (λ d l. h d (omega arith)))
-
-pub by-cases : (b : Bool) → (b ≡ true → ⊥) → b ≡ false
-by-cases true h = absurd (h refl)
-by-cases false h = refl
 
 big : (p : ℕ) → 1 ≤ degree p → 1 < p
 unfolding degree halvings

@@ -9,7 +9,7 @@ use lib.ListN.{length, getD, set}
 use Rattle.gf2.specs.Polynomials.{_⊕_}
 use Rattle.gf2.proofs.Sums.{⊕-comm, ⊕-shl}
 use Rattle.gf2.proofs.Products.{by-low}
-use Rattle.gf2.proofs.Lists.{stored}
+use Rattle.lists.proofs.Lists.{stored}
 use Rattle.gf2.proofs.Degrees.{half-lt}
 use Rattle.gf2.proofs.Linear.{Additive, at-zero, at-bit}
 use Rattle.basis.specs.Rows.{sumOf, Matrix}

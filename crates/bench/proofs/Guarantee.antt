@@ -3,7 +3,7 @@ use mathlib.Core.Path.{_≡_, sym, ap, _∙_}
 use mathlib.Core.List.{[]}
 use Prim.Native.Nat.{ℕ}
 use lib.Dec.{T}
-use Rattle.gf2.proofs.Lists.{rising}
+use Rattle.lists.proofs.Lists.{rising}
 use Rattle.refusals.specs.Refusals.{Answer, Done, valueOr, numbers}
 use Rattle.files.specs.declared.Mark.{Mark}
 use Rattle.files.specs.Files.{fingerprint, markOf}

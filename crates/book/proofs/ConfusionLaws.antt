@@ -11,19 +11,20 @@ use lib.ListN.{length}
 use lib.Pow.{pow-mono}
 use borrow.Author.Tests.{eqb-true, eq-eqb}
 use Rattle.gf2.specs.Polynomials.{_⊕_, degree, Degree}
-use Rattle.gf2.specs.Lists.{passing, All, Distinct}
-use Rattle.gf2.proofs.Lists.{all-map, Passes, all-passing, distinct-passing}
+use Rattle.lists.specs.Lists.{passing, All, Distinct}
+use Rattle.lists.proofs.Lists.{all-map, Passes, all-passing, distinct-passing}
 use Rattle.gf2.proofs.Sums.{⊕-eq, ⊕-lt}
 use Rattle.gf2.proofs.Degrees.{degree-is, degree-eq, deg-lo, deg-hi, deg-le, deg-intro}
 use Rattle.gf2.proofs.Residues.{dvd-of-rem}
 use Rattle.gf2.proofs.Irreducibles.{Factor, count}
 use Rattle.acceptance.specs.Keys.{accepted}
-use Rattle.acceptance.proofs.Laws.{accepted-pos, accepted-iff, and-both}
+use Rattle.lists.proofs.Truth.{and-both}
+use Rattle.acceptance.proofs.Laws.{accepted-pos, accepted-iff}
 use Rattle.files.specs.Files.{value, fingerprint, Bytes}
 use Rattle.files.proofs.Values.{value-degree, value-inj}
 use Rattle.book.specs.Confusions.{confused, Burst}
 use Rattle.book.specs.Claims.{ConfusionsCount, BurstsCount}
-use Rattle.book.proofs.Sums.{length-passing, count-none}
+use Rattle.lists.proofs.Counts.{length-passing, count-none}
 use Rattle.book.proofs.BurstLaws.{no-burst, burst-shifted}
 
 -- an accepted key of degree k under which the fingerprints are equal

@@ -5,7 +5,7 @@ use mathlib.Core.List.{List, []}
 use Prim.Native.Nat.{ℕ, _<_}
 use lib.Dec.{T}
 use lib.ListN.{length}
-use Rattle.gf2.proofs.Lists.{rising, all-map}
+use Rattle.lists.proofs.Lists.{rising, all-map}
 use Rattle.refusals.specs.Refusals.{numbers}
 use Rattle.refusals.proofs.Laws.{first-is-lowest}
 use Rattle.acceptance.specs.Keys.{accepted}

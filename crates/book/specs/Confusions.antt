@@ -27,15 +27,6 @@ pub record Confuses (Route : Routes) (k : ℕ) (a b : List ℕ) (key : ℕ) : Ty
 unfoldable pub confused : List ℕ → List ℕ → ℕ → Bool
 confused a b key = accepted key && eqb (fingerprint key a) (fingerprint key b)
 
-abbrev pub toOne : Bool → ℕ
-toOne true = 1
-toOne false = 0
-
--- how many of the n numbers from x on pass the test
-unfoldable pub countFrom : (ℕ → Bool) → ℕ → ℕ → ℕ
-countFrom f x zero = 0
-countFrom f x (suc n) = toOne (f x) + countFrom f (suc x) n
-
 -- "the lengths are equal and the first and last differing bits are at most k - 1 places apart": every bit that differs stands from
 -- the place `first` to the place `last`
 pub record Burst (k : ℕ) (a b : List ℕ) : Type 0 where

@@ -3,7 +3,7 @@
 -- keys therefore fails for few elements.
 use mathlib.Core.Path.{_≡_, refl, sym, ap, _∙_}
 use mathlib.Core.Logic.{_≢_}
-use mathlib.Core.Bool.{Bool, true, false, _&&_, _||_, not, true≢false}
+use mathlib.Core.Bool.{Bool, true, false, _&&_, _||_, not, cond, true≢false}
 use mathlib.Core.List.{List, [], _∷_}
 use Prim.Native.Nat.{ℕ, zero, suc, _+_, _-_, _*_, _%_, _^_, _≤_, _<_}
 use native.Mathlib.Nat.{one-mul, zero-mul, two-pow-succ}
@@ -13,13 +13,14 @@ use lib.Dec.{T, T-not, leb, leb→le, eqb, eqb-refl}
 use lib.Pow.{pow-mono}
 use borrow.Author.Tests.{eqb-true, eq-eqb, ne-eqb}
 use Rattle.gf2.specs.Polynomials.{degree}
-use Rattle.gf2.specs.Lists.{All}
-use Rattle.gf2.proofs.Lists.{and-left, and-right, every, all-by-test}
+use Rattle.lists.specs.Lists.{All}
+use Rattle.lists.proofs.Truth.{and-left, and-right}
+use Rattle.lists.proofs.Lists.{every, all-by-test}
 use Rattle.gf2.proofs.Degrees.{degree-is, degree-eq, deg-lo, deg-hi, deg-intro}
 use Rattle.acceptance.specs.Keys.{accepted}
 use Rattle.acceptance.proofs.Laws.{accepted-iff, accepted-pos}
-use Rattle.book.specs.Confusions.{toOne, countFrom}
-use Rattle.book.proofs.Sums.{count-is-sum, sum-same, sum-times, count-all, count-one, count-none, count-twice}
+use Rattle.lists.specs.Counts.{countFrom}
+use Rattle.lists.proofs.Counts.{count-is-sum, sum-same, sum-times, count-all, count-one, count-none, count-twice}
 use Rattle.fields.specs.Fields.{Prime, Field}
 use Rattle.fields.proofs.Pigeonhole.{Found}
 use Rattle.stock.specs.Stock.{stockKey}
@@ -132,7 +133,7 @@ module _ (k : ℕ) (listed : among k degrees ≡ true) where
 
     -- of the k elements one is e where e draws p, and none elsewhere
     one-place : (e : ℕ) → 2 ≤ e → e < 2 + (2 ^ k - 2)
-        → toOne true * countFrom (λ j. eqb (element j) e) 0 k ≡ toOne (eqb (key e) p)
+        → (cond true 1 0) * countFrom (λ j. eqb (element j) e) 0 k ≡ cond (eqb (key e) p) 1 0
     one-place e low bound = one-mul (countFrom (λ j. eqb (element j) e) 0 k) ∙ go (ℕ-discrete (key e) p)
       where
         high : e < 2 ^ k
@@ -146,7 +147,7 @@ module _ (k : ℕ) (listed : among k degrees ≡ true) where
             settle (no l) (yes m) = absurd (all-drawers .different j i m a (sym s))
             settle (no l) (no m) = omega arith
 
-        go : Dec (key e ≡ p) → countFrom (λ j. eqb (element j) e) 0 k ≡ toOne (eqb (key e) p)
+        go : Dec (key e ≡ p) → countFrom (λ j. eqb (element j) e) 0 k ≡ cond (eqb (key e) p) 1 0
         go (yes s) =
             rw (eq-eqb (key e) p s)
             (count-one (λ j. eqb (element j) e) (found .place) 0 k (omega arith) (omega (arith, found .before)) (eq-eqb (element (found .place)) e (found .is))
@@ -162,7 +163,7 @@ module _ (k : ℕ) (listed : among k degrees ≡ true) where
     pub drawers-count : elements (λ e. eqb (key e) p) ≡ k
     drawers-count =
         count-is-sum (λ e. eqb (key e) p) 2 (2 ^ k - 2)
-        ∙ sym (sum-same (λ e. toOne true * countFrom (λ j. eqb (element j) e) 0 k) (λ e. toOne (eqb (key e) p)) 2 (2 ^ k - 2) one-place)
+        ∙ sym (sum-same (λ e. (cond true 1 0) * countFrom (λ j. eqb (element j) e) 0 k) (λ e. cond (eqb (key e) p) 1 0) 2 (2 ^ k - 2) one-place)
         ∙ sym (count-twice element (λ x. true) 0 k 2 (2 ^ k - 2)
         (λ j a b. (all-drawers .above j, omega (arith, all-drawers .below j, four))))
         ∙ count-all (λ x. true) 0 k (λ j a b. refl)
@@ -171,18 +172,18 @@ module _ (k : ℕ) (listed : among k degrees ≡ true) where
 
   module _ (t : ℕ → Bool) (of-accepted : (p : ℕ) → t p ≡ true → accepted p ≡ true) where
     -- a key that passes is drawn by k elements; what does not pass is not counted
-    fibre : (p : ℕ) → 2 ^ k ≤ p → p < 2 ^ k + 2 ^ k → toOne (t p) * elements (λ e. eqb (key e) p) ≡ toOne (t p) * k
+    fibre : (p : ℕ) → 2 ^ k ≤ p → p < 2 ^ k + 2 ^ k → (cond (t p) 1 0) * elements (λ e. eqb (key e) p) ≡ (cond (t p) 1 0) * k
     fibre p a b = go (t p) refl
       where
-        go : (c : Bool) → t p ≡ c → toOne c * elements (λ e. eqb (key e) p) ≡ toOne c * k
+        go : (c : Bool) → t p ≡ c → (cond c 1 0) * elements (λ e. eqb (key e) p) ≡ (cond c 1 0) * k
         go true q = ap (λ (n : ℕ). 1 * n) (drawers-count p (of-accepted p q) (degree-eq p k (deg-intro p k a (omega (arith, two-pow-succ k)))))
         go false q = zero-mul (elements (λ e. eqb (key e) p)) ∙ sym (zero-mul k)
 
     pub elements-count : elements (λ e. t (key e)) ≡ countFrom t (2 ^ k) (2 ^ k) * k
     elements-count =
         count-twice key t 2 (2 ^ k - 2) (2 ^ k) (2 ^ k) into
-        ∙ sum-same (λ p. toOne (t p) * elements (λ e. eqb (key e) p)) (λ p. toOne (t p) * k) (2 ^ k) (2 ^ k) fibre
-        ∙ sum-times (λ p. toOne (t p)) k (2 ^ k) (2 ^ k)
+        ∙ sum-same (λ p. (cond (t p) 1 0) * elements (λ e. eqb (key e) p)) (λ p. (cond (t p) 1 0) * k) (2 ^ k) (2 ^ k) fibre
+        ∙ sum-times (λ p. cond (t p) 1 0) k (2 ^ k) (2 ^ k)
         ∙ ap (λ (n : ℕ). n * k) (sym (count-is-sum t (2 ^ k) (2 ^ k)))
       where
         into : (e : ℕ) → 2 ≤ e → e < 2 + (2 ^ k - 2) → (2 ^ k ≤ key e) × (key e < 2 ^ k + 2 ^ k)

@@ -8,7 +8,7 @@ use native.Mathlib.Nat.{le-refl, le-step, le-of-eq, le-of-suc-le-suc, not-suc-le
 use native.Mathlib.Omega.{arith}
 use lib.Arith.{lt-one}
 use lib.ListN.{length}
-use Rattle.gf2.specs.Lists.{All}
+use Rattle.lists.specs.Lists.{All}
 use Rattle.gf2.specs.Polynomials.{_⊕_, _⊗_, Degree, Divides, Irreducible}
 use Rattle.gf2.proofs.Sums.{xor}
 use Rattle.gf2.proofs.Products.{ring}

@@ -4,7 +4,7 @@ use mathlib.Core.List.{List, [], _∷_, _++_}
 use Prim.Native.Nat.{ℕ, zero, suc, _+_, _*_, _/_, _%_, _^_, _<_}
 use lib.ListN.{length}
 use Rattle.gf2.specs.Polynomials.{rem}
-use Rattle.gf2.specs.Lists.{All}
+use Rattle.lists.specs.Lists.{All}
 use Rattle.files.specs.declared.Mark.{Mark}
 
 -- the n low bits of a number, the highest first

@@ -7,9 +7,9 @@ use native.Mathlib.Nat.{le-refl, le-trans, lt-of-lt-of-le, lt-of-le-of-lt, zero-
 use native.Mathlib.Decide.{ℕ-discrete, decLt}
 use native.Mathlib.Omega.{arith}
 use lib.ListN.{length}
-use Rattle.gf2.specs.Lists.{All, Distinct}
+use Rattle.lists.specs.Lists.{All, Distinct}
 use Rattle.gf2.specs.Polynomials.{_⊕_, _⊗_, degree, Degree, rem, Divides, Irreducible}
-use Rattle.gf2.proofs.Lists.{all-zip}
+use Rattle.lists.proofs.Lists.{all-zip}
 use Rattle.gf2.proofs.Sums.{xor}
 use Rattle.gf2.proofs.Products.{zero-⊗, one-⊗, ⊕-⊗, ⊗-assoc, ⊗-comm, ring}
 use Rattle.gf2.proofs.Degrees.{degree-is, degree-eq, degree-⊗, deg-⊗, deg-lo, deg-hi, lt-of-pow-lt, deg-zero}

@@ -14,7 +14,7 @@ use lib.Pow.{pow-pos, split, shr-lt}
 use Rattle.gf2.specs.Polynomials.{_⊕_, _⊗_}
 use Rattle.gf2.proofs.Sums.{⊕-shr, ⊕-half, ⊕-low, ⊕-self, ⊕-swap, ⊕-append, bits-eq}
 use Rattle.gf2.proofs.Products.{bit-cases, mod-2, by-bit, square-⊕}
-use Rattle.gf2.proofs.Lists.{and-left, and-right}
+use Rattle.lists.proofs.Truth.{and-left, and-right}
 
 pub record Additive (f : ℕ → ℕ) : Type 0 where
   pub sum : (a b : ℕ) → f (a ⊕ b) ≡ f a ⊕ f b

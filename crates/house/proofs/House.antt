@@ -6,7 +6,7 @@ use Prim.Native.Nat.{ℕ}
 use native.Mathlib.Omega.{arith}
 use lib.Dec.{T}
 use Rattle.gf2.specs.Polynomials.{degree, monic}
-use Rattle.gf2.specs.Lists.{listFrom, same}
+use Rattle.lists.specs.Lists.{listFrom, same}
 use Rattle.gf2.proofs.Degrees.{degree-eq}
 use Rattle.acceptance.specs.Keys.{accepted}
 use Rattle.keys.proofs.Laws.{accepted-passed, first-passed}

@@ -7,8 +7,8 @@ use native.Mathlib.Nat.{zero-add, zero-mul, suc-mul, pow-suc}
 use native.Mathlib.Omega.{arith}
 use lib.Dec.{T}
 use Rattle.gf2.specs.Polynomials.{_⊕_, longProduct, _⊗_, halvings, degree, reduce, longDivision, rem}
-use Rattle.gf2.specs.Lists.{listFrom, same}
-use Rattle.gf2.proofs.Lists.{same-eq, list-append, list-map, list-same}
+use Rattle.lists.specs.Lists.{listFrom, same}
+use Rattle.lists.proofs.Lists.{same-eq, list-append, list-map, list-same}
 use Rattle.tables.specs.Tables.{word}
 use Rattle.tables.proofs.Rule.{power, word-row}
 use Rattle.multiples.proofs.Doubling.{multiple-zero, multiple-double}

@@ -5,7 +5,7 @@ ghost use mathlib.Core.Path.{_≡_};
 ghost use Prim.Native.Nat.{_^_, _<_};
 ghost use lib.ListN.{getD};
 ghost use Rattle.gf2.specs.Polynomials.{rem};
-ghost use Rattle.gf2.specs.Lists.{listFrom};
+ghost use Rattle.lists.specs.Lists.{listFrom};
 ghost use Rattle.files.specs.Files.{bits, valueFrom};
 ghost use Rattle.marks.specs.Feeding.{fed, fedUnder};
 ghost use Rattle.tables.specs.Tables.{word};

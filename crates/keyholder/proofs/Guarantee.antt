@@ -9,9 +9,10 @@ use lib.Dec.{eqb}
 use borrow.Author.Tests.{le-ltb, lt-leb}
 use Rattle.gf2.proofs.Degrees.{deg-lo, deg-hi}
 use Rattle.acceptance.specs.Keys.{accepted}
-use Rattle.acceptance.proofs.Laws.{and-both}
+use Rattle.lists.proofs.Truth.{and-both}
 use Rattle.files.specs.Files.{fingerprint}
-use Rattle.book.specs.Confusions.{confused, countFrom}
+use Rattle.lists.specs.Counts.{countFrom}
+use Rattle.book.specs.Confusions.{confused}
 use Rattle.book.proofs.ConfusionLaws.{confusions-count, bursts-count}
 use Rattle.site.specs.Book.{Route}
 use Rattle.site.proofs.Guarantee as site-level

@@ -12,7 +12,8 @@ use Rattle.gf2.specs.Polynomials.{degree}
 use Rattle.refusals.specs.Refusals.{Done}
 use Rattle.acceptance.specs.Keys.{accepted}
 use Rattle.files.specs.Files.{Bytes}
-use Rattle.book.specs.Confusions.{Routes, Confuses, confused, countFrom, Burst}
+use Rattle.lists.specs.Counts.{countFrom}
+use Rattle.book.specs.Confusions.{Routes, Confuses, confused, Burst}
 use Rattle.stock.specs.Stock.{stockKey}
 use Rattle.draw.specs.Drawing.{degrees, among, drawn, draw, Draws}
 

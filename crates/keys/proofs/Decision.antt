@@ -11,7 +11,7 @@ use lib.Arith.{lt-one}
 use lib.ListN.{length, getD}
 use lib.Pow.{pow-pos, pow-mono, pow-add, split, high, shl-lt, shr-lt}
 use Rattle.gf2.specs.Polynomials.{_⊕_, _⊗_, degree, rem}
-use Rattle.gf2.specs.Lists.{listFrom}
+use Rattle.lists.specs.Lists.{listFrom}
 use Rattle.gf2.proofs.Sums.{⊕-zero, ⊕-self, ⊕-eq, ⊕-swap, ⊕-lt, ⊕-append}
 use Rattle.gf2.proofs.Products.{zero-⊗, ⊗-zero, ⊗-one, ⊗-comm, ⊗-pow, ⊗-bit, bit-⊕, by-bit, bit-square, square-⊕, by-digits, ring}
 use Rattle.gf2.proofs.Degrees.{half-lt, degree-is, degree-⊗, deg-hi, deg-le, lt-of-high, pos-⊗, ⊗-no-zero}
@@ -24,7 +24,7 @@ use Rattle.basis.proofs.Sums.{sum-map}
 use Rattle.keys.specs.Squares.{square, oddPart, folded, squareRows, differenceRows}
 use Rattle.keys.proofs.Filling.{list-over}
 use Rattle.gf2.proofs.Linear.{Additive}
-use Rattle.gf2.proofs.Lists.{length-list, list-map, list-same}
+use Rattle.lists.proofs.Lists.{length-list, list-map, list-same}
 use Rattle.keys.proofs.Folding.{Kernel, odd-kernel, fold-kernel}
 
 -- ---- sums of listed rows

@@ -7,9 +7,9 @@ use native.Mathlib.Omega.{arith}
 use lib.ListN.{length, drop, getD, set, length-append, length-drop}
 use lib.Seq.{drop-cons, drop-length, getD-at}
 use Rattle.gf2.specs.Polynomials.{rem}
-use Rattle.gf2.specs.Lists.{listFrom}
+use Rattle.lists.specs.Lists.{listFrom}
 use Rattle.gf2.proofs.Powers.{rem-shl}
-use Rattle.gf2.proofs.Lists.{length-list, list-at, list-more, list-same, written-next}
+use Rattle.lists.proofs.Lists.{length-list, list-at, list-more, list-same, written-next}
 use Rattle.keys.specs.Squares.{square}
 
 -- listed values, each put through g with its place

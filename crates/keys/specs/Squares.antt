@@ -5,7 +5,7 @@ use mathlib.Core.List.{List}
 use Prim.Native.Nat.{ℕ, zero, suc, _+_, _*_, _/_, _%_, _^_}
 use lib.Bits.{bitAnd}
 use Rattle.gf2.specs.Polynomials.{_⊕_, rem}
-use Rattle.gf2.specs.Lists.{listFrom}
+use Rattle.lists.specs.Lists.{listFrom}
 
 -- the square of t^i modulo p
 unfoldable pub square : ℕ → ℕ → ℕ

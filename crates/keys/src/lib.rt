@@ -5,7 +5,7 @@ ghost use mathlib.Core.Logic.{_↔_};
 ghost use Prim.Native.Nat.{_+_, _-_, _/_, _^_, _≤_, _<_};
 ghost use lib.ListN.{length, getD};
 ghost use Rattle.gf2.specs.Polynomials.{_⊕_, monic, Modulus};
-ghost use Rattle.gf2.specs.Lists.{listFrom};
+ghost use Rattle.lists.specs.Lists.{listFrom};
 ghost use Rattle.acceptance.specs.Keys.{reducible};
 ghost use Rattle.basis.specs.Rows.{Independent};
 ghost use Rattle.keys.specs.Squares.{square, evenRoot, oddPart, folded};

@@ -11,7 +11,7 @@ use lib.Pow.{pow-lt}
 use lib.ListN.{length, getD, drop, length-append}
 use lib.Dec.{leb, ltb, eqb}
 use borrow.Author.Tests.{lt-ltb, le-ltb, ltb-false, le-leb, lt-leb, eq-eqb, ne-eqb}
-use Rattle.gf2.specs.Lists.{All, Some}
+use Rattle.lists.specs.Lists.{All, Some}
 use Rattle.gf2.specs.Polynomials.{degree, rem}
 use Rattle.gf2.proofs.Degrees.{lt-of-high}
 use Rattle.gf2.proofs.Residues.{rem-small, rem-lt}
@@ -19,7 +19,7 @@ use Rattle.refusals.specs.declared.Refusal.the-variants.{TooLong, MarkNotReduce
 use Rattle.refusals.specs.Refusals.{Done, Refused, Test, _⇒_, firstOf, longest, passes}
 use Rattle.refusals.proofs.Laws.{skip, holds, fails}
 use Rattle.acceptance.specs.Keys.{accepted}
-use Rattle.acceptance.proofs.Laws.{or-neither}
+use Rattle.lists.proofs.Truth.{or-neither}
 use Rattle.files.specs.declared.Mark.{Mark}
 use Rattle.files.specs.Files.{lowBits, bits, valueFrom, value, fingerprint, markOf}
 use Rattle.files.proofs.Values.{value-low, value-next, rem-from}

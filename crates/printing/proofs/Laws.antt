@@ -13,7 +13,7 @@ use lib.ListN.{length, getD, take, drop, length-take}
 use lib.Seq.{drop-cons, take-length, take-take}
 use borrow.Author.Tests.{ltb-true, lt-ltb, le-ltb, le-leb, lt-leb}
 use Rattle.bytes.specs.Bytes.{indexOf, indexAfter, slice}
-use Rattle.acceptance.proofs.Laws.{and-both}
+use Rattle.lists.proofs.Truth.{and-both}
 use Rattle.printing.specs.Printing.{digit, allDigits, hexFrom, keyBefore, keyLine}
 use Rattle.printing.specs.declared.KeyLine.the-variants.{NoKey, Key}
 

@@ -8,8 +8,9 @@ use native.Mathlib.Nat.{lt-trans}
 use native.Mathlib.Omega.{arith}
 use lib.Dec.{T, ltb, ltb→lt}
 use borrow.Author.Tests.{not-true, not-false}
-use Rattle.gf2.specs.Lists.{All}
-use Rattle.gf2.proofs.Lists.{all-map, rising, and-left, and-right}
+use Rattle.lists.specs.Lists.{All}
+use Rattle.lists.proofs.Truth.{and-left, and-right}
+use Rattle.lists.proofs.Lists.{all-map, rising}
 use Rattle.refusals.specs.declared.Refusal.{Refusal}
 use Rattle.refusals.specs.declared.Refusal.the-variants.{KeyBelow256, KeyReducible, DegreeNotListed, ElementOutOfRange, TableSize, TableWord, TooLong, MarkNotReduced, PageLengthsDiffer, PagePastEnd, EmptyPattern, PageSize, BufferShort, SheetMalformed}
 use Rattle.refusals.specs.Refusals.{number, Done, Refused, numberOf, stateOf, Test, _⇒_, firstOf, numbers, applying, least, lowest}

@@ -8,7 +8,7 @@ use native.Mathlib.Omega.{arith}
 use borrow.Author.Tests.{eq-eqb}
 use lib.ListN.{length, getD}
 use lib.Seq.{sets}
-use Rattle.gf2.specs.Lists.{passing}
+use Rattle.lists.specs.Lists.{passing}
 use Rattle.files.specs.Files.{fingerprint}
 use Rattle.search.specs.declared.Counts.{Counts}
 use Rattle.windows.specs.declared.rolling.Setup.{Setup}

@@ -6,7 +6,7 @@ use native.Mathlib.Omega.{arith}
 use lib.Dec.{eqb}
 use lib.ListN.{length}
 use borrow.Author.Tests.{lt-ltb, le-ltb, eq-eqb, ne-eqb}
-use Rattle.gf2.specs.Lists.{passing}
+use Rattle.lists.specs.Lists.{passing}
 use Rattle.refusals.specs.declared.Refusal.{Refusal}
 use Rattle.refusals.specs.declared.Refusal.the-variants.{TooLong, EmptyPattern}
 use Rattle.refusals.specs.Refusals.{Answer, Done, Refused, stateOf, Test, _⇒_, firstOf, longest, passes}

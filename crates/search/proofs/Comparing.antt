@@ -9,9 +9,9 @@ use native.Mathlib.Omega.{arith}
 use borrow.Author.Tests.{eq-eqb, ne-eqb}
 use lib.ListN.{length, drop, getD, drop-of-length-le}
 use lib.Seq.{drop-cons}
-use Rattle.gf2.specs.Lists.{same}
-use Rattle.gf2.proofs.Lists.{same-eq}
-use Rattle.acceptance.proofs.Laws.{or-neither}
+use Rattle.lists.specs.Lists.{same}
+use Rattle.lists.proofs.Lists.{same-eq}
+use Rattle.lists.proofs.Truth.{or-neither}
 use Rattle.search.specs.Searching.{isPlace}
 use Rattle.search.specs.Flagged.{NoneFlagged, NextFlagged, flaggedPlace, flaggedAlarm}
 

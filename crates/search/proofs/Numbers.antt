@@ -8,7 +8,7 @@ use native.Mathlib.Numerals.{add-one}
 use native.Mathlib.Omega.{arith}
 use lib.ListN.{length, set, length-append}
 use lib.Seq.{sets, length-sets}
-use Rattle.gf2.specs.Lists.{keep, passing}
+use Rattle.lists.specs.Lists.{keep, passing}
 use Rattle.search.specs.Searching.{overlay}
 
 -- ---- the numbers that pass a test

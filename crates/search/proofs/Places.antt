@@ -9,9 +9,9 @@ use native.Mathlib.Decide.{ℕ-discrete}
 use native.Mathlib.Omega.{arith}
 use borrow.Author.Tests.{eq-eqb, eqb-true, not-true}
 use lib.ListN.{length, take, drop}
-use Rattle.gf2.specs.Lists.{keep, passing, All, Some}
-use Rattle.gf2.proofs.Lists.{Passes, all-passing, passing-above}
-use Rattle.acceptance.proofs.Laws.{and-both, by-cases}
+use Rattle.lists.specs.Lists.{keep, passing, All, Some}
+use Rattle.lists.proofs.Lists.{Passes, all-passing, passing-above}
+use Rattle.lists.proofs.Truth.{and-both, by-cases}
 use Rattle.files.specs.Files.{fingerprint}
 use Rattle.windows.specs.Rolling.{window}
 use Rattle.search.specs.Searching.{windows, isPlace, alike, isAlarm, places, alarms}

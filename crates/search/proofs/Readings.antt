@@ -1,7 +1,7 @@
 -- The reading of document 01 about false alarms: pattern 01 1B in 00 00 under key 0x11B has 0 places and 1 false alarm.
 use mathlib.Core.Path.{_≡_, refl}
 use mathlib.Core.List.{[], _∷_}
-use Rattle.gf2.specs.Lists.{passing, same}
+use Rattle.lists.specs.Lists.{passing, same}
 use Rattle.gf2.specs.Polynomials.{_⊕_, halvings, degree, reduce, longDivision, rem}
 use Rattle.refusals.specs.Refusals.{Done}
 use Rattle.acceptance.specs.Keys.{anyBelow, reducible}

@@ -4,7 +4,7 @@ use mathlib.Core.Bool.{Bool, true, false, _&&_, not}
 use mathlib.Core.List.{List}
 use Prim.Native.Nat.{ℕ, _-_, _≤_, _<_}
 use lib.ListN.{getD}
-use Rattle.gf2.specs.Lists.{passing}
+use Rattle.lists.specs.Lists.{passing}
 use Rattle.search.specs.Searching.{isPlace}
 
 -- no window from `first` to `next` is flagged

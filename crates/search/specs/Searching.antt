@@ -4,7 +4,7 @@ use mathlib.Core.List.{List, [], _∷_, _++_}
 use Prim.Native.Nat.{ℕ, _+_, _-_}
 use lib.Dec.{eqb}
 use lib.ListN.{length}
-use Rattle.gf2.specs.Lists.{passing, same}
+use Rattle.lists.specs.Lists.{passing, same}
 use Rattle.refusals.specs.declared.Refusal.the-variants.{TooLong, EmptyPattern}
 use Rattle.refusals.specs.Refusals.{Answer, Done, Refused, stateOf, Test, _⇒_, firstOf, passes}
 use Rattle.acceptance.specs.Keys.{keyTests}

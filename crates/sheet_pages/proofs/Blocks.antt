@@ -7,8 +7,8 @@ use native.Mathlib.Omega.{arith}
 use lib.ListN.{length, set, take, drop, length-drop, length-set}
 use lib.Seq.{drop-drop, length-take-le, take-add, getD-take}
 use Rattle.gf2.specs.Polynomials.{rem}
-use Rattle.gf2.specs.Lists.{listFrom}
-use Rattle.gf2.proofs.Lists.{stored}
+use Rattle.lists.specs.Lists.{listFrom}
+use Rattle.lists.proofs.Lists.{stored}
 use Rattle.files.specs.Files.{bits, valueFrom, value, fingerprint}
 use Rattle.files.proofs.Values.{rem-from}
 use Rattle.files.proofs.Marks.{fed}

@@ -16,7 +16,7 @@ use Rattle.gf2.proofs.Residues.{rem-lt, rem-small, rem-⊕}
 use Rattle.gf2.proofs.Powers.{rem-shl, rem-⊗-pow}
 use Rattle.gf2.proofs.Monics.{monic-pos, monic-degree}
 use Rattle.gf2.proofs.Steps.{or-leb}
-use Rattle.acceptance.proofs.Laws.{or-neither}
+use Rattle.lists.proofs.Truth.{or-neither}
 use Rattle.files.specs.declared.Mark.{Mark}
 use Rattle.files.specs.Files.{bits, valueFrom, value, fingerprint, markOf}
 use Rattle.compose.specs.Composing.{joined}

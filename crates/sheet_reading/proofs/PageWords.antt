@@ -6,7 +6,7 @@ use native.Mathlib.Decide.{decLe}
 use native.Mathlib.Omega.{arith}
 use lib.ListN.{length, set, take, drop, drop-of-length-le}
 use lib.Seq.{take-all, take-append-seam}
-use Rattle.gf2.proofs.Lists.{written-next}
+use Rattle.lists.proofs.Lists.{written-next}
 use Rattle.sheets.specs.Layout.{numberAt, numbersAt}
 use Rattle.sheets.proofs.Numbers.{length-numbersAt, numbers-append, numbers-last}
 

@@ -8,7 +8,7 @@ use lib.ListN.{length, drop, length-append}
 use lib.Pow.{pow-mono}
 use lib.Seq.{sets}
 use Rattle.gf2.specs.Polynomials.{degree, monic, Modulus}
-use Rattle.gf2.proofs.Lists.{all-map}
+use Rattle.lists.proofs.Lists.{all-map}
 use Rattle.gf2.proofs.Monics.{monic-pos, monic-degree}
 use Rattle.sheets.specs.Layout.{version1, bytesOf, fieldsOf, numbersAt, pageCount, sheetSize, Contents, sheetBytes}
 use Rattle.sheets.specs.Sheets.{pageFingerprints}

@@ -9,7 +9,7 @@ use native.Mathlib.Numerals.{add-one}
 use native.Mathlib.Omega.{arith}
 use lib.ListN.{length, getD, drop, drop-of-length-le}
 use borrow.Author.Tests.{eq-eqb, ne-eqb}
-use Rattle.gf2.proofs.Lists.{drop-next}
+use Rattle.lists.proofs.Lists.{drop-next}
 use Rattle.sheets.specs.Layout.{numberAt, numbersAt}
 use Rattle.sheets.specs.Parts.{agreeing}
 use Rattle.sheets.proofs.Numbers.{numbers-next}

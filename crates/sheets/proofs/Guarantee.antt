@@ -14,7 +14,8 @@ use borrow.Author.Tests.{eq-eqb, ne-eqb, lt-ltb, le-ltb, le-leb, ltb-false}
 use Rattle.refusals.specs.declared.Refusal.the-variants.{TooLong}
 use Rattle.refusals.specs.Refusals.{Done, _⇒_, passes, longest}
 use Rattle.refusals.proofs.Laws.{Clear, clear-done, clear-append, done-clear}
-use Rattle.acceptance.proofs.Laws.{or-neither, key-iff}
+use Rattle.lists.proofs.Truth.{or-neither}
+use Rattle.acceptance.proofs.Laws.{key-iff}
 use Rattle.files.specs.Files.{Bytes, fingerprint}
 use Rattle.sheets.specs.Layout.{version1, numberAt, pagePlace, sheetSize, pageCount, pagesIn, Contents, sheetBytes, contentsIn}
 use Rattle.sheets.specs.Sheets.{contentsOf, writeTests, writeSheet, readTests, readSheet, readPages, Sound, WellFormed, Same, Page, OtherLength, firstChange, pagesNow, compared, checkSheet, numbersOf, pageAt}

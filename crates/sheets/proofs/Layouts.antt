@@ -6,7 +6,7 @@ use native.Mathlib.Nat.{mul-zero, add-zero, zero-add}
 use native.Mathlib.Omega.{arith}
 use lib.ListN.{length, take, length-append}
 use lib.Seq.{take-add, take-all}
-use Rattle.gf2.specs.Lists.{All}
+use Rattle.lists.specs.Lists.{All}
 use Rattle.files.specs.Files.{Bytes}
 use Rattle.sheets.specs.Layout.{bytesOf, fieldsOf, numberAt, numbersAt, Layout, versionPlace, keyPlace, lengthPlace, sizePlace, pagePlace, sheetSize, pageCount, Contents, sheetBytes, lengthIn, sizeIn, pagesIn, contentsIn}
 use Rattle.sheets.proofs.Numbers.{length-bytesOf, length-fieldsOf, number-seam, numbers-seam, bytes-number, fields-numbers}

@@ -9,7 +9,7 @@ use lib.Arith.{digits-lt, digits-div}
 use lib.ListN.{length, getD, set, take, drop, length-append, length-drop}
 use lib.Pow.{pow-pos, mod-pow-add, pow-add}
 use lib.Seq.{sets, sets-eq, drop-cons, take-at, drop-at, take-add, drop-drop, length-take-le}
-use Rattle.gf2.specs.Lists.{All}
+use Rattle.lists.specs.Lists.{All}
 use Rattle.files.specs.Files.{bits, valueFrom, Bytes}
 use Rattle.files.proofs.Values.{value-byte, value-split, value-lt, length-bits}
 use Rattle.sheets.specs.Layout.{bytesOf, fieldsOf, numberAt, numbersAt}

@@ -9,13 +9,14 @@ use lib.Dec.{ltb, leb, eqb, lit<}
 use lib.ListN.{length}
 use lib.Pow.{pow-mono}
 use borrow.Author.Tests.{eq-eqb, le-ltb, lt-leb, ltb-false, leb-false, eqb-true, not-false}
-use Rattle.gf2.specs.Lists.{All}
+use Rattle.lists.specs.Lists.{All}
 use Rattle.gf2.specs.Polynomials.{degree, rem}
-use Rattle.gf2.proofs.Lists.{all-map}
+use Rattle.lists.proofs.Lists.{all-map}
 use Rattle.refusals.specs.Refusals.{longest}
 use Rattle.refusals.proofs.Laws.{Clear}
 use Rattle.acceptance.specs.Keys.{accepted}
-use Rattle.acceptance.proofs.Laws.{or-neither, accepted-iff, accepted-pos, accepted-small, key-iff}
+use Rattle.lists.proofs.Truth.{or-neither}
+use Rattle.acceptance.proofs.Laws.{accepted-iff, accepted-pos, accepted-small, key-iff}
 use Rattle.files.specs.Files.{Bytes, fingerprint}
 use Rattle.sheets.specs.Layout.{version1, numberAt, sheetSize, pageCount, pagesIn, Contents, sheetBytes, contentsIn}
 use Rattle.sheets.specs.Sheets.{contentsOf, someUnreduced, pagesJoined, fileFilled, readTests, Sound, WellFormed}

@@ -6,7 +6,7 @@ use mathlib.Core.Option.{Option, none, some}
 use Prim.Native.Nat.{ℕ, zero, suc, _+_, _-_, _*_, _^_, _≤_, _<_, min}
 use lib.Dec.{ltb, leb, eqb}
 use lib.ListN.{length, take, drop, replicate}
-use Rattle.gf2.specs.Lists.{All}
+use Rattle.lists.specs.Lists.{All}
 use Rattle.gf2.specs.Polynomials.{degree, rem}
 use Rattle.refusals.specs.declared.Refusal.the-variants.{TooLong, PageSize, BufferShort, SheetMalformed}
 use Rattle.refusals.specs.Refusals.{Answer, Done, Refused, Test, _⇒_, firstOf, passes, longest}

@@ -3,7 +3,7 @@ use mathlib.Core.Path.{_≡_, refl, sym, _∙_}
 use mathlib.Core.List.{List, map}
 use Prim.Native.Nat.{ℕ}
 use lib.Dec.{T}
-use Rattle.gf2.proofs.Lists.{rising}
+use Rattle.lists.proofs.Lists.{rising}
 use Rattle.refusals.specs.Refusals.{numbers}
 use Rattle.acceptance.proofs.Laws.{accepted-small}
 use Rattle.files.specs.declared.Mark.{Mark}

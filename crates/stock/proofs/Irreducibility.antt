@@ -11,7 +11,7 @@ use lib.Dec.{T, eqb, eqb→eq}
 use lib.ListN.{length}
 use lib.Pow.{pow-pos}
 use Rattle.gf2.specs.Polynomials.{_⊕_, _⊗_, degree, Degree, monic, rem, Irreducible}
-use Rattle.gf2.proofs.Lists.{and-left, and-right}
+use Rattle.lists.proofs.Truth.{and-left, and-right}
 use Rattle.gf2.proofs.Sums.{⊕-self, ⊕-cancel, ⊕-swap}
 use Rattle.gf2.proofs.Products.{⊗-zero, ⊗-one, one-⊗, ⊗-pow, ⊗-assoc, bit-⊕, by-bit, bit-square, by-digits, ring}
 use Rattle.gf2.proofs.Degrees.{half-lt, degree-eq, deg-lo, deg-pos}

@@ -9,9 +9,10 @@ use native.Mathlib.Decide.{ℕ-discrete, decLt}
 use native.Mathlib.Omega.{arith}
 use lib.Dec.{T, eqb, ltb, eqb→eq, ltb→lt}
 use lib.ListN.{length, getD}
-use Rattle.gf2.specs.Lists.{All}
+use Rattle.lists.specs.Lists.{All}
 use Rattle.gf2.specs.Polynomials.{_⊕_, halvings, degree, Degree, reduce, longDivision, rem, Divides, Irreducible}
-use Rattle.gf2.proofs.Lists.{and-left, and-right, every, all-by-test}
+use Rattle.lists.proofs.Truth.{and-left, and-right}
+use Rattle.lists.proofs.Lists.{every, all-by-test}
 use Rattle.gf2.proofs.Sums.{⊕-self, ⊕-append}
 use Rattle.gf2.proofs.Degrees.{degree-is, degree-eq, deg-lo, deg-hi}
 use Rattle.gf2.proofs.Residues.{rem-⊕, dvd-of-rem-zero}

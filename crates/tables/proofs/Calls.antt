@@ -6,7 +6,7 @@ use Prim.Native.Nat.{ℕ}
 use lib.Dec.{eqb}
 use lib.ListN.{length}
 use borrow.Author.Tests.{eq-eqb, ne-eqb}
-use Rattle.gf2.specs.Lists.{listFrom}
+use Rattle.lists.specs.Lists.{listFrom}
 use Rattle.refusals.specs.declared.Refusal.{Refusal}
 use Rattle.refusals.specs.declared.Refusal.the-variants.{TableSize, TableWord}
 use Rattle.refusals.specs.Refusals.{Done, Refused, stateOf, Test, firstOf}

@@ -13,12 +13,12 @@ use lib.ListN.{length, getD}
 use lib.Pow.{pow-add, pow-lt}
 use borrow.Author.Tests.{eqb-true, eq-eqb, not-false}
 use Rattle.gf2.specs.Polynomials.{_⊗_, degree, monic, rem}
-use Rattle.gf2.specs.Lists.{listFrom}
+use Rattle.lists.specs.Lists.{listFrom}
 use Rattle.gf2.proofs.Products.{⊗-comm, ⊗-pow}
 use Rattle.gf2.proofs.Powers.{rem-⊗-right}
 use Rattle.gf2.proofs.Monics.{monic-degree, monic-pos}
-use Rattle.gf2.proofs.Lists.{length-list}
-use Rattle.acceptance.proofs.Laws.{or-neither}
+use Rattle.lists.proofs.Lists.{length-list}
+use Rattle.lists.proofs.Truth.{or-neither}
 use Rattle.lookups.specs.Groups.{Rows, Reduces}
 use Rattle.tables.specs.Tables.{word, differs, TableOf}
 use Rattle.multiples.specs.Rows.{Multiples}

@@ -3,7 +3,7 @@ ghost use mathlib.Core.Path.{_≡_};
 ghost use mathlib.Core.Bool.{not};
 ghost use lib.ListN.{length};
 ghost use Rattle.gf2.specs.Polynomials.{monic, Modulus};
-ghost use Rattle.gf2.specs.Lists.{listFrom};
+ghost use Rattle.lists.specs.Lists.{listFrom};
 ghost use Rattle.tables.specs.Tables.{word, differs};
 
 // The table of a modulus.

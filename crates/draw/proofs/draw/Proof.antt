@@ -11,7 +11,7 @@ use lib.Pow.{pow-pos}
 use Rattle.gf2.specs.Polynomials.{monic, Modulus}
 use Rattle.gf2.proofs.Monics.{monic-of}
 use Rattle.refusals.specs.Refusals.{Done}
-use Rattle.acceptance.proofs.Laws.{or-neither}
+use Rattle.lists.proofs.Truth.{or-neither}
 use Rattle.stock.specs.Stock.{stockKey}
 use Rattle.draw.specs.Drawing.{degrees, among, drawn, draw}
 use Rattle.draw.proofs.Fairness.{range, field}

@@ -3,7 +3,7 @@ use mathlib.Core.Path.{ap, _∙_}
 use Prim.Native.Nat.{ℕ}
 use native.Mathlib.Omega.{arith}
 use borrow.Author.Needs.{needs}
-use Rattle.gf2.specs.Lists.{same}
+use Rattle.lists.specs.Lists.{same}
 use Rattle.gf2.specs.Polynomials.{monic, rem}
 use Rattle.files.specs.Files.{bits, valueFrom}
 use Rattle.house.proofs.Rows.{rows}

@@ -5,8 +5,8 @@ use Prim.Native.Nat.{ℕ}
 use lib.ListN.{getD, List·getD-eq-default}
 use borrow.Author.Needs.{needs}
 use borrow.Table.Row as Row
-use Rattle.gf2.specs.Lists.{listFrom, same}
-use Rattle.gf2.proofs.Lists.{length-list}
+use Rattle.lists.specs.Lists.{listFrom, same}
+use Rattle.lists.proofs.Lists.{length-list}
 use Rattle.tables.specs.Tables.{word}
 use Rattle.house.specs.House.{houseKey}
 use Rattle.house.proofs.Rows.{rows}

@@ -7,7 +7,7 @@ use native.Mathlib.Nat.{zero-add}
 use native.Mathlib.Omega.{arith}
 use lib.ListN.{length, drop, getD}
 use Rattle.gf2.specs.Polynomials.{_⊕_}
-use Rattle.gf2.specs.Lists.{listFrom}
+use Rattle.lists.specs.Lists.{listFrom}
 use Rattle.gf2.proofs.Steps.{shifted-one}
 use Rattle.keys.specs.Squares.{folded}
 use Rattle.keys.proofs.Filling.{length-filled, filled-at, fill, fill-whole}

@@ -6,7 +6,7 @@ use borrow.Author.Needs.{needs}
 use native.Mathlib.Nat.{zero-add}
 use native.Mathlib.Omega.{arith}
 use lib.ListN.{length, drop, getD}
-use Rattle.gf2.specs.Lists.{listFrom}
+use Rattle.lists.specs.Lists.{listFrom}
 use Rattle.keys.specs.Squares.{oddPart}
 use Rattle.keys.proofs.Filling.{length-filled, filled-at, fill, fill-whole}
 use Rattle.keys.proofs.independent_squares.Statement.{statement}

@@ -11,7 +11,7 @@ use lib.ListN.{length, take, drop, getD, replicate}
 use lib.Seq.{length-take-le, length-front, take-at}
 use lib.Pow.{pow-pos}
 use Rattle.gf2.specs.Polynomials.{_⊕_, degree, Degree, monic}
-use Rattle.gf2.specs.Lists.{listFrom}
+use Rattle.lists.specs.Lists.{listFrom}
 use Rattle.gf2.proofs.Degrees.{degree-is, degree-from}
 use Rattle.gf2.proofs.Monics.{monic-of, word-degree}
 use Rattle.acceptance.specs.Keys.{reducible}

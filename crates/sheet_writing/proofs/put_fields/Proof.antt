@@ -5,7 +5,7 @@ use Prim.Native.Nat.{ℕ, _+_, _-_, _*_, _≤_}
 use native.Mathlib.Omega.{arith}
 use lib.ListN.{length, getD, drop, drop-of-length-le}
 use lib.Seq.{sets}
-use Rattle.gf2.proofs.Lists.{drop-next}
+use Rattle.lists.proofs.Lists.{drop-next}
 use Rattle.sheets.specs.Layout.{fieldsOf}
 use Rattle.sheets.proofs.Numbers.{fields-behind}
 use Rattle.sheet_writing.proofs.put_fields.Statement.{statement}

@@ -3,7 +3,7 @@ use mathlib.Core.Path.{_≡_, sym, ap, _∙_}
 use Prim.Native.Nat.{ℕ}
 use native.Mathlib.Omega.{arith}
 use Rattle.gf2.specs.Polynomials.{degree, monic}
-use Rattle.gf2.specs.Lists.{listFrom}
+use Rattle.lists.specs.Lists.{listFrom}
 use Rattle.refusals.specs.Refusals.{Done}
 use Rattle.keys.proofs.Laws.{Passed, passed, refused, passed-pos, passed-monic, passed-word, passed-modulus}
 use Rattle.tables.specs.Tables.{word}

@@ -9,7 +9,7 @@ use Prim.Native.Nat.{ℕ, _+_, _-_, _≤_, _<_}
 use native.Mathlib.Omega.{arith}
 use lib.ListN.{length, drop, getD, set}
 use lib.Seq.{set-out}
-use Rattle.gf2.specs.Lists.{same}
+use Rattle.lists.specs.Lists.{same}
 use Rattle.search.specs.Searching.{isPlace}
 use Rattle.search.specs.Flagged.{NextFlagged, flaggedPlace, flaggedAlarm}
 use Rattle.windows.specs.Rolling.{window}

@@ -13,7 +13,7 @@ use Rattle.gf2.proofs.Powers.{rem-⊗-pow}
 use Rattle.gf2.proofs.Steps.{residue-lt, or-leb}
 use Rattle.gf2.proofs.Monics.{word-degree}
 use Rattle.refusals.proofs.Laws.{holds, fails}
-use Rattle.acceptance.proofs.Laws.{or-neither}
+use Rattle.lists.proofs.Truth.{or-neither}
 use Rattle.files.specs.Files.{markOf}
 use Rattle.sheets.specs.Layout.{numberAt, numbersAt}
 use Rattle.sheets.specs.Sheets.{someUnreduced, joinedPages}

@@ -1,7 +1,7 @@
 -- Lists of numbers: the values of a function, the numbers that pass a test, whether two lists are the same, what holds of every entry, of at
 -- least one entry, and that no entry stands twice.
 use mathlib.Core.Logic.{_≢_, _⊎_}
-use mathlib.Core.Bool.{Bool, true, false, _&&_}
+use mathlib.Core.Bool.{Bool, true, false, _&&_, cond}
 use mathlib.Core.List.{List, [], _∷_}
 use Prim.Native.Nat.{ℕ, zero, suc}
 use lib.Dec.{eqb}
@@ -12,13 +12,9 @@ listFrom f i zero = []
 listFrom f i (suc n) = f i ∷ listFrom f (suc i) n
 
 -- of the c numbers from n on those that pass the test, rising
-abbrev pub keep : Bool → ℕ → List ℕ → List ℕ
-keep true n rest = n ∷ rest
-keep false n rest = rest
-
 unfoldable pub passing : (ℕ → Bool) → ℕ → ℕ → List ℕ
 passing test n zero = []
-passing test n (suc c) = keep (test n) n (passing test (suc n) c)
+passing test n (suc c) = cond (test n) (n ∷ passing test (suc n) c) (passing test (suc n) c)
 
 -- the same numbers in the same order
 unfoldable pub same : List ℕ → List ℕ → Bool

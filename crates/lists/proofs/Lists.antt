@@ -2,7 +2,7 @@
 -- every entry, that two lists are the same, and that a list rises.
 use mathlib.Core.Path.{_≡_, refl, sym, ap, ap₂, _∙_}
 use mathlib.Core.Logic.{_≢_}
-use mathlib.Core.Bool.{Bool, true, false, _&&_}
+use mathlib.Core.Bool.{Bool, true, false, _&&_, cond}
 use mathlib.Core.List.{List, [], _∷_, _++_, map}
 use Prim.Native.Nat.{ℕ, zero, suc, _+_, _≤_, _<_}
 use native.Mathlib.Nat.{lt-trans, ne-of-gt, zero-add, add-zero, add-suc, suc-add, le-of-suc-le-suc, not-suc-le-zero}
@@ -12,7 +12,8 @@ use native.Mathlib.Omega.{arith}
 use lib.Dec.{T, ltb, ltb→lt, eqb, eqb→eq}
 use lib.ListN.{length, getD, set, drop}
 use lib.Seq.{getD-set-same, getD-set-other, drop-cons, set-at, append-snoc}
-use Rattle.gf2.specs.Lists.{listFrom, keep, passing, same, All, Distinct}
+use Rattle.lists.specs.Lists.{listFrom, passing, same, All, Distinct}
+use Rattle.lists.proofs.Truth.{and-left, and-right}
 
 pub all-map : {P Q : ℕ → Type 0} → ((x : ℕ) → P x → Q x) → (xs : List ℕ) → All P xs → All Q xs
 all-map f [] p = tt
@@ -21,14 +22,6 @@ all-map f (x ∷ xs) p = (f x (p .0), all-map f xs (p .1))
 pub all-zip : {P Q R : ℕ → Type 0} → ((x : ℕ) → P x → Q x → R x) → (xs : List ℕ) → All P xs → All Q xs → All R xs
 all-zip f [] p q = tt
 all-zip f (x ∷ xs) p q = (f x (p .0) (q .0), all-zip f xs (p .1) (q .1))
-
-pub and-left : (a b : Bool) → T (a && b) → T a
-and-left true b t = tt
-and-left false b t = t
-
-pub and-right : (a b : Bool) → T (a && b) → T b
-and-right true b t = t
-and-right false b t = absurd t
 
 -- ---- a test at every entry
 
@@ -136,7 +129,7 @@ pub record Passes (test : ℕ → Bool) (n c y : ℕ) : Type 0 where
   pub holds : test y ≡ true
 
 module _ (test : ℕ → Bool) where
-  all-keep : (P : ℕ → Type 0) (b : Bool) (n : ℕ) (xs : List ℕ) → (b ≡ true → P n) → All P xs → All P (keep b n xs)
+  all-keep : (P : ℕ → Type 0) (b : Bool) (n : ℕ) (xs : List ℕ) → (b ≡ true → P n) → All P xs → All P (cond b (n ∷ xs) xs)
   all-keep P true n xs h p = (h refl, p)
   all-keep P false n xs h p = p
 
@@ -154,7 +147,7 @@ module _ (test : ℕ → Bool) where
   pub passing-above : (n c : ℕ) → All (λ y. n < y) (passing test (suc n) c)
   passing-above n c = all-map (λ y p. p .from) (passing test (suc n) c) (all-passing (suc n) c)
 
-  distinct-keep : (b : Bool) (n : ℕ) (xs : List ℕ) → All (λ y. n < y) xs → Distinct xs → Distinct (keep b n xs)
+  distinct-keep : (b : Bool) (n : ℕ) (xs : List ℕ) → All (λ y. n < y) xs → Distinct xs → Distinct (cond b (n ∷ xs) xs)
   distinct-keep true n xs h d = (all-map (λ y l. ne-of-gt l) xs h, d)
   distinct-keep false n xs h d = d
 

@@ -1,0 +1,3 @@
+pub mod Truth
+pub mod Lists
+pub mod Counts
