@@ -5,6 +5,8 @@ use mathlib.Core.List.{List, [], _∷_}
 use Prim.Native.Nat.{ℕ, min}
 use lib.Dec.{ltb}
 use Rattle.refusals.specs.declared.Refusal.{Refusal}
+use Rattle.refusals.specs.declared.Reply.{Reply}
+use Rattle.refusals.specs.declared.Reply.the-variants as reply-cases
 use Rattle.refusals.specs.declared.Refusal.the-variants.{KeyBelow256, KeyReducible, DegreeNotListed, ElementOutOfRange, TableSize, TableWord, TooLong, MarkNotReduced, PageLengthsDiffer, PagePastEnd, EmptyPattern, PageSize, BufferShort, SheetMalformed}
 
 abbrev pub number : Refusal → ℕ
@@ -43,6 +45,11 @@ stateOf (Refused r a) = a
 abbrev pub valueOr : {S A : Type 0} → A → Answer S A → A
 valueOr before (Done a) = a
 valueOr before (Refused r s) = before
+
+-- the reply in code of a call that gives no value, with what it leaves: changed, or as it was handed in
+abbrev pub reply : {A : Type 0} → A → Reply → Answer A A
+reply left reply-cases.Done = Done left
+reply left (reply-cases.Refused r) = Refused r left
 
 -- ---- the lowest number that applies
 

@@ -1,6 +1,12 @@
-// The refusals of document 01, each by name, and the number of each.
+// The refusals of document 01, each by name, and the number of each; the limit of lengths.
 ghost use mathlib.Core.Path.{_≡_};
-ghost use Rattle.refusals.specs.Refusals.{number};
+ghost use mathlib.Core.Bool.{not};
+ghost use mathlib.Core.List.{[], _∷_};
+ghost use Prim.Native.Nat.{_+_};
+ghost use Rattle.refusals.specs.Refusals.{number, passes};
+
+// The limit of lengths (number 7), in bytes.
+pub const LONGEST: u64 = 4294967295;
 
 pub enum Refusal {
     KeyBelow256,
@@ -17,6 +23,12 @@ pub enum Refusal {
     PageSize,
     BufferShort,
     SheetMalformed,
+}
+
+// The answer of a call that gives no value: done, or refused.
+pub enum Reply {
+    Done,
+    Refused(Refusal),
 }
 
 // The number of a refusal, from 1 to 14.
@@ -39,4 +51,27 @@ pub fn number(r: Refusal) -> u32
         Refusal::BufferShort => 13,
         Refusal::SheetMalformed => 14,
     }
+}
+
+// Number 7 applies neither to two lengths nor to their sum, which is not made: it might not fit 64 bits.
+pub fn fits(a: u64, b: u64) -> bool
+    ensures { λ r. ⌜ r ≡ not (passes (a ∷ b ∷ (a + b) ∷ [])) ⌝ }
+{
+    if LONGEST < a {
+        return false;
+    }
+    b <= LONGEST - a
+}
+
+// Number 7 applies to none of three lengths.
+pub fn within(a: u64, b: u64, c: u64) -> bool
+    ensures { λ r. ⌜ r ≡ not (passes (a ∷ b ∷ c ∷ [])) ⌝ }
+{
+    if LONGEST < a {
+        return false;
+    }
+    if LONGEST < b {
+        return false;
+    }
+    c <= LONGEST
 }

@@ -16,6 +16,11 @@ use Rattle.house.proofs.house_word.Tie as tie
 use Rattle.house.proofs.house_word.Reads as reads
 use Rattle.house.proofs.house_word.Lts as lts
 
+-- ---- the places: from each one to an earlier one
+
+abbrev then1→start : tie.Then1 → tie.Start
+then1→start c = c .before
+
 -- the words of the constant, as they lie in the function's memory
 abbrev constant : tie.Start → List ℕ
 constant s = Row.get 4 (lts.T5 .locals) (lts.m3 reads.Pre reads.Post s)
@@ -28,7 +33,7 @@ array-read-result c = search needs
 
 returns : tie.Need-returns
 unfolding same rows
-returns c = ap (λ (ws : List ℕ). getD ws (c .before .args .n) 0) (house-table (constant (c .before)) tt)
+returns c = ap (λ (ws : List ℕ). getD ws (then1→start c .args .n) 0) (house-table (constant (then1→start c)) tt)
 
 returns-2 : tie.Need-returns-2
 returns-2 c = sym (List·getD-eq-default (listFrom (word 8 houseKey) 0 1024) 0 (rw (length-list (word 8 houseKey) 0 1024) (c .if1 .left)))

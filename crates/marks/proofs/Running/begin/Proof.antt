@@ -10,6 +10,26 @@ use Rattle.marks.proofs.Laws.{empty-mark}
 use Rattle.marks.proofs.Running.begin.Statement.{statement}
 use Rattle.marks.proofs.Running.begin.Tie as tie
 
+-- ---- the places: from each one to an earlier one
+
+abbrev test→start : tie.After-test → tie.Start
+test→start c = c .before
+
+abbrev enum-told→start : tie.After-enum-told → tie.Start
+enum-told→start c = test→start (c .before .before)
+
+abbrev enum-told→test : tie.After-enum-told → tie.After-test
+enum-told→test c = c .before .before
+
+abbrev known-told→start : tie.After-known-told → tie.Start
+known-told→start c = test→start (c .before .before .before)
+
+abbrev known-told→test : tie.After-known-told → tie.After-test
+known-told→test c = c .before .before .before
+
+abbrev known-told→r : tie.After-known-told → tie.After-r
+known-told→r c = c .before
+
 test-requires : tie.Need-test-requires
 test-requires c κs = search needs
 
@@ -22,16 +42,16 @@ enum-told c = search needs
 returns : tie.Need-returns
 unfolding begin
 returns c =
-    let key = c .before .before .before .before .args .key in
-    let t = c .before .before .before .test in
-    let q = c .before .r .given .0 .0 in
-    sym (ap (begunUnder key) (first-refused key [] tt (markOf key []) q (refused (t .result) key q (t .ensures) (c .before .r .given .1))))
+    let key = known-told→start c .args .key in
+    let t = known-told→test c .test in
+    let q = known-told→r c .r .given .0 .0 in
+    sym (ap (begunUnder key) (first-refused key [] tt (markOf key []) q (refused (t .result) key q (t .ensures) (known-told→r c .r .given .1))))
 
 returns-2 : tie.Need-returns-2
 unfolding begin
 returns-2 c =
-    let key = c .before .before .before .args .key in
-    let t = c .before .before .test in
+    let key = enum-told→start c .args .key in
+    let t = enum-told→test c .test in
     let h = passed (t .result) key (t .ensures) (c .enum-told .given .1) in
     sym (ap (begunUnder key) (first-passed key [] tt (markOf key []) h ∙ ap Done (empty-mark key h)))
 

@@ -19,10 +19,51 @@ Inv-loop words₀ k low x₀ j₀ words x j =
 abbrev μ-loop : tie.MeasureT-loop
 μ-loop words₀ k low x₀ j₀ words x j = 4 - j
 
+-- ---- the places: from each one to an earlier one
+
+abbrev slice-known→start : tie.After-slice-known Inv-loop μ-loop → tie.Start Inv-loop μ-loop
+slice-known→start c = c .before
+
+abbrev loop→start : tie.After-loop Inv-loop μ-loop → tie.Start Inv-loop μ-loop
+loop→start c = slice-known→start (c .before .before)
+
+abbrev loop→at-loop : tie.After-loop Inv-loop μ-loop → tie.At-loop Inv-loop μ-loop
+loop→at-loop c = c .before
+
+abbrev fill-row-arg→start : tie.After-fill-row-arg Inv-loop μ-loop → tie.Start Inv-loop μ-loop
+fill-row-arg→start c = slice-known→start (c .before .before .before)
+
+abbrev fill-row-arg→at-loop : tie.After-fill-row-arg Inv-loop μ-loop → tie.At-loop Inv-loop μ-loop
+fill-row-arg→at-loop c = c .before .before
+
+abbrev fill-row→start : tie.After-fill-row Inv-loop μ-loop → tie.Start Inv-loop μ-loop
+fill-row→start c = fill-row-arg→start (c .before)
+
+abbrev fill-row→at-loop : tie.After-fill-row Inv-loop μ-loop → tie.At-loop Inv-loop μ-loop
+fill-row→at-loop c = fill-row-arg→at-loop (c .before)
+
+abbrev slice-known3→start : tie.After-slice-known3 Inv-loop μ-loop → tie.Start Inv-loop μ-loop
+slice-known3→start c = fill-row→start (c .before .before .before)
+
+abbrev slice-known3→at-loop : tie.After-slice-known3 Inv-loop μ-loop → tie.At-loop Inv-loop μ-loop
+slice-known3→at-loop c = fill-row→at-loop (c .before .before .before)
+
+abbrev slice-known3→fill-row : tie.After-slice-known3 Inv-loop μ-loop → tie.After-fill-row Inv-loop μ-loop
+slice-known3→fill-row c = c .before .before .before
+
+abbrev step→start : tie.After-step Inv-loop μ-loop → tie.Start Inv-loop μ-loop
+step→start c = slice-known3→start (c .before)
+
+abbrev step→at-loop : tie.After-step Inv-loop μ-loop → tie.At-loop Inv-loop μ-loop
+step→at-loop c = slice-known3→at-loop (c .before)
+
+abbrev step→fill-row : tie.After-step Inv-loop μ-loop → tie.After-fill-row Inv-loop μ-loop
+step→fill-row c = slice-known3→fill-row (c .before)
+
 loop-holds : tie.Need-loop-holds Inv-loop μ-loop
 loop-holds c =
-    let a = c .before .args in
-    let p = c .before .pre in
+    let a = slice-known→start c .args in
+    let p = slice-known→start c .pre in
     let e : a .k + 8 * 0 ≡ a .k = omega arith in
     (omega arith, p .1, rw e (sym (residue-top (a .k) (a .low) (p .0 .2))), λ n l. absurd (omega arith))
 
@@ -31,9 +72,9 @@ mul-at c = omega arith
 
 fill-row-requires : tie.Need-fill-row-requires Inv-loop μ-loop
 fill-row-requires c κs =
-    let s = c .before .before .before .before in
+    let s = fill-row-arg→start c in
     let a = s .args in
-    let l = c .before .before .loop in
+    let l = fill-row-arg→at-loop c .loop in
     (s .pre .0, rw (l .inv .2) (residue-lt (a .k) (a .low) (s .pre .0 .2) (2 ^ (a .k + 8 * l .j))), omega arith)
 
 add-step : tie.Need-add-step Inv-loop μ-loop
@@ -44,14 +85,14 @@ mul-step c = omega arith
 
 slice-read-step : tie.Need-slice-read-step Inv-loop μ-loop
 slice-read-step c =
-    let l = c .before .before .before .before .before .before .loop in
-    omega (arith, c .before .before .before .fill-row .kept .0, l .inv .1)
+    let l = slice-known3→at-loop c .loop in
+    omega (arith, slice-known3→fill-row c .fill-row .kept .0, l .inv .1)
 
 step-requires : tie.Need-step-requires Inv-loop μ-loop
 step-requires c κs =
-    let s = c .before .before .before .before .before .before .before .before in
+    let s = slice-known3→start c in
     let a = s .args in
-    let e = c .before .before .before .fill-row .ensures .0 128 (omega arith) in
+    let e = slice-known3→fill-row c .fill-row .ensures .0 128 (omega arith) in
     (s .pre .0, rw e (residue-lt (a .k) (a .low) (s .pre .0 .2) _), omega arith)
 
 add-j : tie.Need-add-j Inv-loop μ-loop
@@ -62,10 +103,10 @@ loop-less c = omega arith
 
 loop-again : tie.Need-loop-again Inv-loop μ-loop
 loop-again c =
-    let s = c .before .before .before .before .before .before .before .before .before in
+    let s = step→start c in
     let a = s .args in
-    let l = c .before .before .before .before .before .before .before .loop in
-    let r = c .before .before .before .before .fill-row in
+    let l = step→at-loop c .loop in
+    let r = step→fill-row c .fill-row in
     let m = s .pre .0 .2 in
     let pos = monic-pos (a .k) (a .low) m in
     let x = l .inv .2 in
@@ -78,12 +119,12 @@ loop-again c =
     )
 
 same-length : tie.Need-same-length Inv-loop μ-loop
-same-length c = c .before .loop .inv .1 ∙ sym (c .before .before .before .pre .1)
+same-length c = loop→at-loop c .loop .inv .1 ∙ sym (loop→start c .pre .1)
 
 returns : tie.Need-returns Inv-loop μ-loop
 returns c =
-    let a = c .before .before .before .args in
-    let l = c .before .loop in
+    let a = loop→start c .args in
+    let l = loop→at-loop c .loop in
     let v = l .inv in
     table-is (word 8 (monic (a .k) (a .low))) 1024 (l .words) (v .1) (λ n h. v .3 n (omega arith))
 

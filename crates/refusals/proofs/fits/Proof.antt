@@ -1,8 +1,8 @@
 -- `fits` meets its contract.
 use native.Mathlib.Omega.{arith}
-use Rattle.marks.proofs.Laws.{sum-passes, room}
-use Rattle.marks.proofs.fits.Statement.{statement}
-use Rattle.marks.proofs.fits.Tie as tie
+use Rattle.refusals.proofs.Lengths.{sum-passes, room}
+use Rattle.refusals.proofs.fits.Statement.{statement}
+use Rattle.refusals.proofs.fits.Tie as tie
 
 returns : tie.Need-returns
 returns c = let a = c .before .args in rw (sum-passes (a .a) (a .b) (omega arith))
