@@ -41,10 +41,12 @@ pub same-independent : {r : Bool} {xs ys : List ℕ} → xs ≡ ys → (r ≡ tr
 same-independent e h = rw e at h
 
 -- two steps from a square to the next one
-pub next-square : (p : ℕ) → 0 < p → (i w : ℕ) → w ≡ square p i → rem p (rem p (w * 2 + 0) * 2 + 0) ≡ square p (i + 1)
+pub next-square : (p : ℕ) → 0 < p → (i w y z : ℕ) → w ≡ square p i → y ≡ rem p (w * 2 + 0) → z ≡ rem p (y * 2 + 0) → z ≡ square p (i + 1)
 unfolding square
-next-square p pos i w e =
-    ap (rem p) (add-zero (rem p (w * 2 + 0) * 2))
+next-square p pos i w y z e once twice =
+    twice
+    ∙ ap (λ (x : ℕ). rem p (x * 2 + 0)) once
+    ∙ ap (rem p) (add-zero (rem p (w * 2 + 0) * 2))
     ∙ ap (λ (x : ℕ). rem p (rem p x * 2)) (add-zero (w * 2) ∙ ap (λ (x : ℕ). x * 2) e)
     ∙ ap (λ (x : ℕ). rem p (x * 2)) (rem-shl pos (2 ^ (2 * i)) 1)
     ∙ rem-shl pos (2 ^ (2 * i) * 2) 1

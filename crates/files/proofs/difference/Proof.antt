@@ -27,6 +27,9 @@ abbrev μ-loop : tie.MeasureT-loop
 abbrev shared-slice-known2→start : tie.After-shared-slice-known2 Inv-loop μ-loop → tie.Start Inv-loop μ-loop
 shared-slice-known2→start c = c .before .before
 
+abbrev at-loop→start : tie.At-loop Inv-loop μ-loop → tie.Start Inv-loop μ-loop
+at-loop→start c = shared-slice-known2→start (c .before)
+
 abbrev loop→start : tie.After-loop Inv-loop μ-loop → tie.Start Inv-loop μ-loop
 loop→start c = at-loop→start (c .before)
 

@@ -26,14 +26,11 @@ in-loop→start c = c .before .before
 abbrev loop→start : tie.After-loop Inv-loop μ-loop → tie.Start Inv-loop μ-loop
 loop→start c = c .before .before
 
-abbrev in-loop→at-loop : tie.In-loop Inv-loop μ-loop → tie.At-loop Inv-loop μ-loop
-in-loop→at-loop c = c .before
-
 abbrev step→start : tie.After-step Inv-loop μ-loop → tie.Start Inv-loop μ-loop
 step→start c = in-loop→start (c .before)
 
 abbrev step→at-loop : tie.After-step Inv-loop μ-loop → tie.At-loop Inv-loop μ-loop
-step→at-loop c = in-loop→at-loop (c .before)
+step→at-loop c = c .before .before
 
 loop-holds : tie.Need-loop-holds Inv-loop μ-loop
 loop-holds c = (omega arith, c .pre .1, refl)

@@ -21,14 +21,14 @@ abbrev μ-loop : tie.MeasureT-loop
 
 -- ---- the places: from each one to an earlier one
 
-abbrev shared-slice-known→start : tie.After-shared-slice-known Inv-loop μ-loop → tie.Start Inv-loop μ-loop
-shared-slice-known→start c = c .before
+abbrev at-loop→start : tie.At-loop Inv-loop μ-loop → tie.Start Inv-loop μ-loop
+at-loop→start c = c .before .before
 
 abbrev loop→start : tie.After-loop Inv-loop μ-loop → tie.Start Inv-loop μ-loop
-loop→start c = shared-slice-known→start (c .before .before)
+loop→start c = at-loop→start (c .before)
 
 abbrev shared-slice-known2→start : tie.After-shared-slice-known2 Inv-loop μ-loop → tie.Start Inv-loop μ-loop
-shared-slice-known2→start c = shared-slice-known→start (c .before .before .before)
+shared-slice-known2→start c = at-loop→start (c .before .before)
 
 abbrev shared-slice-known2→at-loop : tie.After-shared-slice-known2 Inv-loop μ-loop → tie.At-loop Inv-loop μ-loop
 shared-slice-known2→at-loop c = c .before .before

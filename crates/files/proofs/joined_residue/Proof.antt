@@ -10,11 +10,8 @@ use Rattle.files.proofs.joined_residue.Tie as tie
 
 -- ---- the places: from each one to an earlier one
 
-abbrev power-of-t→start : tie.After-power-of-t → tie.Start
-power-of-t→start c = c .before
-
 abbrev product→start : tie.After-product → tie.Start
-product→start c = power-of-t→start (c .before)
+product→start c = c .before .before
 
 mul-power-of-t : tie.Need-mul-power-of-t
 mul-power-of-t c = search needs

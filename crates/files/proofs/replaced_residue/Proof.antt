@@ -19,14 +19,11 @@ shared-slice-known2→start c = c .before .before
 abbrev power-of-t→start : tie.After-power-of-t → tie.Start
 power-of-t→start c = shared-slice-known2→start (c .before .before)
 
-abbrev power-of-t→difference : tie.After-power-of-t → tie.After-difference
-power-of-t→difference c = c .before
-
 abbrev product→start : tie.After-product → tie.Start
 product→start c = power-of-t→start (c .before)
 
 abbrev product→difference : tie.After-product → tie.After-difference
-product→difference c = power-of-t→difference (c .before)
+product→difference c = c .before .before
 
 difference-requires : tie.Need-difference-requires
 difference-requires c κs = let s = shared-slice-known2→start c in (s .pre .0, s .pre .2)

@@ -22,17 +22,11 @@ use Rattle.keys.proofs.irreducible.Tie as tie
 
 -- ---- the places: from each one to an earlier one
 
-abbrev squares→start : tie.After-squares → tie.Start
-squares→start c = c .before
-
 abbrev square-rows→start : tie.After-square-rows → tie.Start
-square-rows→start c = squares→start (c .before)
-
-abbrev squares2→square-rows : tie.After-squares2 → tie.After-square-rows
-squares2→square-rows c = c .before
+square-rows→start c = c .before .before
 
 abbrev rows→square-rows : tie.After-rows → tie.After-square-rows
-rows→square-rows c = squares2→square-rows (c .before)
+rows→square-rows c = c .before .before
 
 abbrev then1→square-rows : tie.Then1 → tie.After-square-rows
 then1→square-rows c = rows→square-rows (c .before .before .before)

@@ -24,11 +24,8 @@ abbrev μ-loop : tie.MeasureT-loop
 
 -- ---- the places: from each one to an earlier one
 
-abbrev slice-known→start : tie.After-slice-known Inv-loop μ-loop → tie.Start Inv-loop μ-loop
-slice-known→start c = c .before
-
 abbrev at-loop→start : tie.At-loop Inv-loop μ-loop → tie.Start Inv-loop μ-loop
-at-loop→start c = slice-known→start (c .before)
+at-loop→start c = c .before .before
 
 abbrev in-loop→start : tie.In-loop Inv-loop μ-loop → tie.Start Inv-loop μ-loop
 in-loop→start c = at-loop→start (c .before)
@@ -36,14 +33,11 @@ in-loop→start c = at-loop→start (c .before)
 abbrev loop→start : tie.After-loop Inv-loop μ-loop → tie.Start Inv-loop μ-loop
 loop→start c = at-loop→start (c .before)
 
-abbrev in-loop→at-loop : tie.In-loop Inv-loop μ-loop → tie.At-loop Inv-loop μ-loop
-in-loop→at-loop c = c .before
-
 abbrev step→start : tie.After-step Inv-loop μ-loop → tie.Start Inv-loop μ-loop
 step→start c = in-loop→start (c .before)
 
 abbrev step→at-loop : tie.After-step Inv-loop μ-loop → tie.At-loop Inv-loop μ-loop
-step→at-loop c = in-loop→at-loop (c .before)
+step→at-loop c = c .before .before
 
 abbrev step2→start : tie.After-step2 Inv-loop μ-loop → tie.Start Inv-loop μ-loop
 step2→start c = step→start (c .before)
@@ -117,7 +111,8 @@ loop-again c =
     let l = step2→at-loop c .loop in
     let p = polynomial (a .p) in
     let h = a .p .degree - a .p .degree / 2 in
-    let next : c .step2 .result ≡ square p (h - 1 + l .i + 1) = c .step2 .ensures ∙ rw (c .before .step .ensures) (next-square p (monic-pos (a .p .degree) (a .p .low) (m .2)) (h - 1 + l .i) (l .w) (l .inv .1)) in
+    let next : c .step2 .result ≡ square p (h - 1 + l .i + 1) =
+    next-square p (monic-pos (a .p .degree) (a .p .low) (m .2)) (h - 1 + l .i) (l .w) _ _ (l .inv .1) (c .before .step .ensures) (c .step2 .ensures) in
     let e₁ : h - 1 + l .i + 1 ≡ h - 1 + (l .i + 1) = omega arith in
     let e₂ : h - 1 + l .i + 1 ≡ h + l .i = omega arith in (
       omega arith,

@@ -1,12 +1,14 @@
 -- `Running::begin` meets its contract: the empty file's value is 1, which is below every modulus of degree 1 or more.
 use mathlib.Core.Path.{sym, ap, _∙_}
 use mathlib.Core.List.{[]}
+use native.Mathlib.Omega.{arith}
 use borrow.Author.Needs.{needs}
 use Rattle.refusals.specs.Refusals.{Done}
 use Rattle.files.specs.Files.{markOf}
-use Rattle.keys.proofs.Laws.{passed, refused, first-passed, first-refused}
+use Rattle.files.proofs.Marks.{empty-mark}
+use Rattle.acceptance.proofs.Opened.{opened-first, opened-from}
+use Rattle.keys.proofs.Laws.{opened, refused}
 use Rattle.marks.specs.Feeding.{begin, begunUnder}
-use Rattle.marks.proofs.Laws.{empty-mark}
 use Rattle.marks.proofs.Running.begin.Statement.{statement}
 use Rattle.marks.proofs.Running.begin.Tie as tie
 
@@ -44,16 +46,15 @@ unfolding begin
 returns c =
     let key = known-told→start c .args .key in
     let t = known-told→test c .test in
-    let q = known-told→r c .r .given .0 .0 in
-    sym (ap (begunUnder key) (first-refused key [] tt (markOf key []) q (refused (t .result) key q (t .ensures) (known-told→r c .r .given .1))))
+    sym (ap (begunUnder key) (refused (t .result) key (t .ensures) [] tt (markOf key []) _ (known-told→r c .r .given .1)))
 
 returns-2 : tie.Need-returns-2
 unfolding begin
 returns-2 c =
     let key = enum-told→start c .args .key in
     let t = enum-told→test c .test in
-    let h = passed (t .result) key (t .ensures) (c .enum-told .given .1) in
-    sym (ap (begunUnder key) (first-passed key [] tt (markOf key []) h ∙ ap Done (empty-mark key h)))
+    let h = opened (t .result) key (t .ensures) _ (omega arith) (c .enum-told .given .1) in
+    sym (ap (begunUnder key) (opened-first h [] tt (markOf key []) ∙ ap Done (empty-mark key (omega (arith, opened-from h)))))
 
 pub begin-spec : {M : Type 1} → statement M
 begin-spec = tie.close (tie.spec test-requires enum-known-r enum-told returns returns-2)
