@@ -54,11 +54,14 @@ fn feed_bits(p: Modulus, m: Running, part: &[u8]) -> Fed
     let n = part.len() as u64;
     match judge(p, m, n) {
         Reply::Refused(r) => Fed::Refused(r, m),
-        Reply::Done => Fed::Next(Running {
-            key: m.key,
-            fingerprint: files::feed_bytes(p, m.fingerprint, part),
-            length: m.length + n,
-        }),
+        Reply::Done => {
+            let next = files::feed_bytes(p, m.fingerprint, part);
+            Fed::Next(Running {
+                key: m.key,
+                fingerprint: next,
+                length: m.length + n,
+            })
+        }
     }
 }
 

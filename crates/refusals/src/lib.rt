@@ -3,7 +3,7 @@ ghost use mathlib.Core.Path.{_≡_};
 ghost use mathlib.Core.Bool.{not};
 ghost use mathlib.Core.List.{[], _∷_};
 ghost use Prim.Native.Nat.{_+_};
-ghost use Rattle.refusals.specs.Refusals.{number, passes};
+ghost use Rattle.refusals.specs.Refusals.{number, numberOf, told, passes};
 
 // The limit of lengths (number 7), in bytes.
 pub const LONGEST: u64 = 4294967295;
@@ -53,6 +53,16 @@ pub fn number(r: Refusal) -> u32
     }
 }
 
+// The number of a reply: 0, or the refusal's.
+pub fn number_of(reply: Reply) -> u32
+    ensures { λ n. ⌜ n ≡ numberOf (told reply) ⌝ }
+{
+    match reply {
+        Reply::Done => 0,
+        Reply::Refused(r) => number(r),
+    }
+}
+
 // Number 7 applies neither to two lengths nor to their sum, which is not made: it might not fit 64 bits.
 pub fn fits(a: u64, b: u64) -> bool
     ensures { λ r. ⌜ r ≡ not (passes (a ∷ b ∷ (a + b) ∷ [])) ⌝ }
@@ -64,14 +74,14 @@ pub fn fits(a: u64, b: u64) -> bool
 }
 
 // Number 7 applies to none of three lengths.
-pub fn within(a: u64, b: u64, c: u64) -> bool
-    ensures { λ r. ⌜ r ≡ not (passes (a ∷ b ∷ c ∷ [])) ⌝ }
+pub fn within(x: u64, y: u64, z: u64) -> bool
+    ensures { λ r. ⌜ r ≡ not (passes (x ∷ y ∷ z ∷ [])) ⌝ }
 {
-    if LONGEST < a {
+    if LONGEST < x {
         return false;
     }
-    if LONGEST < b {
+    if LONGEST < y {
         return false;
     }
-    c <= LONGEST
+    z <= LONGEST
 }
