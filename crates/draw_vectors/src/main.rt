@@ -1,4 +1,4 @@
-// The vectors of document 01 about drawing; and of the 2,048 numbers of degree 11, how many are drawn by 11 of the 2,046 elements each, and
+// The readings of document 01 about drawing; and of the 2,048 numbers of degree 11, how many are drawn by 11 of the 2,046 elements each, and
 // how many by none.
 ghost use mathlib.Core.Path.{_≡_};
 ghost use Rattle.refusals.specs.Refusals.{valueOr};

@@ -1,4 +1,4 @@
-// The vectors of document 01 about keys: the number that each key is refused with, 0 where it is accepted, and how many keys of the
+// The readings of document 01 about keys: the number that each key is refused with, 0 where it is accepted, and how many keys of the
 // degrees 8 to 14 are accepted.
 ghost use mathlib.Core.Path.{_≡_};
 ghost use Rattle.refusals.specs.Refusals.{numberOf};

@@ -9,6 +9,7 @@ use Rattle.printing.proofs.Laws.{key-within}
 use Rattle.mark.proofs.answer.Statement.{statement}
 use Rattle.mark.proofs.answer.Tie as tie
 
+-- the places where the line, its key and the running mark are known
 abbrev line-at : tie.After-key → tie.After-key-line
 line-at c = c .before .before
 

@@ -30,6 +30,7 @@ line-at l = l .before .before .args .line .now
 abbrev turn : tie.After-digit Inv-loop μ-loop → tie.At-loop Inv-loop μ-loop
 turn c = c .before .before .before
 
+-- the value so far has room for a digit
 small : (l : tie.In-loop Inv-loop μ-loop) → l .before .loop .value < 2 ^ 60
 small l = let v = l .before .loop in room (v .value) (v .i) (omega arith) (v .inv .1)
 

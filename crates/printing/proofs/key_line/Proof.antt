@@ -13,6 +13,7 @@ use Rattle.printing.proofs.Laws.{line-at, no-newline, empty-line, long-
 use Rattle.printing.proofs.key_line.Statement.{statement}
 use Rattle.printing.proofs.key_line.Tie as tie
 
+-- the input, and the place where the newline was looked for
 abbrev input-at : tie.After-find → List ℕ
 input-at c = c .before .before .args .input .now
 
@@ -26,9 +27,11 @@ found-line c = found (c .before .before)
 decided : (c : tie.After-find) → keyLine (input-at c) ≡ keyBefore (c .find .result) (input-at c)
 decided c = line-at (input-at c) (c .find .result) (c .find .ensures .0)
 
+-- the line is as long as the place says
 cut : (c : tie.After-find) → length (take (c .find .result) (input-at c)) ≡ c .find .result
 cut c = length-take-le (c .find .result) (input-at c) (c .find .ensures .1)
 
+-- the line has digits alone
 all-digits-left : (c : tie.Else4) → allDigits (take (found-line (c .before) .find .result) (input-at (found-line (c .before)))) ≡ true
 all-digits-left c = sym (c .before .all-digits .ensures) ∙ not-false _ (c .if4 .left)
 

@@ -9,6 +9,7 @@ use Rattle.printing.proofs.Buffers.{put-mid}
 use Rattle.printing.proofs.put.Statement.{statement}
 use Rattle.printing.proofs.put.Tie as tie
 
+-- the start, and the place behind the copy
 abbrev known : tie.After-shared-slice-known → tie.Start
 known c = c .before .before
 

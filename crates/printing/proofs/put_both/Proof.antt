@@ -5,6 +5,7 @@ use Rattle.printing.proofs.Buffers.{Holds, put-next}
 use Rattle.printing.proofs.put_both.Statement.{statement}
 use Rattle.printing.proofs.put_both.Tie as tie
 
+-- the start, and the places behind the two calls
 abbrev known : tie.After-shared-slice-known2 → tie.Start
 known c = c .before .before .before
 

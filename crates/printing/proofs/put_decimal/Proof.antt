@@ -7,6 +7,7 @@ use Rattle.printing.proofs.Buffers.{few-digits, numeral-put}
 use Rattle.printing.proofs.put_decimal.Statement.{statement}
 use Rattle.printing.proofs.put_decimal.Tie as tie
 
+-- the start, and the places where the digits are written and the text is put
 abbrev start : tie.After-digits → tie.Start
 start c = c .before .before .before
 
@@ -16,6 +17,7 @@ written c = c .before .before
 abbrev both-at : tie.After-slice-known2 → tie.After-put-both
 both-at c = c .before .before
 
+-- no more digits than the buffer has places
 room : (c : tie.After-decimal) → c .decimal .result ≤ 20
 room c = few-digits 10 20 (start (c .before) .args .n) (lit< tt) (lit< tt) (omega arith) (c .decimal .ensures .1 .0)
 

@@ -6,6 +6,7 @@ use Rattle.printing.proofs.Buffers.{put-number, put-next, whole}
 use Rattle.printing.proofs.refusal.Statement.{statement}
 use Rattle.printing.proofs.refusal.Tie as tie
 
+-- the start, and the places behind the number and the line
 abbrev start : tie.After-number → tie.Start
 start c = c .before .before .before
 
