@@ -21,7 +21,7 @@ use Rattle.fields.proofs.Squaring.{power, compose-power, dvd-power, squares, sq
 use Rattle.fields.proofs.Conjugates.{field-pos, field-degree, conjugates-differ}
 use Rattle.fields.proofs.Roots.{Different, few-roots}
 use Rattle.fields.proofs.Pigeonhole.{Collision, pigeonhole, Found, find}
-use Rattle.stock.proofs.Searches.{first-is}
+use Rattle.lists.proofs.Searches.{first-is}
 use Rattle.draw.specs.Drawing.{Draws, drawn}
 
 module _ (f k : ℕ) (h : Field f k) where
@@ -192,5 +192,6 @@ module _ (f k : ℕ) (h : Field f k) where
               absurd (omega (
                 arith,
                 deg-pos p k (a .of-degree),
-                few-roots f k (h .of-degree) (omega (arith, two-lt)) (h .irreducible) (suc k) p (and-conjugates x) (deg-hi p k (a .of-degree)) (differ none) vanish,
+                few-roots f k (h .of-degree) (omega (arith, two-lt)) (h .irreducible) (suc k) p (and-conjugates x) (deg-hi p k (a .of-degree))
+                    (differ none) vanish,
               ))

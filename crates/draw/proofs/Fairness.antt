@@ -2,19 +2,17 @@
 -- accepted key of degree k, each such key is drawn by exactly k elements, and so their number times k is 2^k - 2. What fails for few
 -- keys therefore fails for few elements.
 use mathlib.Core.Path.{_≡_, refl, sym, ap, _∙_}
-use mathlib.Core.Logic.{_≢_}
-use mathlib.Core.Bool.{Bool, true, false, _&&_, _||_, not, cond, true≢false}
-use mathlib.Core.List.{List, [], _∷_}
-use Prim.Native.Nat.{ℕ, zero, suc, _+_, _-_, _*_, _%_, _^_, _≤_, _<_}
+use mathlib.Core.Bool.{Bool, true, false, cond}
+use Prim.Native.Nat.{ℕ, _+_, _-_, _*_, _^_, _≤_, _<_}
 use native.Mathlib.Nat.{one-mul, zero-mul, two-pow-succ}
 use native.Mathlib.Decide.{ℕ-discrete, decLt}
 use native.Mathlib.Omega.{arith}
-use lib.Dec.{T, T-not, leb, leb→le, eqb, eqb-refl}
+use lib.Dec.{T, leb, leb→le, eqb}
 use lib.Pow.{pow-mono}
 use borrow.Author.Tests.{eqb-true, eq-eqb, ne-eqb}
 use Rattle.gf2.specs.Polynomials.{degree}
-use Rattle.lists.specs.Lists.{All}
-use Rattle.lists.proofs.Truth.{and-left, and-right}
+use Rattle.lists.specs.Lists.{firstFrom, among}
+use Rattle.lists.proofs.Searches.{all-among}
 use Rattle.lists.proofs.Lists.{every, all-by-test}
 use Rattle.gf2.proofs.Degrees.{degree-is, degree-eq, deg-lo, deg-hi, deg-intro}
 use Rattle.acceptance.specs.Keys.{accepted}
@@ -22,62 +20,27 @@ use Rattle.acceptance.proofs.Laws.{accepted-iff, accepted-pos}
 use Rattle.lists.specs.Counts.{countFrom}
 use Rattle.lists.proofs.Counts.{count-is-sum, sum-same, sum-times, count-all, count-one, count-none, count-twice}
 use Rattle.fields.specs.Fields.{Prime, Field}
+use Rattle.fields.proofs.Primes.{firstDivisor, prime-by-test}
 use Rattle.fields.proofs.Pigeonhole.{Found}
 use Rattle.stock.specs.Stock.{stockKey}
 use Rattle.stock.proofs.Table.{stock-smallest}
-use Rattle.draw.specs.Drawing.{degrees, among, drawn, Draws}
+use Rattle.draw.specs.Drawing.{degrees, drawn, Draws}
 use Rattle.draw.proofs.Draws.{drawn-is, drawn-draws, drawn-irreducible}
 use Rattle.draw.proofs.Drawers.{Drawers, drawers}
 
--- ---- the listed degrees are primes from 11 to 61, by one computed test
-
--- none of 2, 3, .., n + 1 divides k
-undivided : ℕ → ℕ → Bool
-undivided k zero = true
-undivided k (suc n) = not (eqb (k % suc (suc n)) 0) && undivided k n
-
-none-divides : (k n d : ℕ) → T (undivided k n) → 1 < d → d < suc (suc n) → k % d ≢ 0
-unfolding undivided
-none-divides k zero d t l h e = omega arith
-none-divides k (suc n) d t l h e = go (ℕ-discrete d (suc (suc n))) (λ b. none-divides k n d (and-right (not (eqb (k % suc (suc n)) 0)) (undivided k n) t) l b e)
-  where
-    go : Dec (d ≡ suc (suc n)) → (d < suc (suc n) → ⊥) → ⊥
-    go (yes s) rest =
-        T-not (eqb (k % suc (suc n)) 0) (and-left (not (eqb (k % suc (suc n)) 0)) (undivided k n) t) (rw (rw s at e) (eqb-refl 0))
-    go (no s) rest = rest (omega arith)
-
--- a number from 11 to 61 that none of 2, .., k - 1 divides
-unfoldable prime-test : ℕ → Bool
-prime-test k = leb 11 k && leb k 61 && undivided k (k - 2)
-
-at-listed : (ks : List ℕ) (k : ℕ) → All (λ m. T (prime-test m)) ks → among k ks ≡ true → T (prime-test k)
-unfolding among
-at-listed [] k t e = absurd (true≢false (sym e))
-at-listed (m ∷ ks) k t e = go (eqb k m) refl e (at-listed ks k (t .1))
-  where
-    go : (b : Bool) → eqb k m ≡ b → (b || among k ks) ≡ true → (among k ks ≡ true → T (prime-test k)) → T (prime-test k)
-    go true q e rest = rw (eqb-true k m q) (t .0)
-    go false q e rest = rest e
-
-listed-test : (k : ℕ) → among k degrees ≡ true → T (prime-test k)
-unfolding every prime-test undivided
-listed-test k e = at-listed degrees k (all-by-test prime-test degrees tt) e
-
 module _ (k : ℕ) (listed : among k degrees ≡ true) where
+  -- ---- the listed degrees are primes from 11 to 61, by computed tests
+
+  passes : (test : ℕ → Bool) → T (every test degrees) → T (test k)
+  passes test t = all-among (λ m. T (test m)) degrees k (all-by-test test degrees t) listed
+
   pub range : (11 ≤ k) × (k ≤ 61)
-  unfolding prime-test
-  range =
-      let both = and-left (leb 11 k && leb k 61) (undivided k (k - 2)) (listed-test k listed) in
-      (leb→le 11 k (and-left (leb 11 k) (leb k 61) both), leb→le k 61 (and-right (leb 11 k) (leb k 61) both))
+  unfolding every
+  range = (leb→le 11 k (passes (leb 11) tt), leb→le k 61 (passes (λ m. leb m 61) tt))
 
   prime : Prime k
-  unfolding prime-test
-  prime =
-      record {
-        proper = omega (arith, range .0);
-        no-divisor =
-            λ d l h. none-divides k (k - 2) d (and-right (leb 11 k && leb k 61) (undivided k (k - 2)) (listed-test k listed)) l (omega (arith, range .0));
-      }
+  unfolding every firstDivisor firstFrom
+  prime = prime-by-test k (omega (arith, range .0)) (passes (λ m. eqb (firstDivisor m) m) tt)
 
   -- the stock key makes a field
   pub field : Field (stockKey k) k

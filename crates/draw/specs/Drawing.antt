@@ -1,6 +1,6 @@
 -- Drawing a key by Rabin's method (document 01, "Polynomials and keys"; 000, section 2).
 use mathlib.Core.Path.{_≡_}
-use mathlib.Core.Bool.{Bool, false, _||_, not}
+use mathlib.Core.Bool.{_||_, not}
 use mathlib.Core.List.{List, [], _∷_}
 use Prim.Native.Nat.{ℕ, _^_}
 use lib.Dec.{leb, ltb, eqb}
@@ -8,17 +8,14 @@ use Rattle.gf2.specs.Polynomials.{Degree}
 use Rattle.fields.specs.Fields.{at}
 use Rattle.refusals.specs.declared.Refusal.the-variants.{DegreeNotListed, ElementOutOfRange}
 use Rattle.refusals.specs.Refusals.{Answer, Done, Refused, Test, _⇒_, firstOf}
-use Rattle.stock.specs.Stock.{firstFrom, stockKey}
+use Rattle.lists.specs.Lists.{firstFrom, among}
+use Rattle.stock.specs.Stock.{stockKey}
 use Rattle.draw.specs.declared.Drawn.{Drawn}
 use Rattle.draw.specs.declared.Drawn.the-variants as cases
 
 -- the degrees that keys are drawn of
 abbrev pub degrees : List ℕ
 degrees = 11 ∷ 13 ∷ 17 ∷ 19 ∷ 23 ∷ 29 ∷ 31 ∷ 37 ∷ 41 ∷ 43 ∷ 47 ∷ 53 ∷ 59 ∷ 61 ∷ []
-
-unfoldable pub among : ℕ → List ℕ → Bool
-among n [] = false
-among n (m ∷ ms) = eqb n m || among n ms
 
 -- the first polynomial p of degree k with p(e) = 0 modulo f, in the order of the numbers. It is the only one (`draw-unique`).
 unfoldable pub drawn : ℕ → ℕ → ℕ → ℕ

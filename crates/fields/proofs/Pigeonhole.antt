@@ -76,7 +76,9 @@ squeeze-inj v x y dx dy e = go (squeeze-cases v x dx) (squeeze-cases v y dy)
 -- n + 1 numbers below n are not all different
 pub pigeonhole : (n : ℕ) (g : ℕ → ℕ) → ((i : ℕ) → i ≤ n → g i < n) → Collision (suc n) g
 pigeonhole zero g h = absurd (not-suc-le-zero (h 0 (le-refl 0)))
-pigeonhole (suc n) g h = go (find g v (suc n)) (λ none. pigeonhole n (λ i. squeeze v (g i)) (λ i l. squeeze-lt v (g i) n (none i (omega arith)) (h i (le-step l)) last))
+pigeonhole (suc n) g h =
+    go (find g v (suc n))
+    (λ none. pigeonhole n (λ i. squeeze v (g i)) (λ i l. squeeze-lt v (g i) n (none i (omega arith)) (h i (le-step l)) last))
   where
     v : ℕ
     v = g (suc n)

@@ -12,10 +12,11 @@ use Rattle.gf2.specs.Polynomials.{degree}
 use Rattle.refusals.specs.Refusals.{Done}
 use Rattle.acceptance.specs.Keys.{accepted}
 use Rattle.files.specs.Files.{Bytes}
+use Rattle.lists.specs.Lists.{among}
 use Rattle.lists.specs.Counts.{countFrom}
 use Rattle.book.specs.Confusions.{Routes, Confuses, confused, Burst}
 use Rattle.stock.specs.Stock.{stockKey}
-use Rattle.draw.specs.Drawing.{degrees, among, drawn, draw, Draws}
+use Rattle.draw.specs.Drawing.{degrees, drawn, draw, Draws}
 
 abbrev pub Listed : ℕ → Type 0
 Listed k = among k degrees ≡ true
