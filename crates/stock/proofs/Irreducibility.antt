@@ -1,5 +1,5 @@
 -- A test that the checker computes, and that shows a polynomial over GF(2) irreducible: the squares t^(2i) are independent modulo it,
--- and so are t^(2i) ⊕ t^i for i > 0 (acceptance/proofs/Criterion, after Berlekamp).
+-- and so are t^(2i) ⊕ t^i for i > 0 (gf2/proofs/Criterion, after Berlekamp).
 use mathlib.Core.Path.{_≡_, refl, sym, ap, ap₂, _∙_}
 use mathlib.Core.Bool.{Bool, _&&_}
 use mathlib.Core.List.{List, [], _∷_}
@@ -18,7 +18,7 @@ use Rattle.gf2.proofs.Degrees.{half-lt, degree-eq, deg-lo, deg-pos}
 use Rattle.gf2.proofs.Monics.{monic-of}
 use Rattle.gf2.proofs.Residues.{rem-⊕, rem-small, rem-zero}
 use Rattle.gf2.proofs.Powers.{rem-⊗-left}
-use Rattle.acceptance.proofs.Criterion.{rigid-irreducible}
+use Rattle.gf2.proofs.Criterion.{rigid-irreducible}
 use Rattle.stock.proofs.Coefficients.{Word, value, value-lt, plus, value-plus, size, word, digit, value-word, size-word}
 use Rattle.stock.proofs.Coefficients.{divide, divide-rem, divide-size, value-shl, modulus, modulus-deg}
 use Rattle.stock.proofs.Independence.{basis, sound, insert, empty, sum, independent}
