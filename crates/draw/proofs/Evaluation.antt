@@ -17,7 +17,7 @@ use Rattle.gf2.proofs.Residues.{rem-⊕}
 use Rattle.gf2.proofs.Steps.{residue-word, shift-next}
 use Rattle.basis.specs.Rows.{sumOf, NoRelation, Matrix}
 use Rattle.fields.specs.Fields.{compose, at, Field}
-use Rattle.fields.proofs.Values.{mulmod, at-⊕, at-one, at-dbl}
+use Rattle.fields.proofs.Values.{at-⊕, at-one, at-dbl}
 use Rattle.draw.specs.Drawing.{Draws, drawn}
 use Rattle.draw.proofs.Draws.{no-smaller, draw, drawn-is}
 
@@ -53,7 +53,6 @@ module _ (p : Modulus) (m : Proper p) (e : ℕ) where
   first-power = at-one (positive p m) e (rw (monic-degree (p .degree) (p .low) (m .2)) (pow-mono {i = 1} {j = p .degree} (m .0)))
 
   pub next-power : e < 2 ^ p .degree → (i x : ℕ) → x ≡ at (polynomial p) (2 ^ i) e → rem (polynomial p) (x ⊗ e) ≡ at (polynomial p) (2 ^ (i + 1)) e
-  unfolding mulmod
   next-power l i x q =
       ap (λ (y : ℕ). rem (polynomial p) (y ⊗ e)) q
       ∙ sym (ap (λ (y : ℕ). at (polynomial p) y e) (ap (λ (n : ℕ). 2 ^ n) (add-one i) ∙ pow-suc 2 i)

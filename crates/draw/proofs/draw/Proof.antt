@@ -13,11 +13,12 @@ use Rattle.gf2.specs.declared.Modulus.{Modulus}
 use Rattle.gf2.proofs.Degrees.{deg-hi}
 use Rattle.gf2.proofs.Monics.{word-proper, word-whole}
 use Rattle.refusals.specs.Refusals.{Done}
+use Rattle.lists.specs.Lists.{among}
 use Rattle.lists.proofs.Truth.{or-neither}
 use Rattle.fields.specs.Fields.{Field}
 use Rattle.fields.proofs.Conjugates.{field-degree}
 use Rattle.stock.specs.Stock.{stockKey}
-use Rattle.draw.specs.Drawing.{degrees, among, drawn, draw}
+use Rattle.draw.specs.Drawing.{degrees, drawn, draw}
 use Rattle.draw.proofs.Fairness.{range, field}
 use Rattle.draw.proofs.draw.Statement.{statement}
 use Rattle.draw.proofs.draw.Tie as tie

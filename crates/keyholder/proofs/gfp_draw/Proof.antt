@@ -24,9 +24,6 @@ known-told→start c = draw→start (c .before .before .before)
 abbrev known-told→draw : tie.After-known-told → tie.After-draw
 known-told→draw c = c .before .before .before
 
-abbrev known-told→p : tie.After-known-told → tie.After-p
-known-told→p c = c .before
-
 abbrev number→start : tie.After-number → tie.Start
 number→start c = r→start (c .before .before)
 
@@ -50,21 +47,13 @@ number-requires c κs = search needs
 
 returns : tie.Need-returns
 returns c =
-    let s = known-told→start c in
-    let e = sym (known-told→p c .p .given .1) in
-    let h = known-told→draw c .draw .ensures in (
-      ap (λ (x : Drawn). numberOf (answer x)) e ∙ ap numberOf h,
-      ap (λ (x : Drawn). valueOr (s .args .key .now) (answer x)) e ∙ ap (valueOr (s .args .key .now)) h,
-    )
+    let e = ap (λ (x : Drawn). answer x) (sym (c .before .p .given .1)) ∙ known-told→draw c .draw .ensures in
+    (ap numberOf e, ap (valueOr (known-told→start c .args .key .now)) e)
 
 returns-2 : tie.Need-returns-2
 returns-2 c =
-    let s = number→start c in
-    let e = sym (number→r c .r .given .1) in
-    let h = number→draw c .draw .ensures in (
-      c .number .ensures ∙ ap (λ (x : Drawn). numberOf (answer x)) e ∙ ap numberOf h,
-      ap (λ (x : Drawn). valueOr (s .args .key .now) (answer x)) e ∙ ap (valueOr (s .args .key .now)) h,
-    )
+    let e = ap (λ (x : Drawn). answer x) (sym (number→r c .r .given .1)) ∙ number→draw c .draw .ensures in
+    (c .number .ensures ∙ ap numberOf e, ap (valueOr (number→start c .args .key .now)) e)
 
 pub gfp-draw-spec : {M : Type 1} → statement M
 gfp-draw-spec = tie.close (tie.spec draw-requires enum-known-p enum-known-r number-requires returns returns-2)

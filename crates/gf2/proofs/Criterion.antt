@@ -2,18 +2,17 @@
 -- 0 and 1. Squaring is linear, so both can be tested by elimination.
 use mathlib.Core.Path.{_≡_, refl, sym, ap, _∙_}
 use mathlib.Core.Logic.{_≢_, _⊎_, inl, inr, ⊎-elim}
-use Prim.Native.Nat.{ℕ, zero, suc, _+_, _^_, _<_}
-use native.Mathlib.Nat.{le-refl, lt-of-lt-of-le}
+use Prim.Native.Nat.{ℕ, zero, suc, _^_, _<_}
+use native.Mathlib.Nat.{le-refl}
 use native.Mathlib.Decide.{ℕ-discrete, decLt}
 use native.Mathlib.Omega.{arith}
-use lib.Pow.{pow-mono}
 use Rattle.gf2.specs.Polynomials.{_⊕_, _⊗_, degree, rem, Divides, Irreducible}
 use Rattle.gf2.proofs.Sums.{⊕-eq, ⊕-lt, xor}
 use Rattle.gf2.proofs.Products.{one-⊗, ⊗-one, ⊗-comm, ring}
-use Rattle.gf2.proofs.Degrees.{degree-is, degree-eq, degree-⊗, deg-hi, deg-zero}
+use Rattle.gf2.proofs.Degrees.{degree-is, degree-eq}
 use Rattle.gf2.proofs.Divisors.{dvd-by, dvd-left, dvd-⊕, dvd-trans, dvd-small}
 use Rattle.gf2.proofs.Residues.{rem-lt, rem-dvd, rem-cong, rem-⊗, rem-of-dvd, dvd-of-rem-zero}
-use Rattle.gf2.proofs.Irreducibles.{Bezout, bezout, euclid-lemma, pos-left, pos-right, whole}
+use Rattle.gf2.proofs.Irreducibles.{Bezout, bezout, euclid-lemma, pos-left, pos-right, factor-lt, whole}
 
 pub record Rigid (p : ℕ) : Type 0 where
   pub proper : 1 < p
@@ -76,7 +75,7 @@ module _ (p q d u v : ℕ) (r : Rigid p) (is : q ⊗ d ≡ p) (one : u ⊗ q ⊕
 -- p = a ⊗ g ⊗ (b ⊗ g) with g not 1: a ⊗ b ⊗ g is nilpotent modulo p
 module _ (p a b g : ℕ) (r : Rigid p) (is : a ⊗ g ⊗ (b ⊗ g) ≡ p) (ne : g ≢ 1) where
   no-square : ⊥
-  no-square = r .no-nilpotent h h-pos h-small (rem-of-dvd pos (h ⊗ h) nilpotent)
+  no-square = r .no-nilpotent h (pos-left h g p h-is pos) (factor-lt h g p h-is pos ne) (rem-of-dvd pos (h ⊗ h) nilpotent)
     where
       pos : 0 < p
       pos = omega (arith, r .proper)
@@ -90,26 +89,11 @@ module _ (p a b g : ℕ) (r : Rigid p) (is : a ⊗ g ⊗ (b ⊗ g) ≡ p) (ne : 
           sorted : a ⊗ b ⊗ g ⊗ g ≡ a ⊗ g ⊗ (b ⊗ g)
           sorted = simp ring
 
-      h-pos : 0 < h
-      h-pos = pos-left h g p h-is pos
-
-      g-pos : 0 < g
-      g-pos = pos-right h g p h-is pos
-
       nilpotent : Divides p (h ⊗ h)
       nilpotent = dvd-by (dvd-left (a ⊗ b) p) (ap (λ (x : ℕ). a ⊗ b ⊗ x) (sym is) ∙ sorted)
         where
           sorted : a ⊗ b ⊗ (a ⊗ g ⊗ (b ⊗ g)) ≡ a ⊗ b ⊗ g ⊗ (a ⊗ b ⊗ g)
           sorted = simp ring
-
-      degrees : degree p ≡ degree h + degree g
-      degrees = ap degree (sym h-is) ∙ degree-⊗ h g h-pos g-pos
-
-      g-degree : degree g ≢ 0
-      g-degree z = ne (deg-zero g (rw z at (degree-is g g-pos)))
-
-      h-small : h < 2 ^ degree p
-      h-small = lt-of-lt-of-le (deg-hi h (degree h) (degree-is h h-pos)) (pow-mono (omega (arith, degrees, g-degree)))
 
 pub rigid-irreducible : (p : ℕ) → Rigid p → Irreducible p
 rigid-irreducible p r = record { proper = r .proper; only = λ d h. split d h (bezout (h .quotient) d) }
