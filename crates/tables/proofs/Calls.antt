@@ -14,11 +14,12 @@ use Rattle.keys.specs.Testing.{testKey}
 use Rattle.keys.proofs.Laws.{Passed, first-passed, first-refused}
 use Rattle.files.specs.declared.Mark.{Mark}
 use Rattle.marks.specs.Feeding.{feedTests, fedMark}
-use Rattle.tables.specs.Tables.{word, differs, Table, sizeTest, tableTests, makeTable, testTable, feedTable}
+use Rattle.lookups.specs.Rule.{word, differs, Table}
+use Rattle.lookups.proofs.Rule.{table-only}
+use Rattle.tables.specs.Tables.{sizeTest, tableTests, makeTable, testTable, feedTable}
 use Rattle.tables.specs.declared.Made.{Made}
 use Rattle.tables.specs.declared.Made.the-variants as made-cases
 use Rattle.tables.specs.Answers.{made}
-use Rattle.tables.proofs.Rule.{table-only}
 
 -- ---- numbers 5 and 6
 

@@ -1,34 +1,16 @@
--- Tables (document 01, "Tables"; 003, section 4, for every degree), for groups of w bits: document 01 has w = 8 and four groups.
-use mathlib.Core.Path.{_≡_}
-use mathlib.Core.Bool.{Bool, false, _||_, not}
+-- Tables (document 01, "Tables"): the calls that make one, test one and feed by one. The rule of a table is in lookups/specs/Rule.antt.
+use mathlib.Core.Bool.{not}
 use mathlib.Core.List.{List, [], _∷_, _++_}
-use Prim.Native.Nat.{ℕ, suc, _+_, _*_, _/_, _%_, _^_, _≤_}
+use Prim.Native.Nat.{ℕ}
 use lib.Dec.{eqb}
 use lib.ListN.{length}
-use Rattle.gf2.specs.Polynomials.{degree, monic, rem, Modulus}
 use Rattle.lists.specs.Lists.{listFrom}
 use Rattle.refusals.specs.declared.Refusal.the-variants.{TableSize, TableWord}
 use Rattle.refusals.specs.Refusals.{Answer, Test, _⇒_, firstOf}
 use Rattle.acceptance.specs.Keys.{keyTests}
 use Rattle.files.specs.declared.Mark.{Mark}
+use Rattle.lookups.specs.Rule.{word, differs}
 use Rattle.marks.specs.Feeding.{feedTests, fedMark}
-
--- the rule: word 2^w·j + i is the residue of i·t^(k + w·j)
-unfoldable pub word : ℕ → ℕ → ℕ → ℕ
-word w key n = rem key (n % 2 ^ w * 2 ^ (degree key + w * (n / 2 ^ w)))
-
--- a word differs from the rule, the first of the list standing at place n
-unfoldable pub differs : (ℕ → ℕ) → ℕ → List ℕ → Bool
-differs rule n [] = false
-differs rule n (x ∷ xs) = not (eqb x (rule n)) || differs rule (suc n) xs
-
--- the words are the key's table: 1,024 words by the rule
-abbrev pub Table : ℕ → List ℕ → Type 0
-Table key words = words ≡ listFrom (word 8 key) 0 1024
-
--- the same of a modulus as the code holds it: its degree, at least 8, and the coefficients below
-abbrev pub TableOf : ℕ → ℕ → List ℕ → Type 0
-TableOf k low words = Modulus k low × (8 ≤ k) × Table (monic k low) words
 
 -- number 5
 abbrev pub sizeTest : List ℕ → Test

@@ -8,9 +8,6 @@ ghost use Rattle.marks.specs.Feeding.{markIn, fed, fedUnder};
 ghost use Rattle.tables.specs.Tables.{makeTable, testTable, feedTable};
 ghost use Rattle.tables.specs.Answers.{made, checked};
 
-pub mod feeding;
-pub mod rows;
-
 // The answer to the making of a table: the lent words are the key's table, or a refusal.
 pub enum Made {
     Done,
@@ -36,8 +33,7 @@ pub fn make(key: u64, words: &mut [u64]) -> Made
     if words.len() != 1024 {
         return Made::Refused(Refusal::TableSize);
     }
-    let k = gf2::degree(key);
-    rows::fill(words, k, gf2::low_bits(key, k));
+    lookups::fill_table(words, gf2::modulus_of(key));
     Made::Done
 }
 
@@ -54,8 +50,7 @@ pub fn test(key: u64, words: &[u64]) -> Checked
     if words.len() != 1024 {
         return Checked::Refused(Refusal::TableSize);
     }
-    let k = gf2::degree(key);
-    if !rows::holds(words, k, gf2::low_bits(key, k)) {
+    if !lookups::table_holds(words, gf2::modulus_of(key)) {
         return Checked::Refused(Refusal::TableWord);
     }
     Checked::Right
@@ -78,20 +73,19 @@ pub fn feed(m: Running, words: &[u64], part: &[u8]) -> Fed
     if words.len() != 1024 {
         return Fed::Refused(Refusal::TableSize, m);
     }
-    let k = gf2::degree(key);
-    let low = gf2::low_bits(key, k);
-    if !rows::holds(words, k, low) {
+    let p = gf2::modulus_of(key);
+    if !lookups::table_holds(words, p) {
         return Fed::Refused(Refusal::TableWord, m);
     }
     if !marks::fits(length, n) {
         return Fed::Refused(Refusal::TooLong, m);
     }
-    if !marks::reduced(k, f) {
+    if !gf2::is_residue(p, f) {
         return Fed::Refused(Refusal::MarkNotReduced, m);
     }
     Fed::Next(Running {
         key: key,
-        fingerprint: feeding::fed(words, k, low, f, part),
+        fingerprint: lookups::fed(words, p, f, part),
         length: length + n,
     })
 }
