@@ -69,6 +69,9 @@ module _ (k c : ℕ) (h : c < 2 ^ k) where
 pub residue-one : (p : Modulus) → Proper p → rem (polynomial p) 1 ≡ 1
 residue-one p h = residue-small (p .degree) (p .low) (h .2) 1 (pow-lt (h .0))
 
+pub residue-below : (p : Modulus) → Proper p → (x z : ℕ) → x ≡ rem (polynomial p) z → x < 2 ^ p .degree
+residue-below p h x z e = rw e (residue-lt (p .degree) (p .low) (h .2) z)
+
 pub less-one : (j : ℕ) → suc j - 1 ≡ j
 less-one j = omega arith
 

@@ -1,10 +1,10 @@
--- `joined` meets its contract.
+-- `times_plus` meets its contract.
 use mathlib.Core.Path.{ap}
 use Prim.Native.Nat.{ℕ}
 use Rattle.gf2.specs.Polynomials.{_⊕_}
 use borrow.Author.Needs.{needs}
-use Rattle.lookups.proofs.joined.Statement.{statement}
-use Rattle.lookups.proofs.joined.Tie as tie
+use Rattle.lookups.proofs.times_plus.Statement.{statement}
+use Rattle.lookups.proofs.times_plus.Tie as tie
 
 product-requires : tie.Need-product-requires
 product-requires c κs = search needs
@@ -13,5 +13,5 @@ returns : tie.Need-returns
 unfolding _⊕_
 returns c = ap (λ (x : ℕ). x ⊕ c .before .args .y) (c .product .ensures)
 
-pub joined-spec : {M : Type 1} → statement M
-joined-spec = tie.close (tie.spec product-requires returns)
+pub times-plus-spec : {M : Type 1} → statement M
+times-plus-spec = tie.close (tie.spec product-requires returns)
