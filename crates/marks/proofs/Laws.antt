@@ -1,23 +1,26 @@
 -- Laws for callers: how the tests of a feed go on, and marks of files.
-use mathlib.Core.Path.{_≡_, sym, ap, _∙_}
+use mathlib.Core.Path.{_≡_, refl, sym, ap, _∙_}
 use mathlib.Core.Bool.{Bool, true, false}
 use mathlib.Core.List.{List, [], _∷_, _++_, append-assoc}
 use Prim.Native.Nat.{ℕ, _+_, _^_, _≤_, _<_}
-use lib.Dec.{leb}
+use lib.ListN.{length}
+use Rattle.gf2.specs.Polynomials.{rem}
+use Rattle.gf2.specs.Moduli.{polynomial}
 use Rattle.gf2.specs.declared.Modulus.{Modulus}
-use Rattle.refusals.specs.declared.Refusal.{Refusal}
 use Rattle.refusals.specs.declared.Refusal.the-variants.{TooLong, MarkNotReduced}
-use Rattle.refusals.specs.declared.Reply.{Reply}
-use Rattle.refusals.specs.declared.Reply.the-variants as reply-cases
-use Rattle.refusals.specs.Refusals.{Done, Refused, Test, _⇒_, firstOf, longest, passes, told, judged}
-use Rattle.refusals.proofs.Laws.{skip, done-clear, clear-done, more-refused}
+use Rattle.refusals.specs.Refusals.{Done, Refused, Test, _⇒_, firstOf, longest, passes, judged}
+use Rattle.refusals.proofs.Laws.{Clear, skip, clear-done, more-clear}
 use Rattle.refusals.proofs.Lengths.{sum-within}
 use Rattle.acceptance.specs.Keys.{accepted, Opened}
-use Rattle.acceptance.proofs.Opened.{open-accepted, opened-first, residue-below}
+use Rattle.acceptance.proofs.Opened.{open-accepted, opened-first, opened-whole, residue-below}
 use Rattle.files.specs.declared.Mark.{Mark}
-use Rattle.files.specs.Files.{markOf, unreduced}
-use Rattle.files.proofs.Marks.{true-reduced}
-use Rattle.marks.specs.Feeding.{begin, feedTests}
+use Rattle.files.specs.Files.{bits, valueFrom, markOf, unreduced, fedMark}
+use Rattle.files.proofs.Marks.{mark-eq, true-reduced}
+use Rattle.tables.specs.Tables.{tableTests}
+use Rattle.tables.proofs.Laws.{clear-table}
+use Rattle.house.specs.House.{houseKey, houseWords}
+use Rattle.house.proofs.House.{house-accepted}
+use Rattle.marks.specs.Feeding.{begin, feedTests, feedTable, feedHouse, fedUnder}
 
 -- ---- numbers 7 and 8 in turn
 
@@ -31,21 +34,23 @@ module _ (key : ℕ) (m : Mark) (n : ℕ) where
   pub feed-passed : passes (m .length ∷ n ∷ (m .length + n) ∷ []) ≡ false → unreduced key m ≡ false → judged (feedTests key m n) ≡ Done tt
   feed-passed e f = rw (e, f)
 
--- ---- what a caller of `judge` knows in each arm
+-- ---- where neither applies
 
-module _ {key : ℕ} {p : Modulus} (h : Opened key p) (m : Mark) (n : ℕ) (r : Reply) (e : told r ≡ judged (feedTests key m n)) where
-  pub judged-refused : {S A : Type 0} (s : S) (v : A) (q : Refusal) → r ≡ reply-cases.Refused q → firstOf (feedTests key m n) s v ≡ Refused q s
-  judged-refused s v q a = more-refused (feedTests key m n) [] tt s tt v q (sym e ∙ ap told a)
+module _ {key : ℕ} {p : Modulus} (h : Opened key p) (m : Mark) (n : ℕ) (c : Clear (feedTests key m n)) where
+  pub clear-fits : m .length + n ≤ longest
+  clear-fits = sum-within (m .length) n (c .0)
 
-  module _ (a : r ≡ reply-cases.Done) where
-    pub judged-done : {S A : Type 0} (s : S) (v : A) → firstOf (feedTests key m n) s v ≡ Done v
-    judged-done s v = clear-done (feedTests key m n) s v (done-clear (feedTests key m n) tt tt tt (sym e ∙ ap told a) .0)
+  pub clear-below : m .fingerprint < 2 ^ p .degree
+  clear-below = residue-below h (m .fingerprint) (c .1 .0)
 
-    pub judged-fits : m .length + n ≤ longest
-    judged-fits = sum-within (m .length) n (done-clear (feedTests key m n) tt tt tt (sym e ∙ ap told a) .0 .0)
-
-    pub judged-below : m .fingerprint < 2 ^ p .degree
-    judged-below = residue-below h (m .fingerprint) (done-clear (feedTests key m n) tt tt tt (sym e ∙ ap told a) .0 .1 .0)
+-- the residue of the part behind the fingerprint, however it was computed, is the value
+pub fed-next : {key : ℕ} {p : Modulus} (h : Opened key p) (m : Mark) (part : List ℕ) → Clear (feedTests key m (length part))
+    → (x : ℕ) → x ≡ rem (polynomial p) (valueFrom (m .fingerprint) (bits part))
+    → fedUnder key (Done (record { fingerprint = x; length = m .length + length part })) ≡ fedUnder key (firstOf (feedTests key m (length part)) m (fedMark key m part))
+unfolding fedMark
+fed-next {key} {p} h m part c x e =
+    ap (λ (z : Mark). fedUnder key (Done z)) (mark-eq (e ∙ ap (λ (q : ℕ). rem q (valueFrom (m .fingerprint) (bits part))) (opened-whole h)) refl)
+    ∙ sym (ap (fedUnder key) (clear-done (feedTests key m (length part)) m (fedMark key m part) c))
 
 -- ---- marks of files
 
@@ -61,3 +66,12 @@ leave-out-8 key pos file ts us vs x y =
 pub begins : (key : ℕ) → accepted key ≡ true → begin key ≡ Done (markOf key [])
 unfolding begin
 begins key a = opened-first (open-accepted key a) [] tt (markOf key [])
+
+-- ---- the house key's constant words
+
+-- under the house key no test of key and words holds
+pub house-first : (m : Mark) (part : List ℕ) → feedHouse houseKey m part ≡ firstOf (feedTests houseKey m (length part)) m (fedMark houseKey m part)
+unfolding feedHouse feedTable
+house-first m part =
+    opened-first (open-accepted houseKey house-accepted) (tableTests houseKey houseWords ++ feedTests houseKey m (length part)) m (fedMark houseKey m part)
+    ∙ more-clear (tableTests houseKey houseWords) (feedTests houseKey m (length part)) m (fedMark houseKey m part) (clear-table houseWords houseKey refl)

@@ -1,16 +1,19 @@
-// Feeding a file to a running mark, bit by bit.
+// Feeding a file to a running mark: bit by bit, by a lent table, and by the house key's constant words.
 use files::Mark;
 use gf2::Modulus;
 use keys::Tested;
 use refusals::Refusal;
 use refusals::Reply;
 ghost use mathlib.Core.Path.{_≡_};
+ghost use mathlib.Core.List.{_++_};
 ghost use Prim.Native.Nat.{_+_};
 ghost use lib.ListN.{length};
 ghost use Rattle.refusals.specs.Refusals.{firstOf, told, judged};
 ghost use Rattle.acceptance.specs.Keys.{Opened};
 ghost use Rattle.files.specs.Files.{fedMark};
-ghost use Rattle.marks.specs.Feeding.{begin, feedTests, feedBits, markIn, begun, begunUnder, fed, fedUnder};
+ghost use Rattle.lookups.specs.Rule.{Table};
+ghost use Rattle.tables.specs.Tables.{tableTests};
+ghost use Rattle.marks.specs.Feeding.{begin, feedTests, feedBits, feedTable, feedHouse, markIn, begun, begunUnder, fed, fedUnder};
 
 // A running mark (document 01's term): the state of a fingerprint that is taken as the file is read. Numbers only.
 pub struct Running {
@@ -56,12 +59,46 @@ fn feed_bits(p: Modulus, m: Running, part: &[u8]) -> Fed
         Reply::Refused(r) => Fed::Refused(r, m),
         Reply::Done => {
             let next = files::feed_bytes(p, m.fingerprint, part);
+            let total = m.length + n;
             Fed::Next(Running {
                 key: m.key,
                 fingerprint: next,
-                length: m.length + n,
+                length: total,
             })
         }
+    }
+}
+
+// A part fed by the table of the key, four bytes at a time, after the tests of key and words.
+fn feed_looked(p: Modulus, m: Running, words: &[u64], part: &[u8]) -> Fed
+    requires { ⌜ Opened (m .key) p × Table (m .key) (now words) ⌝ }
+    ensures { λ r. ⌜ fed r ≡ fedUnder (m .key) (firstOf (feedTests (m .key) (markIn m) (length (now (part .entry)))) (markIn m)
+        (fedMark (m .key) (markIn m) (now (part .entry)))) ⌝ }
+{
+    let n = part.len() as u64;
+    match judge(p, m, n) {
+        Reply::Refused(r) => Fed::Refused(r, m),
+        Reply::Done => {
+            let next = lookups::fed(words, p, m.fingerprint, part);
+            let total = m.length + n;
+            Fed::Next(Running {
+                key: m.key,
+                fingerprint: next,
+                length: total,
+            })
+        }
+    }
+}
+
+// The same, after the test of the key: all words are tested first.
+fn feed_under(p: Modulus, m: Running, words: &[u64], part: &[u8]) -> Fed
+    requires { ⌜ Opened (m .key) p ⌝ }
+    ensures { λ r. ⌜ fed r ≡ fedUnder (m .key) (firstOf (tableTests (m .key) (now (words .entry)) ++ feedTests (m .key) (markIn m) (length (now (part .entry))))
+        (markIn m) (fedMark (m .key) (markIn m) (now (part .entry)))) ⌝ }
+{
+    match tables::judge(p, words) {
+        Reply::Refused(r) => Fed::Refused(r, m),
+        Reply::Done => feed_looked(p, m, words, part),
     }
 }
 
@@ -98,5 +135,28 @@ impl Running {
             Tested::Refused(r) => Fed::Refused(r, self),
             Tested::Accepted(p) => feed_bits(p, self, part),
         }
+    }
+
+    // The same by the lent table, all of whose words are tested first. Numbers 1, 2, 5, 6, 7, 8.
+    pub fn feed_table(self, words: &[u64], part: &[u8]) -> Fed
+        ensures { λ r. ⌜ fed r ≡ fedUnder (self .key) (feedTable (self .key) (markIn self) (now (words .entry)) (now (part .entry))) ⌝ }
+    {
+        match keys::test(self.key) {
+            Tested::Refused(r) => Fed::Refused(r, self),
+            Tested::Accepted(p) => feed_under(p, self, words, part),
+        }
+    }
+
+    // The same by the house key's constant words. Under that key they are right and nothing is tested but the lengths and the mark; under another
+    // key they are tested like a lent table. Numbers 1, 2, 6, 7, 8.
+    pub fn feed_house(self, part: &[u8]) -> Fed
+        ensures { λ r. ⌜ fed r ≡ fedUnder (self .key) (feedHouse (self .key) (markIn self) (now (part .entry))) ⌝ }
+    {
+        let words = house::words();
+        if self.key == house::KEY {
+            let p = gf2::modulus_of(self.key);
+            return feed_looked(p, self, &words, part);
+        }
+        self.feed_table(&words, part)
     }
 }

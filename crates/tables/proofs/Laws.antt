@@ -11,7 +11,7 @@ use Rattle.refusals.specs.declared.Refusal.the-variants.{TableSize, TableWord}
 use Rattle.refusals.specs.Refusals.{Done, Refused, Test, firstOf, judged}
 use Rattle.refusals.proofs.Laws.{Clear}
 use Rattle.lookups.specs.Rule.{word, differs, Table}
-use Rattle.lookups.proofs.Rule.{table-only}
+use Rattle.lookups.proofs.Rule.{none-differs, table-only, table-length, table-rule}
 use Rattle.tables.specs.Tables.{sizeTest, tableTests}
 
 module _ (words : List ℕ) where
@@ -38,3 +38,7 @@ module _ (words : List ℕ) where
     -- where neither applies, the words are the table
     pub table-clear : Clear (tableTests key words) → Table key words
     table-clear c = table-only (word 8 key) 0 words (c .1 .0) ∙ ap (listFrom (word 8 key) 0) (eqb-true (length words) 1024 (not-false (eqb (length words) 1024) (c .0)))
+
+    -- and where the words are the table, neither applies
+    pub clear-table : Table key words → Clear (tableTests key words)
+    clear-table e = (right-size (table-length (word 8 key) 1024 words e), (none-differs (word 8 key) words (table-rule (word 8 key) 1024 words e), tt))

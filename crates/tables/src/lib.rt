@@ -16,11 +16,11 @@ fn make_under(p: Modulus, words: &mut [u64]) -> Reply
     requires { ⌜ Proper p ⌝ }
     ensures { λ r. ⌜ reply (now (words .exit)) r ≡ firstOf (sizeTest (now (words .entry)) ∷ []) (now (words .entry)) (listFrom (word 8 (polynomial p)) 0 1024) ⌝ }
 {
-    if words.len() != 1024 {
-        return Reply::Refused(Refusal::TableSize);
+    if words.len() == 1024 {
+        lookups::fill_table(words, p);
+        return Reply::Done;
     }
-    lookups::fill_table(words, p);
-    Reply::Done
+    Reply::Refused(Refusal::TableSize)
 }
 
 // Are the lent words the table of a modulus? Numbers 5, 6. For our own crates, which hold an opened key.
