@@ -1,27 +1,14 @@
 // Making, testing and feeding by tables, printed and compared with their figures: the words of document 01, the refusals' numbers with the
 // mark that went back, and a part of 10,000 bytes against feeding by bits. Under key 0x11B where nothing else is said.
 use marks::Running;
-use tables::Checked;
-use tables::Made;
+use refusals::Reply;
 
-fn show_made(answer: Made) {
-    match answer {
-        Made::Done => {
-            vectors::text(b"made\n");
+fn show(reply: Reply, done: &[u8]) {
+    match reply {
+        Reply::Done => {
+            vectors::text(done);
         }
-        Made::Refused(r) => {
-            vectors::refused(refusals::number(r));
-            vectors::text(b"\n");
-        }
-    }
-}
-
-fn show_checked(answer: Checked) {
-    match answer {
-        Checked::Right => {
-            vectors::text(b"right\n");
-        }
-        Checked::Refused(r) => {
+        Reply::Refused(r) => {
             vectors::refused(refusals::number(r));
             vectors::text(b"\n");
         }
@@ -43,15 +30,15 @@ fn running(key: u64, fingerprint: u64, length: u64) -> Running {
 }
 
 fn make(key: u64, words: &mut [u64]) {
-    show_made(tables::make(key, words));
+    show(tables::make(key, words), b"made\n");
 }
 
 fn test(key: u64, words: &[u64]) {
-    show_checked(tables::test(key, words));
+    show(tables::test(key, words), b"right\n");
 }
 
 fn feed(key: u64, fingerprint: u64, length: u64, words: &[u64], part: &[u8]) {
-    vectors::fed_or_refused(tables::feed(running(key, fingerprint, length), words, part));
+    vectors::fed_or_refused(running(key, fingerprint, length).feed_table(words, part));
 }
 
 // The words of document 01's readings.
