@@ -9,7 +9,8 @@ use lib.ListN.{length, getD, set}
 use Rattle.gf2.specs.Polynomials.{_⊕_}
 use Rattle.gf2.proofs.Sums.{⊕-comm, ⊕-shl}
 use Rattle.gf2.proofs.Products.{by-low}
-use Rattle.lists.proofs.Lists.{stored}
+use Rattle.lists.specs.Lists.{listFrom}
+use Rattle.lists.proofs.Lists.{stored, length-list, list-at}
 use Rattle.gf2.proofs.Degrees.{half-lt}
 use Rattle.gf2.proofs.Linear.{Additive, at-zero, at-bit}
 use Rattle.basis.specs.Rows.{sumOf, Matrix}
@@ -38,6 +39,11 @@ module _ {L : ℕ → ℕ} (add : Additive L) where
           ∙ ⊕-comm (x % 2 * 2 ^ s) (x / 2 * 2 * 2 ^ s)
           ∙ sym (⊕-shl s (x / 2 * 2) (x % 2))
           ∙ ap (λ (y : ℕ). y * 2 ^ s) (by-low x)
+
+  -- listed rows from t^i on
+  pub sum-listed : (i n x : ℕ) → x < 2 ^ n → sumOf x (listFrom (λ j. L (2 ^ j)) i n) ≡ L (x * 2 ^ i)
+  sum-listed i n x l =
+      sum-from (listFrom (λ j. L (2 ^ j)) i n) i (λ j m. list-at (λ j. L (2 ^ j)) i n j (rw (length-list (λ j. L (2 ^ j)) i n) at m)) x (rw length-list l)
 
 -- ---- the rows are filled in one by one
 
