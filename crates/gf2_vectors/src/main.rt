@@ -1,13 +1,26 @@
 // Readings of document 01 that the arithmetic can express, printed and compared with their figures: fingerprints under key 0x11B fed bit by
 // bit behind the 1, table words of that key as products, and 0x1071F as a product. Key 0x11B is of degree 8, with the low word 0x1B.
 ghost use Prim.Native.Nat.{_<_};
+use gf2::Modulus;
+
+// The key 0x11B.
+const KEY: Modulus = Modulus {
+    degree: 8,
+    low: 0x1B,
+};
+
+// t^64 + t^4 + t^3 + t + 1, of which the product of two keys of degree 8 is a residue.
+const WIDE: Modulus = Modulus {
+    degree: 64,
+    low: 0x1B,
+};
 
 // One bit behind a residue.
 fn step(f: u64, bit: u64) -> u64
     requires { ⌜ (f < 256) × (bit < 2) ⌝ }
     ensures { λ r. ⌜ r < 256 ⌝ }
 {
-    gf2::step(8, 0x1B, f, bit)
+    gf2::step(KEY, f, bit)
 }
 
 // Four bits, the high bit first.
@@ -35,8 +48,8 @@ fn word(j: u64, i: u64) -> u64
     requires { ⌜ (j < 4) × (i < 256) ⌝ }
     ensures { λ r. ⌜ r < 256 ⌝ }
 {
-    let power = gf2::power_of_t(8, 0x1B, 8 + 8 * j);
-    gf2::product(8, 0x1B, i, power)
+    let power = gf2::power_of_t(KEY, 8 + 8 * j);
+    gf2::product(KEY, i, power)
 }
 
 fn show(what: &[u8], x: u64) {
@@ -61,7 +74,7 @@ fn main() {
     show(b"word 2: ", word(0, 2));
     show(b"word 128: ", word(0, 128));
     show(b"word 257: ", word(1, 1));
-    show(b"11b times 11d: ", gf2::product(64, 0x1B, 0x11B, 0x11D));
-    show(b"41 to the power 255: ", gf2::power(8, 0x1B, 0x41, 255));
+    show(b"11b times 11d: ", gf2::product(WIDE, 0x11B, 0x11D));
+    show(b"41 to the power 255: ", gf2::power(KEY, 0x41, 255));
     show(b"degree of 1071f: ", gf2::degree(0x1071F) as u64);
 }
