@@ -3,7 +3,7 @@ use mathlib.Core.Path.{_≡_, sym, ap, _∙_}
 use Prim.Native.Nat.{ℕ, _/_, _%_, _^_, _<_}
 use native.Mathlib.Nat.{one-mul, mod-lt, div-self}
 use native.Mathlib.Omega.{arith}
-use lib.Pow.{pow-pos, split}
+use lib.Pow.{pow-pos, pow-lt, split}
 use Rattle.gf2.specs.Polynomials.{_⊕_, degree, Degree, monic}
 use Rattle.gf2.specs.Moduli.{polynomial, Proper, modulusOf}
 use Rattle.gf2.proofs.Sums.{⊕-append}
@@ -21,6 +21,10 @@ monic-degree k c h = degree-eq (monic k c) k (monic-deg k c h)
 
 pub monic-pos : (k c : ℕ) → c < 2 ^ k → 0 < monic k c
 monic-pos k c h = deg-pos (monic k c) k (monic-deg k c h)
+
+pub of-degree-one : (k c : ℕ) → 0 < k → c < 2 ^ k → 1 < monic k c
+unfolding monic
+of-degree-one k c p h = omega (arith, pow-lt {i = 0} p)
 
 -- every polynomial of degree k is one
 pub monic-of : (k p : ℕ) → Degree p k → monic k (p % 2 ^ k) ≡ p

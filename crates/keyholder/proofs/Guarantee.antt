@@ -16,9 +16,9 @@ use Rattle.book.specs.Confusions.{confused}
 use Rattle.book.proofs.ConfusionLaws.{confusions-count, bursts-count}
 use Rattle.site.specs.Book.{Route}
 use Rattle.site.proofs.Guarantee as site-level
-use Rattle.draw.specs.Drawing.{draw}
+use Rattle.draw.specs.Drawing.{draw, keyOf, elements}
 use Rattle.draw.proofs.Fairness.{key-drawn, key-degree, key-accepted, key-only, drawers-count, elements-count, keys-count}
-use Rattle.keyholder.specs.Claims.{Listed, keyOf, elements, Answered, One, Accepted, Fair, Number, Risk, ByRoutes, NoBurst}
+use Rattle.keyholder.specs.Claims.{Listed, Answered, One, Accepted, Fair, Number, Risk, ByRoutes, NoBurst}
 
 -- ---- the key
 

@@ -3,7 +3,7 @@
 -- a probability: the count over 2^k - 2.
 use mathlib.Core.Path.{_≡_}
 use mathlib.Core.Logic.{_≢_, _↔_}
-use mathlib.Core.Bool.{Bool, true}
+use mathlib.Core.Bool.{true}
 use mathlib.Core.List.{List}
 use Prim.Native.Nat.{ℕ, _-_, _*_, _^_, _≤_, _<_}
 use lib.Dec.{eqb}
@@ -12,24 +12,17 @@ use Rattle.gf2.specs.Polynomials.{degree}
 use Rattle.refusals.specs.Refusals.{Done}
 use Rattle.acceptance.specs.Keys.{accepted}
 use Rattle.files.specs.Files.{Bytes}
+use Rattle.lists.specs.Lists.{among}
 use Rattle.lists.specs.Counts.{countFrom}
 use Rattle.book.specs.Confusions.{Routes, Confuses, confused, Burst}
 use Rattle.stock.specs.Stock.{stockKey}
-use Rattle.draw.specs.Drawing.{degrees, among, drawn, draw, Draws}
+use Rattle.draw.specs.Drawing.{degrees, keyOf, elements, draw, Draws}
 
 abbrev pub Listed : ℕ → Type 0
 Listed k = among k degrees ≡ true
 
 abbrev pub Element : ℕ → ℕ → Type 0
 Element k e = (2 ≤ e) × (e < 2 ^ k)
-
--- the key that e draws
-abbrev pub keyOf : ℕ → ℕ → ℕ
-keyOf k e = drawn (stockKey k) k e
-
--- how many elements pass a test
-abbrev pub elements : ℕ → (ℕ → Bool) → ℕ
-elements k test = countFrom test 2 (2 ^ k - 2)
 
 -- ---- the key
 

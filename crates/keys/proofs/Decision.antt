@@ -16,7 +16,7 @@ use Rattle.gf2.proofs.Sums.{⊕-zero, ⊕-self, ⊕-eq, ⊕-swap, ⊕-lt, ⊕-a
 use Rattle.gf2.proofs.Products.{zero-⊗, ⊗-zero, ⊗-one, ⊗-comm, ⊗-pow, ⊗-bit, bit-⊕, by-bit, bit-square, square-⊕, by-digits, ring}
 use Rattle.gf2.proofs.Degrees.{half-lt, degree-is, degree-⊗, deg-hi, deg-le, lt-of-high, pos-⊗, ⊗-no-zero}
 use Rattle.gf2.proofs.Residues.{rem-zero, rem-⊕, rem-small, rem-lt}
-use Rattle.acceptance.proofs.Criterion.{rigid-irreducible, irreducible-rigid}
+use Rattle.gf2.proofs.Criterion.{rigid-irreducible, irreducible-rigid}
 use Rattle.acceptance.specs.Keys.{reducible}
 use Rattle.acceptance.proofs.Laws.{irreducible-of, not-reducible}
 use Rattle.basis.specs.Rows.{sumOf, Independent}

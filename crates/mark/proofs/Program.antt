@@ -84,7 +84,9 @@ module _ (key : ℕ) (h : Passed key) where
   unfolding markOf
   feed-goes file part l =
       tested (markOf key file) part
-      ∙ feed-passed key (markOf key file) part (markOf key file) (fedMark key (markOf key file) part) (sum-fits (length file) (length part) l) (true-reduced key (passed-pos h) file)
+      ∙ feed-passed key (markOf key file) part (markOf key file) (fedMark key (markOf key file) part)
+      (sum-fits (length file) (length part) l)
+      (true-reduced key (passed-pos h) file)
       ∙ ap Done (fed-true key (passed-pos h) file part)
 
   feed-stops : (file part : List ℕ) → longest < length file + length part → feedTable key (markOf key file) table part ≡ Refused TooLong (markOf key file)
@@ -136,7 +138,8 @@ key-marked key blank parts e = go (ltb key 256) (reducible key) refl refl
   where
     go : (x y : Bool) → ltb key 256 ≡ x → reducible key ≡ y
         → calls key (firstOf (x ⇒ KeyBelow256 ∷ y ⇒ KeyReducible ∷ []) tt (markOf key [])) blank parts
-        ≡ answerText (begunUnder key (firstOf (x ⇒ KeyBelow256 ∷ y ⇒ KeyReducible ∷ passes (length (joined parts) ∷ []) ⇒ TooLong ∷ []) tt (markOf key (joined parts))))
+        ≡ answerText
+        (begunUnder key (firstOf (x ⇒ KeyBelow256 ∷ y ⇒ KeyReducible ∷ passes (length (joined parts) ∷ []) ⇒ TooLong ∷ []) tt (markOf key (joined parts))))
     go true y t u = refl
     go false true t u = refl
     go false false t u = accepted-marked key (record { low = t; irreducible = u }) blank parts e

@@ -1,5 +1,5 @@
 -- A test that the checker computes, and that shows a polynomial over GF(2) irreducible: the squares t^(2i) are independent modulo it,
--- and so are t^(2i) ⊕ t^i for i > 0 (acceptance/proofs/Criterion, after Berlekamp).
+-- and so are t^(2i) ⊕ t^i for i > 0 (gf2/proofs/Criterion, after Berlekamp).
 use mathlib.Core.Path.{_≡_, refl, sym, ap, ap₂, _∙_}
 use mathlib.Core.Bool.{Bool, _&&_}
 use mathlib.Core.List.{List, [], _∷_}
@@ -18,8 +18,9 @@ use Rattle.gf2.proofs.Degrees.{half-lt, degree-eq, deg-lo, deg-pos}
 use Rattle.gf2.proofs.Monics.{monic-of}
 use Rattle.gf2.proofs.Residues.{rem-⊕, rem-small, rem-zero}
 use Rattle.gf2.proofs.Powers.{rem-⊗-left}
-use Rattle.acceptance.proofs.Criterion.{rigid-irreducible}
-use Rattle.stock.proofs.Coefficients.{Word, value, value-lt, plus, value-plus, size, divide, divide-rem, divide-size, value-shl, modulus, modulus-deg, word, digit, value-word, size-word}
+use Rattle.gf2.proofs.Criterion.{rigid-irreducible}
+use Rattle.stock.proofs.Coefficients.{Word, value, value-lt, plus, value-plus, size, word, digit, value-word, size-word}
+use Rattle.stock.proofs.Coefficients.{divide, divide-rem, divide-size, value-shl, modulus, modulus-deg}
 use Rattle.stock.proofs.Independence.{basis, sound, insert, empty, sum, independent}
 
 -- ---- the test
@@ -127,8 +128,14 @@ module _ (k : ℕ) (p : Word) (fits : size p ≤ k) where
   sum-sums zero h a b = sym (⊕-self 0)
   sum-sums (suc n) h a b =
       ap₂ (λ (x y : ℕ). h % 2 * x ⊕ y) (value-plus k a b) (sum-sums n (h / 2) (divide p 1 a) (divide p 1 (divide p 1 b)))
-      ∙ ap (λ (x : ℕ). x ⊕ (sum k (h / 2) (powers p n (divide p 1 a)) ⊕ sum k (h / 2) (squares p n (divide p 1 (divide p 1 b))))) (bit-⊕ h (value k a) (value k b))
-      ∙ ⊕-swap (h % 2 * value k a) (h % 2 * value k b) (sum k (h / 2) (powers p n (divide p 1 a))) (sum k (h / 2) (squares p n (divide p 1 (divide p 1 b))))
+      ∙ ap (λ (x : ℕ). x ⊕ (firsts ⊕ seconds)) (bit-⊕ h (value k a) (value k b))
+      ∙ ⊕-swap (h % 2 * value k a) (h % 2 * value k b) firsts seconds
+    where
+      firsts : ℕ
+      firsts = sum k (h / 2) (powers p n (divide p 1 a))
+
+      seconds : ℕ
+      seconds = sum k (h / 2) (squares p n (divide p 1 (divide p 1 b)))
 
 -- ---- a polynomial that passes is irreducible
 

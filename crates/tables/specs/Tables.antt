@@ -1,4 +1,4 @@
--- Tables (document 01, "Tables"): the calls that make one, test one and feed by one. The rule of a table is in lookups/specs/Rule.antt.
+-- Making and testing a table (document 01, "Tables"): each call is its tests, in the order of their numbers, and its value.
 use mathlib.Core.Bool.{not}
 use mathlib.Core.List.{List, [], _∷_, _++_}
 use Prim.Native.Nat.{ℕ}
@@ -6,11 +6,9 @@ use lib.Dec.{eqb}
 use lib.ListN.{length}
 use Rattle.lists.specs.Lists.{listFrom}
 use Rattle.refusals.specs.declared.Refusal.the-variants.{TableSize, TableWord}
-use Rattle.refusals.specs.Refusals.{Answer, Test, _⇒_, firstOf}
+use Rattle.refusals.specs.Refusals.{Answer, Test, _⇒_, firstOf, judged}
 use Rattle.acceptance.specs.Keys.{keyTests}
-use Rattle.files.specs.declared.Mark.{Mark}
 use Rattle.lookups.specs.Rule.{word, differs}
-use Rattle.marks.specs.Feeding.{feedTests, fedMark}
 
 -- number 5
 abbrev pub sizeTest : List ℕ → Test
@@ -25,8 +23,4 @@ unfoldable pub makeTable : ℕ → List ℕ → Answer (List ℕ) (List ℕ)
 makeTable key words = firstOf (keyTests key ++ sizeTest words ∷ []) words (listFrom (word 8 key) 0 1024)
 
 unfoldable pub testTable : ℕ → List ℕ → Answer Unit Unit
-testTable key words = firstOf (keyTests key ++ tableTests key words) tt tt
-
--- All words are tested first, so the value is the one of feeding by bits: a reader need not believe how the words are used.
-unfoldable pub feedTable : ℕ → Mark → List ℕ → List ℕ → Answer Mark Mark
-feedTable key m words part = firstOf (keyTests key ++ tableTests key words ++ feedTests key m part) m (fedMark key m part)
+testTable key words = judged (keyTests key ++ tableTests key words)

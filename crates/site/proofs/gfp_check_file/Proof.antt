@@ -8,6 +8,47 @@ use borrow.Author.Needs.{needs}
 use Rattle.site.proofs.gfp_check_file.Statement.{statement}
 use Rattle.site.proofs.gfp_check_file.Tie as tie
 
+-- ---- the places: from each one to an earlier one
+
+abbrev check→start : tie.After-check → tie.Start
+check→start c = c .before .before .before
+
+abbrev r→start : tie.After-r → tie.Start
+r→start c = check→start (c .before .before)
+
+abbrev enum-told2→start : tie.After-enum-told2 → tie.Start
+enum-told2→start c = check→start (c .before .before)
+
+abbrev enum-told→start : tie.After-enum-told → tie.Start
+enum-told→start c = check→start (c .before .before)
+
+abbrev r→check : tie.After-r → tie.After-check
+r→check c = c .before .before
+
+abbrev enum-told2→check : tie.After-enum-told2 → tie.After-check
+enum-told2→check c = c .before .before
+
+abbrev enum-told→check : tie.After-enum-told → tie.After-check
+enum-told→check c = c .before .before
+
+abbrev known-told→start : tie.After-known-told → tie.Start
+known-told→start c = check→start (c .before .before .before)
+
+abbrev known-told→check : tie.After-known-told → tie.After-check
+known-told→check c = c .before .before .before
+
+abbrev known-told→i : tie.After-known-told → tie.After-i
+known-told→i c = c .before
+
+abbrev number→start : tie.After-number → tie.Start
+number→start c = r→start (c .before .before)
+
+abbrev number→check : tie.After-number → tie.After-check
+number→check c = r→check (c .before .before)
+
+abbrev number→r : tie.After-number → tie.After-r
+number→r c = c .before .before
+
 check-requires : tie.Need-check-requires
 check-requires c κs = search needs
 
@@ -28,8 +69,8 @@ number-requires c κs = search needs
 
 returns : tie.Need-returns
 returns c =
-    let s = c .before .before .before .before .before .args in
-    let h = c .before .before .check .ensures in
+    let s = enum-told→start c .args in
+    let h = enum-told→check c .check .ensures in
     let e = sym (c .enum-told .given .1) in (
       ap (λ (x : Checked). numberOf (checked x)) e ∙ ap numberOf h,
       ap (λ (x : Checked). toldOr (toldAt (s .outcome .now) (s .page .now)) (checked x)) e ∙ ap (toldOr (toldAt (s .outcome .now) (s .page .now))) h,
@@ -37,17 +78,17 @@ returns c =
 
 returns-2 : tie.Need-returns-2
 returns-2 c =
-    let s = c .before .before .before .before .before .before .args in
-    let h = c .before .before .before .check .ensures in
-    let e = sym (c .before .i .given .1) in (
+    let s = known-told→start c .args in
+    let h = known-told→check c .check .ensures in
+    let e = sym (known-told→i c .i .given .1) in (
       ap (λ (x : Checked). numberOf (checked x)) e ∙ ap numberOf h,
       ap (λ (x : Checked). toldOr (toldAt (s .outcome .now) (s .page .now)) (checked x)) e ∙ ap (toldOr (toldAt (s .outcome .now) (s .page .now))) h,
     )
 
 returns-3 : tie.Need-returns-3
 returns-3 c =
-    let s = c .before .before .before .before .before .args in
-    let h = c .before .before .check .ensures in
+    let s = enum-told2→start c .args in
+    let h = enum-told2→check c .check .ensures in
     let e = sym (c .enum-told2 .given .1) in (
       ap (λ (x : Checked). numberOf (checked x)) e ∙ ap numberOf h,
       ap (λ (x : Checked). toldOr (toldAt (s .outcome .now) (s .page .now)) (checked x)) e ∙ ap (toldOr (toldAt (s .outcome .now) (s .page .now))) h,
@@ -55,9 +96,9 @@ returns-3 c =
 
 returns-4 : tie.Need-returns-4
 returns-4 c =
-    let s = c .before .before .before .before .before .before .before .args in
-    let h = c .before .before .before .before .check .ensures in
-    let e = sym (c .before .before .r .given .1) in (
+    let s = number→start c .args in
+    let h = number→check c .check .ensures in
+    let e = sym (number→r c .r .given .1) in (
       c .number .ensures ∙ ap (λ (x : Checked). numberOf (checked x)) e ∙ ap numberOf h,
       ap (λ (x : Checked). toldOr (toldAt (s .outcome .now) (s .page .now)) (checked x)) e ∙ ap (toldOr (toldAt (s .outcome .now) (s .page .now))) h,
     )

@@ -8,6 +8,23 @@ use borrow.Author.Needs.{needs}
 use Rattle.site.proofs.gfp_read_pages.Statement.{statement}
 use Rattle.site.proofs.gfp_read_pages.Tie as tie
 
+-- ---- the places: from each one to an earlier one
+
+abbrev words→read-pages : tie.After-words → tie.After-read-pages
+words→read-pages c = c .before
+
+abbrev r→read-pages : tie.After-r → tie.After-read-pages
+r→read-pages c = words→read-pages (c .before .before .before)
+
+abbrev enum-told→read-pages : tie.After-enum-told → tie.After-read-pages
+enum-told→read-pages c = words→read-pages (c .before .before .before)
+
+abbrev number→read-pages : tie.After-number → tie.After-read-pages
+number→read-pages c = r→read-pages (c .before .before)
+
+abbrev number→r : tie.After-number → tie.After-r
+number→r c = c .before .before
+
 read-pages-requires : tie.Need-read-pages-requires
 read-pages-requires c κs = search needs
 
@@ -25,7 +42,7 @@ same-length c = search needs
 
 returns : tie.Need-returns
 returns c =
-    let w = c .before .before .before .before .read-pages in
+    let w = enum-told→read-pages c .read-pages in
     let e = sym (c .enum-told .given .1) in (
       ap (λ (x : Written). numberOf (written x (w .last .1 .0))) e ∙ ap numberOf (w .ensures),
       written-state (w .result) (w .last .1 .0) ∙ ap stateOf (w .ensures),
@@ -36,8 +53,8 @@ same-length-2 c = search needs
 
 returns-2 : tie.Need-returns-2
 returns-2 c =
-    let w = c .before .before .before .before .before .before .read-pages in
-    let e = sym (c .before .before .r .given .1) in (
+    let w = number→read-pages c .read-pages in
+    let e = sym (number→r c .r .given .1) in (
       c .number .ensures ∙ ap (λ (x : Written). numberOf (written x (w .last .1 .0))) e ∙ ap numberOf (w .ensures),
       written-state (w .result) (w .last .1 .0) ∙ ap stateOf (w .ensures),
     )

@@ -8,6 +8,50 @@ use borrow.Author.Needs.{needs}
 use Rattle.site.proofs.gfp_search.Statement.{statement}
 use Rattle.site.proofs.gfp_search.Tie as tie
 
+-- ---- the places: from each one to an earlier one
+
+abbrev shared-slice-known2→start : tie.After-shared-slice-known2 → tie.Start
+shared-slice-known2→start c = c .before .before
+
+abbrev search→start : tie.After-search → tie.Start
+search→start c = shared-slice-known2→start (c .before .before .before)
+
+abbrev words→start : tie.After-words → tie.Start
+words→start c = search→start (c .before)
+
+abbrev words→search : tie.After-words → tie.After-search
+words→search c = c .before
+
+abbrev r→start : tie.After-r → tie.Start
+r→start c = words→start (c .before .before .before)
+
+abbrev c→start : tie.After-c → tie.Start
+c→start c = words→start (c .before .before .before)
+
+abbrev r→search : tie.After-r → tie.After-search
+r→search c = words→search (c .before .before .before)
+
+abbrev c→search : tie.After-c → tie.After-search
+c→search c = words→search (c .before .before .before)
+
+abbrev known-told→start : tie.After-known-told → tie.Start
+known-told→start c = c→start (c .before)
+
+abbrev known-told→search : tie.After-known-told → tie.After-search
+known-told→search c = c→search (c .before)
+
+abbrev known-told→c : tie.After-known-told → tie.After-c
+known-told→c c = c .before
+
+abbrev number→start : tie.After-number → tie.Start
+number→start c = r→start (c .before .before)
+
+abbrev number→search : tie.After-number → tie.After-search
+number→search c = r→search (c .before .before)
+
+abbrev number→r : tie.After-number → tie.After-r
+number→r c = c .before .before
+
 search-requires : tie.Need-search-requires
 search-requires c κs = search needs
 
@@ -25,9 +69,9 @@ same-length c = search needs
 
 returns : tie.Need-returns
 returns c =
-    let m = c .before .before .before .before .before .search in
-    let s = c .before .before .before .before .before .before .before .before .before .before .args in
-    let e = sym (c .before .c .given .1) in (
+    let m = known-told→search c .search in
+    let s = known-told→start c .args in
+    let e = sym (known-told→c c .c .given .1) in (
       ap (λ (x : Searched). numberOf (searched x)) e ∙ ap numberOf (m .ensures .0),
       m .ensures .1,
       ap (λ (x : Searched). valueOr (countsAt (s .places .now) (s .alarms .now)) (searched x)) e ∙ ap (valueOr (countsAt (s .places .now) (s .alarms .now))) (m .ensures .0),
@@ -38,9 +82,9 @@ same-length-2 c = search needs
 
 returns-2 : tie.Need-returns-2
 returns-2 c =
-    let m = c .before .before .before .before .before .before .search in
-    let s = c .before .before .before .before .before .before .before .before .before .before .before .args in
-    let e = sym (c .before .before .r .given .1) in (
+    let m = number→search c .search in
+    let s = number→start c .args in
+    let e = sym (number→r c .r .given .1) in (
       c .number .ensures ∙ ap (λ (x : Searched). numberOf (searched x)) e ∙ ap numberOf (m .ensures .0),
       m .ensures .1,
       ap (λ (x : Searched). valueOr (countsAt (s .places .now) (s .alarms .now)) (searched x)) e ∙ ap (valueOr (countsAt (s .places .now) (s .alarms .now))) (m .ensures .0),

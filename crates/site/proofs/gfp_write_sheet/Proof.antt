@@ -8,6 +8,23 @@ use borrow.Author.Needs.{needs}
 use Rattle.site.proofs.gfp_write_sheet.Statement.{statement}
 use Rattle.site.proofs.gfp_write_sheet.Tie as tie
 
+-- ---- the places: from each one to an earlier one
+
+abbrev sheet→write : tie.After-sheet → tie.After-write
+sheet→write c = c .before
+
+abbrev r→write : tie.After-r → tie.After-write
+r→write c = sheet→write (c .before .before .before)
+
+abbrev enum-told→write : tie.After-enum-told → tie.After-write
+enum-told→write c = sheet→write (c .before .before .before)
+
+abbrev number→write : tie.After-number → tie.After-write
+number→write c = r→write (c .before .before)
+
+abbrev number→r : tie.After-number → tie.After-r
+number→r c = c .before .before
+
 write-requires : tie.Need-write-requires
 write-requires c κs = search needs
 
@@ -25,7 +42,7 @@ same-length c = search needs
 
 returns : tie.Need-returns
 returns c =
-    let w = c .before .before .before .before .write in
+    let w = enum-told→write c .write in
     let e = sym (c .enum-told .given .1) in (
       ap (λ (x : Written). numberOf (written x (w .last .1 .1 .1 .0))) e ∙ ap numberOf (w .ensures),
       written-state (w .result) (w .last .1 .1 .1 .0) ∙ ap stateOf (w .ensures),
@@ -36,8 +53,8 @@ same-length-2 c = search needs
 
 returns-2 : tie.Need-returns-2
 returns-2 c =
-    let w = c .before .before .before .before .before .before .write in
-    let e = sym (c .before .before .r .given .1) in (
+    let w = number→write c .write in
+    let e = sym (number→r c .r .given .1) in (
       c .number .ensures ∙ ap (λ (x : Written). numberOf (written x (w .last .1 .1 .1 .0))) e ∙ ap numberOf (w .ensures),
       written-state (w .result) (w .last .1 .1 .1 .0) ∙ ap stateOf (w .ensures),
     )
