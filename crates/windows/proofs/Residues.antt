@@ -151,8 +151,9 @@ flagged-all s text from j size x flags e next f = rw (← e) (record { flags = f
 -- ---- the tables
 
 -- the multiples of a residue are those of what it is the residue of
-pub multiples-of : {p : ℕ} (pos : 0 < p) (c : ℕ) (table : List ℕ) → Multiples p (rem p c) 0 256 table → Multiples p c 0 256 table
-multiples-of pos c table t i h = t i h ∙ rem-⊗-right pos i c
+pub multiples-of : (p : Modulus) → Proper p → (c x : ℕ) (table : List ℕ) → x ≡ rem (polynomial p) c → Multiples (polynomial p) x 0 256 table → Multiples (polynomial p) c 0 256 table
+multiples-of p h c x table e t i l =
+    t i l ∙ ap (λ (y : ℕ). rem (polynomial p) (i ⊗ y)) e ∙ rem-⊗-right (monic-pos (p .degree) (p .low) (h .2)) i c
 
 -- t^k is the low word, so its multiples are the one row of words that takes a byte at t^k and above off
 pub one-row : (p : Modulus) → Proper p → (table : List ℕ) → Multiples (polynomial p) (p .low) 0 256 table → Rows 8 (polynomial p) (2 ^ p .degree) 1 table
