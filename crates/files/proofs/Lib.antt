@@ -1,3 +1,4 @@
 pub mod Values
 pub mod Marks
+pub mod Confusions
 pub mod Computing
