@@ -24,7 +24,7 @@ extern "C" {
 /* The key of the constant table: the smallest irreducible polynomial of degree 61. */
 #define GFP_HOUSE_KEY UINT64_C(0x2000000000000027)
 
-/* ---- Bench: link libbench.a */
+/* ---- Bench: link libgfp_bench.a */
 
 /* Whether a key is accepted: its degree is 8 to 63 and it is irreducible. Refusals: 1, 2. */
 uint32_t gfp_test_key(uint64_t key);
@@ -46,10 +46,11 @@ uint32_t gfp_test_table(uint64_t key, const uint64_t *words, size_t words_length
 uint32_t gfp_feed_table(uint64_t key, uint64_t *fingerprint, uint64_t *length, const uint64_t *words, size_t words_length,
                         const uint8_t *part, size_t part_length);
 
-/* Feeds the next part under GFP_HOUSE_KEY, by the table that the library holds. Refusals: 7, 8. */
-uint32_t gfp_feed_house(uint64_t *fingerprint, uint64_t *length, const uint8_t *part, size_t part_length);
+/* Feeds the next part by the table of GFP_HOUSE_KEY, which the library holds: the same as gfp_feed_table with its words. Under that key
+ * no word is tested, since they are proved right; under another key they are, like a lent table. Refusals: 1, 2, 6, 7, 8. */
+uint32_t gfp_feed_house(uint64_t key, uint64_t *fingerprint, uint64_t *length, const uint8_t *part, size_t part_length);
 
-/* ---- Site: link libsite.a and libbench.a */
+/* ---- Site: link libgfp_site.a and libgfp_bench.a */
 
 /* Joins marks: the file of the mark (other, size) goes behind the file of the mark in the two places. Refusals: 1, 2, 7, 8. */
 uint32_t gfp_join_behind(uint64_t key, uint64_t *fingerprint, uint64_t *length, uint64_t other, uint64_t size);
@@ -94,7 +95,7 @@ uint32_t gfp_read_pages(const uint8_t *sheet, size_t sheet_length, uint64_t *wor
  * or GFP_OTHER_LENGTH. Refusals: all of gfp_read_sheet's, then 7. */
 uint32_t gfp_check_file(const uint8_t *sheet, size_t sheet_length, const uint8_t *file, size_t file_length, uint32_t *outcome, uint32_t *page);
 
-/* ---- Keyholder: link libkeyholder.a, libsite.a and libbench.a */
+/* ---- Keyholder: link libgfp_keyholder.a, libgfp_site.a and libgfp_bench.a */
 
 /* Draws a key by Rabin's method: the degree is one of 11, 13, 17, 19, 23, 29, 31, 37, 41, 43, 47, 53, 59, 61, and the element a random number
  * from 2 to 2^degree - 1. A uniform element draws a uniform key: each accepted key of the degree is drawn by as many elements as the
