@@ -10,5 +10,6 @@ use Rattle.windows.specs.Rolling.{window}
 use Rattle.search.specs.Searching.{windows, isPlace, alike, isAlarm, places, alarms, counts, search}
 
 pub collision-reading : search 0x11B (0x00 ∷ 0x00 ∷ []) (0x01 ∷ 0x1B ∷ []) ≡ Done (record { places = 0; alarms = 1 })
-unfolding search counts places alarms passing windows isPlace isAlarm alike same window fingerprint value valueFrom bits lowBits reducible anyBelow rem longDivision reduce degree halvings _⊕_
+unfolding search counts places alarms passing windows isPlace isAlarm alike same window fingerprint value valueFrom bits lowBits
+    reducible anyBelow rem longDivision reduce degree halvings _⊕_
 collision-reading = refl
