@@ -73,7 +73,8 @@ mark-41-42 = refl
 pub the-list : run (step 0x11B) (record { fingerprint = 0x01; length = 0 }) calls ≡ (record { fingerprint = 0x9D; length = 2 }, 0 ∷ 5 ∷ 6 ∷ 0 ∷ [])
 the-list =
     let r = lists 0x11B [] (record { fingerprint = 0x01; length = 0 }) calls accepted-11B (sym (empty-mark 0x11B (omega arith))) the-list-is-honest in
-    ap₂ {C = Mark × List ℕ} (λ (x : Mark) (ns : List ℕ). (x, ns)) (r .0 ∙ ap (λ (x : List ℕ × List ℕ). markOf 0x11B (x .0)) the-book ∙ mark-41-42) (r .1 ∙ ap (λ (x : List ℕ × List ℕ). x .1) the-book)
+    ap₂ {C = Mark × List ℕ} (λ (x : Mark) (ns : List ℕ). (x, ns)) (r .0 ∙ ap (λ (x : List ℕ × List ℕ). markOf 0x11B (x .0)) the-book ∙ mark-41-42)
+    (r .1 ∙ ap (λ (x : List ℕ × List ℕ). x .1) the-book)
 
 -- ---- under the house key, from the empty file
 

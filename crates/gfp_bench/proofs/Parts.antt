@@ -53,4 +53,5 @@ pub parts : PartsJoined
 parts key file m cs a t u l =
     let r = lists key file m cs a t (honest key a file cs u) in
     let b = in-book key a file cs u l in
-    ap₂ {C = Mark × List ℕ} (λ (x : Mark) (ns : List ℕ). (x, ns)) (r .0 ∙ ap (λ (x : List ℕ × List ℕ). markOf key (x .0)) b) (r .1 ∙ ap (λ (x : List ℕ × List ℕ). x .1) b)
+    ap₂ {C = Mark × List ℕ} (λ (x : Mark) (ns : List ℕ). (x, ns)) (r .0 ∙ ap (λ (x : List ℕ × List ℕ). markOf key (x .0)) b)
+    (r .1 ∙ ap (λ (x : List ℕ × List ℕ). x .1) b)

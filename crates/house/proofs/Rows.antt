@@ -36,7 +36,8 @@ module _ {key : ℕ} (pos : 0 < key) where
   row-is x (suc b) =
       ap (λ (ws : List ℕ). ws ++ map (λ v. v ⊕ y) ws) (row-is x b)
       ∙ ap (λ (ws : List ℕ). listFrom f 0 (2 ^ b) ++ ws)
-      (list-map f (λ v. v ⊕ y) 0 (2 ^ b) ∙ list-same (λ i. f i ⊕ y) f 0 (0 + 2 ^ b) (2 ^ b) (λ i l. rw (zero-add i, zero-add (2 ^ b)) (sym (multiple-double pos x b i l))))
+      (list-map f (λ v. v ⊕ y) 0 (2 ^ b) ∙ list-same (λ i. f i ⊕ y) f 0 (0 + 2 ^ b) (2 ^ b)
+      (λ i l. rw (zero-add i, zero-add (2 ^ b)) (sym (multiple-double pos x b i l))))
       ∙ sym (list-append f 0 (2 ^ b) (2 ^ b))
       ∙ ap (listFrom f 0) twice
     where
@@ -54,7 +55,8 @@ module _ {key : ℕ} (pos : 0 < key) where
   rows-table w zero = rw zero-mul refl
   rows-table w (suc c) =
       ap₂ (λ (us vs : List ℕ). us ++ vs) (rows-table w c)
-      (row-is x w ∙ list-same (λ i. rem key (i ⊗ x)) (word w key) 0 (0 + c * 2 ^ w) (2 ^ w) (λ i l. rw (zero-add i, zero-add (c * 2 ^ w)) (sym (word-row w pos c i l))))
+      (row-is x w ∙ list-same (λ i. rem key (i ⊗ x)) (word w key) 0 (0 + c * 2 ^ w) (2 ^ w)
+      (λ i l. rw (zero-add i, zero-add (c * 2 ^ w)) (sym (word-row w pos c i l))))
       ∙ sym (list-append (word w key) 0 (c * 2 ^ w) (2 ^ w))
       ∙ ap (listFrom (word w key) 0) (sym (suc-mul c (2 ^ w)))
     where

@@ -62,7 +62,8 @@ close-additive s m = after (masked m) (both same (shifted s))
 
 abbrev pub closed : ℕ → ℕ
 closed x =
-    close 16 0xFFFFFFFF (close 8 0xFFFF0000FFFF (close 4 0xFF00FF00FF00FF (close 2 0xF0F0F0F0F0F0F0F (close 1 0x3333333333333333 (bitAnd x 0x5555555555555555)))))
+    close 16 0xFFFFFFFF (close 8 0xFFFF0000FFFF (close 4 0xFF00FF00FF00FF
+    (close 2 0xF0F0F0F0F0F0F0F (close 1 0x3333333333333333 (bitAnd x 0x5555555555555555)))))
 
 pub closed-root : (x : ℕ) → x < 2 ^ 64 → closed x ≡ evenRoot 32 x
 unfolding _⊕_ evenRoot
@@ -160,7 +161,12 @@ odd-kernel =
       δ-lt = λ k x l. pow-pos k;
       additive = odd-additive;
       zero-at = λ l m. ap oddPart (⊕-zero (l ⊗ l)) ∙ odd-square l m;
-      only-at = λ x h w l e. (evenRoot 32 x, root-lt 32 h x l, ⊕-eq x (evenRoot 32 x ⊗ evenRoot 32 x) (sym (odd-is x w) ∙ e) ∙ sym (⊕-zero (evenRoot 32 x ⊗ evenRoot 32 x)));
+      only-at = λ x h w l e. (
+        evenRoot 32 x,
+        root-lt 32 h x l,
+        ⊕-eq x (evenRoot 32 x ⊗ evenRoot 32 x) (sym (odd-is x w) ∙ e)
+            ∙ sym (⊕-zero (evenRoot 32 x ⊗ evenRoot 32 x)),
+      );
     }
 
 fold-zero : (l : ℕ) → l < 2 ^ 32 → folded 6 (l ⊗ l ⊕ l) ≡ 0

@@ -46,7 +46,8 @@ module _ {key : ℕ} {p : Modulus} (h : Opened key p) (m : Mark) (n : ℕ) (c : 
 -- the residue of the part behind the fingerprint, however it was computed, is the value
 pub fed-next : {key : ℕ} {p : Modulus} (h : Opened key p) (m : Mark) (part : List ℕ) → Clear (feedTests key m (length part))
     → (x : ℕ) → x ≡ rem (polynomial p) (valueFrom (m .fingerprint) (bits part))
-    → fedUnder key (Done (record { fingerprint = x; length = m .length + length part })) ≡ fedUnder key (firstOf (feedTests key m (length part)) m (fedMark key m part))
+    → fedUnder key (Done (record { fingerprint = x; length = m .length + length part })) ≡ fedUnder key
+    (firstOf (feedTests key m (length part)) m (fedMark key m part))
 unfolding fedMark
 fed-next {key} {p} h m part c x e =
     ap (λ (z : Mark). fedUnder key (Done z)) (mark-eq (e ∙ ap (λ (q : ℕ). rem q (valueFrom (m .fingerprint) (bits part))) (opened-whole h)) refl)

@@ -94,7 +94,8 @@ clear-append [] us h k = k
 clear-append (b ⇒ r ∷ ts) us h k = (h .0, clear-append ts us (h .1) k)
 
 -- more tests behind a list, and another state
-pub more-refused : {A B S T : Type 0} (ts us : List Test) (s : S) (t : T) (v : A) (w : B) (q : Refusal) → firstOf ts s v ≡ Refused q s → firstOf (ts ++ us) t w ≡ Refused q t
+pub more-refused : {A B S T : Type 0} (ts us : List Test) (s : S) (t : T) (v : A) (w : B) (q : Refusal) → firstOf ts s v ≡ Refused q s
+    → firstOf (ts ++ us) t w ≡ Refused q t
 more-refused [] us s t v w q e = absurd (let z : _≡_ {A = ℕ} 0 1 = cc in omega arith)
 more-refused (true ⇒ r ∷ ts) us s t v w q e = let d : r ≡ q = cc in rw d
 more-refused (false ⇒ r ∷ ts) us s t v w q e = more-refused ts us s t v w q e

@@ -37,7 +37,8 @@ module _ (words : List ℕ) where
 
     -- where neither applies, the words are the table
     pub table-clear : Clear (tableTests key words) → Table key words
-    table-clear c = table-only (word 8 key) 0 words (c .1 .0) ∙ ap (listFrom (word 8 key) 0) (eqb-true (length words) 1024 (not-false (eqb (length words) 1024) (c .0)))
+    table-clear c = table-only (word 8 key) 0 words (c .1 .0)
+        ∙ ap (listFrom (word 8 key) 0) (eqb-true (length words) 1024 (not-false (eqb (length words) 1024) (c .0)))
 
     -- and where the words are the table, neither applies
     pub clear-table : Table key words → Clear (tableTests key words)

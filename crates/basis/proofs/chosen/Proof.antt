@@ -4,13 +4,10 @@ use Rattle.basis.proofs.Elimination.{masked}
 use Rattle.basis.proofs.chosen.Statement.{statement}
 use Rattle.basis.proofs.chosen.Tie as tie
 
-wrapping-sub-u64-requires : tie.Need-wrapping-sub-u64-requires
-wrapping-sub-u64-requires c κs = search needs
-
 returns : tie.Need-returns
 returns c =
     let a = c .before .args in
     masked (a .v) (a .x) (c .wrapping-sub-u64 .result) (search needs) (search needs) (c .wrapping-sub-u64 .ensures)
 
 pub chosen-spec : {M : Type 1} → statement M
-chosen-spec = tie.close (tie.spec wrapping-sub-u64-requires returns)
+chosen-spec = tie.close (tie.spec (λ c κs. search needs) returns)

@@ -30,26 +30,14 @@ same l = mapped-length (clear (start l .args .c) (start l .args .v)) (l .loop .i
 loop-holds : tie.Need-loop-holds Inv-loop μ-loop
 loop-holds c = (omega arith, refl)
 
-mul-r : tie.Need-mul-r Inv-loop μ-loop
-mul-r c = omega arith
-
 slice-read-r : tie.Need-slice-read-r Inv-loop μ-loop
 slice-read-r c = omega (arith, same (c .before .before))
 
 chosen-from-requires : tie.Need-chosen-from-requires Inv-loop μ-loop
 chosen-from-requires c κs = start (c .before .before) .pre
 
-mul-rows : tie.Need-mul-rows Inv-loop μ-loop
-mul-rows c = omega arith
-
 slice-write-rows : tie.Need-slice-write-rows Inv-loop μ-loop
 slice-write-rows c = omega (arith, same (turn c))
-
-add-i : tie.Need-add-i Inv-loop μ-loop
-add-i c = omega arith
-
-loop-less : tie.Need-loop-less Inv-loop μ-loop
-loop-less c = omega arith
 
 loop-again : tie.Need-loop-again Inv-loop μ-loop
 unfolding clear _⊕_
@@ -75,13 +63,13 @@ clear-column-spec =
     Inv-loop
     μ-loop
     loop-holds
-    mul-r
+    (λ c. omega arith)
     slice-read-r
     chosen-from-requires
-    mul-rows
+    (λ c. omega arith)
     slice-write-rows
-    add-i
-    loop-less
+    (λ c. omega arith)
+    (λ c. omega arith)
     loop-again
     same-length
     returns)

@@ -40,44 +40,17 @@ rows-same l = let a = start l .args in mapped-length (clear (a .c) (a .v)) (l .l
 sums-same : (l : tie.At-loop Inv-loop μ-loop) → length (l .loop .sums) ≡ length (start l .args .sums .now)
 sums-same l = let a = start l .args in added-length (a .c) (a .w) (l .loop .j) (a .rows .now) (a .sums .now) (l .loop .inv .2)
 
-mul-r : tie.Need-mul-r Inv-loop μ-loop
-mul-r c = omega arith
-
 slice-read-r : tie.Need-slice-read-r Inv-loop μ-loop
 slice-read-r c = omega (arith, rows-same (c .before .before))
-
-shr-bits : tie.Need-shr-bits Inv-loop μ-loop
-shr-bits c = omega arith
-
-chosen-requires : tie.Need-chosen-requires Inv-loop μ-loop
-chosen-requires c κs = search needs
-
-mul-rows : tie.Need-mul-rows Inv-loop μ-loop
-mul-rows c = omega arith
 
 slice-write-rows : tie.Need-slice-write-rows Inv-loop μ-loop
 slice-write-rows c = omega (arith, rows-same (read-at c))
 
-chosen-requires-2 : tie.Need-chosen-requires-2 Inv-loop μ-loop
-chosen-requires-2 c κs = search needs
-
-mul-sums : tie.Need-mul-sums Inv-loop μ-loop
-mul-sums c = omega arith
-
 slice-read-sums : tie.Need-slice-read-sums Inv-loop μ-loop
 slice-read-sums c = omega (arith, sums-same (turn c))
 
-mul-sums-2 : tie.Need-mul-sums-2 Inv-loop μ-loop
-mul-sums-2 c = omega arith
-
 slice-write-sums : tie.Need-slice-write-sums Inv-loop μ-loop
 slice-write-sums c = omega (arith, sums-same (turn c))
-
-add-j : tie.Need-add-j Inv-loop μ-loop
-add-j c = omega arith
-
-loop-less : tie.Need-loop-less Inv-loop μ-loop
-loop-less c = omega arith
 
 loop-again : tie.Need-loop-again Inv-loop μ-loop
 unfolding clear _⊕_
@@ -114,19 +87,19 @@ clear-with-sums-spec =
     Inv-loop
     μ-loop
     loop-holds
-    mul-r
+    (λ c. omega arith)
     slice-read-r
-    shr-bits
-    chosen-requires
-    mul-rows
+    (λ c. omega arith)
+    (λ c κs. search needs)
+    (λ c. omega arith)
     slice-write-rows
-    chosen-requires-2
-    mul-sums
+    (λ c κs. search needs)
+    (λ c. omega arith)
     slice-read-sums
-    mul-sums-2
+    (λ c. omega arith)
     slice-write-sums
-    add-j
-    loop-less
+    (λ c. omega arith)
+    (λ c. omega arith)
     loop-again
     same-length
     same-length-2

@@ -31,15 +31,6 @@ turn c = c .before .before
 loop-holds : tie.Need-loop-holds Inv-loop μ-loop
 loop-holds c = let rows = c .before .args .rows .now in (omega arith, refl, rw take-length (λ i. i, λ i. i))
 
-sub-n : tie.Need-sub-n Inv-loop μ-loop
-sub-n c = omega arith
-
-mul-v : tie.Need-mul-v Inv-loop μ-loop
-mul-v c = omega arith
-
-slice-read-v : tie.Need-slice-read-v Inv-loop μ-loop
-slice-read-v c = omega arith
-
 same-length : tie.Need-same-length Inv-loop μ-loop
 same-length c = turn (c .before) .loop .inv .1
 
@@ -48,20 +39,11 @@ returns c =
     let l = turn (c .before) .loop in
     (λ f. absurd (false≢true f), λ i. absurd (last-zero (l .n) (l .rows) (omega arith) (omega arith) (c .if1 .taken) (l .inv .2 .0 i)))
 
-lowest-one-requires : tie.Need-lowest-one-requires Inv-loop μ-loop
-lowest-one-requires c κs = omega arith
-
-slice-relend-prefix-clear-column : tie.Need-slice-relend-prefix-clear-column Inv-loop μ-loop
-slice-relend-prefix-clear-column c = omega arith
-
 slice-aggregate-clear-column : tie.Need-slice-aggregate-clear-column Inv-loop μ-loop
 slice-aggregate-clear-column c = let l = turn (read-at (c .before)) .loop in sym (length-take-le (l .n - 1) (l .rows) (omega arith))
 
 clear-column-requires : tie.Need-clear-column-requires Inv-loop μ-loop
 clear-column-requires c κs = let one = c .before .lowest-one .ensures in (one .0, one .1)
-
-loop-less : tie.Need-loop-less Inv-loop μ-loop
-loop-less c = omega arith
 
 loop-again : tie.Need-loop-again Inv-loop μ-loop
 loop-again c =
@@ -90,16 +72,16 @@ independent-spec =
     Inv-loop
     μ-loop
     loop-holds
-    sub-n
-    mul-v
-    slice-read-v
+    (λ c. omega arith)
+    (λ c. omega arith)
+    (λ c. omega arith)
     same-length
     returns
-    lowest-one-requires
-    slice-relend-prefix-clear-column
+    (λ c κs. omega arith)
+    (λ c. omega arith)
     slice-aggregate-clear-column
     clear-column-requires
-    loop-less
+    (λ c. omega arith)
     loop-again
     same-length-2
     returns-2)

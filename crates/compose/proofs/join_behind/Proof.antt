@@ -9,18 +9,13 @@ use Rattle.compose.specs.Composing.{joinTests, joinBehind}
 use Rattle.compose.proofs.join_behind.Statement.{statement}
 use Rattle.compose.proofs.join_behind.Tie as tie
 
-mark-requires : tie.Need-mark-requires
-mark-requires c κs = search needs
-
-join-requires : tie.Need-join-requires
-join-requires c κs = search needs
-
 returns : tie.Need-returns
 unfolding joinBehind
 returns c =
     let a = c .before .before .args in
     let key = a .m .key in
-    c .join .ensures ∙ ap (λ (x : Mark). fedUnder key (firstOf (joinTests key x (a .other)) (markIn (a .m)) (joined key x (a .other)))) (c .before .mark .ensures)
+    c .join .ensures ∙ ap (λ (x : Mark). fedUnder key (firstOf (joinTests key x (a .other)) (markIn (a .m)) (joined key x (a .other))))
+    (c .before .mark .ensures)
 
 pub join-behind-spec : {M : Type 1} → statement M
-join-behind-spec = tie.close (tie.spec mark-requires join-requires returns)
+join-behind-spec = tie.close (tie.spec (λ c κs. search needs) (λ c κs. search needs) returns)

@@ -12,12 +12,6 @@ use Rattle.compose.proofs.Laws.{marks-swap}
 use Rattle.compose.proofs.join_in_front.Statement.{statement}
 use Rattle.compose.proofs.join_in_front.Tie as tie
 
-mark-requires : tie.Need-mark-requires
-mark-requires c κs = search needs
-
-join-requires : tie.Need-join-requires
-join-requires c κs = search needs
-
 returns : tie.Need-returns
 unfolding joinInFront
 returns c =
@@ -29,4 +23,4 @@ returns c =
     ∙ ap (λ (ts : List Test). fedUnder key (firstOf (keyTests key ++ ts) m (joined key (a .other) m))) (marks-swap key (a .other) m)
 
 pub join-in-front-spec : {M : Type 1} → statement M
-join-in-front-spec = tie.close (tie.spec mark-requires join-requires returns)
+join-in-front-spec = tie.close (tie.spec (λ c κs. search needs) (λ c κs. search needs) returns)

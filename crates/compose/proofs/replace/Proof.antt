@@ -30,12 +30,6 @@ then1→start c = within→start (c .before)
 abbrev else1→start : tie.Else1 → tie.Start
 else1→start c = within→start (c .before)
 
-abbrev then1→within : tie.Then1 → tie.After-within
-then1→within c = c .before
-
-abbrev else1→within : tie.Else1 → tie.After-within
-else1→within c = c .before
-
 abbrev then2→start : tie.Then2 → tie.Start
 then2→start c = else1→start (c .before .before)
 
@@ -45,35 +39,17 @@ else2→start c = else1→start (c .before .before)
 abbrev else2→else1 : tie.Else2 → tie.Else1
 else2→else1 c = c .before .before
 
-abbrev then2→else1 : tie.Then2 → tie.Else1
-then2→else1 c = c .before .before
-
-abbrev then2→is-residue : tie.Then2 → tie.After-is-residue
-then2→is-residue c = c .before
-
-abbrev else2→is-residue : tie.Else2 → tie.After-is-residue
-else2→is-residue c = c .before
-
 abbrev then3→start : tie.Then3 → tie.Start
 then3→start c = else2→start (c .before)
 
 abbrev then3→else1 : tie.Then3 → tie.Else1
 then3→else1 c = else2→else1 (c .before)
 
-abbrev then3→else2 : tie.Then3 → tie.Else2
-then3→else2 c = c .before
-
 abbrev then4→start : tie.Then4 → tie.Start
 then4→start c = else2→start (c .before .before)
 
 abbrev then4→else1 : tie.Then4 → tie.Else1
 then4→else1 c = else2→else1 (c .before .before)
-
-abbrev then4→else2 : tie.Then4 → tie.Else2
-then4→else2 c = c .before .before
-
-abbrev then4→else3 : tie.Then4 → tie.Else3
-then4→else3 c = c .before
 
 abbrev then5→start : tie.Then5 → tie.Start
 then5→start c = else2→start (c .before .before .before)
@@ -92,9 +68,6 @@ then5→else2 c = c .before .before .before
 
 abbrev else5→else2 : tie.Else5 → tie.Else2
 else5→else2 c = c .before .before .before
-
-abbrev then5→else3 : tie.Then5 → tie.Else3
-then5→else3 c = c .before .before
 
 abbrev else5→else3 : tie.Else5 → tie.Else3
 else5→else3 c = c .before .before
@@ -121,23 +94,20 @@ value s = replaced (s .args .m .key) (markIn (s .args .m)) (s .args .place) (s .
 -- ---- what is known after each test that failed
 
 short : (c : tie.Else1) → passes (lengths (else1→start c)) ≡ false
-short c = fails _ (passes (lengths (else1→start c))) (else1→within c .within .ensures) (c .if1 .left)
+short c = fails _ (passes (lengths (else1→start c))) (c .before .within .ensures) (c .if1 .left)
 
 low : (c : tie.Else2) → let a = else2→start c .args in unreduced (a .m .key) (markIn (a .m)) ≡ false
 low c =
-    let r = else2→is-residue c .is-residue in
+    let r = c .before .is-residue in
     is-residue (else2→start c .pre) _ (r .result) (r .ensures) (c .if2 .left)
 
 -- ---- the needs
-
-within-requires : tie.Need-within-requires
-within-requires c κs = search needs
 
 returns : tie.Need-returns
 returns c =
     let s = then1→start c in
     let a = s .args in
-    let long = holds _ (passes (lengths s)) (then1→within c .within .ensures) (c .if1 .taken) in
+    let long = holds _ (passes (lengths s)) (c .before .within .ensures) (c .if1 .taken) in
     sym (ap (fedUnder (a .m .key)) (page-long (a .m .key) (markIn (a .m)) (a .place) (a .old .now) (a .new .now) (markIn (a .m)) (value s) long))
 
 is-residue-requires : tie.Need-is-residue-requires
@@ -147,29 +117,33 @@ returns-2 : tie.Need-returns-2
 returns-2 c =
     let s = then2→start c in
     let a = s .args in
-    let r = then2→is-residue c .is-residue in
+    let r = c .before .is-residue in
     let high = not-residue (s .pre) _ (r .result) (r .ensures) (c .if2 .taken) in
-    sym (ap (fedUnder (a .m .key)) (page-unreduced (a .m .key) (markIn (a .m)) (a .place) (a .old .now) (a .new .now) (markIn (a .m)) (value s) (short (then2→else1 c)) high))
+    sym (ap (fedUnder (a .m .key)) (page-unreduced (a .m .key) (markIn (a .m)) (a .place) (a .old .now) (a .new .now) (markIn (a .m)) (value s)
+    (short (c .before .before)) high))
 
 returns-3 : tie.Need-returns-3
 returns-3 c =
     let s = then3→start c in
     let a = s .args in
-    sym (ap (fedUnder (a .m .key)) (page-lengths (a .m .key) (markIn (a .m)) (a .place) (a .old .now) (a .new .now) (markIn (a .m)) (value s) (short (then3→else1 c)) (low (then3→else2 c)) (c .if3 .taken)))
+    sym (ap (fedUnder (a .m .key)) (page-lengths (a .m .key) (markIn (a .m)) (a .place) (a .old .now) (a .new .now) (markIn (a .m)) (value s)
+    (short (then3→else1 c)) (low (c .before)) (c .if3 .taken)))
 
 returns-4 : tie.Need-returns-4
 returns-4 c =
     let s = then4→start c in
     let a = s .args in
     let past : a .m .length < a .place + length (a .old .now) = omega arith in
-    sym (ap (fedUnder (a .m .key)) (page-past (a .m .key) (markIn (a .m)) (a .place) (a .old .now) (a .new .now) (markIn (a .m)) (value s) (short (then4→else1 c)) (low (then4→else2 c)) (then4→else3 c .if3 .left) past))
+    sym (ap (fedUnder (a .m .key)) (page-past (a .m .key) (markIn (a .m)) (a .place) (a .old .now) (a .new .now) (markIn (a .m)) (value s)
+    (short (then4→else1 c)) (low (c .before .before)) (c .before .if3 .left) past))
 
 returns-5 : tie.Need-returns-5
 returns-5 c =
     let s = then5→start c in
     let a = s .args in
     let past : a .m .length < a .place + length (a .old .now) = omega arith in
-    sym (ap (fedUnder (a .m .key)) (page-past (a .m .key) (markIn (a .m)) (a .place) (a .old .now) (a .new .now) (markIn (a .m)) (value s) (short (then5→else1 c)) (low (then5→else2 c)) (then5→else3 c .if3 .left) past))
+    sym (ap (fedUnder (a .m .key)) (page-past (a .m .key) (markIn (a .m)) (a .place) (a .old .now) (a .new .now) (markIn (a .m)) (value s)
+    (short (then5→else1 c)) (low (then5→else2 c)) (c .before .before .if3 .left) past))
 
 replaced-residue-requires : tie.Need-replaced-residue-requires
 replaced-residue-requires c κs =
@@ -177,7 +151,7 @@ replaced-residue-requires c κs =
     let a = s .args in (
       opened-proper (s .pre),
       residue-below (s .pre) (a .m .fingerprint) (low (else5→else2 c)),
-      else5→else3 c .if3 .left,
+      c .before .before .if3 .left,
       omega (arith, within (lengths s) (short (else5→else1 c)) .0),
     )
 
@@ -195,18 +169,20 @@ returns-6 c =
     let old = a .old .now in
     let new = a .new .now in
     let fits : a .place + length old ≤ a .m .length = omega arith in
-    let is : c .replaced-residue .result ≡ rem key (m .fingerprint ⊕ (fingerprint key old ⊕ fingerprint key new) * 2 ^ (8 * (m .length - (a .place + length old)))) =
+    let is : c .replaced-residue .result ≡ rem key (m .fingerprint ⊕ (fingerprint key old ⊕ fingerprint key new) * 2 ^
+    (8 * (m .length - (a .place + length old)))) =
     c .replaced-residue .ensures
     ∙ ap (λ (q : ℕ). rem q (m .fingerprint ⊕ (fingerprint q old ⊕ fingerprint q new) * 2 ^ (8 * (m .length - length old - a .place)))) (opened-whole (s .pre))
     ∙ ap (λ (n : ℕ). rem key (m .fingerprint ⊕ (fingerprint key old ⊕ fingerprint key new) * 2 ^ (8 * n))) (after-page (m .length) (length old) (a .place)) in
     ap (λ (z : Mark). fedUnder key (Done z)) (mark-eq is refl)
-    ∙ sym (ap (fedUnder key) (page-passed key m (a .place) old new m (value s) (short (replaced-residue→else1 c)) (low (replaced-residue→else2 c)) (replaced-residue→else3 c .if3 .left) fits))
+    ∙ sym (ap (fedUnder key) (page-passed key m (a .place) old new m (value s) (short (replaced-residue→else1 c)) (low (replaced-residue→else2 c))
+    (replaced-residue→else3 c .if3 .left) fits))
 
 pub replace-spec : {M : Type 1} → statement M
 replace-spec =
     tie.close
     (tie.spec
-    within-requires
+    (λ c κs. search needs)
     returns
     is-residue-requires
     returns-2

@@ -22,9 +22,6 @@ test→start c = c .before .before .before
 abbrev p→start : tie.After-p → tie.Start
 p→start c = test→start (c .before .before)
 
-abbrev p→test : tie.After-p → tie.After-test
-p→test c = c .before .before
-
 abbrev known-told→start : tie.After-known-told → tie.Start
 known-told→start c = test→start (c .before .before .before)
 
@@ -33,9 +30,6 @@ known-told→test c = c .before .before .before
 
 abbrev known-told2→p : tie.After-known-told2 → tie.After-p
 known-told2→p c = c .before
-
-abbrev known-told→r : tie.After-known-told → tie.After-r
-known-told→r c = c .before
 
 abbrev replace→start : tie.After-replace → tie.Start
 replace→start c = p→start (c .before .before)
@@ -50,30 +44,21 @@ tests s = pageTests (s .args .m .key) (markIn (s .args .m)) (s .args .place) (s 
 abbrev value : tie.Start → Mark
 value s = replaced (s .args .m .key) (markIn (s .args .m)) (s .args .place) (s .args .old .now) (s .args .new .now)
 
-test-requires : tie.Need-test-requires
-test-requires c κs = search needs
-
-enum-known-r : tie.Need-enum-known-r
-enum-known-r c = search needs
-
 returns : tie.Need-returns
 unfolding replacePage
 returns c =
     let s = known-told→start c in
     let key = s .args .m .key in
     let t = known-told→test c .test in
-    sym (ap (fedUnder key) (refused (t .result) key (t .ensures) (tests s) (markIn (s .args .m)) (value s) _ (known-told→r c .r .given .1)))
-
-enum-known-p : tie.Need-enum-known-p
-enum-known-p c = search needs
+    sym (ap (fedUnder key) (refused (t .result) key (t .ensures) (tests s) (markIn (s .args .m)) (value s) _ (c .before .r .given .1)))
 
 key-opened : (c : tie.After-p) → Opened (p→start c .args .m .key) (c .p .given .0 .0)
 key-opened c =
-    let t = p→test c .test in
+    let t = c .before .before .test in
     opened (t .result) (p→start c .args .m .key) (t .ensures) _ (omega arith) (c .p .given .1)
 
 replace-requires : tie.Need-replace-requires
-replace-requires c κs = key-opened (known-told2→p c)
+replace-requires c κs = key-opened (c .before)
 
 returns-2 : tie.Need-returns-2
 unfolding replacePage
@@ -84,4 +69,4 @@ returns-2 c =
     ∙ sym (ap (fedUnder key) (opened-first (key-opened (replace→p c)) (tests s) (markIn (s .args .m)) (value s)))
 
 pub replace-page-spec : {M : Type 1} → statement M
-replace-page-spec = tie.close (tie.spec test-requires enum-known-r enum-known-p replace-requires returns returns-2)
+replace-page-spec = tie.close (tie.spec (λ c κs. search needs) (λ c. search needs) (λ c. search needs) replace-requires returns returns-2)

@@ -31,9 +31,6 @@ else1→start c = c .before .before
 abbrev else2→start : tie.Else2 → tie.Start
 else2→start c = else1→start (c .before .before)
 
-abbrev then2→else1 : tie.Then2 → tie.Else1
-then2→else1 c = c .before .before
-
 abbrev else2→else1 : tie.Else2 → tie.Else1
 else2→else1 c = c .before .before
 
@@ -81,26 +78,23 @@ module _ (k : ℕ) (listed : among k degrees ≡ true) (p : Modulus) (is : p ≡
   its-field : Field (polynomial p) (p .degree)
   its-field = rw (whole, of-degree) (field k listed)
 
-listed-requires : tie.Need-listed-requires
-listed-requires c κs = search needs
-
 returns : tie.Need-returns
 unfolding draw
 returns c = rw (sym (c .before .listed .ensures) ∙ not-true (c .before .listed .result) (c .if1 .taken))
 
 -- number 3 does not apply
-listed : (c : tie.Else1) → among (else1→start c .args .degree) degrees ≡ true
+listed : (c : tie.Else1) → among (c .before .before .args .degree) degrees ≡ true
 listed c = sym (c .before .listed .ensures) ∙ not-false (c .before .listed .result) (c .if1 .left)
 
 cast-k : tie.Need-cast-k
-cast-k c = omega (arith, range (else1→start c .args .degree) (listed c))
+cast-k c = omega (arith, range (c .before .before .args .degree) (listed c))
 
 out-of-range-requires : tie.Need-out-of-range-requires
-out-of-range-requires c κs = omega (arith, range (else1→start c .args .degree) (listed c))
+out-of-range-requires c κs = omega (arith, range (c .before .before .args .degree) (listed c))
 
 returns-2 : tie.Need-returns-2
 unfolding draw
-returns-2 c = rw (listed (then2→else1 c), sym (c .before .out-of-range .ensures) ∙ c .if2 .taken)
+returns-2 c = rw (listed (c .before .before), sym (c .before .out-of-range .ensures) ∙ c .if2 .taken)
 
 -- number 4 does not apply
 in-range : (c : tie.Else2) → (ltb (else2→start c .args .element) 2 || leb (2 ^ else2→start c .args .degree) (else2→start c .args .element)) ≡ false
@@ -114,7 +108,7 @@ element-in c =
 
 stock-key-requires : tie.Need-stock-key-requires
 stock-key-requires c κs =
-    let r = range (else2→start c .args .degree) (listed (else2→else1 c)) in
+    let r = range (else2→start c .args .degree) (listed (c .before .before)) in
     (omega (arith, r), omega (arith, r))
 
 modulus-of-requires : tie.Need-modulus-of-requires
@@ -129,7 +123,7 @@ minimal-polynomial-requires c κs =
     let k = modulus-of→start c .args .degree in
     let l = listed (modulus-of→else1 c) in
     let p = c .modulus-of .result in
-    let e = element-in (modulus-of→else2 c) in (
+    let e = element-in (c .before .before) in (
       proper k l p (opened c),
       rw (of-degree k l p (opened c)) (omega (arith, range k l)),
       its-field k l p (opened c),
@@ -152,7 +146,7 @@ pub draw-spec : {M : Type 1} → statement M
 draw-spec =
     tie.close
     (tie.spec
-    listed-requires
+    (λ c κs. search needs)
     returns
     cast-k
     out-of-range-requires

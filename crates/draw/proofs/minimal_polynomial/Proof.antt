@@ -4,11 +4,6 @@ use Rattle.draw.proofs.Evaluation.{none-smaller, one-there, relation-dr
 use Rattle.draw.proofs.minimal_polynomial.Statement.{statement}
 use Rattle.draw.proofs.minimal_polynomial.Tie as tie
 
--- ---- the places: from each one to an earlier one
-
-abbrev relation→start : tie.After-relation → tie.Start
-relation→start c = c .before .before
-
 powers-requires : tie.Need-powers-requires
 powers-requires c κs = (c .pre .0, c .pre .4)
 
@@ -24,8 +19,8 @@ relation-requires c κs =
 
 returns : tie.Need-returns
 returns c =
-    let a = relation→start c .args in
-    let p = relation→start c .pre in
+    let a = c .before .before .args in
+    let p = c .before .before .pre in
     let n = c .before .powers in
     let r = c .relation in
     relation-drawn (polynomial (a .p)) (a .p .degree) (p .2) (a .e) (p .3) (p .4) (p .1) (n .result) (n .ensures) (r .result) (r .ensures .0) (r .ensures .1)

@@ -24,14 +24,8 @@ abbrev μ-loop : tie.MeasureT-loop
 abbrev in-loop→start : tie.In-loop Inv-loop μ-loop → tie.Start Inv-loop μ-loop
 in-loop→start c = c .before .before
 
-abbrev loop→start : tie.After-loop Inv-loop μ-loop → tie.Start Inv-loop μ-loop
-loop→start c = c .before .before
-
 abbrev step→start : tie.After-step Inv-loop μ-loop → tie.Start Inv-loop μ-loop
 step→start c = in-loop→start (c .before)
-
-abbrev step→at-loop : tie.After-step Inv-loop μ-loop → tie.At-loop Inv-loop μ-loop
-step→at-loop c = c .before .before
 
 loop-holds : tie.Need-loop-holds Inv-loop μ-loop
 loop-holds c =
@@ -44,29 +38,17 @@ loop-holds c =
       ),
     )
 
-mul-rows : tie.Need-mul-rows Inv-loop μ-loop
-mul-rows c = omega arith
-
-array-write-rows : tie.Need-array-write-rows Inv-loop μ-loop
-array-write-rows c = omega arith
-
 step-requires : tie.Need-step-requires Inv-loop μ-loop
 step-requires c κs =
-    let s = in-loop→start c in
+    let s = c .before .before in
     let l = c .before .loop in
     (s .pre .0, rw (l .inv .2 .0) (residue-lt (s .args .p .degree) (s .args .p .low) (s .pre .0 .2) (2 ^ l .j ⊗ s .args .a)), omega arith)
-
-add-j : tie.Need-add-j Inv-loop μ-loop
-add-j c = omega arith
-
-loop-less : tie.Need-loop-less Inv-loop μ-loop
-loop-less c = omega arith
 
 loop-again : tie.Need-loop-again Inv-loop μ-loop
 loop-again c =
     let s = step→start c in
     let pos = positive (s .args .p) (s .pre .0) in
-    let l = step→at-loop c .loop in
+    let l = c .before .before .loop in
     let next = times-next pos (s .args .a) (l .j) (l .x) (l .inv .2 .0) in (
       omega arith,
       length-set (l .rows) (l .j) (l .x) ∙ l .inv .1,
@@ -75,7 +57,7 @@ loop-again c =
 
 returns : tie.Need-returns Inv-loop μ-loop
 returns c =
-    let s = loop→start c in
+    let s = c .before .before in
     let l = c .before .loop in
     let add = times-additive (positive (s .args .p) (s .pre .0)) (s .args .a) in
     filling-matrix add (l .rows) (l .x) (l .j) (l .inv .1) (omega arith) (l .inv .2)
@@ -83,4 +65,4 @@ returns c =
 pub multiples-spec : {M : Type 1} → statement M
 multiples-spec =
     tie.close
-    (tie.spec Inv-loop μ-loop loop-holds mul-rows array-write-rows step-requires add-j loop-less loop-again returns)
+    (tie.spec Inv-loop μ-loop loop-holds (λ c. omega arith) (λ c. omega arith) step-requires (λ c. omega arith) (λ c. omega arith) loop-again returns)

@@ -8,9 +8,6 @@ use Rattle.gf2.proofs.Steps.{shifted-one}
 use Rattle.draw.proofs.out_of_range.Statement.{statement}
 use Rattle.draw.proofs.out_of_range.Tie as tie
 
-shl-power : tie.Need-shl-power
-shl-power c = search needs
-
 returns : tie.Need-returns
 returns c = rw (lt-ltb (c .before .args .element) 2 (c .if1 .taken))
 
@@ -20,4 +17,4 @@ returns-2 c =
     rw (le-ltb (a .element) 2 (c .if1 .left)) (ap (λ (x : ℕ). leb x (a .element)) (shifted-one (a .k) (c .before .pre)))
 
 pub out-of-range-spec : {M : Type 1} → statement M
-out-of-range-spec = tie.close (tie.spec shl-power returns returns-2)
+out-of-range-spec = tie.close (tie.spec (λ c. search needs) returns returns-2)

@@ -52,24 +52,6 @@ multiples-requires c κs = c .pre
 loop-holds : tie.Need-loop-holds Inv-loop μ-loop
 loop-holds c = (omega arith, search needs, λ p t. (sym (first-power p (t .0) (c .before .args .e)), λ j l. absurd (omega arith)))
 
-mul-rows : tie.Need-mul-rows Inv-loop μ-loop
-mul-rows c = omega arith
-
-array-write-rows : tie.Need-array-write-rows Inv-loop μ-loop
-array-write-rows c = omega arith
-
-slice-aggregate-sum-of : tie.Need-slice-aggregate-sum-of Inv-loop μ-loop
-slice-aggregate-sum-of c = search needs
-
-sum-of-requires : tie.Need-sum-of-requires Inv-loop μ-loop
-sum-of-requires c κs = search needs
-
-add-i : tie.Need-add-i Inv-loop μ-loop
-add-i c = omega arith
-
-loop-less : tie.Need-loop-less Inv-loop μ-loop
-loop-less c = omega arith
-
 -- the next power
 turned : (c : tie.After-sum-of Inv-loop μ-loop) (p : Modulus) → Times p (sum-of→start c .args .e) (sum-of→multiples c .multiples .result)
     → c .sum-of .result ≡ at (polynomial p) (2 ^ (sum-of→at-loop c .loop .i + 1)) (sum-of→start c .args .e)
@@ -104,11 +86,11 @@ powers-spec =
     μ-loop
     multiples-requires
     loop-holds
-    mul-rows
-    array-write-rows
-    slice-aggregate-sum-of
-    sum-of-requires
-    add-i
-    loop-less
+    (λ c. omega arith)
+    (λ c. omega arith)
+    (λ c. search needs)
+    (λ c κs. search needs)
+    (λ c. omega arith)
+    (λ c. omega arith)
     loop-again
     returns)

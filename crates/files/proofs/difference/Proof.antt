@@ -45,29 +45,14 @@ feed-byte→start c = shared-slice-known4→start (c .before)
 abbrev feed-byte→at-loop : tie.After-feed-byte Inv-loop μ-loop → tie.At-loop Inv-loop μ-loop
 feed-byte→at-loop c = shared-slice-known4→at-loop (c .before)
 
-abbrev feed-byte→shared-slice-known3 : tie.After-feed-byte Inv-loop μ-loop → tie.After-shared-slice-known3 Inv-loop μ-loop
-feed-byte→shared-slice-known3 c = c .before .before
-
 loop-holds : tie.Need-loop-holds Inv-loop μ-loop
 loop-holds c =
-    let s = shared-slice-known2→start c in
+    let s = c .before .before in
     let a = s .args in
     (omega arith, pow-pos (a .p .degree), pages-begin (monic-pos (a .p .degree) (a .p .low) (s .pre .0 .2)) (a .old .now) (a .new .now) (s .pre .1))
 
-shared-slice-read-feed-byte : tie.Need-shared-slice-read-feed-byte Inv-loop μ-loop
-shared-slice-read-feed-byte c = omega arith
-
-shared-slice-read-feed-byte-2 : tie.Need-shared-slice-read-feed-byte-2 Inv-loop μ-loop
-shared-slice-read-feed-byte-2 c = omega arith
-
 feed-byte-requires : tie.Need-feed-byte-requires Inv-loop μ-loop
 feed-byte-requires c κs = (shared-slice-known4→start c .pre .0, shared-slice-known4→at-loop c .loop .inv .1)
-
-add-i : tie.Need-add-i Inv-loop μ-loop
-add-i c = omega arith
-
-loop-less : tie.Need-loop-less Inv-loop μ-loop
-loop-less c = omega arith
 
 loop-again : tie.Need-loop-again Inv-loop μ-loop
 unfolding _⊕_
@@ -77,7 +62,7 @@ loop-again c =
     let a = s .args in
     let m = s .pre .0 in
     let pos = monic-pos (a .p .degree) (a .p .low) (m .2) in
-    let old-byte : getD (a .old .now) (l .i) 0 < 256 = omega (arith, feed-byte→shared-slice-known3 c .shared-slice-known3 .given (l .i)) in
+    let old-byte : getD (a .old .now) (l .i) 0 < 256 = omega (arith, c .before .before .shared-slice-known3 .given (l .i)) in
     let new-byte : getD (a .new .now) (l .i) 0 < 256 = omega (arith, c .before .shared-slice-known4 .given (l .i)) in
     let next = pages-next pos (a .old .now) (a .new .now) (s .pre .1) (l .x) (l .i) (omega arith) old-byte new-byte in (
       omega arith,
@@ -104,10 +89,10 @@ difference-spec =
     Inv-loop
     μ-loop
     loop-holds
-    shared-slice-read-feed-byte
-    shared-slice-read-feed-byte-2
+    (λ c. omega arith)
+    (λ c. omega arith)
     feed-byte-requires
-    add-i
-    loop-less
+    (λ c. omega arith)
+    (λ c. omega arith)
     loop-again
     returns)

@@ -23,41 +23,20 @@ abbrev μ-loop : tie.MeasureT-loop
 abbrev in-loop→start : tie.In-loop Inv-loop μ-loop → tie.Start Inv-loop μ-loop
 in-loop→start c = c .before .before
 
-abbrev loop→start : tie.After-loop Inv-loop μ-loop → tie.Start Inv-loop μ-loop
-loop→start c = c .before .before
-
 abbrev step→start : tie.After-step Inv-loop μ-loop → tie.Start Inv-loop μ-loop
 step→start c = in-loop→start (c .before)
-
-abbrev step→at-loop : tie.After-step Inv-loop μ-loop → tie.At-loop Inv-loop μ-loop
-step→at-loop c = c .before .before
 
 loop-holds : tie.Need-loop-holds Inv-loop μ-loop
 loop-holds c = (omega arith, c .pre .1, refl)
 
-sub-n : tie.Need-sub-n Inv-loop μ-loop
-sub-n c = omega arith
-
-cast-bit : tie.Need-cast-bit Inv-loop μ-loop
-cast-bit c = omega arith
-
-shr-bit : tie.Need-shr-bit Inv-loop μ-loop
-shr-bit c = omega arith
-
-cast-step : tie.Need-cast-step Inv-loop μ-loop
-cast-step c = omega arith
-
 step-requires : tie.Need-step-requires Inv-loop μ-loop
-step-requires c κs = (in-loop→start c .pre .0, c .before .loop .inv .1, omega arith)
-
-loop-less : tie.Need-loop-less Inv-loop μ-loop
-loop-less c = omega arith
+step-requires c κs = (c .before .before .pre .0, c .before .loop .inv .1, omega arith)
 
 loop-again : tie.Need-loop-again Inv-loop μ-loop
 loop-again c =
     let a = step→start c .args in
     let m = step→start c .pre .0 in
-    let l = step→at-loop c .loop in
+    let l = c .before .before .loop in
     let next = next-bit (monic-pos (a .p .degree) (a .p .low) (m .2)) (l .x) (a .b) (l .n) (omega arith) in (
       omega arith,
       rw (c .step .ensures) (residue-lt (a .p .degree) (a .p .low) (m .2) (l .x * 2 + a .b / 2 ^ (l .n - 1) % 2)),
@@ -67,8 +46,8 @@ loop-again c =
 returns : tie.Need-returns Inv-loop μ-loop
 unfolding valueFrom lowBits
 returns c =
-    let a = loop→start c .args in
-    let m = loop→start c .pre .0 in
+    let a = c .before .before .args in
+    let m = c .before .before .pre .0 in
     let l = c .before .loop in
     let z : l .n ≡ 0 = omega arith in
     sym (residue-small (a .p .degree) (a .p .low) (m .2) (l .x) (l .inv .1))
@@ -83,11 +62,11 @@ feed-byte-spec =
     Inv-loop
     μ-loop
     loop-holds
-    sub-n
-    cast-bit
-    shr-bit
-    cast-step
+    (λ c. omega arith)
+    (λ c. omega arith)
+    (λ c. omega arith)
+    (λ c. omega arith)
     step-requires
-    loop-less
+    (λ c. omega arith)
     loop-again
     returns)

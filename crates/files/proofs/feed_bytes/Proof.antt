@@ -42,17 +42,8 @@ feed-byte→at-loop c = shared-slice-known2→at-loop (c .before)
 loop-holds : tie.Need-loop-holds Inv-loop μ-loop
 loop-holds c = (omega arith, c .before .pre .1, refl)
 
-shared-slice-read-feed-byte : tie.Need-shared-slice-read-feed-byte Inv-loop μ-loop
-shared-slice-read-feed-byte c = omega arith
-
 feed-byte-requires : tie.Need-feed-byte-requires Inv-loop μ-loop
-feed-byte-requires c κs = (shared-slice-known2→start c .pre .0, shared-slice-known2→at-loop c .loop .inv .1)
-
-add-i : tie.Need-add-i Inv-loop μ-loop
-add-i c = omega arith
-
-loop-less : tie.Need-loop-less Inv-loop μ-loop
-loop-less c = omega arith
+feed-byte-requires c κs = (shared-slice-known2→start c .pre .0, c .before .before .loop .inv .1)
 
 loop-again : tie.Need-loop-again Inv-loop μ-loop
 loop-again c =
@@ -84,9 +75,9 @@ feed-bytes-spec =
     Inv-loop
     μ-loop
     loop-holds
-    shared-slice-read-feed-byte
+    (λ c. omega arith)
     feed-byte-requires
-    add-i
-    loop-less
+    (λ c. omega arith)
+    (λ c. omega arith)
     loop-again
     returns)

@@ -22,17 +22,8 @@ power-of-t→start c = shared-slice-known2→start (c .before .before)
 abbrev product→start : tie.After-product → tie.Start
 product→start c = power-of-t→start (c .before)
 
-abbrev product→difference : tie.After-product → tie.After-difference
-product→difference c = c .before .before
-
 difference-requires : tie.Need-difference-requires
-difference-requires c κs = let s = shared-slice-known2→start c in (s .pre .0, s .pre .2)
-
-mul-power-of-t : tie.Need-mul-power-of-t
-mul-power-of-t c = search needs
-
-power-of-t-requires : tie.Need-power-of-t-requires
-power-of-t-requires c κs = search needs
+difference-requires c κs = let s = c .before .before in (s .pre .0, s .pre .2)
 
 product-requires : tie.Need-product-requires
 unfolding fingerprint
@@ -52,8 +43,8 @@ returns c =
     let a = s .args in
     let p = polynomial (a .p) in
     ap (λ (x : ℕ). a .f ⊕ x)
-    (c .product .ensures ∙ ap₂ (λ (d t : ℕ). rem p (d ⊗ t)) (product→difference c .difference .ensures) (c .before .power-of-t .ensures))
+    (c .product .ensures ∙ ap₂ (λ (d t : ℕ). rem p (d ⊗ t)) (c .before .before .difference .ensures) (c .before .power-of-t .ensures))
     ∙ sym (replaced-is (a .p .degree) (a .p .low) (s .pre .0 .2) (a .f) (fingerprint p (a .old .now) ⊕ fingerprint p (a .new .now)) (8 * a .after) (s .pre .1))
 
 pub replaced-residue-spec : {M : Type 1} → statement M
-replaced-residue-spec = tie.close (tie.spec difference-requires mul-power-of-t power-of-t-requires product-requires returns)
+replaced-residue-spec = tie.close (tie.spec difference-requires (λ c. search needs) (λ c κs. search needs) product-requires returns)

@@ -12,14 +12,8 @@ returns c =
     let s = c .before in
     sym (ap (λ (i : ℕ). 2 ^ (s .args .n / 2 ^ i)) (c .if1 .taken) ∙ ap (λ (m : ℕ). 2 ^ m) (div-eq-of-lt (s .fits .n .fits)))
 
-shr-result : tie.Need-shr-result
-shr-result c = search needs
-
-shl-result : tie.Need-shl-result
-shl-result c = search needs
-
 returns-2 : tie.Need-returns-2
 returns-2 c = let s = c .before in shifted-one (s .args .n / 2 ^ (s .args .i)) (s .pre .1)
 
 pub first-power-spec : {M : Type 1} → statement M
-first-power-spec = tie.close (tie.spec returns shr-result shl-result returns-2)
+first-power-spec = tie.close (tie.spec returns (λ c. search needs) (λ c. search needs) returns-2)

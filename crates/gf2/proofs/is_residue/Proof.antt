@@ -8,9 +8,6 @@ use Rattle.gf2.proofs.is_residue.Tie as tie
 sub-result : tie.Need-sub-result
 sub-result c = omega (arith, c .before .pre .0)
 
-cast-result : tie.Need-cast-result
-cast-result c = search needs
-
 shr-result : tie.Need-shr-result
 shr-result c = omega (arith, c .before .pre .1)
 
@@ -18,4 +15,4 @@ returns : tie.Need-returns
 returns c = let s = c .before in residue-test (s .args .p .degree) (s .args .f) (s .pre .0)
 
 pub is-residue-spec : {M : Type 1} → statement M
-is-residue-spec = tie.close (tie.spec sub-result cast-result shr-result returns)
+is-residue-spec = tie.close (tie.spec sub-result (λ c. search needs) shr-result returns)

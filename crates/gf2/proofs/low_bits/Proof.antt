@@ -5,9 +5,6 @@ use Rattle.gf2.proofs.Steps.{shifted-one}
 use Rattle.gf2.proofs.low_bits.Statement.{statement}
 use Rattle.gf2.proofs.low_bits.Tie as tie
 
-shl-power : tie.Need-shl-power
-shl-power c = search needs
-
 rem-result : tie.Need-rem-result
 rem-result c = rw (shifted-one (c .args .n) (c .pre)) (pow-pos (c .args .n))
 
@@ -15,4 +12,4 @@ returns : tie.Need-returns
 returns c = rw (shifted-one (c .args .n) (c .pre))
 
 pub low-bits-spec : {M : Type 1} → statement M
-low-bits-spec = tie.close (tie.spec shl-power rem-result returns)
+low-bits-spec = tie.close (tie.spec (λ c. search needs) rem-result returns)

@@ -24,9 +24,6 @@ abbrev μ-loop : tie.MeasureT-loop
 abbrev in-loop→start : tie.In-loop Inv-loop μ-loop → tie.Start Inv-loop μ-loop
 in-loop→start c = c .before .before
 
-abbrev loop→start : tie.After-loop Inv-loop μ-loop → tie.Start Inv-loop μ-loop
-loop→start c = c .before .before
-
 abbrev in-loop→at-loop : tie.In-loop Inv-loop μ-loop → tie.At-loop Inv-loop μ-loop
 in-loop→at-loop c = c .before
 
@@ -62,21 +59,12 @@ loop-holds c =
     let a = c .args in
     (omega arith, sym (rw (no-bits (a .n) (c .fits .n .fits), pow-zero) (residue-one (a .p) (c .pre .0))))
 
-sub-i-2 : tie.Need-sub-i-2 Inv-loop μ-loop
-sub-i-2 c = omega arith
-
 product-requires : tie.Need-product-requires Inv-loop μ-loop
 product-requires c κs =
-    let s = in-loop→start c in
+    let s = c .before .before in
     let l = c .before .loop in
     let h = rw (← (l .inv .1)) at (residue-lt (s .args .p .degree) (s .args .p .low) (s .pre .0 .2) (s .args .a ⊗^ (s .args .n / 2 ^ (l .i)))) in
     (s .pre .0, h, h)
-
-cast-if1 : tie.Need-cast-if1 Inv-loop μ-loop
-cast-if1 c = search needs
-
-shr-if1 : tie.Need-shr-if1 Inv-loop μ-loop
-shr-if1 c = omega arith
 
 product-requires-2 : tie.Need-product-requires-2 Inv-loop μ-loop
 product-requires-2 c κs =
@@ -84,9 +72,6 @@ product-requires-2 c κs =
     let x = then1→at-loop c .loop .x in
     let h = rw (← (c .before .product .ensures)) at (residue-lt (s .args .p .degree) (s .args .p .low) (s .pre .0 .2) (x ⊗ x)) in
     (s .pre .0, h, omega arith)
-
-loop-less : tie.Need-loop-less Inv-loop μ-loop
-loop-less c = omega arith
 
 loop-again : tie.Need-loop-again Inv-loop μ-loop
 loop-again c =
@@ -99,9 +84,6 @@ loop-again c =
       times-next pos (a .a) (a .n) (l .i) (l .x) _ (omega arith) (l .inv .1) square _ (c .product2 .ensures) (c .before .if1 .taken),
     )
 
-loop-less-2 : tie.Need-loop-less-2 Inv-loop μ-loop
-loop-less-2 c = omega arith
-
 loop-again-2 : tie.Need-loop-again-2 Inv-loop μ-loop
 loop-again-2 c =
     let s = else1→start c in
@@ -112,7 +94,7 @@ loop-again-2 c =
 
 returns : tie.Need-returns Inv-loop μ-loop
 returns c =
-    let a = loop→start c .args in
+    let a = c .before .before .args in
     let l = c .before .loop in
     let e : l .i ≡ 0 = omega arith in
     let p = polynomial (a .p) in
@@ -126,13 +108,13 @@ power-spec =
     μ-loop
     sub-i
     loop-holds
-    sub-i-2
+    (λ c. omega arith)
     product-requires
-    cast-if1
-    shr-if1
+    (λ c. search needs)
+    (λ c. omega arith)
     product-requires-2
-    loop-less
+    (λ c. omega arith)
     loop-again
-    loop-less-2
+    (λ c. omega arith)
     loop-again-2
     returns)

@@ -79,9 +79,6 @@ loop-holds c =
           ∙ residue-small (s .args .p .degree) (s .args .p .low) (s .pre .2) (2 ^ (s .args .n / 2 ^ (c .before .low-places .result))) (pow-lt (e .1))),
     )
 
-sub-i : tie.Need-sub-i Inv-loop μ-loop
-sub-i c = omega arith
-
 product-requires : tie.Need-product-requires Inv-loop μ-loop
 product-requires c κs =
     let s = in-loop→start c in
@@ -89,20 +86,11 @@ product-requires c κs =
     let h = rw (← (l .inv .1)) at (residue-lt (s .args .p .degree) (s .args .p .low) (s .pre .2) (2 ⊗^ (s .args .n / 2 ^ (l .i)))) in
     (s .pre, h, h)
 
-cast-if1 : tie.Need-cast-if1 Inv-loop μ-loop
-cast-if1 c = search needs
-
-shr-if1 : tie.Need-shr-if1 Inv-loop μ-loop
-shr-if1 c = omega arith
-
 step-requires : tie.Need-step-requires Inv-loop μ-loop
 step-requires c κs =
     let s = then1→start c in
     let x = then1→at-loop c .loop .x in
     (s .pre, rw (c .before .product .ensures) (residue-lt (s .args .p .degree) (s .args .p .low) (s .pre .2) (x ⊗ x)), omega arith)
-
-loop-less : tie.Need-loop-less Inv-loop μ-loop
-loop-less c = omega arith
 
 loop-again : tie.Need-loop-again Inv-loop μ-loop
 loop-again c =
@@ -115,9 +103,6 @@ loop-again c =
       omega arith,
       times-next pos 2 (a .n) (l .i) (l .x) (y .result) (omega arith) (l .inv .1) (y .ensures) _ twice (c .before .if1 .taken),
     )
-
-loop-less-2 : tie.Need-loop-less-2 Inv-loop μ-loop
-loop-less-2 c = omega arith
 
 loop-again-2 : tie.Need-loop-again-2 Inv-loop μ-loop
 loop-again-2 c =
@@ -147,13 +132,13 @@ power-of-t-spec =
     low-places-requires
     first-power-requires
     loop-holds
-    sub-i
+    (λ c. omega arith)
     product-requires
-    cast-if1
-    shr-if1
+    (λ c. search needs)
+    (λ c. omega arith)
     step-requires
-    loop-less
+    (λ c. omega arith)
     loop-again
-    loop-less-2
+    (λ c. omega arith)
     loop-again-2
     returns)

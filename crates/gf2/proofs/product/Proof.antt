@@ -27,9 +27,6 @@ abbrev μ-loop : tie.MeasureT-loop
 abbrev in-loop→start : tie.In-loop Inv-loop μ-loop → tie.Start Inv-loop μ-loop
 in-loop→start c = c .before .before
 
-abbrev loop→start : tie.After-loop Inv-loop μ-loop → tie.Start Inv-loop μ-loop
-loop→start c = c .before .before
-
 abbrev in-loop→at-loop : tie.In-loop Inv-loop μ-loop → tie.At-loop Inv-loop μ-loop
 in-loop→at-loop c = c .before
 
@@ -48,30 +45,18 @@ loop-holds c =
       sym (ap (λ (x : ℕ). rem (polynomial (a .p)) (a .a ⊗ x)) (mod-one (a .b)) ∙ rw ⊗-zero (rem-zero (polynomial (a .p)))),
     )
 
-cast-bit : tie.Need-cast-bit Inv-loop μ-loop
-cast-bit c = search needs
-
-shr-bit : tie.Need-shr-bit Inv-loop μ-loop
-shr-bit c = omega arith
-
 mul-sum : tie.Need-mul-sum Inv-loop μ-loop
 mul-sum c =
-    let s = in-loop→start c in
+    let s = c .before .before in
     let l = c .before .loop in
     let h = rw (← (l .inv .1)) at (residue-word (s .args .p .degree) (s .args .p .low) (s .pre .0 .2) (s .pre .0 .1) (s .args .a * 2 ^ (l .i))) in
     record { fits = lt-of-le-of-lt (bit-mul-le _ _ (mod-2 _)) h }
 
 step-requires : tie.Need-step-requires Inv-loop μ-loop
 step-requires c κs =
-    let s = in-loop→start c in
+    let s = c .before .before in
     let l = c .before .loop in
     (s .pre .0, rw (l .inv .1) (residue-lt (s .args .p .degree) (s .args .p .low) (s .pre .0 .2) (s .args .a * 2 ^ (l .i))), omega arith)
-
-add-i : tie.Need-add-i Inv-loop μ-loop
-add-i c = search needs
-
-loop-less : tie.Need-loop-less Inv-loop μ-loop
-loop-less c = omega arith
 
 loop-again : tie.Need-loop-again Inv-loop μ-loop
 unfolding _⊕_
@@ -87,7 +72,7 @@ loop-again c =
 
 returns : tie.Need-returns Inv-loop μ-loop
 returns c =
-    let s = loop→start c in
+    let s = c .before .before in
     let a = s .args in
     let l = c .before .loop in
     let e : l .i ≡ a .p .degree = omega arith in
@@ -95,4 +80,5 @@ returns c =
     l .inv .2 ∙ ap (λ (n : ℕ). rem p (a .a ⊗ (a .b % 2 ^ n))) e ∙ ap (λ (x : ℕ). rem p (a .a ⊗ x)) (mod-eq-of-lt (s .pre .2))
 
 pub product-spec : {M : Type 1} → statement M
-product-spec = tie.close (tie.spec Inv-loop μ-loop loop-holds cast-bit shr-bit mul-sum step-requires add-i loop-less loop-again returns)
+product-spec = tie.close (tie.spec Inv-loop μ-loop loop-holds (λ c. search needs) (λ c. omega arith) mul-sum step-requires (λ c. search needs)
+    (λ c. omega arith) loop-again returns)

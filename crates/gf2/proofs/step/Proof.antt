@@ -16,18 +16,6 @@ use Rattle.gf2.proofs.step.Tie as tie
 abbrev struct-known2→start : tie.After-struct-known2 → tie.Start
 struct-known2→start c = c .before .before .before
 
-sub-cut : tie.Need-sub-cut
-sub-cut c = search needs
-
-cast-top : tie.Need-cast-top
-cast-top c = search needs
-
-shr-top : tie.Need-shr-top
-shr-top c = search needs
-
-low-bits-requires : tie.Need-low-bits-requires
-low-bits-requires c κs = search needs
-
 -- the coefficient that falls out is a bit already; the remainder only tells the compiler so
 one-bit : (k f : ℕ) → 0 < k → f < 2 ^ k → f / 2 ^ (k - 1) % 2 ≡ f / 2 ^ (k - 1)
 one-bit k f p l = mod-eq-of-lt (top-bit k f p l)
@@ -63,4 +51,4 @@ returns c =
     (sym (step-is (a .p .degree) (a .p .low) (a .f) (a .bit) (p .0 .0) (p .0 .2) (p .1) (p .2)))
 
 pub step-spec : {M : Type 1} → statement M
-step-spec = tie.close (tie.spec sub-cut cast-top shr-top low-bits-requires mul-reduced mul-result add-result returns)
+step-spec = tie.close (tie.spec (λ c. search needs) (λ c. search needs) (λ c. search needs) (λ c κs. search needs) mul-reduced mul-result add-result returns)

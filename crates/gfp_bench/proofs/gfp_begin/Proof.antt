@@ -26,34 +26,16 @@ known-told→start c = begin→start (c .before .before .before)
 abbrev known-told→begin : tie.After-known-told → tie.After-begin
 known-told→begin c = c .before .before .before
 
-abbrev known-told→m : tie.After-known-told → tie.After-m
-known-told→m c = c .before
-
 abbrev number→start : tie.After-number → tie.Start
 number→start c = r→start (c .before .before)
 
 abbrev number→begin : tie.After-number → tie.After-begin
 number→begin c = r→begin (c .before .before)
 
-abbrev number→r : tie.After-number → tie.After-r
-number→r c = c .before .before
-
-begin-requires : tie.Need-begin-requires
-begin-requires c κs = search needs
-
-enum-known-m : tie.Need-enum-known-m
-enum-known-m c = search needs
-
-enum-known-r : tie.Need-enum-known-r
-enum-known-r c = search needs
-
-number-requires : tie.Need-number-requires
-number-requires c κs = search needs
-
 returns : tie.Need-returns
 returns c =
     let s = known-told→start c in
-    let e = sym (known-told→m c .m .given .1) in
+    let e = sym (c .before .m .given .1) in
     let h = known-told→begin c .begin .ensures in (
       ap (λ (x : Begun). numberOf (begun x)) e ∙ ap numberOf h ∙ begun-number (s .args .key) (begin (s .args .key)),
       ap (λ (x : Begun). markOr (markAt (s .args .fingerprint .now) (s .args .length .now)) (begun x)) e
@@ -64,7 +46,7 @@ returns c =
 returns-2 : tie.Need-returns-2
 returns-2 c =
     let s = number→start c in
-    let e = sym (number→r c .r .given .1) in
+    let e = sym (c .before .before .r .given .1) in
     let h = number→begin c .begin .ensures in (
       c .number .ensures ∙ ap (λ (x : Begun). numberOf (begun x)) e ∙ ap numberOf h ∙ begun-number (s .args .key) (begin (s .args .key)),
       ap (λ (x : Begun). markOr (markAt (s .args .fingerprint .now) (s .args .length .now)) (begun x)) e
@@ -74,4 +56,4 @@ returns-2 c =
 
 pub gfp-begin-spec : {M : Type 1} → statement M
 gfp-begin-spec =
-    tie.close (tie.spec begin-requires enum-known-m enum-known-r number-requires returns returns-2)
+    tie.close (tie.spec (λ c κs. search needs) (λ c. search needs) (λ c. search needs) (λ c κs. search needs) returns returns-2)

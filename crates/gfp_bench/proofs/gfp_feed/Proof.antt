@@ -20,16 +20,10 @@ store→start c = feed→start (c .before .before .before)
 abbrev store→feed : tie.After-store → tie.After-feed
 store→feed c = c .before .before .before
 
-feed-requires : tie.Need-feed-requires
-feed-requires c κs = search needs
-
-store-requires : tie.Need-store-requires
-store-requires c κs = search needs
-
 returns : tie.Need-returns
 returns c =
     let s = store→start c .args in
     stored (s .key) (feedBits (s .key) (markAt (s .fingerprint .now) (s .length .now)) (s .part .now)) _ _ _ (store→feed c .feed .ensures) (c .store .ensures)
 
 pub gfp-feed-spec : {M : Type 1} → statement M
-gfp-feed-spec = tie.close (tie.spec feed-requires store-requires returns)
+gfp-feed-spec = tie.close (tie.spec (λ c κs. search needs) (λ c κs. search needs) returns)

@@ -20,16 +20,11 @@ store→start c = feed-house→start (c .before .before .before)
 abbrev store→feed-house : tie.After-store → tie.After-feed-house
 store→feed-house c = c .before .before .before
 
-feed-house-requires : tie.Need-feed-house-requires
-feed-house-requires c κs = search needs
-
-store-requires : tie.Need-store-requires
-store-requires c κs = search needs
-
 returns : tie.Need-returns
 returns c =
     let s = store→start c .args in
-    stored (s .key) (feedHouse (s .key) (markAt (s .fingerprint .now) (s .length .now)) (s .part .now)) _ _ _ (store→feed-house c .feed-house .ensures) (c .store .ensures)
+    stored (s .key) (feedHouse (s .key) (markAt (s .fingerprint .now) (s .length .now)) (s .part .now)) _ _ _ (store→feed-house c .feed-house .ensures)
+    (c .store .ensures)
 
 pub gfp-feed-house-spec : {M : Type 1} → statement M
-gfp-feed-house-spec = tie.close (tie.spec feed-house-requires store-requires returns)
+gfp-feed-house-spec = tie.close (tie.spec (λ c κs. search needs) (λ c κs. search needs) returns)

@@ -20,16 +20,11 @@ store→start c = feed-table→start (c .before .before .before)
 abbrev store→feed-table : tie.After-store → tie.After-feed-table
 store→feed-table c = c .before .before .before
 
-feed-table-requires : tie.Need-feed-table-requires
-feed-table-requires c κs = search needs
-
-store-requires : tie.Need-store-requires
-store-requires c κs = search needs
-
 returns : tie.Need-returns
 returns c =
     let s = store→start c .args in
-    stored (s .key) (feedTable (s .key) (markAt (s .fingerprint .now) (s .length .now)) (s .words .now) (s .part .now)) _ _ _ (store→feed-table c .feed-table .ensures) (c .store .ensures)
+    stored (s .key) (feedTable (s .key) (markAt (s .fingerprint .now) (s .length .now)) (s .words .now) (s .part .now)) _ _ _
+    (store→feed-table c .feed-table .ensures) (c .store .ensures)
 
 pub gfp-feed-table-spec : {M : Type 1} → statement M
-gfp-feed-table-spec = tie.close (tie.spec feed-table-requires store-requires returns)
+gfp-feed-table-spec = tie.close (tie.spec (λ c κs. search needs) (λ c κs. search needs) returns)

@@ -30,21 +30,6 @@ number→start c = r→start (c .before .before)
 abbrev number→draw : tie.After-number → tie.After-draw
 number→draw c = r→draw (c .before .before)
 
-abbrev number→r : tie.After-number → tie.After-r
-number→r c = c .before .before
-
-draw-requires : tie.Need-draw-requires
-draw-requires c κs = search needs
-
-enum-known-p : tie.Need-enum-known-p
-enum-known-p c = search needs
-
-enum-known-r : tie.Need-enum-known-r
-enum-known-r c = search needs
-
-number-requires : tie.Need-number-requires
-number-requires c κs = search needs
-
 returns : tie.Need-returns
 returns c =
     let e = ap (λ (x : Drawn). answer x) (sym (c .before .p .given .1)) ∙ known-told→draw c .draw .ensures in
@@ -52,8 +37,8 @@ returns c =
 
 returns-2 : tie.Need-returns-2
 returns-2 c =
-    let e = ap (λ (x : Drawn). answer x) (sym (number→r c .r .given .1)) ∙ number→draw c .draw .ensures in
+    let e = ap (λ (x : Drawn). answer x) (sym (c .before .before .r .given .1)) ∙ number→draw c .draw .ensures in
     (c .number .ensures ∙ ap numberOf e, ap (valueOr (number→start c .args .key .now)) e)
 
 pub gfp-draw-spec : {M : Type 1} → statement M
-gfp-draw-spec = tie.close (tie.spec draw-requires enum-known-p enum-known-r number-requires returns returns-2)
+gfp-draw-spec = tie.close (tie.spec (λ c κs. search needs) (λ c. search needs) (λ c. search needs) (λ c κs. search needs) returns returns-2)

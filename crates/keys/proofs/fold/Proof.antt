@@ -24,18 +24,6 @@ even-root→at-loop c = c .before .before .before
 loop-holds : tie.Need-loop-holds Inv-loop μ-loop
 loop-holds c = zero-⊕ (folded 6 (c .args .x))
 
-sub-n : tie.Need-sub-n Inv-loop μ-loop
-sub-n c = omega arith
-
-odd-part-requires : tie.Need-odd-part-requires Inv-loop μ-loop
-odd-part-requires c κs = search needs
-
-even-root-requires : tie.Need-even-root-requires Inv-loop μ-loop
-even-root-requires c κs = search needs
-
-loop-less : tie.Need-loop-less Inv-loop μ-loop
-loop-less c = omega arith
-
 loop-again : tie.Need-loop-again Inv-loop μ-loop
 unfolding _⊕_
 loop-again c =
@@ -56,9 +44,9 @@ fold-spec =
     Inv-loop
     μ-loop
     loop-holds
-    sub-n
-    odd-part-requires
-    even-root-requires
-    loop-less
+    (λ c. omega arith)
+    (λ c κs. search needs)
+    (λ c κs. search needs)
+    (λ c. omega arith)
     loop-again
     returns)

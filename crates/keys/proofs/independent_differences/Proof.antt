@@ -50,45 +50,21 @@ slice-known3→start c = independent→start (c .before .before)
 abbrev slice-known3→at-loop : tie.After-slice-known3 Inv-loop μ-loop → tie.At-loop Inv-loop μ-loop
 slice-known3→at-loop c = independent→at-loop (c .before .before)
 
-abbrev slice-known3→independent : tie.After-slice-known3 Inv-loop μ-loop → tie.After-independent Inv-loop μ-loop
-slice-known3→independent c = c .before .before
-
 loop-holds : tie.Need-loop-holds Inv-loop μ-loop
 unfolding listFrom
 loop-holds c = (omega arith, refl)
 
 -- the buffer keeps its length
-same : (c : tie.At-loop Inv-loop μ-loop) → length (c .loop .rows) ≡ length (at-loop→start c .args .rows .now)
+same : (c : tie.At-loop Inv-loop μ-loop) → length (c .loop .rows) ≡ length (c .before .before .args .rows .now)
 same c =
-    let a = at-loop→start c .args in
+    let a = c .before .before .args in
     ap length (c .loop .inv .1) ∙ length-filled (value (a .h) (a .rows .now)) 0 (c .loop .i) (a .rows .now) (c .loop .inv .0)
 
-add-power : tie.Need-add-power Inv-loop μ-loop
-add-power c = omega arith
-
-shl-power : tie.Need-shl-power Inv-loop μ-loop
-shl-power c = omega arith
-
-mul-fold : tie.Need-mul-fold Inv-loop μ-loop
-mul-fold c = omega arith
-
 slice-read-fold : tie.Need-slice-read-fold Inv-loop μ-loop
-slice-read-fold c = omega (arith, same (slice-known2→at-loop c))
-
-fold-requires : tie.Need-fold-requires Inv-loop μ-loop
-fold-requires c κs = search needs
-
-mul-rows : tie.Need-mul-rows Inv-loop μ-loop
-mul-rows c = omega arith
+slice-read-fold c = omega (arith, same (c .before .before))
 
 slice-write-rows : tie.Need-slice-write-rows Inv-loop μ-loop
 slice-write-rows c = omega (arith, same (fold→at-loop c))
-
-add-i : tie.Need-add-i Inv-loop μ-loop
-add-i c = omega arith
-
-loop-less : tie.Need-loop-less Inv-loop μ-loop
-loop-less c = omega arith
 
 loop-again : tie.Need-loop-again Inv-loop μ-loop
 unfolding _⊕_
@@ -96,15 +72,13 @@ loop-again c =
     let a = fold→start c .args in
     let l = fold→at-loop c .loop in
     let f : ℕ → ℕ = value (a .h) (a .rows .now) in
-    let row : getD (l .rows) (l .i) 0 ≡ getD (a .rows .now) (l .i) 0 = ap (λ (x : List ℕ). getD x (l .i) 0) (l .inv .1) ∙ filled-at f 0 (l .i) (a .rows .now) (omega arith) in
+    let row : getD (l .rows) (l .i) 0 ≡ getD (a .rows .now) (l .i) 0 = ap (λ (x : List ℕ). getD x (l .i) 0) (l .inv .1)
+    ∙ filled-at f 0 (l .i) (a .rows .now) (omega arith) in
     let e : c .fold .result ≡ f (l .i) = c .fold .ensures ∙ ap₂ (λ (x y : ℕ). folded 6 (x ⊕ y)) row (shifted-one (a .h + l .i) (omega arith)) in
     (omega arith, rw (l .inv .1) (fill f 0 (l .i) (a .rows .now) (c .fold .result) (omega arith) (e ∙ ap f (sym (zero-add (l .i))))))
 
-independent-requires : tie.Need-independent-requires Inv-loop μ-loop
-independent-requires c κs = search needs
-
 same-length : tie.Need-same-length Inv-loop μ-loop
-same-length c = slice-known3→independent c .independent .kept .0 ∙ same (slice-known3→at-loop c)
+same-length c = c .before .before .independent .kept .0 ∙ same (slice-known3→at-loop c)
 
 returns : tie.Need-returns Inv-loop μ-loop
 returns c =
@@ -112,7 +86,7 @@ returns c =
     let l = slice-known3→at-loop c .loop in
     let f : ℕ → ℕ = value (a .h) (a .rows .now) in
     let e : l .rows ≡ listFrom f 0 (length (a .rows .now)) = l .inv .1 ∙ fill-whole f 0 (l .i) (a .rows .now) (omega arith) in
-    same-independent e (slice-known3→independent c .independent .ensures)
+    same-independent e (c .before .before .independent .ensures)
 
 pub independent-differences-spec : {M : Type 1} → statement M
 independent-differences-spec =
@@ -121,16 +95,16 @@ independent-differences-spec =
     Inv-loop
     μ-loop
     loop-holds
-    add-power
-    shl-power
-    mul-fold
+    (λ c. omega arith)
+    (λ c. omega arith)
+    (λ c. omega arith)
     slice-read-fold
-    fold-requires
-    mul-rows
+    (λ c κs. search needs)
+    (λ c. omega arith)
     slice-write-rows
-    add-i
-    loop-less
+    (λ c. omega arith)
+    (λ c. omega arith)
     loop-again
-    independent-requires
+    (λ c κs. search needs)
     same-length
     returns)

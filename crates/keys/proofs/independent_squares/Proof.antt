@@ -44,39 +44,21 @@ slice-known3→start c = independent→start (c .before .before)
 abbrev slice-known3→at-loop : tie.After-slice-known3 Inv-loop μ-loop → tie.At-loop Inv-loop μ-loop
 slice-known3→at-loop c = independent→at-loop (c .before .before)
 
-abbrev slice-known3→independent : tie.After-slice-known3 Inv-loop μ-loop → tie.After-independent Inv-loop μ-loop
-slice-known3→independent c = c .before .before
-
 loop-holds : tie.Need-loop-holds Inv-loop μ-loop
 unfolding listFrom
 loop-holds c = (omega arith, refl)
 
 -- the buffer keeps its length
-same : (c : tie.At-loop Inv-loop μ-loop) → length (c .loop .rows) ≡ length (at-loop→start c .args .rows .now)
+same : (c : tie.At-loop Inv-loop μ-loop) → length (c .loop .rows) ≡ length (c .before .before .args .rows .now)
 same c =
-    let rows₀ = at-loop→start c .args .rows .now in
+    let rows₀ = c .before .before .args .rows .now in
     ap length (c .loop .inv .1) ∙ length-filled (λ j. oddPart (getD rows₀ j 0)) 0 (c .loop .i) rows₀ (c .loop .inv .0)
 
-mul-odd-part : tie.Need-mul-odd-part Inv-loop μ-loop
-mul-odd-part c = omega arith
-
 slice-read-odd-part : tie.Need-slice-read-odd-part Inv-loop μ-loop
-slice-read-odd-part c = omega (arith, same (slice-known2→at-loop c))
-
-odd-part-requires : tie.Need-odd-part-requires Inv-loop μ-loop
-odd-part-requires c κs = search needs
-
-mul-rows : tie.Need-mul-rows Inv-loop μ-loop
-mul-rows c = omega arith
+slice-read-odd-part c = omega (arith, same (c .before .before))
 
 slice-write-rows : tie.Need-slice-write-rows Inv-loop μ-loop
 slice-write-rows c = omega (arith, same (odd-part→at-loop c))
-
-add-i : tie.Need-add-i Inv-loop μ-loop
-add-i c = omega arith
-
-loop-less : tie.Need-loop-less Inv-loop μ-loop
-loop-less c = omega arith
 
 loop-again : tie.Need-loop-again Inv-loop μ-loop
 loop-again c =
@@ -86,11 +68,8 @@ loop-again c =
     let e = ap (λ (x : List ℕ). oddPart (getD x (l .i) 0)) (l .inv .1) ∙ ap oddPart (filled-at f 0 (l .i) rows₀ (omega arith)) in
     (omega arith, rw (l .inv .1) (fill f 0 (l .i) rows₀ (c .odd-part .result) (omega arith) (c .odd-part .ensures ∙ e ∙ ap f (sym (zero-add (l .i))))))
 
-independent-requires : tie.Need-independent-requires Inv-loop μ-loop
-independent-requires c κs = search needs
-
 same-length : tie.Need-same-length Inv-loop μ-loop
-same-length c = slice-known3→independent c .independent .kept .0 ∙ same (slice-known3→at-loop c)
+same-length c = c .before .before .independent .kept .0 ∙ same (slice-known3→at-loop c)
 
 returns : tie.Need-returns Inv-loop μ-loop
 returns c =
@@ -98,7 +77,7 @@ returns c =
     let l = slice-known3→at-loop c .loop in
     let f : ℕ → ℕ = λ j. oddPart (getD rows₀ j 0) in
     let e : l .rows ≡ listFrom f 0 (length rows₀) = l .inv .1 ∙ fill-whole f 0 (l .i) rows₀ (omega arith) in
-    same-independent e (slice-known3→independent c .independent .ensures)
+    same-independent e (c .before .before .independent .ensures)
 
 pub independent-squares-spec : {M : Type 1} → statement M
 independent-squares-spec =
@@ -107,14 +86,14 @@ independent-squares-spec =
     Inv-loop
     μ-loop
     loop-holds
-    mul-odd-part
+    (λ c. omega arith)
     slice-read-odd-part
-    odd-part-requires
-    mul-rows
+    (λ c κs. search needs)
+    (λ c. omega arith)
     slice-write-rows
-    add-i
-    loop-less
+    (λ c. omega arith)
+    (λ c. omega arith)
     loop-again
-    independent-requires
+    (λ c κs. search needs)
     same-length
     returns)

@@ -22,9 +22,6 @@ use Rattle.keys.proofs.irreducible.Tie as tie
 
 -- ---- the places: from each one to an earlier one
 
-abbrev square-rows→start : tie.After-square-rows → tie.Start
-square-rows→start c = c .before .before
-
 abbrev rows→square-rows : tie.After-rows → tie.After-square-rows
 rows→square-rows c = c .before .before
 
@@ -33,9 +30,6 @@ then1→square-rows c = rows→square-rows (c .before .before .before)
 
 abbrev else1→square-rows : tie.Else1 → tie.After-square-rows
 else1→square-rows c = rows→square-rows (c .before .before .before)
-
-abbrev then1→independent-squares : tie.Then1 → tie.After-independent-squares
-then1→independent-squares c = c .before .before
 
 abbrev else1→independent-squares : tie.Else1 → tie.After-independent-squares
 else1→independent-squares c = c .before .before
@@ -51,9 +45,6 @@ squares4→independent-squares c = else1→independent-squares (c .before .befor
 
 abbrev squares4→else1 : tie.After-squares4 → tie.Else1
 squares4→else1 c = c .before .before .before
-
-cast-n : tie.Need-cast-n
-cast-n c = search needs
 
 -- the polynomial and its degree
 record Known (key k : ℕ) : Type 0 where
@@ -93,10 +84,10 @@ square-rows-requires c κs = let s = c .before in (s .pre .0, s .pre .1, part-le
 -- the array with the squares in front
 module _ (c : tie.After-square-rows) where
   abbrev key : ℕ
-  key = keyAt (square-rows→start c)
+  key = keyAt (c .before .before)
 
   abbrev k : ℕ
-  k = degreeAt (square-rows→start c)
+  k = degreeAt (c .before .before)
 
   abbrev made : List ℕ
   made = c .square-rows .last .1 .0 ++ drop (k / 2) zeros
@@ -105,11 +96,11 @@ module _ (c : tie.After-square-rows) where
   length-made = length-front zeros (c .square-rows .last .1 .0) (k / 2) (c .square-rows .kept .1 .0)
 
   within : k / 2 ≤ length made
-  within = omega (arith, length-made, known (square-rows→start c) .high)
+  within = omega (arith, length-made, known (c .before .before) .high)
 
   squares-are : take (k / 2) made ≡ listFrom (square key) (k - k / 2) (k / 2)
   squares-are =
-      take-at (c .square-rows .last .1 .0) (drop (k / 2) zeros) (k / 2) (c .square-rows .kept .1 .0 ∙ part-length (known (square-rows→start c)))
+      take-at (c .square-rows .last .1 .0) (drop (k / 2) zeros) (k / 2) (c .square-rows .kept .1 .0 ∙ part-length (known (c .before .before)))
       ∙ c .square-rows .ensures
 
   -- what the two tests decide
@@ -117,7 +108,8 @@ module _ (c : tie.After-square-rows) where
       → (r ≡ true) ↔ Independent (squareRows key (k - k / 2) (k / 2))
   first i = rw (squares-made key (k - k / 2) (k / 2) (take (k / 2) made) squares-are) at i
 
-  second : {r : Bool} → ((r ≡ true) ↔ Independent (listFrom (λ i. folded 6 (getD (take (k / 2) made) i 0 ⊕ 2 ^ (k - k / 2 + i))) 0 (length (take (k / 2) made))))
+  second : {r : Bool} → ((r ≡ true) ↔ Independent (listFrom (λ i. folded 6 (getD (take (k / 2) made) i 0 ⊕ 2 ^ (k - k / 2 + i))) 0
+      (length (take (k / 2) made))))
       → (r ≡ true) ↔ Independent (differenceRows key (k - k / 2) (k / 2))
   second i = rw (differences-made key (k - k / 2) (k / 2) (take (k / 2) made) squares-are) at i
 
@@ -125,18 +117,15 @@ array-borrow-prefix-rows : tie.Need-array-borrow-prefix-rows
 array-borrow-prefix-rows c = within (c .before)
 
 slice-aggregate-independent-squares : tie.Need-slice-aggregate-independent-squares
-slice-aggregate-independent-squares c = sym (length-take-le _ (made (rows→square-rows c)) (within (rows→square-rows c)))
-
-independent-squares-requires : tie.Need-independent-squares-requires
-independent-squares-requires c κs = search needs
+slice-aggregate-independent-squares c = sym (length-take-le _ (made (c .before .before)) (within (c .before .before)))
 
 returns : tie.Need-returns
 returns c =
     let m = then1→square-rows c in
-    let d = known (square-rows→start m) in
-    let no = not-true (then1→independent-squares c .independent-squares .result) (c .if1 .taken) in
+    let d = known (m .before .before) in
+    let no = not-true (c .before .before .independent-squares .result) (c .if1 .taken) in
     by-test (reducible (key m)) false (λ f. absurd (false≢true f))
-    (λ e. sym no ∙ first m (then1→independent-squares c .independent-squares .ensures) .1 (irreducible-squares (key m) (k m) (d .proper) (d .is) (d .low) (d .high) e))
+    (λ e. sym no ∙ first m (c .before .before .independent-squares .ensures) .1 (irreducible-squares (key m) (k m) (d .proper) (d .is) (d .low) (d .high) e))
 
 array-borrow-prefix-squares-2 : tie.Need-array-borrow-prefix-squares-2
 array-borrow-prefix-squares-2 c = within (else1→square-rows c)
@@ -144,21 +133,15 @@ array-borrow-prefix-squares-2 c = within (else1→square-rows c)
 slice-aggregate-independent-differences : tie.Need-slice-aggregate-independent-differences
 slice-aggregate-independent-differences c = let m = squares3→square-rows c in sym (length-take-le _ (made m) (within m))
 
-cast-independent-differences : tie.Need-cast-independent-differences
-cast-independent-differences c = search needs
-
-sub-independent-differences : tie.Need-sub-independent-differences
-sub-independent-differences c = search needs
-
 independent-differences-requires : tie.Need-independent-differences-requires
 independent-differences-requires c κs =
     let m = squares3→square-rows c in
-    omega (arith, length-take-le (k m / 2) (made m) (within m), known (square-rows→start m) .high)
+    omega (arith, length-take-le (k m / 2) (made m) (within m), known (m .before .before) .high)
 
 returns-2 : tie.Need-returns-2
 returns-2 c =
     let m = squares4→square-rows c in
-    let d = known (square-rows→start m) in
+    let d = known (m .before .before) in
     let yes = not-false (squares4→independent-squares c .independent-squares .result) (squares4→else1 c .if1 .left) in
     let one = first m (squares4→independent-squares c .independent-squares .ensures) .0 yes in
     let two = second m (c .before .independent-differences .ensures) in
@@ -170,17 +153,17 @@ pub irreducible-spec : {M : Type 1} → statement M
 irreducible-spec =
     tie.close
     (tie.spec
-    cast-n
+    (λ c. search needs)
     array-borrow-prefix-squares
     slice-aggregate-square-rows
     square-rows-requires
     array-borrow-prefix-rows
     slice-aggregate-independent-squares
-    independent-squares-requires
+    (λ c κs. search needs)
     returns
     array-borrow-prefix-squares-2
     slice-aggregate-independent-differences
-    cast-independent-differences
-    sub-independent-differences
+    (λ c. search needs)
+    (λ c. search needs)
     independent-differences-requires
     returns-2)

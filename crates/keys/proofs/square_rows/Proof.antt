@@ -45,21 +45,6 @@ step2→start c = step→start (c .before)
 abbrev step2→at-loop : tie.After-step2 Inv-loop μ-loop → tie.At-loop Inv-loop μ-loop
 step2→at-loop c = step→at-loop (c .before)
 
-sub-h : tie.Need-sub-h Inv-loop μ-loop
-sub-h c = omega arith
-
-mul-w : tie.Need-mul-w Inv-loop μ-loop
-mul-w c = omega arith
-
-sub-w : tie.Need-sub-w Inv-loop μ-loop
-sub-w c = omega arith
-
-cast-w : tie.Need-cast-w Inv-loop μ-loop
-cast-w c = omega arith
-
-shl-w : tie.Need-shl-w Inv-loop μ-loop
-shl-w c = omega arith
-
 -- the square of t^(h - 1) is below t^k
 first : (c : tie.After-slice-known Inv-loop μ-loop) → let a = c .before .args in
     1 * 2 ^ (2 * (a .p .degree - a .p .degree / 2) - 2) % 2 ^ 64 ≡ square (polynomial (a .p)) (a .p .degree - a .p .degree / 2 - 1 + 0)
@@ -74,9 +59,9 @@ loop-holds : tie.Need-loop-holds Inv-loop μ-loop
 unfolding listFrom
 loop-holds c = (omega arith, first c, refl)
 
-same : (c : tie.At-loop Inv-loop μ-loop) → length (c .loop .rows) ≡ length (at-loop→start c .args .rows .now)
+same : (c : tie.At-loop Inv-loop μ-loop) → length (c .loop .rows) ≡ length (c .before .before .args .rows .now)
 same c =
-    let a = at-loop→start c .args in
+    let a = c .before .before .args in
     ap length (c .loop .inv .2) ∙ length-filled (square (polynomial (a .p))) (a .p .degree - a .p .degree / 2) (c .loop .i) (a .rows .now) (c .loop .inv .0)
 
 step-requires : tie.Need-step-requires Inv-loop μ-loop
@@ -90,19 +75,10 @@ step-requires-2 : tie.Need-step-requires-2 Inv-loop μ-loop
 step-requires-2 c κs =
     let a = step→start c .args in
     let m = step→start c .pre .0 in
-    (m, rw (c .step .ensures) (residue-lt (a .p .degree) (a .p .low) (m .2) (step→at-loop c .loop .w * 2 + 0)), omega arith)
-
-mul-rows : tie.Need-mul-rows Inv-loop μ-loop
-mul-rows c = omega arith
+    (m, rw (c .step .ensures) (residue-lt (a .p .degree) (a .p .low) (m .2) (c .before .before .loop .w * 2 + 0)), omega arith)
 
 slice-write-rows : tie.Need-slice-write-rows Inv-loop μ-loop
 slice-write-rows c = omega (arith, same (step2→at-loop c))
-
-add-i : tie.Need-add-i Inv-loop μ-loop
-add-i c = omega arith
-
-loop-less : tie.Need-loop-less Inv-loop μ-loop
-loop-less c = omega arith
 
 loop-again : tie.Need-loop-again Inv-loop μ-loop
 loop-again c =
@@ -128,7 +104,8 @@ returns c =
     let a = loop→start c .args in
     let l = c .before .loop in
     let p = polynomial (a .p) in
-    l .inv .2 ∙ fill-whole (square p) (a .p .degree - a .p .degree / 2) (l .i) (a .rows .now) (omega arith) ∙ ap (listFrom (square p) (a .p .degree - a .p .degree / 2)) (loop→start c .pre .2)
+    l .inv .2 ∙ fill-whole (square p) (a .p .degree - a .p .degree / 2) (l .i) (a .rows .now) (omega arith)
+    ∙ ap (listFrom (square p) (a .p .degree - a .p .degree / 2)) (loop→start c .pre .2)
 
 pub square-rows-spec : {M : Type 1} → statement M
 square-rows-spec =
@@ -136,18 +113,18 @@ square-rows-spec =
     (tie.spec
     Inv-loop
     μ-loop
-    sub-h
-    mul-w
-    sub-w
-    cast-w
-    shl-w
+    (λ c. omega arith)
+    (λ c. omega arith)
+    (λ c. omega arith)
+    (λ c. omega arith)
+    (λ c. omega arith)
     loop-holds
     step-requires
     step-requires-2
-    mul-rows
+    (λ c. omega arith)
     slice-write-rows
-    add-i
-    loop-less
+    (λ c. omega arith)
+    (λ c. omega arith)
     loop-again
     same-length
     returns)

@@ -3,7 +3,6 @@ use mathlib.Core.Path.{_≡_, sym, ap, _∙_}
 use mathlib.Core.Bool.{false, not}
 use Prim.Native.Nat.{ℕ, _≤_, _<_}
 use native.Mathlib.Omega.{arith}
-use borrow.Author.Needs.{needs}
 use borrow.Author.Tests.{lt-ltb, le-ltb}
 use Rattle.gf2.specs.Moduli.{polynomial, Proper, modulusOf}
 use Rattle.gf2.specs.declared.Modulus.{Modulus}
@@ -22,12 +21,6 @@ use Rattle.keys.proofs.test.Tie as tie
 
 -- ---- the places: from each one to an earlier one
 
-abbrev modulus-of→start : tie.After-modulus-of → tie.Start
-modulus-of→start c = c .before .before
-
-abbrev then2→modulus-of : tie.Then2 → tie.After-modulus-of
-then2→modulus-of c = c .before .before
-
 abbrev else2→modulus-of : tie.Else2 → tie.After-modulus-of
 else2→modulus-of c = c .before .before
 
@@ -41,26 +34,23 @@ returns : tie.Need-returns
 unfolding testKey
 returns c = rw (lt-ltb (c .before .args .key) 256 (c .if1 .taken))
 
-modulus-of-requires : tie.Need-modulus-of-requires
-modulus-of-requires c κs = omega arith
-
 -- ---- the key, taken apart
 
 -- a key of at least 256 has a stock key beside it
 in-range : (c : tie.After-modulus-of) → let k = c .modulus-of .result .degree in (8 ≤ k) × (k < 64)
 in-range c =
-    let key = modulus-of→start c .args .key in
+    let key = c .before .before .args .key in
     let e = ap (λ (p : Modulus). p .degree) (c .modulus-of .ensures) in
-    (rw e (degree-from 8 key (c .before .if1 .left)), rw e (word-degree key (omega arith) (modulus-of→start c .fits .key .fits)))
+    (rw e (degree-from 8 key (c .before .if1 .left)), rw e (word-degree key (omega arith) (c .before .before .fits .key .fits)))
 
 proper : (c : tie.After-modulus-of) → Proper (c .modulus-of .result)
 proper c =
-    let key = modulus-of→start c .args .key in
-    rw (c .modulus-of .ensures) (word-proper key (omega arith) (modulus-of→start c .fits .key .fits))
+    let key = c .before .before .args .key in
+    rw (c .modulus-of .ensures) (word-proper key (omega arith) (c .before .before .fits .key .fits))
 
-whole : (c : tie.After-modulus-of) → polynomial (c .modulus-of .result) ≡ modulus-of→start c .args .key
+whole : (c : tie.After-modulus-of) → polynomial (c .modulus-of .result) ≡ c .before .before .args .key
 whole c =
-    let key = modulus-of→start c .args .key in
+    let key = c .before .before .args .key in
     ap polynomial (c .modulus-of .ensures) ∙ word-whole key (omega arith)
 
 -- where no test of the key holds, the answer is the key taken apart
@@ -73,8 +63,8 @@ stock-key-requires c κs = in-range c
 
 returns-2 : tie.Need-returns-2
 returns-2 c =
-    let m = then2→modulus-of c in
-    let s = modulus-of→start m in
+    let m = c .before .before in
+    let s = m .before .before in
     let k = m .modulus-of .result .degree in
     let r = in-range m in
     let is : s .args .key ≡ stockKey k = c .if2 .taken ∙ c .before .stock-key .ensures in
@@ -82,13 +72,13 @@ returns-2 c =
     accepted-is (s .args .key) (m .modulus-of .result) (m .modulus-of .ensures) (e .0) (e .1)
 
 irreducible-requires : tie.Need-irreducible-requires
-irreducible-requires c κs = let m = else2→modulus-of c in (proper m, in-range m .1)
+irreducible-requires c κs = let m = c .before .before in (proper m, in-range m .1)
 
 returns-3 : tie.Need-returns-3
 unfolding testKey
 returns-3 c =
     let m = then3→modulus-of c in
-    let key = modulus-of→start m .args .key in
+    let key = m .before .before .args .key in
     let i = c .before .irreducible in
     let e = holds (i .result) (reducible key) (i .ensures ∙ ap (λ (q : ℕ). not (reducible q)) (whole m)) (c .if3 .taken) in
     rw (le-ltb key 256 (m .before .if1 .left), e)
@@ -96,7 +86,7 @@ returns-3 c =
 returns-4 : tie.Need-returns-4
 returns-4 c =
     let m = else3→modulus-of c in
-    let key = modulus-of→start m .args .key in
+    let key = m .before .before .args .key in
     let i = c .before .irreducible in
     let e = fails (i .result) (reducible key) (i .ensures ∙ ap (λ (q : ℕ). not (reducible q)) (whole m)) (c .if3 .left) in
     accepted-is key (m .modulus-of .result) (m .modulus-of .ensures) (le-ltb key 256 (m .before .if1 .left)) e
@@ -106,7 +96,7 @@ test-spec =
     tie.close
     (tie.spec
     returns
-    modulus-of-requires
+    (λ c κs. omega arith)
     stock-key-requires
     returns-2
     irreducible-requires

@@ -13,19 +13,10 @@ four-at→start c = c .before .before
 abbrev four-at2→start : tie.After-four-at2 → tie.Start
 four-at2→start c = four-at→start (c .before)
 
-four-at-requires : tie.Need-four-at-requires
-four-at-requires c κs = search needs
-
 mul-result : tie.Need-mul-result
 mul-result c =
-    let s = four-at→start c in
+    let s = c .before .before in
     omega (arith, piece-lt (s .args .part .now) (s .args .i) 4 (c .four-at .result) (omega arith) (c .four-at .ensures))
-
-add-four-at : tie.Need-add-four-at
-add-four-at c = search needs
-
-four-at-requires-2 : tie.Need-four-at-requires-2
-four-at-requires-2 c κs = search needs
 
 add-result : tie.Need-add-result
 add-result c =
@@ -40,4 +31,4 @@ returns c =
     value-join (s .args .part .now) (s .args .i) 4 4 (front .result) (c .four-at2 .result) (omega arith) (front .ensures) (c .four-at2 .ensures)
 
 pub eight-at-spec : {M : Type 1} → statement M
-eight-at-spec = tie.close (tie.spec four-at-requires mul-result add-four-at four-at-requires-2 add-result returns)
+eight-at-spec = tie.close (tie.spec (λ c κs. search needs) mul-result (λ c. search needs) (λ c κs. search needs) add-result returns)

@@ -27,22 +27,13 @@ look-up→start c = low-bits→start (c .before)
 
 mul-x : tie.Need-mul-x
 mul-x c =
-    let s = then1→start c in
+    let s = c .before .before in
     omega (arith, all-fits (s .args .f) (s .args .v) 32 (s .args .p .degree) (s .pre .1) (s .pre .2) (omega arith))
 
 add-x : tie.Need-add-x
 add-x c =
-    let s = then1→start c in
+    let s = c .before .before in
     omega (arith, all-fits (s .args .f) (s .args .v) 32 (s .args .p .degree) (s .pre .1) (s .pre .2) (omega arith))
-
-low-bits-requires : tie.Need-low-bits-requires
-low-bits-requires c κs = search needs
-
-cast-look-up : tie.Need-cast-look-up
-cast-look-up c = search needs
-
-shr-look-up : tie.Need-shr-look-up
-shr-look-up c = search needs
 
 look-up-requires : tie.Need-look-up-requires
 look-up-requires c κs = let s = low-bits→start c in table-long (s .args .p) (s .args .words .now) (s .pre .0)
@@ -57,9 +48,6 @@ returns c =
     (c .before .low-bits .result)
     (c .before .low-bits .ensures)
 
-low-bits-requires-2 : tie.Need-low-bits-requires-2
-low-bits-requires-2 c κs = search needs
-
 mul-look-up : tie.Need-mul-look-up
 mul-look-up c =
     let s = low-bits2→start c in
@@ -71,12 +59,6 @@ add-look-up c =
     let s = low-bits2→start c in
     let e = c .low-bits2 .ensures in
     omega (arith, below-fits (s .args .f) (s .args .v) 32 (s .args .p .degree - 32) (s .pre .2) (omega arith))
-
-cast-look-up-2 : tie.Need-cast-look-up-2
-cast-look-up-2 c = search needs
-
-shr-look-up-2 : tie.Need-shr-look-up-2
-shr-look-up-2 c = search needs
 
 look-up-requires-2 : tie.Need-look-up-requires-2
 look-up-requires-2 c κs = let s = low-bits2→start c in table-long (s .args .p) (s .args .words .now) (s .pre .0)
@@ -98,15 +80,15 @@ feed-four-spec =
     (tie.spec
     mul-x
     add-x
-    low-bits-requires
-    cast-look-up
-    shr-look-up
+    (λ c κs. search needs)
+    (λ c. search needs)
+    (λ c. search needs)
     look-up-requires
     returns
-    low-bits-requires-2
+    (λ c κs. search needs)
     mul-look-up
     add-look-up
-    cast-look-up-2
-    shr-look-up-2
+    (λ c. search needs)
+    (λ c. search needs)
     look-up-requires-2
     returns-2)

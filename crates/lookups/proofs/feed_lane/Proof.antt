@@ -28,9 +28,6 @@ four-at→start c = shared-slice-known2→start (c .before .before .before)
 abbrev four-at→at-loop : tie.After-four-at Inv-loop μ-loop → tie.At-loop Inv-loop μ-loop
 four-at→at-loop c = c .before .before
 
-abbrev feed-tail→at-loop : tie.After-feed-tail Inv-loop μ-loop → tie.At-loop Inv-loop μ-loop
-feed-tail→at-loop c = c .before .before
-
 abbrev feed-four→start : tie.After-feed-four Inv-loop μ-loop → tie.Start Inv-loop μ-loop
 feed-four→start c = four-at→start (c .before)
 
@@ -38,25 +35,13 @@ abbrev feed-four→at-loop : tie.After-feed-four Inv-loop μ-loop → tie.At-loo
 feed-four→at-loop c = four-at→at-loop (c .before)
 
 loop-holds : tie.Need-loop-holds Inv-loop μ-loop
-loop-holds c = (omega arith, (shared-slice-known2→start c .pre .1, refl))
-
-sub-loop : tie.Need-sub-loop Inv-loop μ-loop
-sub-loop c = omega arith
-
-four-at-requires : tie.Need-four-at-requires Inv-loop μ-loop
-four-at-requires c κs = omega arith
+loop-holds c = (omega arith, (c .before .before .pre .1, refl))
 
 feed-four-requires : tie.Need-feed-four-requires Inv-loop μ-loop
 feed-four-requires c κs =
     let s = four-at→start c in
-    let l = four-at→at-loop c .loop in
+    let l = c .before .before .loop in
     (s .pre .0, l .inv .1 .0, piece-lt (s .args .part .now) (l .i) 4 (c .four-at .result) (omega arith) (c .four-at .ensures))
-
-add-i : tie.Need-add-i Inv-loop μ-loop
-add-i c = omega arith
-
-loop-less : tie.Need-loop-less Inv-loop μ-loop
-loop-less c = omega arith
 
 loop-again : tie.Need-loop-again Inv-loop μ-loop
 loop-again c =
@@ -75,7 +60,7 @@ feed-tail-requires c κs =
     (loop→start c .pre .0, l .inv .1 .0, l .inv .0)
 
 returns : tie.Need-returns Inv-loop μ-loop
-returns c = c .feed-tail .ensures ∙ feed-tail→at-loop c .loop .inv .1 .1
+returns c = c .feed-tail .ensures ∙ c .before .before .loop .inv .1 .1
 
 pub feed-lane-spec : {M : Type 1} → statement M
 feed-lane-spec =
@@ -84,11 +69,11 @@ feed-lane-spec =
     Inv-loop
     μ-loop
     loop-holds
-    sub-loop
-    four-at-requires
+    (λ c. omega arith)
+    (λ c κs. omega arith)
     feed-four-requires
-    add-i
-    loop-less
+    (λ c. omega arith)
+    (λ c. omega arith)
     loop-again
     feed-tail-requires
     returns)

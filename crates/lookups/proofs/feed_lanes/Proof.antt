@@ -97,9 +97,6 @@ feed-four4→feed-four2 c = four-at3→feed-four2 (c .before .before .before)
 abbrev feed-four4→four-at3 : tie.After-feed-four4 Inv-loop μ-loop → tie.After-four-at3 Inv-loop μ-loop
 feed-four4→four-at3 c = c .before .before .before
 
-abbrev feed-four4→feed-four3 : tie.After-feed-four4 Inv-loop μ-loop → tie.After-feed-four3 Inv-loop μ-loop
-feed-four4→feed-four3 c = c .before .before
-
 -- four bytes can be fed to a lane
 feeds : (s : tie.Start Inv-loop μ-loop) (part : List ℕ) (i x v : ℕ) → x < 2 ^ s .args .p .degree → i + 4 ≤ length part
     → v ≡ valueFrom 0 (bits (take 4 (drop i part)))
@@ -113,17 +110,11 @@ loop-holds c =
     let s = shared-slice-known5→start c in
     (omega arith, refl, (s .pre .1, refl), (s .pre .2, refl), (s .pre .3, refl), (s .pre .4, refl))
 
-four-at-requires : tie.Need-four-at-requires Inv-loop μ-loop
-four-at-requires c κs = omega arith
-
 feed-four-requires : tie.Need-feed-four-requires Inv-loop μ-loop
 feed-four-requires c κs =
     let s = four-at→start c in
-    let l = four-at→at-loop c .loop in
+    let l = c .before .before .loop in
     feeds s (s .args .q .now) (l .i) (l .a) (c .four-at .result) (l .inv .2 .0) (omega arith) (c .four-at .ensures)
-
-four-at-requires-2 : tie.Need-four-at-requires-2 Inv-loop μ-loop
-four-at-requires-2 c κs = omega arith
 
 feed-four-requires-2 : tie.Need-feed-four-requires-2 Inv-loop μ-loop
 feed-four-requires-2 c κs =
@@ -131,17 +122,11 @@ feed-four-requires-2 c κs =
     let l = four-at2→at-loop c .loop in
     feeds s (s .args .r .now) (l .i) (l .b) (c .four-at2 .result) (l .inv .3 .0) (omega arith) (c .four-at2 .ensures)
 
-four-at-requires-3 : tie.Need-four-at-requires-3 Inv-loop μ-loop
-four-at-requires-3 c κs = omega arith
-
 feed-four-requires-3 : tie.Need-feed-four-requires-3 Inv-loop μ-loop
 feed-four-requires-3 c κs =
     let s = four-at3→start c in
     let l = four-at3→at-loop c .loop in
     feeds s (s .args .s .now) (l .i) (l .c) (c .four-at3 .result) (l .inv .4 .0) (omega arith) (c .four-at3 .ensures)
-
-four-at-requires-4 : tie.Need-four-at-requires-4 Inv-loop μ-loop
-four-at-requires-4 c κs = omega arith
 
 feed-four-requires-4 : tie.Need-feed-four-requires-4 Inv-loop μ-loop
 feed-four-requires-4 c κs =
@@ -154,9 +139,6 @@ add-i c =
     let s = feed-four4→start c in
     let l = feed-four4→at-loop c .loop in
     omega (arith, l .inv .0, l .inv .1, s .pre .5)
-
-loop-less : tie.Need-loop-less Inv-loop μ-loop
-loop-less c = omega arith
 
 loop-again : tie.Need-loop-again Inv-loop μ-loop
 loop-again c =
@@ -172,7 +154,7 @@ loop-again c =
       more (a .f .b) (a .r .now) 0 (l .i) (l .b) (l .inv .3) _ _ (omega (arith, g, p .6)) (feed-four4→four-at2 c .four-at2 .ensures)
           (feed-four4→feed-four2 c .feed-four2 .ensures),
       more (a .f .c) (a .s .now) 0 (l .i) (l .c) (l .inv .4) _ _ (omega (arith, g, p .7)) (feed-four4→four-at3 c .four-at3 .ensures)
-          (feed-four4→feed-four3 c .feed-four3 .ensures),
+          (c .before .before .feed-four3 .ensures),
       more (a .f .d) (a .t .now) 0 (l .i) (l .d) (l .inv .5) _ _ (omega (arith, g, p .8)) (c .before .four-at4 .ensures) (c .feed-four4 .ensures),
     )
 
@@ -195,15 +177,15 @@ feed-lanes-spec =
     Inv-loop
     μ-loop
     loop-holds
-    four-at-requires
+    (λ c κs. omega arith)
     feed-four-requires
-    four-at-requires-2
+    (λ c κs. omega arith)
     feed-four-requires-2
-    four-at-requires-3
+    (λ c κs. omega arith)
     feed-four-requires-3
-    four-at-requires-4
+    (λ c κs. omega arith)
     feed-four-requires-4
     add-i
-    loop-less
+    (λ c. omega arith)
     loop-again
     returns)

@@ -56,9 +56,6 @@ feed-lane-arg→start c = times-plus3→start (c .before)
 abbrev feed-lane→start : tie.After-feed-lane → tie.Start
 feed-lane→start c = feed-lane-arg→start (c .before)
 
-abbrev feed-lane→times-plus3 : tie.After-feed-lane → tie.After-times-plus3
-feed-lane→times-plus3 c = c .before .before
-
 -- ---- what is known at the places
 
 -- the length of a lane
@@ -79,7 +76,7 @@ two-lanes : (c : tie.After-times-plus) → let s = times-plus→start c in Joine
 two-lanes c =
     let s = times-plus→start c in
     let n = one (s .args .part .now) in
-    let x = times-plus→feed-lanes c .feed-lanes in
+    let x = c .before .before .feed-lanes in
     let t = c .before .power-of-t in
     lane-joined (pos s) (s .args .f) (s .args .part .now) n (2 * n) n (x .result .a) (x .result .b) (t .result) (c .times-plus .result) (omega arith)
     (omega arith)
@@ -93,7 +90,7 @@ three-lanes c =
     let s = times-plus2→start c in
     let n = one (s .args .part .now) in
     let x = times-plus2→feed-lanes c .feed-lanes in
-    let t = times-plus2→power-of-t c .power-of-t in
+    let t = c .before .before .power-of-t in
     let ab = c .before in
     lane-joined (pos s) (s .args .f) (s .args .part .now) (2 * n) (3 * n) n (ab .times-plus .result) (x .result .c) (t .result) (c .times-plus2 .result)
     (omega arith) (omega arith)
@@ -118,49 +115,10 @@ four-lanes c =
 
 -- ---- the needs
 
-mul-one : tie.Need-mul-one
-mul-one c = omega arith
-
-mul-two : tie.Need-mul-two
-mul-two c = omega arith
-
-mul-three : tie.Need-mul-three
-mul-three c = omega arith
-
-mul-four : tie.Need-mul-four
-mul-four c = omega arith
-
 slice-aggregate-feed-lanes : tie.Need-slice-aggregate-feed-lanes
 slice-aggregate-feed-lanes c =
     let p = feed-lanes-arg→start c .args .part .now in
     sym (length-take-le (length p / 16 * 4) p (omega arith))
-
-sub-feed-lanes : tie.Need-sub-feed-lanes
-sub-feed-lanes c = omega arith
-
-part-feed-lanes-start : tie.Need-part-feed-lanes-start
-part-feed-lanes-start c = omega arith
-
-part-feed-lanes-end : tie.Need-part-feed-lanes-end
-part-feed-lanes-end c = omega arith
-
-sub-feed-lanes-2 : tie.Need-sub-feed-lanes-2
-sub-feed-lanes-2 c = omega arith
-
-part-feed-lanes-start-2 : tie.Need-part-feed-lanes-start-2
-part-feed-lanes-start-2 c = omega arith
-
-part-feed-lanes-end-2 : tie.Need-part-feed-lanes-end-2
-part-feed-lanes-end-2 c = omega arith
-
-sub-feed-lanes-3 : tie.Need-sub-feed-lanes-3
-sub-feed-lanes-3 c = omega arith
-
-part-feed-lanes-start-3 : tie.Need-part-feed-lanes-start-3
-part-feed-lanes-start-3 c = omega arith
-
-part-feed-lanes-end-3 : tie.Need-part-feed-lanes-end-3
-part-feed-lanes-end-3 c = omega arith
 
 feed-lanes-requires : tie.Need-feed-lanes-requires
 feed-lanes-requires c κs =
@@ -180,12 +138,6 @@ feed-lanes-requires c κs =
       lane-length p (3 * n) (4 * n) n (omega arith) (omega arith) ∙ sym one,
     )
 
-mul-power-of-t : tie.Need-mul-power-of-t
-mul-power-of-t c = omega arith
-
-power-of-t-requires : tie.Need-power-of-t-requires
-power-of-t-requires c κs = omega arith
-
 times-plus-requires : tie.Need-times-plus-requires
 times-plus-requires c κs =
     let s = power-of-t→start c in
@@ -200,16 +152,7 @@ times-plus-requires-2 c κs =
 times-plus-requires-3 : tie.Need-times-plus-requires-3
 times-plus-requires-3 c κs =
     let s = times-plus2→start c in
-    (s .pre .0 .0, residue-below (s .args .p) (s .pre .0 .0) (c .times-plus2 .result) _ (three-lanes c), power-below (times-plus2→power-of-t c))
-
-sub-feed-lane : tie.Need-sub-feed-lane
-sub-feed-lane c = omega arith
-
-part-feed-lane-start : tie.Need-part-feed-lane-start
-part-feed-lane-start c = omega arith
-
-part-feed-lane-end : tie.Need-part-feed-lane-end
-part-feed-lane-end c = omega arith
+    (s .pre .0 .0, residue-below (s .args .p) (s .pre .0 .0) (c .times-plus2 .result) _ (three-lanes c), power-below (c .before .before))
 
 feed-lane-requires : tie.Need-feed-lane-requires
 feed-lane-requires c κs =
@@ -220,36 +163,36 @@ returns : tie.Need-returns
 returns c =
     let s = feed-lane→start c in
     let a = s .args in
-    lane-rest (pos s) (a .f) (a .part .now) (4 * one (a .part .now)) (feed-lane→times-plus3 c .times-plus3 .result) (c .feed-lane .result)
-    (four-lanes (feed-lane→times-plus3 c))
+    lane-rest (pos s) (a .f) (a .part .now) (4 * one (a .part .now)) (c .before .before .times-plus3 .result) (c .feed-lane .result)
+    (four-lanes (c .before .before))
     (c .feed-lane .ensures)
 
 pub feed-long-spec : {M : Type 1} → statement M
 feed-long-spec =
     tie.close
     (tie.spec
-    mul-one
-    mul-two
-    mul-three
-    mul-four
+    (λ c. omega arith)
+    (λ c. omega arith)
+    (λ c. omega arith)
+    (λ c. omega arith)
     slice-aggregate-feed-lanes
-    sub-feed-lanes
-    part-feed-lanes-start
-    part-feed-lanes-end
-    sub-feed-lanes-2
-    part-feed-lanes-start-2
-    part-feed-lanes-end-2
-    sub-feed-lanes-3
-    part-feed-lanes-start-3
-    part-feed-lanes-end-3
+    (λ c. omega arith)
+    (λ c. omega arith)
+    (λ c. omega arith)
+    (λ c. omega arith)
+    (λ c. omega arith)
+    (λ c. omega arith)
+    (λ c. omega arith)
+    (λ c. omega arith)
+    (λ c. omega arith)
     feed-lanes-requires
-    mul-power-of-t
-    power-of-t-requires
+    (λ c. omega arith)
+    (λ c κs. omega arith)
     times-plus-requires
     times-plus-requires-2
     times-plus-requires-3
-    sub-feed-lane
-    part-feed-lane-start
-    part-feed-lane-end
+    (λ c. omega arith)
+    (λ c. omega arith)
+    (λ c. omega arith)
     feed-lane-requires
     returns)

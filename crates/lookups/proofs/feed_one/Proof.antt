@@ -20,29 +20,11 @@ wide→start c = low-bits→start (c .before)
 abbrev shared-slice-known2→start : tie.After-shared-slice-known2 → tie.Start
 shared-slice-known2→start c = wide→start (c .before)
 
-abbrev shared-slice-known2→low-bits : tie.After-shared-slice-known2 → tie.After-low-bits
-shared-slice-known2→low-bits c = c .before .before
-
-sub-cut : tie.Need-sub-cut
-sub-cut c = search needs
-
-low-bits-requires : tie.Need-low-bits-requires
-low-bits-requires c κs = search needs
-
-cast-top : tie.Need-cast-top
-cast-top c = search needs
-
-shr-top : tie.Need-shr-top
-shr-top c = search needs
-
 mul-result : tie.Need-mul-result
 mul-result c =
     let s = low-bits→start c in
     let e = c .low-bits .ensures in
     omega (arith, below-fits (s .args .f) 0 8 (s .args .p .degree - 8) (omega arith) (omega arith))
-
-wide-requires : tie.Need-wide-requires
-wide-requires c κs = search needs
 
 add-result : tie.Need-add-result
 add-result c =
@@ -68,7 +50,7 @@ returns c =
     let p = s .pre in
     let ws = a .words .now in
     let cut = a .p .degree - 8 in
-    let rest = shared-slice-known2→low-bits c .low-bits in
+    let rest = c .before .before .low-bits in
     let b : a .b < 2 ^ 8 = omega (arith, c .before .wide .ensures) in
     ap (λ (y : ℕ). (rest .result * 256 + y) ⊕ getD ws (a .f / 2 ^ cut) 0) (c .before .wide .ensures .0)
     ∙ look-one ws (rest .result * 256 + a .b) (a .f / 2 ^ cut) (top-lt (a .f) 8 (a .p .degree) (p .0 .1) (p .1))
@@ -78,12 +60,12 @@ pub feed-one-spec : {M : Type 1} → statement M
 feed-one-spec =
     tie.close
     (tie.spec
-    sub-cut
-    low-bits-requires
-    cast-top
-    shr-top
+    (λ c. search needs)
+    (λ c κs. search needs)
+    (λ c. search needs)
+    (λ c. search needs)
     mul-result
-    wide-requires
+    (λ c κs. search needs)
     add-result
     mul-result-2
     shared-slice-read-result

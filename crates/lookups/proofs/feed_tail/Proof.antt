@@ -36,21 +36,12 @@ abbrev feed-one→at-loop : tie.After-feed-one Inv-loop μ-loop → tie.At-loop 
 feed-one→at-loop c = shared-slice-known3→at-loop (c .before)
 
 loop-holds : tie.Need-loop-holds Inv-loop μ-loop
-loop-holds c = let p = shared-slice-known2→start c .pre in (p .2, (p .1, refl))
-
-shared-slice-read-feed-one : tie.Need-shared-slice-read-feed-one Inv-loop μ-loop
-shared-slice-read-feed-one c = omega arith
+loop-holds c = let p = c .before .before .pre in (p .2, (p .1, refl))
 
 feed-one-requires : tie.Need-feed-one-requires Inv-loop μ-loop
 feed-one-requires c κs =
     let s = shared-slice-known3→start c in
-    (first-row (s .args .p) (s .args .words .now) (s .pre .0), shared-slice-known3→at-loop c .loop .inv .1 .0)
-
-add-i : tie.Need-add-i Inv-loop μ-loop
-add-i c = omega arith
-
-loop-less : tie.Need-loop-less Inv-loop μ-loop
-loop-less c = omega arith
+    (first-row (s .args .p) (s .args .words .now) (s .pre .0), c .before .before .loop .inv .1 .0)
 
 loop-again : tie.Need-loop-again Inv-loop μ-loop
 loop-again c =
@@ -77,9 +68,9 @@ feed-tail-spec =
     Inv-loop
     μ-loop
     loop-holds
-    shared-slice-read-feed-one
+    (λ c. omega arith)
     feed-one-requires
-    add-i
-    loop-less
+    (λ c. omega arith)
+    (λ c. omega arith)
     loop-again
     returns)

@@ -16,46 +16,22 @@ byte-at4→start c = byte-at→start (c .before .before .before)
 abbrev byte-at4→byte-at : tie.After-byte-at4 → tie.After-byte-at
 byte-at4→byte-at c = c .before .before .before
 
-abbrev byte-at4→byte-at2 : tie.After-byte-at4 → tie.After-byte-at2
-byte-at4→byte-at2 c = c .before .before
-
 -- ---- what is known at the last place
 
 -- each is below 256
-bytes : (c : tie.After-byte-at4) → (byte-at4→byte-at c .byte-at .result < 256) × (byte-at4→byte-at2 c .byte-at2 .result < 256)
+bytes : (c : tie.After-byte-at4) → (byte-at4→byte-at c .byte-at .result < 256) × (c .before .before .byte-at2 .result < 256)
     × (c .before .byte-at3 .result < 256) × (c .byte-at4 .result < 256)
 bytes c =
     let s = byte-at4→start c in
     let p = s .args .part .now in
     let i = s .args .i in (
       piece-lt p i 1 _ (omega arith) (byte-at4→byte-at c .byte-at .ensures),
-      piece-lt p (i + 1) 1 _ (omega arith) (byte-at4→byte-at2 c .byte-at2 .ensures),
+      piece-lt p (i + 1) 1 _ (omega arith) (c .before .before .byte-at2 .ensures),
       piece-lt p (i + 2) 1 _ (omega arith) (c .before .byte-at3 .ensures),
       piece-lt p (i + 3) 1 _ (omega arith) (c .byte-at4 .ensures),
     )
 
 -- ---- the needs
-
-byte-at-requires : tie.Need-byte-at-requires
-byte-at-requires c κs = omega arith
-
-add-byte-at : tie.Need-add-byte-at
-add-byte-at c = omega arith
-
-byte-at-requires-2 : tie.Need-byte-at-requires-2
-byte-at-requires-2 c κs = omega arith
-
-add-byte-at-2 : tie.Need-add-byte-at-2
-add-byte-at-2 c = omega arith
-
-byte-at-requires-3 : tie.Need-byte-at-requires-3
-byte-at-requires-3 c κs = omega arith
-
-add-byte-at-3 : tie.Need-add-byte-at-3
-add-byte-at-3 c = omega arith
-
-byte-at-requires-4 : tie.Need-byte-at-requires-4
-byte-at-requires-4 c κs = omega arith
 
 mul-result : tie.Need-mul-result
 mul-result c = omega (arith, bytes c)
@@ -80,7 +56,7 @@ returns c =
     let s = byte-at4→start c in
     value-four (s .args .part .now) (s .args .i) _ _ _ _ (s .pre)
     (byte-at4→byte-at c .byte-at .ensures)
-    (byte-at4→byte-at2 c .byte-at2 .ensures)
+    (c .before .before .byte-at2 .ensures)
     (c .before .byte-at3 .ensures)
     (c .byte-at4 .ensures)
 
@@ -88,13 +64,13 @@ pub four-at-spec : {M : Type 1} → statement M
 four-at-spec =
     tie.close
     (tie.spec
-    byte-at-requires
-    add-byte-at
-    byte-at-requires-2
-    add-byte-at-2
-    byte-at-requires-3
-    add-byte-at-3
-    byte-at-requires-4
+    (λ c κs. omega arith)
+    (λ c. omega arith)
+    (λ c κs. omega arith)
+    (λ c. omega arith)
+    (λ c κs. omega arith)
+    (λ c. omega arith)
+    (λ c κs. omega arith)
     mul-result
     add-result
     mul-result-2

@@ -19,7 +19,7 @@ look-two-requires : tie.Need-look-two-requires
 look-two-requires c κs = (omega arith, c .before .pre)
 
 look-two-requires-2 : tie.Need-look-two-requires-2
-look-two-requires-2 c κs = (omega arith, look-two→start c .pre)
+look-two-requires-2 c κs = (omega arith, c .before .before .pre)
 
 returns : tie.Need-returns
 unfolding _⊕_

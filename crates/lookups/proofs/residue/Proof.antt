@@ -50,12 +50,9 @@ halves {key} pos x =
     ∙ sym (rem-append pos h 32 v (omega arith))
     ∙ ap (rem key) e
 
-cast-feed-one : tie.Need-cast-feed-one
-cast-feed-one c = omega arith
-
 feed-one-requires : tie.Need-feed-one-requires
 feed-one-requires c κs =
-    let s = then1→start c in
+    let s = c .before .before in
     let h : s .args .x / 256 < 2 ^ 56 = omega arith in
     (first-row (s .args .p) (s .args .words .now) (s .pre), lt-of-lt-of-le h (pow-mono {i = 56} {j = s .args .p .degree} (c .if1 .taken)))
 
@@ -95,4 +92,4 @@ returns-3 c =
     ∙ halves (monic-pos (a .p .degree) (a .p .low) (s .pre .0 .2)) (a .x)
 
 pub residue-spec : {M : Type 1} → statement M
-residue-spec = tie.close (tie.spec cast-feed-one feed-one-requires returns feed-four-requires returns-2 feed-four-requires-2 feed-four-requires-3 returns-3)
+residue-spec = tie.close (tie.spec (λ c. omega arith) feed-one-requires returns feed-four-requires returns-2 feed-four-requires-2 feed-four-requires-3 returns-3)

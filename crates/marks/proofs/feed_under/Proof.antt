@@ -28,9 +28,6 @@ judge→start c = shared-slice-known2→start (c .before)
 abbrev enum-told→start : tie.After-enum-told → tie.Start
 enum-told→start c = judge→start (c .before .before)
 
-abbrev enum-told→judge : tie.After-enum-told → tie.After-judge
-enum-told→judge c = c .before .before
-
 abbrev known-told→start : tie.After-known-told → tie.Start
 known-told→start c = judge→start (c .before .before .before)
 
@@ -40,12 +37,6 @@ feed-looked→start c = enum-told→start (c .before)
 abbrev known-told→judge : tie.After-known-told → tie.After-judge
 known-told→judge c = c .before .before .before
 
-abbrev known-told→r : tie.After-known-told → tie.After-r
-known-told→r c = c .before
-
-abbrev feed-looked→enum-told : tie.After-feed-looked → tie.After-enum-told
-feed-looked→enum-told c = c .before
-
 -- the tests behind those of the words, and the value
 abbrev tests : tie.Start → List Test
 tests s = feedTests (s .args .m .key) (markIn (s .args .m)) (length (s .args .part .now))
@@ -54,7 +45,7 @@ abbrev value : tie.Start → Mark
 value s = fedMark (s .args .m .key) (markIn (s .args .m)) (s .args .part .now)
 
 judge-requires : tie.Need-judge-requires
-judge-requires c κs = opened-proper (shared-slice-known2→start c .pre)
+judge-requires c κs = opened-proper (c .before .before .pre)
 
 -- what `judge` found, under the key itself
 found : (c : tie.After-judge) → let a = judge→start c .args in told (c .judge .result) ≡ judged (tableTests (a .m .key) (a .words .now))
@@ -62,24 +53,19 @@ found c =
     let s = judge→start c in
     c .judge .ensures ∙ ap (λ (q : ℕ). judged (tableTests q (s .args .words .now))) (opened-whole (s .pre))
 
-enum-known-r : tie.Need-enum-known-r
-enum-known-r c = search needs
-
 returns : tie.Need-returns
 returns c =
     let s = known-told→start c in
     let a = s .args in
     let j = known-told→judge c in
-    let refused = judged-refused (tableTests (a .m .key) (a .words .now)) (j .judge .result) (found j) (tests s) (markIn (a .m)) (value s) _ (known-told→r c .r .given .1) in
+    let refused = judged-refused (tableTests (a .m .key) (a .words .now)) (j .judge .result) (found j) (tests s) (markIn (a .m)) (value s) _
+    (c .before .r .given .1) in
     sym (ap (fedUnder (a .m .key)) refused)
-
-enum-told : tie.Need-enum-told
-enum-told c = search needs
 
 clear : (c : tie.After-enum-told) → let a = enum-told→start c .args in Clear (tableTests (a .m .key) (a .words .now))
 clear c =
     let a = enum-told→start c .args in
-    let j = enum-told→judge c in
+    let j = c .before .before in
     judged-clear (tableTests (a .m .key) (a .words .now)) (j .judge .result) (found j) (c .enum-told .given .1)
 
 feed-looked-requires : tie.Need-feed-looked-requires
@@ -90,7 +76,7 @@ returns-2 c =
     let s = feed-looked→start c in
     let a = s .args in
     c .feed-looked .ensures
-    ∙ sym (ap (fedUnder (a .m .key)) (more-clear (tableTests (a .m .key) (a .words .now)) (tests s) (markIn (a .m)) (value s) (clear (feed-looked→enum-told c))))
+    ∙ sym (ap (fedUnder (a .m .key)) (more-clear (tableTests (a .m .key) (a .words .now)) (tests s) (markIn (a .m)) (value s) (clear (c .before))))
 
 pub feed-under-spec : {M : Type 1} → statement M
-feed-under-spec = tie.close (tie.spec judge-requires enum-known-r enum-told feed-looked-requires returns returns-2)
+feed-under-spec = tie.close (tie.spec judge-requires (λ c. search needs) (λ c. search needs) feed-looked-requires returns returns-2)

@@ -58,9 +58,6 @@ step→in-loop c = double→in-loop (c .before .before .before)
 abbrev step→double : tie.After-step Inv-loop μ-loop → tie.After-double Inv-loop μ-loop
 step→double c = c .before .before .before
 
-mul-words : tie.Need-mul-words Inv-loop μ-loop
-mul-words c = omega arith
-
 slice-write-words : tie.Need-slice-write-words Inv-loop μ-loop
 slice-write-words c = omega (arith, pow-pos (c .before .args .width))
 
@@ -82,7 +79,7 @@ loop-holds c =
 double-requires : tie.Need-double-requires Inv-loop μ-loop
 double-requires c κs =
     let s = double-arg→start c in
-    let l = double-arg→at-loop c .loop in
+    let l = c .before .before .loop in
     let e = simp length-set at (l .inv .3) in
     omega (arith, double-le (c .before .loop-test .taken))
 
@@ -97,12 +94,6 @@ mul-n : tie.Need-mul-n Inv-loop μ-loop
 mul-n c =
     let s = step→start c in
     omega (arith, double-le (step→in-loop c .loop-test .taken))
-
-add-b : tie.Need-add-b Inv-loop μ-loop
-add-b c = omega arith
-
-loop-less : tie.Need-loop-less Inv-loop μ-loop
-loop-less c = omega arith
 
 loop-again : tie.Need-loop-again Inv-loop μ-loop
 loop-again c =
@@ -140,14 +131,14 @@ fill-row-spec =
     (tie.spec
     Inv-loop
     μ-loop
-    mul-words
+    (λ c. omega arith)
     slice-write-words
     loop-holds
     double-requires
     step-requires
     mul-n
-    add-b
-    loop-less
+    (λ c. omega arith)
+    (λ c. omega arith)
     loop-again
     same-length
     returns)

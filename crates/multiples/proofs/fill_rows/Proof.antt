@@ -50,9 +50,6 @@ fill-row→row-size c = fill-row-arg→row-size (c .before)
 abbrev fill-row→at-loop : tie.After-fill-row Inv-loop μ-loop → tie.At-loop Inv-loop μ-loop
 fill-row→at-loop c = fill-row-arg→at-loop (c .before)
 
-abbrev fill-row→in-loop : tie.After-fill-row Inv-loop μ-loop → tie.In-loop Inv-loop μ-loop
-fill-row→in-loop c = c .before .before
-
 abbrev slice-known2→at-loop : tie.After-slice-known2 Inv-loop μ-loop → tie.At-loop Inv-loop μ-loop
 slice-known2→at-loop c = fill-row→at-loop (c .before .before)
 
@@ -83,8 +80,8 @@ middle-within c =
     let s = fill-row→start c .args in
     let l = fill-row→at-loop c .loop in
     let n = fill-row→row-size c .row-size in
-    let m = middle-in (s .width) (l .j) (s .rows) (n .result) (length (l .words)) (n .ensures) (fill-row→in-loop c .loop-test .taken)
-    (within (fill-row→in-loop c)) in
+    let m = middle-in (s .width) (l .j) (s .rows) (n .result) (length (l .words)) (n .ensures) (c .before .before .loop-test .taken)
+    (within (c .before .before)) in
     omega (arith, m, c .fill-row .kept .0)
 
 -- row j is made
@@ -107,21 +104,21 @@ row-size-requires c κs = c .before .pre .3
 
 loop-holds : tie.Need-loop-holds Inv-loop μ-loop
 loop-holds c =
-    let s = row-size→start c in
+    let s = c .before .before in
     (omega arith, refl, start-first (s .args .p) (s .pre .0) (s .args .width) (s .args .x) (s .pre .1), λ j l. absurd (omega arith))
 
 mul-at : tie.Need-mul-at Inv-loop μ-loop
 mul-at c =
     let s = in-loop→start c .args in
     let l = c .before .loop in
-    let n = in-loop→row-size c .row-size in
+    let n = c .before .before .row-size in
     omega (arith, row-le (s .width) (l .j) (s .rows) (n .result) (length (l .words)) (n .ensures) (c .loop-test .taken) (within c))
 
 fill-row-requires : tie.Need-fill-row-requires Inv-loop μ-loop
 fill-row-requires c κs =
     let s = fill-row-arg→start c in
     let a = s .args in
-    let l = fill-row-arg→at-loop c .loop in
+    let l = c .before .before .loop in
     let n = fill-row-arg→row-size c .row-size in (
       s .pre .0,
       residue-below (a .p) (s .pre .0) (l .y) _ (l .inv .2),
@@ -129,22 +126,16 @@ fill-row-requires c κs =
     )
 
 add-step : tie.Need-add-step Inv-loop μ-loop
-add-step c = omega (arith, middle-within (slice-known2→fill-row c))
+add-step c = omega (arith, middle-within (c .before .before))
 
 mul-step : tie.Need-mul-step Inv-loop μ-loop
-mul-step c = omega (arith, middle-within (slice-known2→fill-row c))
+mul-step c = omega (arith, middle-within (c .before .before))
 
 slice-read-step : tie.Need-slice-read-step Inv-loop μ-loop
 slice-read-step c = middle-within (slice-known3→fill-row c)
 
 step-requires : tie.Need-step-requires Inv-loop μ-loop
 step-requires c κs = (slice-known3→start c .pre .0, middle-lt (row (slice-known3→fill-row c)), omega arith)
-
-add-j : tie.Need-add-j Inv-loop μ-loop
-add-j c = omega arith
-
-loop-less : tie.Need-loop-less Inv-loop μ-loop
-loop-less c = omega arith
 
 loop-again : tie.Need-loop-again Inv-loop μ-loop
 loop-again c =
@@ -176,8 +167,8 @@ fill-rows-spec =
     mul-step
     slice-read-step
     step-requires
-    add-j
-    loop-less
+    (λ c. omega arith)
+    (λ c. omega arith)
     loop-again
     same-length
     returns)

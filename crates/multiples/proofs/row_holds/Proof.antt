@@ -46,19 +46,13 @@ step→start c = differences→start (c .before)
 abbrev step→at-loop : tie.After-step Inv-loop μ-loop → tie.At-loop Inv-loop μ-loop
 step→at-loop c = differences→at-loop (c .before)
 
-abbrev step→in-loop : tie.After-step Inv-loop μ-loop → tie.In-loop Inv-loop μ-loop
-step→in-loop c = c .before .before
-
-mul-sum : tie.Need-mul-sum Inv-loop μ-loop
-mul-sum c = omega arith
-
 shared-slice-read-sum : tie.Need-shared-slice-read-sum Inv-loop μ-loop
-shared-slice-read-sum c = omega (arith, pow-pos (shared-slice-known2→start c .args .width))
+shared-slice-read-sum c = omega (arith, pow-pos (c .before .before .args .width))
 
 loop-holds : tie.Need-loop-holds Inv-loop μ-loop
 loop-holds c =
-    let a = shared-slice-known2→start c .args in
-    let p = shared-slice-known2→start c .pre in
+    let a = c .before .before .args in
+    let p = c .before .before .pre in
     let pos = monic-pos (a .p .degree) (a .p .low) (p .0 .2) in (
       omega arith,
       refl,
@@ -76,19 +70,13 @@ step-requires : tie.Need-step-requires Inv-loop μ-loop
 step-requires c κs =
     let s = differences→start c in
     let a = s .args in
-    let l = differences→at-loop c .loop in
+    let l = c .before .before .loop in
     (s .pre .0, residue-below (a .p) (s .pre .0) (l .y) (l .n ⊗ a .x) (l .inv .2), omega arith)
 
 mul-n : tie.Need-mul-n Inv-loop μ-loop
 mul-n c =
     let p = step→start c .pre in
-    omega (arith, double-le (step→in-loop c .loop-test .taken))
-
-add-b : tie.Need-add-b Inv-loop μ-loop
-add-b c = omega arith
-
-loop-less : tie.Need-loop-less Inv-loop μ-loop
-loop-less c = omega arith
+    omega (arith, double-le (c .before .before .loop-test .taken))
 
 loop-again : tie.Need-loop-again Inv-loop μ-loop
 loop-again c =
@@ -121,13 +109,13 @@ row-holds-spec =
     (tie.spec
     Inv-loop
     μ-loop
-    mul-sum
+    (λ c. omega arith)
     shared-slice-read-sum
     loop-holds
     differences-requires
     step-requires
     mul-n
-    add-b
-    loop-less
+    (λ c. omega arith)
+    (λ c. omega arith)
     loop-again
     returns)

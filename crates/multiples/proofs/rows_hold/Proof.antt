@@ -51,9 +51,6 @@ then1→at-loop c = c .before .before .before
 abbrev else1→at-loop : tie.Else1 Inv-loop μ-loop → tie.At-loop Inv-loop μ-loop
 else1→at-loop c = c .before .before .before
 
-abbrev then1→in-loop : tie.Then1 Inv-loop μ-loop → tie.In-loop Inv-loop μ-loop
-then1→in-loop c = c .before .before
-
 abbrev else1→in-loop : tie.Else1 Inv-loop μ-loop → tie.In-loop Inv-loop μ-loop
 else1→in-loop c = c .before .before
 
@@ -69,17 +66,14 @@ step→start c = shared-slice-known2→start (c .before)
 abbrev step→at-loop : tie.After-step Inv-loop μ-loop → tie.At-loop Inv-loop μ-loop
 step→at-loop c = else1→at-loop (c .before .before)
 
-abbrev step→else1 : tie.After-step Inv-loop μ-loop → tie.Else1 Inv-loop μ-loop
-step→else1 c = c .before .before
-
 -- ---- what is known at the places
 
 -- the word in the middle of row j is among the words
 middle-within : (c : tie.In-loop Inv-loop μ-loop)
-    → let n = in-loop→row-size c .row-size .result in c .before .loop .j * n + n / 2 < length (in-loop→start c .args .words .now)
+    → let n = c .before .before .row-size .result in c .before .loop .j * n + n / 2 < length (in-loop→start c .args .words .now)
 middle-within c =
     let s = in-loop→start c in
-    let n = in-loop→row-size c .row-size in
+    let n = c .before .before .row-size in
     middle-in (s .args .width) (c .before .loop .j) (s .args .rows) (n .result) (length (s .args .words .now)) (n .ensures) (c .loop-test .taken) (s .pre .4)
 
 -- row j is right
@@ -103,7 +97,7 @@ row-size-requires c κs = c .before .pre .3
 
 loop-holds : tie.Need-loop-holds Inv-loop μ-loop
 loop-holds c =
-    let s = row-size→start c in
+    let s = c .before .before in
     (omega arith, start-first (s .args .p) (s .pre .0) (s .args .width) (s .args .x) (s .pre .1), λ j l. absurd (omega arith))
 
 mul-at : tie.Need-mul-at Inv-loop μ-loop
@@ -114,7 +108,7 @@ row-holds-requires c κs =
     let s = in-loop→start c in
     let a = s .args in
     let l = c .before .loop in
-    let n = in-loop→row-size c .row-size in (
+    let n = c .before .before .row-size in (
       s .pre .0,
       residue-below (a .p) (s .pre .0) (l .y) _ (l .inv .1),
       row-le (a .width) (l .j) (a .rows) (n .result) (length (a .words .now)) (n .ensures) (c .loop-test .taken) (s .pre .4),
@@ -126,17 +120,17 @@ returns c =
     let l = then1→at-loop c .loop in
     let r = c .before .row-holds in
     let n = then1→row-size c .row-size in
-    let taken = then1→in-loop c .loop-test .taken in (
+    let taken = c .before .before .loop-test .taken in (
       λ e. absurd (true≢false (sym e)),
       λ f. absurd (rows-refused (s .p) (s .width) (s .x) (n .result) (l .j) (s .rows) (l .y) (s .words .now) (n .ensures) (l .inv .1)
           taken (r .result) (r .ensures .1) (c .if1 .taken) f),
     )
 
 add-step : tie.Need-add-step Inv-loop μ-loop
-add-step c = omega (arith, middle-within (else1→in-loop c))
+add-step c = omega (arith, middle-within (c .before .before))
 
 mul-step : tie.Need-mul-step Inv-loop μ-loop
-mul-step c = omega (arith, middle-within (else1→in-loop c))
+mul-step c = omega (arith, middle-within (c .before .before))
 
 shared-slice-read-step : tie.Need-shared-slice-read-step Inv-loop μ-loop
 shared-slice-read-step c = middle-within (shared-slice-known2→in-loop c)
@@ -144,16 +138,10 @@ shared-slice-read-step c = middle-within (shared-slice-known2→in-loop c)
 step-requires : tie.Need-step-requires Inv-loop μ-loop
 step-requires c κs = (shared-slice-known2→start c .pre .0, middle-lt (row (c .before)), omega arith)
 
-add-j : tie.Need-add-j Inv-loop μ-loop
-add-j c = omega arith
-
-loop-less : tie.Need-loop-less Inv-loop μ-loop
-loop-less c = omega arith
-
 loop-again : tie.Need-loop-again Inv-loop μ-loop
 loop-again c =
     let l = step→at-loop c .loop in
-    let t = row (step→else1 c) in
+    let t = row (c .before .before) in
     (omega arith, start-next t _ (c .step .ensures), rows-more t (step→start c .args .words .now) (l .inv .2) (λ i h. refl))
 
 returns-2 : tie.Need-returns-2 Inv-loop μ-loop
@@ -177,7 +165,7 @@ rows-hold-spec =
     mul-step
     shared-slice-read-step
     step-requires
-    add-j
-    loop-less
+    (λ c. omega arith)
+    (λ c. omega arith)
     loop-again
     returns-2)

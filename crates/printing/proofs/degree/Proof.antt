@@ -9,11 +9,5 @@ returns : tie.Need-returns
 unfolding degree halvings
 returns c = sym (ap degree (c .if1 .taken))
 
-degree-requires : tie.Need-degree-requires
-degree-requires c κs = search needs
-
-returns-2 : tie.Need-returns-2
-returns-2 c = search needs
-
 pub degree-spec : {M : Type 1} → statement M
-degree-spec = tie.close (tie.spec returns degree-requires returns-2)
+degree-spec = tie.close (tie.spec returns (λ c κs. search needs) (λ c. search needs))

@@ -9,20 +9,11 @@ use Rattle.printing.proofs.digit.Tie as tie
 returns : tie.Need-returns
 returns c = sym (digit-under _ (c .if1 .taken))
 
-cast-result : tie.Need-cast-result
-cast-result c = search needs
-
 returns-2 : tie.Need-returns-2
 returns-2 c = sym (digit-decimal _ (omega arith) (omega arith))
 
 returns-3 : tie.Need-returns-3
 returns-3 c = sym (digit-between _ (omega arith) (omega arith))
-
-cast-result-2 : tie.Need-cast-result-2
-cast-result-2 c = search needs
-
-add-result : tie.Need-add-result
-add-result c = search needs
 
 returns-4 : tie.Need-returns-4
 returns-4 c = sym (digit-letter _ (omega arith) (omega arith))
@@ -31,4 +22,4 @@ returns-5 : tie.Need-returns-5
 returns-5 c = sym (digit-over _ (omega arith))
 
 pub digit-spec : {M : Type 1} → statement M
-digit-spec = tie.close (tie.spec returns cast-result returns-2 returns-3 cast-result-2 add-result returns-4 returns-5)
+digit-spec = tie.close (tie.spec returns (λ c. search needs) returns-2 returns-3 (λ c. search needs) (λ c. search needs) returns-4 returns-5)

@@ -45,20 +45,11 @@ loop-holds c = (omega arith, omega arith, c .before .pre .1, refl)
 mul-value : tie.Need-mul-value Inv-loop μ-loop
 mul-value c = record { fits = omega (arith, small c) }
 
-shared-slice-read-digit : tie.Need-shared-slice-read-digit Inv-loop μ-loop
-shared-slice-read-digit c = omega arith
-
 digit-requires : tie.Need-digit-requires Inv-loop μ-loop
 digit-requires c κs = tt
 
 add-value : tie.Need-add-value Inv-loop μ-loop
 add-value c = record { fits = omega (arith, c .digit .ensures, digit-read c .0, small (c .before .before)) }
-
-add-i : tie.Need-add-i Inv-loop μ-loop
-add-i c = omega arith
-
-loop-less : tie.Need-loop-less Inv-loop μ-loop
-loop-less c = omega arith
 
 loop-again : tie.Need-loop-again Inv-loop μ-loop
 loop-again c =
@@ -81,10 +72,10 @@ hex-value-spec =
     μ-loop
     loop-holds
     mul-value
-    shared-slice-read-digit
+    (λ c. omega arith)
     digit-requires
     add-value
-    add-i
-    loop-less
+    (λ c. omega arith)
+    (λ c. omega arith)
     loop-again
     returns)

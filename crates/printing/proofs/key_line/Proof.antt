@@ -35,9 +35,6 @@ cut c = length-take-le (c .find .result) (input-at c) (c .find .ensures .1)
 all-digits-left : (c : tie.Else4) → allDigits (take (found-line (c .before) .find .result) (input-at (found-line (c .before)))) ≡ true
 all-digits-left c = sym (c .before .all-digits .ensures) ∙ not-false _ (c .if4 .left)
 
-find-requires : tie.Need-find-requires
-find-requires c κs = search needs
-
 returns : tie.Need-returns
 returns c = sym (decided (c .before) ∙ no-newline _ _ (omega arith))
 
@@ -50,17 +47,11 @@ returns-3 c = sym (decided (c .before .before .before) ∙ long-line _ _ (omega 
 slice-aggregate-line : tie.Need-slice-aggregate-line
 slice-aggregate-line c = sym (cut (found (c .before)))
 
-all-digits-requires : tie.Need-all-digits-requires
-all-digits-requires c κs = search needs
-
 returns-4 : tie.Need-returns-4
 returns-4 c = sym (decided (found-line (c .before)) ∙ other-bytes _ _ (sym (c .before .all-digits .ensures) ∙ not-true _ (c .if4 .taken)))
 
 hex-value-requires : tie.Need-hex-value-requires
 hex-value-requires c κs = (omega (arith, cut (found-line (c .before))), all-digits-left c)
-
-add-t4 : tie.Need-add-t4
-add-t4 c = search needs
 
 returns-5 : tie.Need-returns-5
 returns-5 c =
@@ -73,13 +64,13 @@ pub key-line-spec : {M : Type 1} → statement M
 key-line-spec =
     tie.close
     (tie.spec
-    find-requires
+    (λ c κs. search needs)
     returns
     returns-2
     returns-3
     slice-aggregate-line
-    all-digits-requires
+    (λ c κs. search needs)
     returns-4
     hex-value-requires
-    add-t4
+    (λ c. search needs)
     returns-5)

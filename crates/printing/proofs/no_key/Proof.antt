@@ -9,12 +9,6 @@ use Rattle.printing.proofs.no_key.Tie as tie
 abbrev start : tie.After-put → tie.Start
 start c = c .before .before .before
 
-slice-aggregate-put : tie.Need-slice-aggregate-put
-slice-aggregate-put c = search needs
-
-put-requires : tie.Need-put-requires
-put-requires c κs = search needs
-
 returns : tie.Need-returns
 unfolding noKey ascii
 returns c =
@@ -23,4 +17,4 @@ returns c =
     whole (omega arith) text
 
 pub no-key-spec : {M : Type 1} → statement M
-no-key-spec = tie.close (tie.spec slice-aggregate-put put-requires returns)
+no-key-spec = tie.close (tie.spec (λ c. search needs) (λ c κs. search needs) returns)

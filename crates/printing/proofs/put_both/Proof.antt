@@ -21,15 +21,6 @@ first-at c = between (c .before .before)
 abbrev second-at : tie.After-slice-known3 → tie.After-put2
 second-at c = c .before .before
 
-put-requires : tie.Need-put-requires
-put-requires c κs = search needs
-
-put-requires-2 : tie.Need-put-requires-2
-put-requires-2 c κs = search needs
-
-same-length : tie.Need-same-length
-same-length c = search needs
-
 returns : tie.Need-returns
 returns c =
     let a = start (first-at (second-at c)) .args in
@@ -40,4 +31,4 @@ returns c =
     (both .behind, both .put)
 
 pub put-both-spec : {M : Type 1} → statement M
-put-both-spec = tie.close (tie.spec put-requires put-requires-2 same-length returns)
+put-both-spec = tie.close (tie.spec (λ c κs. search needs) (λ c κs. search needs) (λ c. search needs) returns)

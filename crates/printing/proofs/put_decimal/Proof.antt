@@ -21,20 +21,8 @@ both-at c = c .before .before
 room : (c : tie.After-decimal) → c .decimal .result ≤ 20
 room c = few-digits 10 20 (start (c .before) .args .n) (lit< tt) (lit< tt) (omega arith) (c .decimal .ensures .1 .0)
 
-decimal-requires : tie.Need-decimal-requires
-decimal-requires c κs = search needs
-
-array-share-prefix-digits : tie.Need-array-share-prefix-digits
-array-share-prefix-digits c = search needs
-
-slice-aggregate-put-both : tie.Need-slice-aggregate-put-both
-slice-aggregate-put-both c = search needs
-
 put-both-requires : tie.Need-put-both-requires
 put-both-requires c κs = omega (arith, room (written c), written c .decimal .ensures .0 .1)
-
-same-length : tie.Need-same-length
-same-length c = search needs
 
 returns : tie.Need-returns
 returns c =
@@ -48,9 +36,9 @@ pub put-decimal-spec : {M : Type 1} → statement M
 put-decimal-spec =
     tie.close
     (tie.spec
-    decimal-requires
-    array-share-prefix-digits
-    slice-aggregate-put-both
+    (λ c κs. search needs)
+    (λ c. search needs)
+    (λ c. search needs)
     put-both-requires
-    same-length
+    (λ c. search needs)
     returns)

@@ -22,9 +22,6 @@ test→start c = shared-slice-known→start (c .before .before .before)
 abbrev p→start : tie.After-p → tie.Start
 p→start c = test→start (c .before .before)
 
-abbrev p→test : tie.After-p → tie.After-test
-p→test c = c .before .before
-
 abbrev known-told→start : tie.After-known-told → tie.Start
 known-told→start c = test→start (c .before .before .before)
 
@@ -43,15 +40,6 @@ slice-known2→start c = search-under-arg→start (c .before .before .before)
 abbrev slice-known2→p : tie.After-slice-known2 → tie.After-p
 slice-known2→p c = search-under-arg→p (c .before .before .before)
 
-abbrev slice-known2→search-under : tie.After-slice-known2 → tie.After-search-under
-slice-known2→search-under c = c .before .before
-
-test-requires : tie.Need-test-requires
-test-requires c κs = search needs
-
-enum-known-r : tie.Need-enum-known-r
-enum-known-r c = search needs
-
 returns : tie.Need-returns
 unfolding answer wordsAfter
 returns c =
@@ -64,27 +52,21 @@ returns c =
       sym (ap stateOf (refused (t .result) (a .key) (t .ensures) tests (a .places .now) after _ e)),
     )
 
-enum-known-p : tie.Need-enum-known-p
-enum-known-p c = search needs
-
 -- the accepted key
 key-opened : (c : tie.After-p) → Opened (p→start c .args .key) (c .p .given .0 .0)
 key-opened c =
-    let t = p→test c .test in
+    let t = c .before .before .test in
     opened (t .result) (p→start c .args .key) (t .ensures) _ (omega arith) (c .p .given .1)
 
 search-under-requires : tie.Need-search-under-requires
-search-under-requires c κs = let h = key-opened (search-under-arg→p c) in (opened-proper h, opened-eight h)
-
-same-length : tie.Need-same-length
-same-length c = search needs
+search-under-requires c κs = let h = key-opened (c .before .before) in (opened-proper h, opened-eight h)
 
 returns-2 : tie.Need-returns-2
 unfolding answer wordsAfter
 returns-2 c =
     let a = slice-known2→start c .args in
     let h = key-opened (slice-known2→p c) in
-    let e = slice-known2→search-under c .search-under .ensures in
+    let e = c .before .before .search-under .ensures in
     let tests = textTests (a .text .now) (a .pattern .now) in
     let after = written (a .text .now) (a .pattern .now) (a .places .now) in (
       e .0
@@ -94,4 +76,4 @@ returns-2 c =
     )
 
 pub search-spec : {M : Type 1} → statement M
-search-spec = tie.close (tie.spec test-requires enum-known-r enum-known-p search-under-requires returns same-length returns-2)
+search-spec = tie.close (tie.spec (λ c κs. search needs) (λ c. search needs) (λ c. search needs) search-under-requires returns (λ c. search needs) returns-2)

@@ -73,12 +73,6 @@ struct-known→flag-block c = compare→flag-block (c .before .before .before)
 abbrev struct-known→compare : tie.After-struct-known Inv-loop μ-loop → tie.After-compare Inv-loop μ-loop
 struct-known→compare c = c .before .before .before
 
-sub-windows : tie.Need-sub-windows Inv-loop μ-loop
-sub-windows c = omega arith
-
-add-windows : tie.Need-add-windows Inv-loop μ-loop
-add-windows c = omega arith
-
 loop-holds : tie.Need-loop-holds Inv-loop μ-loop
 loop-holds c =
     let s = slice-known→start c in (
@@ -93,7 +87,7 @@ loop-holds c =
 flag-block-requires : tie.Need-flag-block-requires Inv-loop μ-loop
 flag-block-requires c κs =
     let s = flags→start c in
-    let l = flags→at-loop c .loop in
+    let l = c .before .before .loop in
     let h = c .before .loop-test .taken in
     let e = s .pre .1 in
     (s .pre .0, l .inv .1, omega arith, l .inv .4 h)
@@ -102,16 +96,10 @@ compare-requires : tie.Need-compare-requires Inv-loop μ-loop
 compare-requires c κs =
     let s = compare-arg→start c in
     let l = compare-arg→at-loop c .loop in
-    let block = compare-arg→flag-block c .flag-block .ensures in
+    let block = c .before .before .flag-block .ensures in
     let e = s .pre .1 in
     let some = s .pre .0 .some in
     (block .1, omega arith, omega arith, s .pre .5, l .inv .2, l .inv .3)
-
-add-from : tie.Need-add-from Inv-loop μ-loop
-add-from c = omega arith
-
-loop-less : tie.Need-loop-less Inv-loop μ-loop
-loop-less c = omega arith
 
 loop-again : tie.Need-loop-again Inv-loop μ-loop
 loop-again c =
@@ -164,13 +152,13 @@ search-blocks-spec =
     (tie.spec
     Inv-loop
     μ-loop
-    sub-windows
-    add-windows
+    (λ c. omega arith)
+    (λ c. omega arith)
     loop-holds
     flag-block-requires
     compare-requires
-    add-from
-    loop-less
+    (λ c. omega arith)
+    (λ c. omega arith)
     loop-again
     same-length
     returns)

@@ -53,33 +53,18 @@ search-blocks-arg→read-first c = outgoing2→read-first (c .before .before .be
 abbrev search-blocks-arg→fill-row2 : tie.After-search-blocks-arg → tie.After-fill-row2
 search-blocks-arg→fill-row2 c = outgoing2→fill-row2 (c .before .before .before)
 
-slice-aggregate-fill-row : tie.Need-slice-aggregate-fill-row
-slice-aggregate-fill-row c = search needs
-
-fill-row-requires : tie.Need-fill-row-requires
-fill-row-requires c κs = search needs
-
-slice-aggregate-read-first : tie.Need-slice-aggregate-read-first
-slice-aggregate-read-first c = search needs
-
 read-first-requires : tie.Need-read-first-requires
 read-first-requires c κs =
     let s = reduce3→start c in
     let a = s .args in
-    let row = reduce3→fill-row c .fill-row in
+    let row = c .before .before .fill-row in
     ((s .pre .0, s .pre .1, omega arith, one-row (a .p) (s .pre .0) (row .last .0) (row .ensures .0)), s .pre .3)
-
-slice-aggregate-fill-row-2 : tie.Need-slice-aggregate-fill-row-2
-slice-aggregate-fill-row-2 c = search needs
 
 fill-row-requires-2 : tie.Need-fill-row-requires-2
 fill-row-requires-2 c κs =
     let s = outgoing→start c in
     let r = c .before .read-first in
     (s .pre .0, residue-below (s .args .p) (s .pre .0) (r .result .shift) (2 ^ (8 * length (s .args .pattern .now))) (r .ensures .2), omega arith)
-
-slice-aggregate-search-blocks : tie.Need-slice-aggregate-search-blocks
-slice-aggregate-search-blocks c = search needs
 
 search-blocks-requires : tie.Need-search-blocks-requires
 search-blocks-requires c κs =
@@ -101,23 +86,17 @@ search-blocks-requires c κs =
       s .pre .4,
     )
 
-same-length : tie.Need-same-length
-same-length c = search needs
-
-returns : tie.Need-returns
-returns c = search needs
-
 pub search-text-spec : {M : Type 1} → statement M
 search-text-spec =
     tie.close
     (tie.spec
-    slice-aggregate-fill-row
-    fill-row-requires
-    slice-aggregate-read-first
+    (λ c. search needs)
+    (λ c κs. search needs)
+    (λ c. search needs)
     read-first-requires
-    slice-aggregate-fill-row-2
+    (λ c. search needs)
     fill-row-requires-2
-    slice-aggregate-search-blocks
+    (λ c. search needs)
     search-blocks-requires
-    same-length
-    returns)
+    (λ c. search needs)
+    (λ c. search needs))

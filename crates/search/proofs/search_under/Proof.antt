@@ -30,9 +30,6 @@ then2→start c = else1→start (c .before)
 abbrev then3→start : tie.Then3 → tie.Start
 then3→start c = else1→start (c .before .before)
 
-abbrev then3→else1 : tie.Then3 → tie.Else1
-then3→else1 c = c .before .before
-
 abbrev search-text-arg→start : tie.After-search-text-arg → tie.Start
 search-text-arg→start c = else1→start (c .before .before .before)
 
@@ -51,18 +48,12 @@ slice-known2→else1 c = search-text-arg→else1 (c .before .before .before)
 abbrev slice-known2→else2 : tie.After-slice-known2 → tie.Else2
 slice-known2→else2 c = search-text-arg→else2 (c .before .before .before)
 
-abbrev slice-known2→search-text : tie.After-slice-known2 → tie.After-search-text
-slice-known2→search-text c = c .before .before
-
 -- ---- what is known at the places
 
 short : (c : tie.Else1) → let a = else1→start c .args in passes (length (a .text .now) ∷ length (a .pattern .now) ∷ []) ≡ false
 short c = fails (c .before .within .result) _ (c .before .within .ensures) (c .if1 .left)
 
 -- ---- the needs
-
-within-requires : tie.Need-within-requires
-within-requires c κs = search needs
 
 returns : tie.Need-returns
 returns c =
@@ -78,24 +69,21 @@ returns-2 c =
 returns-3 : tie.Need-returns-3
 returns-3 c =
     let a = then3→start c .args in
-    call-none (polynomial (a .p)) (a .text .now) (a .pattern .now) (a .places .now) (short (then3→else1 c)) (c .before .if2 .left) (c .if3 .taken)
+    call-none (polynomial (a .p)) (a .text .now) (a .pattern .now) (a .places .now) (short (c .before .before)) (c .before .if2 .left) (c .if3 .taken)
 
 search-text-requires : tie.Need-search-text-requires
 search-text-requires c κs =
     let s = search-text-arg→start c in
     let a = s .args in
     let l = within (length (a .text .now) ∷ length (a .pattern .now) ∷ []) (short (search-text-arg→else1 c)) in
-    (s .pre .0, s .pre .1, omega (arith, search-text-arg→else2 c .if2 .left), omega (arith, c .before .if3 .left), l .0)
-
-same-length : tie.Need-same-length
-same-length c = search needs
+    (s .pre .0, s .pre .1, omega (arith, c .before .before .if2 .left), omega (arith, c .before .if3 .left), l .0)
 
 returns-4 : tie.Need-returns-4
 returns-4 c =
     let a = slice-known2→start c .args in
     let d = call-done (polynomial (a .p)) (a .text .now) (a .pattern .now) (a .places .now) (short (slice-known2→else1 c)) (slice-known2→else2 c .if2 .left) in
-    let f = slice-known2→search-text c .search-text .ensures in
+    let f = c .before .before .search-text .ensures in
     (ap Done (f .0) ∙ d .0, f .1 ∙ d .1)
 
 pub search-under-spec : {M : Type 1} → statement M
-search-under-spec = tie.close (tie.spec within-requires returns returns-2 returns-3 search-text-requires same-length returns-4)
+search-under-spec = tie.close (tie.spec (λ c κs. search needs) returns returns-2 returns-3 search-text-requires (λ c. search needs) returns-4)

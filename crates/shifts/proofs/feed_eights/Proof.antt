@@ -28,9 +28,6 @@ shared-slice-known5→start c = shared-slice-known4→start (c .before .before)
 abbrev eight-at2→start : tie.After-eight-at2 Inv-loop μ-loop → tie.Start Inv-loop μ-loop
 eight-at2→start c = shared-slice-known5→start (c .before)
 
-abbrev eight-at2→eight-at : tie.After-eight-at2 Inv-loop μ-loop → tie.After-eight-at Inv-loop μ-loop
-eight-at2→eight-at c = c .before .before
-
 abbrev in-loop→start : tie.In-loop Inv-loop μ-loop → tie.Start Inv-loop μ-loop
 in-loop→start c = eight-at2→start (c .before .before)
 
@@ -70,9 +67,6 @@ eight-at4→in-loop c = times2→in-loop (c .before)
 abbrev eight-at4→times : tie.After-eight-at4 Inv-loop μ-loop → tie.After-times Inv-loop μ-loop
 eight-at4→times c = c .before .before .before
 
-abbrev eight-at4→eight-at3 : tie.After-eight-at4 Inv-loop μ-loop → tie.After-eight-at3 Inv-loop μ-loop
-eight-at4→eight-at3 c = c .before .before
-
 shared-slice-read-a : tie.Need-shared-slice-read-a Inv-loop μ-loop
 shared-slice-read-a c = omega (arith, shared-slice-known4→start c .pre .0)
 
@@ -93,7 +87,7 @@ loop-holds c =
     let eight = first-eight (a .words .now) in (
       s .pre .1,
       refl,
-      eight (a .q .now) (eight-at2→eight-at c .eight-at .result) (s .pre .1) (eight-at2→eight-at c .eight-at .ensures),
+      eight (a .q .now) (c .before .before .eight-at .result) (s .pre .1) (c .before .before .eight-at .ensures),
       eight (a .r .now) (c .eight-at2 .result) (omega (arith, s .pre .1, s .pre .3)) (c .eight-at2 .ensures),
     )
 
@@ -101,19 +95,13 @@ times-requires : tie.Need-times-requires Inv-loop μ-loop
 times-requires c κs = in-loop→start c .pre .0
 
 eight-at-requires-3 : tie.Need-eight-at-requires-3 Inv-loop μ-loop
-eight-at-requires-3 c κs = omega (arith, times→at-loop c .loop .inv .1, c .before .loop-test .taken, times→start c .pre .2)
+eight-at-requires-3 c κs = omega (arith, c .before .before .loop .inv .1, c .before .loop-test .taken, times→start c .pre .2)
 
 times-requires-2 : tie.Need-times-requires-2 Inv-loop μ-loop
 times-requires-2 c κs = eight-at3→start c .pre .0
 
 eight-at-requires-4 : tie.Need-eight-at-requires-4 Inv-loop μ-loop
 eight-at-requires-4 c κs = omega (arith, times2→at-loop c .loop .inv .1, times2→in-loop c .loop-test .taken, times2→start c .pre .2, times2→start c .pre .3)
-
-add-i : tie.Need-add-i Inv-loop μ-loop
-add-i c = omega arith
-
-loop-less : tie.Need-loop-less Inv-loop μ-loop
-loop-less c = omega arith
 
 loop-again : tie.Need-loop-again Inv-loop μ-loop
 unfolding _⊕_
@@ -125,8 +113,8 @@ loop-again c =
     let eight = next-eight (a .words .now) in (
       fits,
       omega (arith, l .inv .1),
-      eight (a .q .now) (l .i) (l .a) (eight-at4→times c .times .result) (eight-at4→eight-at3 c .eight-at3 .result) (l .inv .2) fits
-          (eight-at4→times c .times .ensures) (eight-at4→eight-at3 c .eight-at3 .ensures),
+      eight (a .q .now) (l .i) (l .a) (eight-at4→times c .times .result) (c .before .before .eight-at3 .result) (l .inv .2) fits
+          (eight-at4→times c .times .ensures) (c .before .before .eight-at3 .ensures),
       eight (a .r .now) (l .i) (l .b) (c .before .times2 .result) (c .eight-at4 .result) (l .inv .3) (omega (arith, fits, s .pre .3))
           (c .before .times2 .ensures) (c .eight-at4 .ensures),
     )
@@ -154,7 +142,7 @@ feed-eights-spec =
     eight-at-requires-3
     times-requires-2
     eight-at-requires-4
-    add-i
-    loop-less
+    (λ c. omega arith)
+    (λ c. omega arith)
     loop-again
     returns)

@@ -25,12 +25,6 @@ slice-known2→start c = fill-rows-arg→start (c .before .before .before)
 abbrev slice-known2→power-of-t : tie.After-slice-known2 → tie.After-power-of-t
 slice-known2→power-of-t c = fill-rows-arg→power-of-t (c .before .before .before)
 
-abbrev slice-known2→fill-rows : tie.After-slice-known2 → tie.After-fill-rows
-slice-known2→fill-rows c = c .before .before
-
-mul-power-of-t : tie.Need-mul-power-of-t
-mul-power-of-t c = omega arith
-
 power-of-t-requires : tie.Need-power-of-t-requires
 power-of-t-requires c κs = c .before .pre .0
 
@@ -41,17 +35,17 @@ fill-rows-requires c κs =
     (s .pre .0, residue-below (s .args .p) (s .pre .0) (x .result) _ (x .ensures), omega arith, omega arith, omega (arith, s .pre .2))
 
 same-length : tie.Need-same-length
-same-length c = slice-known2→fill-rows c .fill-rows .kept .0
+same-length c = c .before .before .fill-rows .kept .0
 
 returns : tie.Need-returns
 returns c =
     let s = slice-known2→start c in
     let x = slice-known2→power-of-t c .power-of-t in
-    let r = slice-known2→fill-rows c .fill-rows in
+    let r = c .before .before .fill-rows in
     let key = polynomial (s .args .p) in
     let pos = monic-pos (s .args .p .degree) (s .args .p .low) (s .pre .0 .2) in
     let n = 2 ^ (8 * s .args .n) in
     record { long = r .kept .0 ∙ s .pre .2; rows = rows-same pos 8 (x .result) n 8 (r .last .0) (ap (rem key) (x .ensures) ∙ rem-rem pos n) (r .ensures) }
 
 pub fill-spec : {M : Type 1} → statement M
-fill-spec = tie.close (tie.spec mul-power-of-t power-of-t-requires fill-rows-requires same-length returns)
+fill-spec = tie.close (tie.spec (λ c. omega arith) power-of-t-requires fill-rows-requires same-length returns)

@@ -18,21 +18,9 @@ use Rattle.stock.proofs.stock_key.Lts as lts
 abbrev constant : tie.Start → List ℕ
 constant c = Row.get 2 (lts.T2 .locals) (lts.m1 reads.Pre reads.Post (c .args) (c .blocks))
 
-sub-result : tie.Need-sub-result
-sub-result c = search needs
-
-cast-result : tie.Need-cast-result
-cast-result c = search needs
-
-mul-result : tie.Need-mul-result
-mul-result c = search needs
-
-array-read-result : tie.Need-array-read-result
-array-read-result c = search needs
-
 returns : tie.Need-returns
 unfolding divisors left same
 returns c = ap (λ (xs : List ℕ). getD xs (c .args .k - 8) 0) (same-eq (constant c) keys tt) ∙ entry-stock (c .args .k) (c .pre .0) (c .pre .1)
 
 pub stock-key-spec : {M : Type 1} → statement M
-stock-key-spec = tie.close (tie.spec sub-result cast-result mul-result array-read-result returns)
+stock-key-spec = tie.close (tie.spec (λ c. search needs) (λ c. search needs) (λ c. search needs) (λ c. search needs) returns)

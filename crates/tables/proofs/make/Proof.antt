@@ -22,17 +22,11 @@ test→start c = c .before .before
 abbrev p→start : tie.After-p → tie.Start
 p→start c = test→start (c .before .before)
 
-abbrev p→test : tie.After-p → tie.After-test
-p→test c = c .before .before
-
 abbrev known-told→start : tie.After-known-told → tie.Start
 known-told→start c = test→start (c .before .before .before)
 
 abbrev known-told→test : tie.After-known-told → tie.After-test
 known-told→test c = c .before .before .before
-
-abbrev known-told→r : tie.After-known-told → tie.After-r
-known-told→r c = c .before
 
 abbrev make-under-arg→start : tie.After-make-under-arg → tie.Start
 make-under-arg→start c = p→start (c .before .before)
@@ -46,37 +40,22 @@ slice-known2→start c = make-under-arg→start (c .before .before .before)
 abbrev slice-known2→p : tie.After-slice-known2 → tie.After-p
 slice-known2→p c = make-under-arg→p (c .before .before .before)
 
-abbrev slice-known2→make-under : tie.After-slice-known2 → tie.After-make-under
-slice-known2→make-under c = c .before .before
-
 -- the table that the call makes
 abbrev table : ℕ → List ℕ
 table key = listFrom (word 8 key) 0 1024
 
-test-requires : tie.Need-test-requires
-test-requires c κs = search needs
-
-enum-known-r : tie.Need-enum-known-r
-enum-known-r c = search needs
-
-enum-known-p : tie.Need-enum-known-p
-enum-known-p c = search needs
-
 key-opened : (c : tie.After-p) → Opened (p→start c .args .key) (c .p .given .0 .0)
-key-opened c = let t = p→test c .test in opened (t .result) (p→start c .args .key) (t .ensures) _ (omega arith) (c .p .given .1)
+key-opened c = let t = c .before .before .test in opened (t .result) (p→start c .args .key) (t .ensures) _ (omega arith) (c .p .given .1)
 
 make-under-requires : tie.Need-make-under-requires
-make-under-requires c κs = opened-proper (key-opened (make-under-arg→p c))
+make-under-requires c κs = opened-proper (key-opened (c .before .before))
 
 returns : tie.Need-returns
 unfolding makeTable
 returns c =
     let a = known-told→start c .args in
     let t = known-told→test c .test in
-    sym (refused (t .result) (a .key) (t .ensures) (sizeTest (a .words .now) ∷ []) (a .words .now) (table (a .key)) _ (known-told→r c .r .given .1))
-
-same-length : tie.Need-same-length
-same-length c = search needs
+    sym (refused (t .result) (a .key) (t .ensures) (sizeTest (a .words .now) ∷ []) (a .words .now) (table (a .key)) _ (c .before .r .given .1))
 
 returns-2 : tie.Need-returns-2
 unfolding makeTable
@@ -84,9 +63,9 @@ returns-2 c =
     let a = slice-known2→start c .args in
     let words = a .words .now in
     let h = key-opened (slice-known2→p c) in
-    slice-known2→make-under c .make-under .ensures
+    c .before .before .make-under .ensures
     ∙ ap (λ (q : ℕ). firstOf (sizeTest words ∷ []) words (table q)) (opened-whole h)
     ∙ sym (opened-first h (sizeTest words ∷ []) words (table (a .key)))
 
 pub make-spec : {M : Type 1} → statement M
-make-spec = tie.close (tie.spec test-requires enum-known-r enum-known-p make-under-requires returns same-length returns-2)
+make-spec = tie.close (tie.spec (λ c κs. search needs) (λ c. search needs) (λ c. search needs) make-under-requires returns (λ c. search needs) returns-2)

@@ -12,9 +12,6 @@ use Rattle.tables.proofs.make_under.Tie as tie
 
 -- ---- the places: from each one to an earlier one
 
-abbrev else1→start : tie.Else1 → tie.Start
-else1→start c = c .before .before
-
 abbrev fill-table-arg→start : tie.After-fill-table-arg → tie.Start
 fill-table-arg→start c = c .before .before .before
 
@@ -27,25 +24,19 @@ slice-known2→start c = fill-table-arg→start (c .before .before .before)
 abbrev slice-known2→then1 : tie.After-slice-known2 → tie.Then1
 slice-known2→then1 c = fill-table-arg→then1 (c .before .before .before)
 
-abbrev slice-known2→fill-table : tie.After-slice-known2 → tie.After-fill-table
-slice-known2→fill-table c = c .before .before
-
 fill-table-requires : tie.Need-fill-table-requires
-fill-table-requires c κs = (fill-table-arg→start c .pre, fill-table-arg→then1 c .if1 .taken)
-
-same-length : tie.Need-same-length
-same-length c = search needs
+fill-table-requires c κs = (fill-table-arg→start c .pre, c .before .if1 .taken)
 
 returns : tie.Need-returns
 returns c =
     let a = slice-known2→start c .args in
-    ap Done (slice-known2→fill-table c .fill-table .ensures)
+    ap Done (c .before .before .fill-table .ensures)
     ∙ sym (size-passed (a .words .now) [] (a .words .now) (listFrom (word 8 (polynomial (a .p))) 0 1024) (slice-known2→then1 c .if1 .taken))
 
 returns-2 : tie.Need-returns-2
 returns-2 c =
-    let a = else1→start c .args in
+    let a = c .before .before .args in
     sym (size-refused (a .words .now) [] (a .words .now) (listFrom (word 8 (polynomial (a .p))) 0 1024) (c .if1 .left))
 
 pub make-under-spec : {M : Type 1} → statement M
-make-under-spec = tie.close (tie.spec fill-table-requires same-length returns returns-2)
+make-under-spec = tie.close (tie.spec fill-table-requires (λ c. search needs) returns returns-2)

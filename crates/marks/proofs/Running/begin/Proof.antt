@@ -20,41 +20,26 @@ test→start c = c .before
 abbrev enum-told→start : tie.After-enum-told → tie.Start
 enum-told→start c = test→start (c .before .before)
 
-abbrev enum-told→test : tie.After-enum-told → tie.After-test
-enum-told→test c = c .before .before
-
 abbrev known-told→start : tie.After-known-told → tie.Start
 known-told→start c = test→start (c .before .before .before)
 
 abbrev known-told→test : tie.After-known-told → tie.After-test
 known-told→test c = c .before .before .before
 
-abbrev known-told→r : tie.After-known-told → tie.After-r
-known-told→r c = c .before
-
-test-requires : tie.Need-test-requires
-test-requires c κs = search needs
-
-enum-known-r : tie.Need-enum-known-r
-enum-known-r c = search needs
-
-enum-told : tie.Need-enum-told
-enum-told c = search needs
-
 returns : tie.Need-returns
 unfolding begin
 returns c =
     let key = known-told→start c .args .key in
     let t = known-told→test c .test in
-    sym (ap (begunUnder key) (refused (t .result) key (t .ensures) [] tt (markOf key []) _ (known-told→r c .r .given .1)))
+    sym (ap (begunUnder key) (refused (t .result) key (t .ensures) [] tt (markOf key []) _ (c .before .r .given .1)))
 
 returns-2 : tie.Need-returns-2
 unfolding begin
 returns-2 c =
     let key = enum-told→start c .args .key in
-    let t = enum-told→test c .test in
+    let t = c .before .before .test in
     let h = opened (t .result) key (t .ensures) _ (omega arith) (c .enum-told .given .1) in
     sym (ap (begunUnder key) (opened-first h [] tt (markOf key []) ∙ ap Done (empty-mark key (omega (arith, opened-from h)))))
 
 pub begin-spec : {M : Type 1} → statement M
-begin-spec = tie.close (tie.spec test-requires enum-known-r enum-told returns returns-2)
+begin-spec = tie.close (tie.spec (λ c κs. search needs) (λ c. search needs) (λ c. search needs) returns returns-2)

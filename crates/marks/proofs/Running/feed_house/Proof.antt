@@ -53,9 +53,6 @@ feed-table→words c = struct-known→words (c .before .before .before)
 abbrev words2→then1 : tie.After-words2 → tie.Then1
 words2→then1 c = modulus-of→then1 (c .before)
 
-abbrev words2→modulus-of : tie.After-words2 → tie.After-modulus-of
-words2→modulus-of c = c .before
-
 abbrev feed-looked→start : tie.After-feed-looked → tie.Start
 feed-looked→start c = words2→start (c .before)
 
@@ -65,24 +62,15 @@ feed-looked→then1 c = words2→then1 (c .before)
 at-house : (key : ℕ) (m : Mark) (part : List ℕ) → key ≡ houseKey → firstOf (feedTests key m (length part)) m (fedMark key m part) ≡ feedHouse key m part
 at-house key m part e = rw e (sym (house-first m part))
 
-words-requires : tie.Need-words-requires
-words-requires c κs = search needs
-
-modulus-of-requires : tie.Need-modulus-of-requires
-modulus-of-requires c κs = omega arith
-
 -- the key is the house key, and it is accepted
 key-opened : (c : tie.After-modulus-of) → Opened (modulus-of→start c .args .self .key) (c .modulus-of .result)
 key-opened c =
-    record { is-accepted = ap accepted (modulus-of→then1 c .if1 .taken) ∙ house-accepted; parts = c .modulus-of .ensures }
-
-slice-aggregate-feed-looked : tie.Need-slice-aggregate-feed-looked
-slice-aggregate-feed-looked c = search needs
+    record { is-accepted = ap accepted (c .before .if1 .taken) ∙ house-accepted; parts = c .modulus-of .ensures }
 
 feed-looked-requires : tie.Need-feed-looked-requires
 feed-looked-requires c κs =
     let is : words2→start c .args .self .key ≡ houseKey = words2→then1 c .if1 .taken in
-    (key-opened (words2→modulus-of c), words2→words c .words .ensures ∙ ap (λ (q : ℕ). listFrom (word 8 q) 0 1024) (sym is))
+    (key-opened (c .before), words2→words c .words .ensures ∙ ap (λ (q : ℕ). listFrom (word 8 q) 0 1024) (sym is))
 
 returns : tie.Need-returns
 returns c =
@@ -92,12 +80,6 @@ returns c =
     let part = s .args .part .now in
     let is : key ≡ houseKey = feed-looked→then1 c .if1 .taken in
     c .feed-looked .ensures ∙ ap (fedUnder key) (at-house key m part is)
-
-slice-aggregate-feed-table : tie.Need-slice-aggregate-feed-table
-slice-aggregate-feed-table c = search needs
-
-feed-table-requires : tie.Need-feed-table-requires
-feed-table-requires c κs = search needs
 
 returns-2 : tie.Need-returns-2
 unfolding feedHouse
@@ -110,11 +92,11 @@ pub feed-house-spec : {M : Type 1} → statement M
 feed-house-spec =
     tie.close
     (tie.spec
-    words-requires
-    modulus-of-requires
-    slice-aggregate-feed-looked
+    (λ c κs. search needs)
+    (λ c κs. omega arith)
+    (λ c. search needs)
     feed-looked-requires
     returns
-    slice-aggregate-feed-table
-    feed-table-requires
+    (λ c. search needs)
+    (λ c κs. search needs)
     returns-2)

@@ -88,9 +88,6 @@ joined2→in-windows c = next-flagged2→in-windows (c .before .before .before)
 abbrev joined2→next-flagged2 : tie.Joined2 Inv-loop μ-loop Inv-windows μ-windows → tie.After-next-flagged2 Inv-loop μ-loop Inv-windows μ-windows
 joined2→next-flagged2 c = c .before .before .before
 
-abbrev joined2→at-loop : tie.Joined2 Inv-loop μ-loop Inv-windows μ-windows → tie.At-loop Inv-loop μ-loop Inv-windows μ-windows
-joined2→at-loop c = c .before .before
-
 abbrev then1→start : tie.Then1 Inv-loop μ-loop Inv-windows μ-windows → tie.Start Inv-loop μ-loop Inv-windows μ-windows
 then1→start c = in-loop→start (c .before .before .before)
 
@@ -130,30 +127,12 @@ windows-holds c =
           (c .next-flagged .result) f,
     )
 
-add-at : tie.Need-add-at Inv-loop μ-loop Inv-windows μ-windows
-add-at c = omega arith
-
-add-next-flagged : tie.Need-add-next-flagged Inv-loop μ-loop Inv-windows μ-windows
-add-next-flagged c = omega arith
-
 next-flagged-requires-2 : tie.Need-next-flagged-requires-2 Inv-loop μ-loop Inv-windows μ-windows
 next-flagged-requires-2 c κs = (omega arith, omega arith)
 
 loop-holds : tie.Need-loop-holds Inv-loop μ-loop Inv-windows μ-windows
 unfolding isPlace
 loop-holds c = (refl, omega arith, refl)
-
-add-if1 : tie.Need-add-if1 Inv-loop μ-loop Inv-windows μ-windows
-add-if1 c = omega arith
-
-shared-slice-read-if1 : tie.Need-shared-slice-read-if1 Inv-loop μ-loop Inv-windows μ-windows
-shared-slice-read-if1 c = omega arith
-
-shared-slice-read-if1-2 : tie.Need-shared-slice-read-if1-2 Inv-loop μ-loop Inv-windows μ-windows
-shared-slice-read-if1-2 c = omega arith
-
-add-alarms : tie.Need-add-alarms Inv-loop μ-loop Inv-windows μ-windows
-add-alarms c = omega arith
 
 windows-less : tie.Need-windows-less Inv-loop μ-loop Inv-windows μ-windows
 windows-less c = let f = then1→next-flagged2 c .next-flagged2 .ensures in omega (arith, f .low, f .high)
@@ -175,12 +154,6 @@ windows-again c =
     let done = alarm-next (a .flags .now) t q (a .from) (a .size) (w .inv .4) taken (w .inv .3 taken) (n .result) (l .alarms) (l .inv .0) f z in
     (f .high, omega (arith, f .low), omega (arith, f .low, l .inv .0), f .flagged, done)
 
-add-j : tie.Need-add-j Inv-loop μ-loop Inv-windows μ-windows
-add-j c = omega arith
-
-loop-less : tie.Need-loop-less Inv-loop μ-loop Inv-windows μ-windows
-loop-less c = omega arith
-
 loop-again : tie.Need-loop-again Inv-loop μ-loop Inv-windows μ-windows
 loop-again c =
     let a = else1→start c .args in
@@ -196,21 +169,6 @@ loop-again c =
           ∙ same-step (window (length q) t at) q (l .j) (omega arith) (omega arith) (window-at (length q) t at (l .j) (omega arith) ∙ c .if1 .left),
     )
 
-cast-n : tie.Need-cast-n Inv-loop μ-loop Inv-windows μ-windows
-cast-n c = omega arith
-
-cast-places : tie.Need-cast-places Inv-loop μ-loop Inv-windows μ-windows
-cast-places c = omega arith
-
-mul-places : tie.Need-mul-places Inv-loop μ-loop Inv-windows μ-windows
-mul-places c = omega arith
-
-slice-write-places : tie.Need-slice-write-places Inv-loop μ-loop Inv-windows μ-windows
-slice-write-places c = omega arith
-
-add-count : tie.Need-add-count Inv-loop μ-loop Inv-windows μ-windows
-add-count c = omega arith
-
 windows-less-2 : tie.Need-windows-less-2 Inv-loop μ-loop Inv-windows μ-windows
 windows-less-2 c = let f = joined2→next-flagged2 c .next-flagged2 .ensures in omega (arith, f .low, f .high)
 
@@ -225,7 +183,7 @@ windows-again-2 : tie.Need-windows-again-2 Inv-loop μ-loop Inv-windows μ-windo
 windows-again-2 c =
     let a = joined2→start c .args in
     let w = joined2→at-windows c .windows in
-    let l = joined2→at-loop c .loop in
+    let l = c .before .before .loop in
     let t = a .text .now in
     let q = a .pattern .now in
     let at = a .from + w .i in
@@ -254,24 +212,24 @@ compare-spec =
     μ-windows
     next-flagged-requires
     windows-holds
-    add-at
-    add-next-flagged
+    (λ c. omega arith)
+    (λ c. omega arith)
     next-flagged-requires-2
     loop-holds
-    add-if1
-    shared-slice-read-if1
-    shared-slice-read-if1-2
-    add-alarms
+    (λ c. omega arith)
+    (λ c. omega arith)
+    (λ c. omega arith)
+    (λ c. omega arith)
     windows-less
     windows-again
-    add-j
-    loop-less
+    (λ c. omega arith)
+    (λ c. omega arith)
     loop-again
-    cast-n
-    cast-places
-    mul-places
-    slice-write-places
-    add-count
+    (λ c. omega arith)
+    (λ c. omega arith)
+    (λ c. omega arith)
+    (λ c. omega arith)
+    (λ c. omega arith)
     windows-less-2
     windows-again-2
     same-length

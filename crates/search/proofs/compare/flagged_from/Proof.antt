@@ -29,19 +29,10 @@ else1→at-loop c = c .before .before .before
 loop-holds : tie.Need-loop-holds Inv-loop μ-loop
 loop-holds c = (omega arith, omega arith, λ j a b. absurd (omega arith))
 
-element-copy-out-if1 : tie.Need-element-copy-out-if1 Inv-loop μ-loop
-element-copy-out-if1 c = omega arith
-
 returns : tie.Need-returns Inv-loop μ-loop
 returns c =
     let l = then1→at-loop c .loop in
     record { low = l .inv .0; high = l .inv .1; none = l .inv .2; flagged = λ h. c .if1 .taken }
-
-add-i : tie.Need-add-i Inv-loop μ-loop
-add-i c = omega arith
-
-loop-less : tie.Need-loop-less Inv-loop μ-loop
-loop-less c = omega arith
 
 loop-again : tie.Need-loop-again Inv-loop μ-loop
 loop-again c =
@@ -55,4 +46,4 @@ returns-2 c =
     record { low = l .inv .0; high = l .inv .1; none = l .inv .2; flagged = λ h. absurd (omega arith) }
 
 pub flagged-from-spec : {M : Type 1} → statement M
-flagged-from-spec = tie.close (tie.spec Inv-loop μ-loop loop-holds element-copy-out-if1 returns add-i loop-less loop-again returns-2)
+flagged-from-spec = tie.close (tie.spec Inv-loop μ-loop loop-holds (λ c. omega arith) returns (λ c. omega arith) (λ c. omega arith) loop-again returns-2)

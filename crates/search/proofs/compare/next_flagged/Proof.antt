@@ -26,9 +26,6 @@ in-loop→at-loop c = c .before
 abbrev flagged-from2→start : tie.After-flagged-from2 Inv-loop μ-loop → tie.Start Inv-loop μ-loop
 flagged-from2→start c = at-loop→start (c .before .before)
 
-abbrev flagged-from2→at-loop : tie.After-flagged-from2 Inv-loop μ-loop → tie.At-loop Inv-loop μ-loop
-flagged-from2→at-loop c = c .before .before
-
 abbrev else1→start : tie.Else1 Inv-loop μ-loop → tie.Start Inv-loop μ-loop
 else1→start c = at-loop→start (c .before .before .before)
 
@@ -44,12 +41,6 @@ flagged-from→at-loop c = in-loop→at-loop (c .before .before .before)
 loop-holds : tie.Need-loop-holds Inv-loop μ-loop
 loop-holds c = (omega arith, omega arith, λ j a b. absurd (omega arith))
 
-sub-loop : tie.Need-sub-loop Inv-loop μ-loop
-sub-loop c = omega arith
-
-one-of-eight-requires : tie.Need-one-of-eight-requires Inv-loop μ-loop
-one-of-eight-requires c κs = omega arith
-
 flagged-from-requires : tie.Need-flagged-from-requires Inv-loop μ-loop
 flagged-from-requires c κs = (omega arith, omega arith)
 
@@ -58,12 +49,6 @@ returns c =
     let a = flagged-from→start c .args in
     let l = flagged-from→at-loop c .loop in
     next-further (a .flags .now) (a .first) (l .i) (a .size) (c .flagged-from .result) (l .inv .0) (l .inv .2) (c .flagged-from .ensures)
-
-add-i : tie.Need-add-i Inv-loop μ-loop
-add-i c = omega arith
-
-loop-less : tie.Need-loop-less Inv-loop μ-loop
-loop-less c = omega arith
 
 loop-again : tie.Need-loop-again Inv-loop μ-loop
 loop-again c =
@@ -77,7 +62,7 @@ flagged-from-requires-2 c κs = (omega arith, omega arith)
 returns-2 : tie.Need-returns-2 Inv-loop μ-loop
 returns-2 c =
     let a = flagged-from2→start c .args in
-    let l = flagged-from2→at-loop c .loop in
+    let l = c .before .before .loop in
     next-further (a .flags .now) (a .first) (l .i) (a .size) (c .flagged-from2 .result) (l .inv .0) (l .inv .2) (c .flagged-from2 .ensures)
 
 pub next-flagged-spec : {M : Type 1} → statement M
@@ -87,12 +72,12 @@ next-flagged-spec =
     Inv-loop
     μ-loop
     loop-holds
-    sub-loop
-    one-of-eight-requires
+    (λ c. omega arith)
+    (λ c κs. omega arith)
     flagged-from-requires
     returns
-    add-i
-    loop-less
+    (λ c. omega arith)
+    (λ c. omega arith)
     loop-again
     flagged-from-requires-2
     returns-2)

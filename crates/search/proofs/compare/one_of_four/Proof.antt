@@ -12,27 +12,6 @@ result→start c = c .before
 abbrev result4→start : tie.After-result4 → tie.Start
 result4→start c = result→start (c .before .before .before)
 
-element-copy-out-result : tie.Need-element-copy-out-result
-element-copy-out-result c = search needs
-
-add-result : tie.Need-add-result
-add-result c = search needs
-
-element-copy-out-result-2 : tie.Need-element-copy-out-result-2
-element-copy-out-result-2 c = search needs
-
-add-result-2 : tie.Need-add-result-2
-add-result-2 c = search needs
-
-element-copy-out-result-3 : tie.Need-element-copy-out-result-3
-element-copy-out-result-3 c = search needs
-
-add-result-3 : tie.Need-add-result-3
-add-result-3 c = search needs
-
-element-copy-out-result-4 : tie.Need-element-copy-out-result-4
-element-copy-out-result-4 c = search needs
-
 returns : tie.Need-returns
 returns c = let a = result4→start c .args in none-four (a .flags .now) (a .i)
 
@@ -40,11 +19,11 @@ pub one-of-four-spec : {M : Type 1} → statement M
 one-of-four-spec =
     tie.close
     (tie.spec
-    element-copy-out-result
-    add-result
-    element-copy-out-result-2
-    add-result-2
-    element-copy-out-result-3
-    add-result-3
-    element-copy-out-result-4
+    (λ c. search needs)
+    (λ c. search needs)
+    (λ c. search needs)
+    (λ c. search needs)
+    (λ c. search needs)
+    (λ c. search needs)
+    (λ c. search needs)
     returns)

@@ -93,9 +93,6 @@ roll4→in-loop c = roll3→in-loop (c .before)
 abbrev roll4→roll : tie.After-roll4 Inv-loop μ-loop → tie.After-roll Inv-loop μ-loop
 roll4→roll c = c .before .before .before
 
-abbrev roll4→roll2 : tie.After-roll4 Inv-loop μ-loop → tie.After-roll2 Inv-loop μ-loop
-roll4→roll2 c = c .before .before
-
 -- ---- one lane, n places behind the first
 
 abbrev Lane : tie.Start Inv-loop μ-loop → ℕ → ℕ → Type 0
@@ -118,7 +115,7 @@ rolled s j n x = same-place (s .args .s) (s .args .text .now) (s .args .from + j
 -- ---- the needs
 
 start-lanes-requires : tie.Need-start-lanes-requires Inv-loop μ-loop
-start-lanes-requires c κs = let p = shared-slice-known2→start c .pre in (p .0 .reduce, omega (arith, p .2), p .3)
+start-lanes-requires c κs = let p = c .before .before .pre in (p .0 .reduce, omega (arith, p .2), p .3)
 
 loop-holds : tie.Need-loop-holds Inv-loop μ-loop
 loop-holds c =
@@ -126,30 +123,6 @@ loop-holds c =
     let a = s .args in
     let z = c .start-lanes .ensures in
     (omega arith, z .0, z .1, z .2, z .3, lanes-begin false (hit (a .s) (a .text .now) (a .from)) (a .flags .now) (s .pre .1))
-
-element-write-flags : tie.Need-element-write-flags Inv-loop μ-loop
-element-write-flags c = omega arith
-
-add-flags : tie.Need-add-flags Inv-loop μ-loop
-add-flags c = omega arith
-
-element-write-flags-2 : tie.Need-element-write-flags-2 Inv-loop μ-loop
-element-write-flags-2 c = omega arith
-
-add-flags-2 : tie.Need-add-flags-2 Inv-loop μ-loop
-add-flags-2 c = omega arith
-
-element-write-flags-3 : tie.Need-element-write-flags-3 Inv-loop μ-loop
-element-write-flags-3 c = omega arith
-
-add-flags-3 : tie.Need-add-flags-3 Inv-loop μ-loop
-add-flags-3 c = omega arith
-
-element-write-flags-4 : tie.Need-element-write-flags-4 Inv-loop μ-loop
-element-write-flags-4 c = omega arith
-
-add-i : tie.Need-add-i Inv-loop μ-loop
-add-i c = omega arith
 
 roll-requires : tie.Need-roll-requires Inv-loop μ-loop
 roll-requires c κs =
@@ -176,12 +149,6 @@ add-roll-3 c = let s = roll3→start c in omega (arith, s .pre .2, s .good .1 .1
 roll-requires-4 : tie.Need-roll-requires-4 Inv-loop μ-loop
 roll-requires-4 c κs = let l = roll3→at-loop c .loop in rolls (roll3→in-loop c) 768 (l .d) (omega arith) (l .inv .4)
 
-add-j : tie.Need-add-j Inv-loop μ-loop
-add-j c = omega arith
-
-loop-less : tie.Need-loop-less Inv-loop μ-loop
-loop-less c = omega arith
-
 loop-again : tie.Need-loop-again Inv-loop μ-loop
 loop-again c =
     let s = roll4→start c in
@@ -192,7 +159,7 @@ loop-again c =
     let h = roll4→in-loop c .loop-test .taken in (
       omega arith,
       same-place (a .s) (a .text .now) (a .from + l .j + 1) (a .from + (l .j + 1 + 0)) _ (omega arith) (roll4→roll c .roll .ensures),
-      on 256 _ (roll4→roll2 c .roll2 .ensures),
+      on 256 _ (c .before .before .roll2 .ensures),
       on 512 _ (c .before .roll3 .ensures),
       on 768 _ (c .roll4 .ensures),
       lanes-more false (hit (a .s) (a .text .now) (a .from)) (l .j) (l .flags) _ _ _ _ (omega arith) (l .inv .5)
@@ -219,14 +186,14 @@ four-lanes-spec =
     μ-loop
     start-lanes-requires
     loop-holds
-    element-write-flags
-    add-flags
-    element-write-flags-2
-    add-flags-2
-    element-write-flags-3
-    add-flags-3
-    element-write-flags-4
-    add-i
+    (λ c. omega arith)
+    (λ c. omega arith)
+    (λ c. omega arith)
+    (λ c. omega arith)
+    (λ c. omega arith)
+    (λ c. omega arith)
+    (λ c. omega arith)
+    (λ c. omega arith)
     roll-requires
     add-roll
     roll-requires-2
@@ -234,7 +201,7 @@ four-lanes-spec =
     roll-requires-3
     add-roll-3
     roll-requires-4
-    add-j
-    loop-less
+    (λ c. omega arith)
+    (λ c. omega arith)
     loop-again
     returns)

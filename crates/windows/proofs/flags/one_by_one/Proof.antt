@@ -49,30 +49,15 @@ joined1→at-loop c = in-loop→at-loop (c .before .before .before)
 
 loop-holds : tie.Need-loop-holds Inv-loop μ-loop
 loop-holds c =
-    let s = shared-slice-known2→start c in
+    let s = c .before .before in
     let a = s .args in
     (omega arith, s .pre .1, (λ h. same-place (a .s) (a .text .now) (a .from) (a .from + 0) (a .g) (omega arith) (s .pre .4)), filled-none 0 (a .flags .now))
-
-element-write-flags : tie.Need-element-write-flags Inv-loop μ-loop
-element-write-flags c = omega arith
-
-add-i : tie.Need-add-i Inv-loop μ-loop
-add-i c = omega arith
-
-add-if1 : tie.Need-add-if1 Inv-loop μ-loop
-add-if1 c = omega arith
 
 roll-requires : tie.Need-roll-requires Inv-loop μ-loop
 roll-requires c κs =
     let s = then1→start c in
     let l = then1→at-loop c .loop in
     (s .pre .0, c .if1 .taken, l .inv .2 (omega arith))
-
-add-j : tie.Need-add-j Inv-loop μ-loop
-add-j c = omega arith
-
-loop-less : tie.Need-loop-less Inv-loop μ-loop
-loop-less c = omega arith
 
 loop-again : tie.Need-loop-again Inv-loop μ-loop
 loop-again c =
@@ -101,11 +86,11 @@ one-by-one-spec =
     Inv-loop
     μ-loop
     loop-holds
-    element-write-flags
-    add-i
-    add-if1
+    (λ c. omega arith)
+    (λ c. omega arith)
+    (λ c. omega arith)
     roll-requires
-    add-j
-    loop-less
+    (λ c. omega arith)
+    (λ c. omega arith)
     loop-again
     returns)

@@ -29,9 +29,6 @@ at-loop→start c = shared-slice-known2→start (c .before)
 abbrev else1→start : tie.Else1 Inv-loop μ-loop → tie.Start Inv-loop μ-loop
 else1→start c = shared-slice-known2→start (c .before .before .before)
 
-abbrev else1→at-loop : tie.Else1 Inv-loop μ-loop → tie.At-loop Inv-loop μ-loop
-else1→at-loop c = c .before .before
-
 abbrev shared-slice-known3→start : tie.After-shared-slice-known3 Inv-loop μ-loop → tie.Start Inv-loop μ-loop
 shared-slice-known3→start c = at-loop→start (c .before .before .before)
 
@@ -68,9 +65,6 @@ feed-one3→then1 c = shared-slice-known4→then1 (c .before .before .before)
 abbrev feed-one3→feed-one : tie.After-feed-one3 Inv-loop μ-loop → tie.After-feed-one Inv-loop μ-loop
 feed-one3→feed-one c = shared-slice-known4→feed-one (c .before .before .before)
 
-abbrev feed-one3→feed-one2 : tie.After-feed-one3 Inv-loop μ-loop → tie.After-feed-one2 Inv-loop μ-loop
-feed-one3→feed-one2 c = c .before .before
-
 -- ---- one lane, begun n places behind `from`
 
 -- x is the residue of j bytes
@@ -93,46 +87,19 @@ fed s j h n x r l = read-more (s .args .s .modulus) (s .pre .0 .0) (s .args .tex
 
 loop-holds : tie.Need-loop-holds Inv-loop μ-loop
 loop-holds c =
-    let s = shared-slice-known2→start c in
+    let s = c .before .before in
     let a = s .args in
     let none = read-none (a .s .modulus) (s .pre .0 .0) (a .text .now) in
     (omega arith, none (a .from + 256), none (a .from + 512), none (a .from + 768))
 
-add-i : tie.Need-add-i Inv-loop μ-loop
-add-i c = omega arith
-
-add-feed-one : tie.Need-add-feed-one Inv-loop μ-loop
-add-feed-one c = omega arith
-
-shared-slice-read-feed-one : tie.Need-shared-slice-read-feed-one Inv-loop μ-loop
-shared-slice-read-feed-one c = omega arith
-
 feed-one-requires : tie.Need-feed-one-requires Inv-loop μ-loop
 feed-one-requires c κs = let l = shared-slice-known3→at-loop c .loop in feeds (shared-slice-known3→start c) 256 (l .j) (l .b) (l .inv .1)
-
-add-feed-one-2 : tie.Need-add-feed-one-2 Inv-loop μ-loop
-add-feed-one-2 c = omega arith
-
-shared-slice-read-feed-one-2 : tie.Need-shared-slice-read-feed-one-2 Inv-loop μ-loop
-shared-slice-read-feed-one-2 c = omega arith
 
 feed-one-requires-2 : tie.Need-feed-one-requires-2 Inv-loop μ-loop
 feed-one-requires-2 c κs = let l = shared-slice-known4→at-loop c .loop in feeds (shared-slice-known4→start c) 512 (l .j) (l .c) (l .inv .2)
 
-add-feed-one-3 : tie.Need-add-feed-one-3 Inv-loop μ-loop
-add-feed-one-3 c = omega arith
-
-shared-slice-read-feed-one-3 : tie.Need-shared-slice-read-feed-one-3 Inv-loop μ-loop
-shared-slice-read-feed-one-3 c = omega arith
-
 feed-one-requires-3 : tie.Need-feed-one-requires-3 Inv-loop μ-loop
 feed-one-requires-3 c κs = let l = shared-slice-known5→at-loop c .loop in feeds (shared-slice-known5→start c) 768 (l .j) (l .d) (l .inv .3)
-
-add-j : tie.Need-add-j Inv-loop μ-loop
-add-j c = omega arith
-
-loop-less : tie.Need-loop-less Inv-loop μ-loop
-loop-less c = omega arith
 
 loop-again : tie.Need-loop-again Inv-loop μ-loop
 loop-again c =
@@ -143,7 +110,7 @@ loop-again c =
     let more = fed s (l .j) (feed-one3→then1 c .if1 .taken) in (
       omega arith,
       more 256 (l .b) _ (omega arith) (omega (arith, byte (at + 256))) (l .inv .1) (feed-one3→feed-one c .feed-one .ensures),
-      more 512 (l .c) _ (omega arith) (omega (arith, byte (at + 512))) (l .inv .2) (feed-one3→feed-one2 c .feed-one2 .ensures),
+      more 512 (l .c) _ (omega arith) (omega (arith, byte (at + 512))) (l .inv .2) (c .before .before .feed-one2 .ensures),
       more 768 (l .d) _ (omega arith) (omega (arith, byte (at + 768))) (l .inv .3) (c .feed-one3 .ensures),
     )
 
@@ -151,7 +118,7 @@ returns : tie.Need-returns Inv-loop μ-loop
 returns c =
     let s = else1→start c in
     let a = s .args in
-    let l = else1→at-loop c .loop in
+    let l = c .before .before .loop in
     let e : l .j ≡ a .s .m = omega arith in
     let all = read-all (a .s .modulus) (s .pre .0 .0) (a .text .now) in (
       same-place (a .s) (a .text .now) (a .from) (a .from + 0) (a .g) (omega arith) (s .pre .2),
@@ -167,17 +134,17 @@ start-lanes-spec =
     Inv-loop
     μ-loop
     loop-holds
-    add-i
-    add-feed-one
-    shared-slice-read-feed-one
+    (λ c. omega arith)
+    (λ c. omega arith)
+    (λ c. omega arith)
     feed-one-requires
-    add-feed-one-2
-    shared-slice-read-feed-one-2
+    (λ c. omega arith)
+    (λ c. omega arith)
     feed-one-requires-2
-    add-feed-one-3
-    shared-slice-read-feed-one-3
+    (λ c. omega arith)
+    (λ c. omega arith)
     feed-one-requires-3
-    add-j
-    loop-less
+    (λ c. omega arith)
+    (λ c. omega arith)
     loop-again
     returns)

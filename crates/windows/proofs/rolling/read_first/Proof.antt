@@ -65,27 +65,18 @@ feed-one3→shared-slice-known4 c = feed-one→shared-slice-known4 (c .before .b
 abbrev feed-one3→feed-one : tie.After-feed-one3 Inv-loop μ-loop → tie.After-feed-one Inv-loop μ-loop
 feed-one3→feed-one c = c .before .before .before
 
-abbrev feed-one3→shared-slice-known5 : tie.After-feed-one3 Inv-loop μ-loop → tie.After-shared-slice-known5 Inv-loop μ-loop
-feed-one3→shared-slice-known5 c = c .before .before
-
 loop-holds : tie.Need-loop-holds Inv-loop μ-loop
 loop-holds c =
     let s = shared-slice-known3→start c in
     let none = read-none (s .args .p) (s .pre .0 .0) in
     (omega arith, none (s .args .text .now) 0, none (s .args .pattern .now) 0, sym (residue-one (s .args .p) (s .pre .0 .0)))
 
-shared-slice-read-feed-one : tie.Need-shared-slice-read-feed-one Inv-loop μ-loop
-shared-slice-read-feed-one c = omega arith
-
 feed-one-requires : tie.Need-feed-one-requires Inv-loop μ-loop
 feed-one-requires c κs =
     let s = shared-slice-known4→start c in
     let a = s .args in
-    let l = shared-slice-known4→at-loop c .loop in
+    let l = c .before .before .loop in
     (s .pre .0, read-below (a .p) (s .pre .0 .0) (a .text .now) 0 (l .i) (l .first) (l .inv .1))
-
-shared-slice-read-feed-one-2 : tie.Need-shared-slice-read-feed-one-2 Inv-loop μ-loop
-shared-slice-read-feed-one-2 c = omega arith
 
 feed-one-requires-2 : tie.Need-feed-one-requires-2 Inv-loop μ-loop
 feed-one-requires-2 c κs =
@@ -101,12 +92,6 @@ feed-one-requires-3 c κs =
     let l = feed-one2→at-loop c .loop in
     (s .pre .0, residue-below (a .p) (s .pre .0 .0) (l .shift) (2 ^ (8 * l .i)) (l .inv .3))
 
-add-i : tie.Need-add-i Inv-loop μ-loop
-add-i c = omega arith
-
-loop-less : tie.Need-loop-less Inv-loop μ-loop
-loop-less c = omega arith
-
 loop-again : tie.Need-loop-again Inv-loop μ-loop
 loop-again c =
     let s = feed-one3→start c in
@@ -114,7 +99,7 @@ loop-again c =
     let l = feed-one3→at-loop c .loop in
     let more = read-more (a .p) (s .pre .0 .0) in
     let byte = feed-one3→shared-slice-known4 c .shared-slice-known4 .given (l .i) in
-    let byte₂ = feed-one3→shared-slice-known5 c .shared-slice-known5 .given (l .i) in (
+    let byte₂ = c .before .before .shared-slice-known5 .given (l .i) in (
       omega arith,
       more (a .text .now) 0 (l .i) (l .i) (l .first) _ (zero-add (l .i)) (omega arith) (omega (arith, byte)) (l .inv .1)
           (feed-one3→feed-one c .feed-one .ensures),
@@ -142,12 +127,12 @@ read-first-spec =
     Inv-loop
     μ-loop
     loop-holds
-    shared-slice-read-feed-one
+    (λ c. omega arith)
     feed-one-requires
-    shared-slice-read-feed-one-2
+    (λ c. omega arith)
     feed-one-requires-2
     feed-one-requires-3
-    add-i
-    loop-less
+    (λ c. omega arith)
+    (λ c. omega arith)
     loop-again
     returns)

@@ -24,24 +24,12 @@ shared-slice-known4→start c = shared-slice-known3→start (c .before .before)
 abbrev gone→start : tie.After-gone → tie.Start
 gone→start c = shared-slice-known4→start (c .before)
 
-abbrev gone→feed-one : tie.After-gone → tie.After-feed-one
-gone→feed-one c = c .before .before
-
-add-feed-one : tie.Need-add-feed-one
-add-feed-one c = search needs
-
-shared-slice-read-feed-one : tie.Need-shared-slice-read-feed-one
-shared-slice-read-feed-one c = search needs
-
 feed-one-requires : tie.Need-feed-one-requires
 feed-one-requires c κs =
     let s = shared-slice-known3→start c in
     let a = s .args in
     let r = s .pre .0 in
     (r .reduce, read-below (a .s .modulus) (r .reduce .0) (a .text .now) (a .i) (a .s .m) (a .g) (s .pre .2))
-
-shared-slice-read-first : tie.Need-shared-slice-read-first
-shared-slice-read-first c = search needs
 
 cast-first : tie.Need-cast-first
 cast-first c = omega (arith, c .shared-slice-known4 .given (shared-slice-known4→start c .args .i))
@@ -62,16 +50,16 @@ returns c =
     rolled (monic-pos (a .s .modulus .degree) (a .s .modulus .low) (r .reduce .0 .2)) (a .s .m) (a .text .now) (a .outgoing .now) (a .i) (a .i + a .s .m)
     (a .g) _
     refl (s .pre .1) (omega (arith, byte (a .i))) (omega (arith, byte (a .i + a .s .m))) (r .outgoing) (s .pre .2)
-    (ap (λ (x : ℕ). x ⊕ getD (a .outgoing .now) (getD (a .text .now) (a .i) 0) 0) (gone→feed-one c .feed-one .ensures))
+    (ap (λ (x : ℕ). x ⊕ getD (a .outgoing .now) (getD (a .text .now) (a .i) 0) 0) (c .before .before .feed-one .ensures))
 
 pub roll-spec : {M : Type 1} → statement M
 roll-spec =
     tie.close
     (tie.spec
-    add-feed-one
-    shared-slice-read-feed-one
+    (λ c. search needs)
+    (λ c. search needs)
     feed-one-requires
-    shared-slice-read-first
+    (λ c. search needs)
     cast-first
     mul-gone
     element-copy-out-gone
