@@ -6,6 +6,7 @@ use sheets::Reading;
 use sheets::Sheet;
 use sheets::Written;
 use sheets::fields;
+use sheets::layout;
 ghost use mathlib.Core.Path.{_≡_};
 ghost use mathlib.Core.List.{_++_};
 ghost use Prim.Native.Nat.{_+_, _*_, _≤_, min};
@@ -19,31 +20,32 @@ pub mod wellformed;
 pub fn read(sheet: &[u8]) -> Reading
     ensures { λ r. ⌜ reading r ≡ sheetRead (readSheet (now (sheet .entry))) ⌝ }
 {
-    if !wellformed::head_right(sheet) {
+    if !layout::head_right(sheet) {
         return Reading::Refused(Refusal::SheetMalformed);
     }
-    let key = fields::number_at(sheet, 5, 8);
+    let head = layout::read_head(sheet);
+    let key = head.key;
     match keys::test(key) {
         Tested::Refused(r) => {
             return Reading::Refused(r);
         }
         Tested::Accepted => {}
     }
-    let size = fields::number_at(sheet, 17, 2);
-    if !fields::size_right(size) {
+    if !fields::size_right(head.size) {
         return Reading::Refused(Refusal::PageSize);
     }
-    let n = fields::number_at(sheet, 13, 4);
-    if !wellformed::body_right(sheet, key, n, size) {
+    let k = gf2::degree(key);
+    let low = gf2::low_bits(key, k);
+    if !wellformed::body_right(sheet, head, k, low) {
         return Reading::Refused(Refusal::SheetMalformed);
     }
-    let count = fields::page_count(size, n);
+    let count = fields::page_count(head.size, head.length);
     Reading::Sheet(Sheet {
         key: key,
-        length: n,
-        size: size,
+        length: head.length,
+        size: head.size,
         pages: count,
-        fingerprint: fields::number_at(sheet, (19 + 8 * count) as usize, 8),
+        fingerprint: layout::fingerprint_at(sheet, count),
     })
 }
 
@@ -51,17 +53,13 @@ pub fn read(sheet: &[u8]) -> Reading
 pub fn page(x: Sheet, sheet: &[u8], i: u64) -> PageField
     ensures { λ r. ⌜ pageField r ≡ pageAt x (now (sheet .entry)) i ⌝ }
 {
-    let n = sheet.len() as u64;
     if x.pages <= i {
         return PageField::None;
     }
-    if n < 27 {
+    if !layout::reaches(sheet, i) {
         return PageField::None;
     }
-    if (n - 27) / 8 < i {
-        return PageField::None;
-    }
-    PageField::Fingerprint(fields::number_at(sheet, (19 + 8 * i) as usize, 8))
+    PageField::Fingerprint(layout::fingerprint_at(sheet, i))
 }
 
 // The smaller of two numbers.
@@ -71,29 +69,29 @@ fn least(a: u64, b: usize) -> usize
     if a < b as u64 { a as usize } else { b }
 }
 
-// The first n page fingerprints of a sheet into the first n words.
-fn copy_fields(words: &mut [u64], sheet: &[u8], n: usize)
-    requires { ⌜ (n ≤ length (now words)) × (19 + 8 * n ≤ length (now sheet)) ⌝ }
-    ensures { λ r. ⌜ now (words .exit) ≡ numbersAt 19 8 n (now (sheet .entry)) ++ drop n (now (words .entry)) ⌝ }
+// The first n fingerprints into the first n places.
+fn copy_fields(lent: &mut [u64], fields: &[u8], n: usize)
+    requires { ⌜ (n ≤ length (now lent)) × (8 * n ≤ length (now fields)) ⌝ }
+    ensures { λ r. ⌜ now (lent .exit) ≡ numbersAt 0 8 n (now (fields .entry)) ++ drop n (now (lent .entry)) ⌝ }
 {
-    let mut place: usize = 19;
+    let mut place: usize = 0;
     let mut i: usize = 0;
     while i < n {
-        words[i] = lookups::eight_at(sheet, place);
+        lent[i] = lookups::eight_at(fields, place);
         place += 8;
         i += 1;
     }
 }
 
-// The page fingerprints of a sheet into lent words: the first ones, as far as the words reach. Reading's numbers.
-pub fn read_pages(sheet: &[u8], words: &mut [u64]) -> Written
-    ensures { λ r. ⌜ written r (now (words .exit)) ≡ readPages (now (sheet .entry)) (now (words .entry)) ⌝ }
+// The page fingerprints of a sheet into lent places: the first ones, as far as the places reach. Reading's numbers.
+pub fn read_pages(sheet: &[u8], lent: &mut [u64]) -> Written
+    ensures { λ r. ⌜ written r (now (lent .exit)) ≡ readPages (now (sheet .entry)) (now (lent .entry)) ⌝ }
 {
     match read(sheet) {
         Reading::Refused(r) => Written::Refused(r),
         Reading::Sheet(x) => {
-            let n = least(x.pages, words.len());
-            copy_fields(words, sheet, n);
+            let n = least(x.pages, lent.len());
+            copy_fields(lent, layout::page_fields(sheet), n);
             Written::Done
         }
     }

@@ -12,24 +12,24 @@ use Rattle.refusals.specs.Refusals.{Done, Refused, Test, _⇒_, firstOf, passes
 use Rattle.acceptance.specs.Keys.{keyTests}
 use Rattle.keys.specs.Testing.{testKey}
 use Rattle.keys.proofs.Laws.{Passed, first-passed, first-refused}
-use Rattle.sheets.specs.Layout.{version1, sheetSize, pageCount, sheetBytes}
+use Rattle.sheets.specs.Layout.{version1, sheetLength, pageCount, sheetBytes}
 use Rattle.sheets.specs.Sheets.{contentsOf, writeSheet}
 
 module _ (key s : ℕ) (file buffer : List ℕ) where
-  size : ℕ
-  size = sheetSize version1 (pageCount s (length file))
+  long : ℕ
+  long = sheetLength version1 (pageCount s (length file))
 
   after : List ℕ
-  after = sheetBytes version1 (contentsOf key s file) ++ drop size buffer
+  after = sheetBytes version1 (contentsOf key s file) ++ drop long buffer
 
   last : List Test
-  last = ltb (length buffer) size ⇒ BufferShort ∷ []
+  last = ltb (length buffer) long ⇒ BufferShort ∷ []
 
   rest : List Test
   rest = passes (length file ∷ []) ⇒ TooLong ∷ (ltb s 16 || ltb 4096 s) ⇒ PageSize ∷ last
 
   by-steps : writeSheet key s file buffer ≡ firstOf (keyTests key ++ rest) buffer after
-  unfolding writeSheet rest last after size
+  unfolding writeSheet rest last after long
   by-steps = refl
 
   pub write-key : (q : Refusal) → testKey key ≡ Refused q tt → writeSheet key s file buffer ≡ Refused q buffer
@@ -49,11 +49,11 @@ module _ (key s : ℕ) (file buffer : List ℕ) where
       write-size e = after-key ∙ rw (le-ltb longest (length file) fits, e)
 
       module _ (right : (ltb s 16 || ltb 4096 s) ≡ false) where
-        pub write-short : length buffer < sheetSize version1 (pageCount s (length file)) → writeSheet key s file buffer ≡ Refused BufferShort buffer
-        unfolding rest last size
-        write-short l = after-key ∙ rw (le-ltb longest (length file) fits, right, lt-ltb (length buffer) size l)
+        pub write-short : length buffer < sheetLength version1 (pageCount s (length file)) → writeSheet key s file buffer ≡ Refused BufferShort buffer
+        unfolding rest last long
+        write-short l = after-key ∙ rw (le-ltb longest (length file) fits, right, lt-ltb (length buffer) long l)
 
-        pub write-done : sheetSize version1 (pageCount s (length file)) ≤ length buffer
-            → writeSheet key s file buffer ≡ Done (sheetBytes version1 (contentsOf key s file) ++ drop (sheetSize version1 (pageCount s (length file))) buffer)
-        unfolding rest last size after
-        write-done l = after-key ∙ rw (le-ltb longest (length file) fits, right, le-ltb (length buffer) size l)
+        pub write-done : sheetLength version1 (pageCount s (length file)) ≤ length buffer
+            → writeSheet key s file buffer ≡ Done (sheetBytes version1 (contentsOf key s file) ++ drop (sheetLength version1 (pageCount s (length file))) buffer)
+        unfolding rest last long after
+        write-done l = after-key ∙ rw (le-ltb longest (length file) fits, right, le-ltb (length buffer) long l)

@@ -10,7 +10,7 @@ use Rattle.refusals.specs.Refusals.{Answer, Done, Refused, stateOf, Test, first
 use Rattle.sheets.specs.declared.Sheet.{Sheet}
 use Rattle.sheets.specs.declared.Written.{Written}
 use Rattle.sheets.specs.declared.Written.the-variants as written-cases
-use Rattle.sheets.specs.Layout.{version1, pagesIn, sheetSize, Contents, contentsIn}
+use Rattle.sheets.specs.Layout.{version1, pagePlace, sheetLength, Contents, pagesIn, contentsIn}
 use Rattle.sheets.specs.Sheets.{readTests, readSheet, readPages, numbersOf, sheetRead, written, Sound}
 use Rattle.sheets.specs.Parts.{ReadAs}
 use Rattle.sheets.proofs.Numbers.{length-numbersAt}
@@ -42,12 +42,12 @@ module _ (sheet : List ℕ) {x : Sheet} (r : ReadAs sheet x) where
   pub sound : Sound (contentsIn version1 sheet)
   sound = clear-contents sheet tests-clear
 
-  pub total : length sheet ≡ sheetSize version1 (pagesIn version1 sheet)
+  pub total : length sheet ≡ sheetLength version1 (pagesIn version1 sheet)
   total = clear-total sheet tests-clear
 
   pub pages-counted : x .pages ≡ pagesIn version1 sheet
   unfolding contentsIn
-  pages-counted = ap (λ (y : Sheet). y .pages) (r .numbers) ∙ length-numbersAt 19 8 (pagesIn version1 sheet) sheet
+  pages-counted = ap (λ (y : Sheet). y .pages) (r .numbers) ∙ length-numbersAt (pagePlace version1 0) 8 (pagesIn version1 sheet) sheet
 
 -- ---- its page fingerprints in lent words
 

@@ -3,6 +3,7 @@
 use refusals::Refusal;
 
 pub mod fields;
+pub mod layout;
 
 // The answer to writing a sheet.
 pub enum Written {

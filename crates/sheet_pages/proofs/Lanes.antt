@@ -1,4 +1,4 @@
--- Laws of page marks joined and of the bits of their fields: one field a turn, and in runs.
+-- Laws of page marks joined and of the bits of their fields: one field a turn, and in lanes.
 use mathlib.Core.Path.{_≡_, refl, sym, ap, ap₂, _∙_}
 use mathlib.Core.Bool.{Bool, false, _||_, or-assoc, or-false}
 use mathlib.Core.List.{List, [], _∷_, _++_}
@@ -27,8 +27,8 @@ use Rattle.shifts.proofs.Products.{joined-by-table}
 use Rattle.sheets.specs.Layout.{numberAt, numbersAt}
 use Rattle.sheets.specs.Sheets.{someUnreduced, joinedPages}
 use Rattle.sheets.proofs.Numbers.{numbers-next, numbers-done, numbers-append, length-numbersAt}
-use Rattle.sheet_pages.specs.declared.joining.FourJoined.{FourJoined}
-use Rattle.sheet_pages.specs.Chains.{chained, looping, BitsOf, FourChains}
+use Rattle.sheet_pages.specs.declared.joining.Lanes.{Lanes}
+use Rattle.sheet_pages.specs.Lanes.{chained, looping, BitsOf, LanesJoined}
 
 -- ---- as the code goes: one field a turn
 
@@ -61,22 +61,24 @@ pub reduced-split : (k : ℕ) (fs gs : List ℕ) → someUnreduced k (fs ++ gs) 
 reduced-split k fs gs e = or-neither (someUnreduced k fs) (someUnreduced k gs) (sym (unreduced-append k fs gs) ∙ e)
 
 -- n fields from each of four places on
-abbrev pub fourRuns : ℕ → ℕ → ℕ → List ℕ → List ℕ
-fourRuns place run n l = numbersAt place 8 n l ++ numbersAt (place + run) 8 n l ++ numbersAt (place + run + run) 8 n l ++ numbersAt (place + run + run + run) 8 n l
+abbrev pub fourLanes : ℕ → ℕ → ℕ → List ℕ → List ℕ
+fourLanes place lane n l =
+    numbersAt place 8 n l ++ numbersAt (place + lane) 8 n l ++ numbersAt (place + lane + lane) 8 n l ++ numbersAt (place + lane + lane + lane) 8 n l
 
-four-runs : (q : ℕ) (l : List ℕ) → numbersAt 19 8 (4 * q) l ≡ fourRuns 19 (8 * q) q l
-four-runs q l =
+four-lanes : (place q : ℕ) (l : List ℕ) → numbersAt place 8 (4 * q) l ≡ fourLanes place (8 * q) q l
+four-lanes place q l =
     let e : 4 * q ≡ q + q + q + q = omega arith in
-    let c : 19 + 8 * (q + q) ≡ 19 + 8 * q + 8 * q = omega arith in
-    let d : 19 + 8 * (q + q + q) ≡ 19 + 8 * q + 8 * q + 8 * q = omega arith in
-    rw (e, numbers-append 19 8 (q + q + q) q l, numbers-append 19 8 (q + q) q l, numbers-append 19 8 q q l, c, d)
+    let c : place + 8 * (q + q) ≡ place + 8 * q + 8 * q = omega arith in
+    let d : place + 8 * (q + q + q) ≡ place + 8 * q + 8 * q + 8 * q = omega arith in
+    rw (e, numbers-append place 8 (q + q + q) q l, numbers-append place 8 (q + q) q l, numbers-append place 8 q q l, c, d)
 
--- all n fields: four runs of q and the rest
-rest-behind : (n q : ℕ) (l : List ℕ) → 4 * q ≤ n → numbersAt 19 8 n l ≡ numbersAt 19 8 (4 * q) l ++ numbersAt (19 + 32 * q) 8 (n - 4 * q) l
-rest-behind n q l h =
+-- all n fields: four lanes of q and the rest
+rest-behind : (place n q from : ℕ) (l : List ℕ) → 4 * q ≤ n → from ≡ place + 32 * q
+    → numbersAt place 8 n l ≡ numbersAt place 8 (4 * q) l ++ numbersAt from 8 (n - 4 * q) l
+rest-behind place n q from l h d =
     let e : 4 * q + (n - 4 * q) ≡ n = omega arith in
-    let p : 19 + 8 * (4 * q) ≡ 19 + 32 * q = omega arith in
-    ap (λ (m : ℕ). numbersAt 19 8 m l) (sym e) ∙ rw p at (numbers-append 19 8 (4 * q) (n - 4 * q) l)
+    let p : place + 8 * (4 * q) ≡ from = omega arith in
+    ap (λ (m : ℕ). numbersAt place 8 m l) (sym e) ∙ rw p at (numbers-append place 8 (4 * q) (n - 4 * q) l)
 
 -- ---- the bits of all fields: those that are gathered stand for their fields
 
@@ -94,35 +96,40 @@ pub bits-none : (k : ℕ) (fs : List ℕ) → someUnreduced k (0 ∷ fs) ≡ som
 unfolding someUnreduced
 bits-none k fs = rw (lt-leb (2 ^ k) 0 (pow-pos k))
 
--- the bits and four runs, each by itself
+-- the bits and four lanes, each by itself
 bits-apart : (k bits : ℕ) (s t u v : List ℕ)
     → someUnreduced k (bits ∷ (s ++ t ++ u ++ v)) ≡ (leb (2 ^ k) bits || (someUnreduced k s || (someUnreduced k t || (someUnreduced k u || someUnreduced k v))))
 bits-apart k bits s t u v = simp (unreduced-first, unreduced-append, or-assoc)
 
 -- four fields a turn
-pub bits-four : (k bits place run n e f g h : ℕ) (l : List ℕ) → 0 < n → e ≡ numberAt place 8 l → f ≡ numberAt (place + run) 8 l → g ≡ numberAt (place + run + run) 8 l
-    → h ≡ numberAt (place + run + run + run) 8 l
-    → someUnreduced k (bitOr (bitOr (bitOr (bitOr bits e) f) g) h ∷ fourRuns (place + 8) run (n - 1) l) ≡ someUnreduced k (bits ∷ fourRuns place run n l)
-bits-four k bits place run n e f g h l p ee ef eg eh =
-    let b : place + 8 + run ≡ place + run + 8 = omega arith in
-    let c : place + 8 + run + run ≡ place + run + run + 8 = omega arith in
-    let d : place + 8 + run + run + run ≡ place + run + run + run + 8 = omega arith in
-    rw (bits-apart k (bitOr (bitOr (bitOr (bitOr bits e) f) g) h), bits-apart k bits, d, c, b, numbers-next place 8 n l p, numbers-next (place + run) 8 n l p, numbers-next (place + run + run) 8 n l p, numbers-next (place + run + run + run) 8 n l p, ← ee, ← ef, ← eg, ← eh)
-    (simp (unreduced-first, or-leb, or-assoc, or-left-comm))
+pub bits-four : (k bits place lane n e f g h : ℕ) (l : List ℕ) → 0 < n → e ≡ numberAt place 8 l → f ≡ numberAt (place + lane) 8 l
+    → g ≡ numberAt (place + lane + lane) 8 l → h ≡ numberAt (place + lane + lane + lane) 8 l
+    → someUnreduced k (bitOr (bitOr (bitOr (bitOr bits e) f) g) h ∷ fourLanes (place + 8) lane (n - 1) l) ≡ someUnreduced k (bits ∷ fourLanes place lane n l)
+bits-four k bits place lane n e f g h l p ee ef eg eh =
+    let b : place + 8 + lane ≡ place + lane + 8 = omega arith in
+    let c : place + 8 + lane + lane ≡ place + lane + lane + 8 = omega arith in
+    let d : place + 8 + lane + lane + lane ≡ place + lane + lane + lane + 8 = omega arith in
+    rw (bits-apart k (bitOr (bitOr (bitOr (bitOr bits e) f) g) h), bits-apart k bits, d, c, b)
+    (rw (numbers-next place 8 n l p, numbers-next (place + lane) 8 n l p, numbers-next (place + lane + lane) 8 n l p)
+    (rw (numbers-next (place + lane + lane + lane) 8 n l p, ← ee, ← ef, ← eg, ← eh) (simp (unreduced-first, or-leb, or-assoc, or-left-comm))))
 
-pub bits-four-done : (k bits place run n q : ℕ) (l : List ℕ) → n ≡ 0 → someUnreduced k (bits ∷ fourRuns place run n l) ≡ someUnreduced k (0 ∷ fourRuns 19 (8 * q) q l)
-    → leb (2 ^ k) bits ≡ someUnreduced k (numbersAt 19 8 (4 * q) l)
-bits-four-done k bits place run n q l e h =
-    bits-done k bits (fourRuns place run n l) (simp (numbers-done, e)) ∙ h ∙ bits-none k (fourRuns 19 (8 * q) q l) ∙ ap (someUnreduced k) (sym (four-runs q l))
+pub bits-four-done : (k bits start place lane n q : ℕ) (l : List ℕ) → n ≡ 0
+    → someUnreduced k (bits ∷ fourLanes place lane n l) ≡ someUnreduced k (0 ∷ fourLanes start (8 * q) q l)
+    → leb (2 ^ k) bits ≡ someUnreduced k (numbersAt start 8 (4 * q) l)
+bits-four-done k bits start place lane n q l e h =
+    bits-done k bits (fourLanes place lane n l) (simp (numbers-done, e))
+    ∙ h
+    ∙ bits-none k (fourLanes start (8 * q) q l)
+    ∙ ap (someUnreduced k) (sym (four-lanes start q l))
 
--- four runs and the rest: all fields
-pub bits-all : (words sheet : List ℕ) (n q : ℕ) (x : FourJoined) (y : ℕ) → 4 * q ≤ n → FourChains words q sheet x → BitsOf (x .bits ∷ numbersAt (19 + 32 * q) 8 (n - 4 * q) sheet) y
-    → BitsOf (numbersAt 19 8 n sheet) y
+-- four lanes and the rest: all fields
+pub bits-all : (words l : List ℕ) (place n q from : ℕ) (x : Lanes) (y : ℕ) → 4 * q ≤ n → from ≡ place + 32 * q → LanesJoined words place q l x
+    → BitsOf (x .bits ∷ numbersAt from 8 (n - 4 * q) l) y → BitsOf (numbersAt place 8 n l) y
 unfolding someUnreduced
-bits-all words sheet n q x y h four b k =
+bits-all words l place n q from x y h d four b k =
     b k
-    ∙ ap (λ (z : Bool). z || someUnreduced k (numbersAt (19 + 32 * q) 8 (n - 4 * q) sheet)) (four .bits k)
-    ∙ sym (ap (someUnreduced k) (rest-behind n q sheet h) ∙ unreduced-append k (numbersAt 19 8 (4 * q) sheet) (numbersAt (19 + 32 * q) 8 (n - 4 * q) sheet))
+    ∙ ap (λ (z : Bool). z || someUnreduced k (numbersAt from 8 (n - 4 * q) l)) (four .bits k)
+    ∙ sym (ap (someUnreduced k) (rest-behind place n q from l h d) ∙ unreduced-append k (numbersAt place 8 (4 * q) l) (numbersAt from 8 (n - 4 * q) l))
 
 -- one field more at the end
 pub bits-last : (fs : List ℕ) (bits f : ℕ) → BitsOf fs bits → BitsOf (fs ++ f ∷ []) (bitOr bits f)
@@ -185,18 +192,18 @@ pub empty-print : (k low : ℕ) → 0 < k → low < 2 ^ k → markOf (monic k lo
 unfolding markOf fingerprint value valueFrom bits
 empty-print k low p h = rem-small (monic-pos k low h) 1 (rw (monic-degree k low h) (pow-lt {i = 0} {j = k} p))
 
--- ---- runs
+-- ---- lanes
 
--- a run of q fields, each for itself behind 0, joined behind what has the residue x
+-- a lane of q fields, each for itself behind 0, joined behind what has the residue x
 module _ (k low : ℕ) (md : Modulus k low) (e : ℕ) where
   chain-lt : (x : ℕ) (u : List ℕ) → x ≡ chained (monic k low) e 1 u → x < 2 ^ k
   chain-lt x u ex =
       let deg = monic-degree k low (md .2) in
       rw ex (rw deg at (chained-lt (monic-pos k low (md .2)) e 1 u (rw deg (pow-lt {i = 0} {j = k} (md .0)))))
 
-  pub run-behind : (q : ℕ) (u v : List ℕ) (x y t r : ℕ) → length v ≡ q → x ≡ chained (monic k low) e 1 u → y ≡ chained (monic k low) e 0 v → t ≡ rem (monic k low) (2 ^ (e * q))
+  pub lane-behind : (q : ℕ) (u v : List ℕ) (x y t r : ℕ) → length v ≡ q → x ≡ chained (monic k low) e 1 u → y ≡ chained (monic k low) e 0 v → t ≡ rem (monic k low) (2 ^ (e * q))
       → r ≡ rem (monic k low) (x % 2 ^ k ⊗ t) ⊕ y → r ≡ chained (monic k low) e 1 (u ++ v)
-  run-behind q u v x y t r l ex ey et er =
+  lane-behind q u v x y t r l ex ey et er =
       let pos = monic-pos k low (md .2) in
       let small : chained (monic k low) e 1 u < 2 ^ degree (monic k low) = rw (monic-degree k low (md .2), ← ex) (chain-lt x u ex) in
       er
@@ -205,27 +212,32 @@ module _ (k low : ℕ) (md : Modulus k low) (e : ℕ) where
       ∙ sym (chained-start pos e (chained (monic k low) e 1 u) v small)
       ∙ sym (chained-append pos e 1 u v)
 
--- four runs of q fields and the rest, n fields in all
-module _ (k low : ℕ) (md : Modulus k low) (s n q : ℕ) (fits : 4 * q ≤ n) (sheet words : List ℕ) (sh : Shifts (monic k low) (8 * s) words)
-    (r : someUnreduced k (numbersAt 19 8 n sheet) ≡ false) (x : FourJoined) (four : FourChains words q sheet x) (t : ℕ) (et : t ≡ rem (monic k low) (2 ^ (8 * s * q))) where
-  runA : List ℕ
-  runA = numbersAt 19 8 q sheet
+-- the low k bits of a number, times a power of t
+pub times-low : (k low a la t b r : ℕ) → la ≡ a % 2 ^ k → r ≡ rem (monic k low) (la ⊗ t) ⊕ b → r ≡ rem (monic k low) (a % 2 ^ k ⊗ t) ⊕ b
+times-low k low a la t b r e d = d ∙ ap (λ (z : ℕ). rem (monic k low) (z ⊗ t) ⊕ b) e
 
-  runB : List ℕ
-  runB = numbersAt (19 + 8 * q) 8 q sheet
+-- four lanes of q fields and the rest, n fields in all
+module _ (k low : ℕ) (md : Modulus k low) (s place n q from : ℕ) (fits : 4 * q ≤ n) (behind : from ≡ place + 32 * q) (l words : List ℕ)
+    (sh : Shifts (monic k low) (8 * s) words) (r : someUnreduced k (numbersAt place 8 n l) ≡ false) (x : Lanes) (four : LanesJoined words place q l x) (t : ℕ)
+    (et : t ≡ rem (monic k low) (2 ^ (8 * s * q))) where
+  laneA : List ℕ
+  laneA = numbersAt place 8 q l
 
-  runC : List ℕ
-  runC = numbersAt (19 + 8 * q + 8 * q) 8 q sheet
+  laneB : List ℕ
+  laneB = numbersAt (place + 8 * q) 8 q l
 
-  runD : List ℕ
-  runD = numbersAt (19 + 8 * q + 8 * q + 8 * q) 8 q sheet
+  laneC : List ℕ
+  laneC = numbersAt (place + 8 * q + 8 * q) 8 q l
+
+  laneD : List ℕ
+  laneD = numbersAt (place + 8 * q + 8 * q + 8 * q) 8 q l
 
   rest : List ℕ
-  rest = numbersAt (19 + 32 * q) 8 (n - 4 * q) sheet
+  rest = numbersAt from 8 (n - 4 * q) l
 
-  all-fields : numbersAt 19 8 n sheet ≡ runA ++ runB ++ runC ++ runD ++ rest
-  unfolding runA runB runC runD rest
-  all-fields = rest-behind n q sheet fits ∙ ap (λ (l : List ℕ). l ++ rest) (four-runs q sheet)
+  all-fields : numbersAt place 8 n l ≡ laneA ++ laneB ++ laneC ++ laneD ++ rest
+  unfolding laneA laneB laneC laneD rest
+  all-fields = rest-behind place n q from l fits behind ∙ ap (λ (m : List ℕ). m ++ rest) (four-lanes place q l)
 
   pos : 0 < monic k low
   pos = monic-pos k low (md .2)
@@ -237,56 +249,56 @@ module _ (k low : ℕ) (md : Modulus k low) (s n q : ℕ) (fits : 4 * q ≤ n) (
   by-table : (f : ℕ) (gs : List ℕ) → f < 2 ^ k → someUnreduced k gs ≡ false → looping words f gs ≡ chained (monic k low) (8 * s) f gs
   by-table f gs h u = looping-chained pos (8 * s) words sh (rw deg (md .1)) f gs (rw deg h) (rw deg u)
 
-  reduced : (someUnreduced k runA ≡ false) × (someUnreduced k runB ≡ false) × (someUnreduced k runC ≡ false) × (someUnreduced k runD ≡ false) × (someUnreduced k rest ≡ false)
+  reduced : (someUnreduced k laneA ≡ false) × (someUnreduced k laneB ≡ false) × (someUnreduced k laneC ≡ false) × (someUnreduced k laneD ≡ false) × (someUnreduced k rest ≡ false)
   reduced =
-      let d = reduced-split k (runA ++ runB ++ runC ++ runD) rest (rw all-fields at r) in
-      let c = reduced-split k (runA ++ runB ++ runC) runD (d .0) in
-      let b = reduced-split k (runA ++ runB) runC (c .0) in
-      let a = reduced-split k runA runB (b .0) in
+      let d = reduced-split k (laneA ++ laneB ++ laneC ++ laneD) rest (rw all-fields at r) in
+      let c = reduced-split k (laneA ++ laneB ++ laneC) laneD (d .0) in
+      let b = reduced-split k (laneA ++ laneB) laneC (c .0) in
+      let a = reduced-split k laneA laneB (b .0) in
       (a .0, a .1, b .1, c .1, d .1)
 
-  is-a : x .a ≡ chained (monic k low) (8 * s) 1 runA
-  unfolding runA
-  is-a = four .a ∙ by-table 1 runA (pow-lt {i = 0} {j = k} (md .0)) (reduced .0)
+  is-a : x .a ≡ chained (monic k low) (8 * s) 1 laneA
+  unfolding laneA
+  is-a = four .a ∙ by-table 1 laneA (pow-lt {i = 0} {j = k} (md .0)) (reduced .0)
 
-  is-ab : (ab : ℕ) → ab ≡ rem (monic k low) (x .a % 2 ^ k ⊗ t) ⊕ x .b → ab ≡ chained (monic k low) (8 * s) 1 (runA ++ runB)
-  unfolding runB
+  is-ab : (ab : ℕ) → ab ≡ rem (monic k low) (x .a % 2 ^ k ⊗ t) ⊕ x .b → ab ≡ chained (monic k low) (8 * s) 1 (laneA ++ laneB)
+  unfolding laneB
   is-ab ab e =
-      run-behind k low md (8 * s) q runA runB (x .a) (x .b) t ab (length-numbersAt (19 + 8 * q) 8 q sheet) is-a (four .b ∙ by-table 0 runB (pow-pos k) (reduced .1)) et e
+      lane-behind k low md (8 * s) q laneA laneB (x .a) (x .b) t ab (length-numbersAt (place + 8 * q) 8 q l) is-a (four .b ∙ by-table 0 laneB (pow-pos k) (reduced .1)) et e
 
-  is-abc : (ab abc : ℕ) → ab ≡ rem (monic k low) (x .a % 2 ^ k ⊗ t) ⊕ x .b → abc ≡ rem (monic k low) (ab % 2 ^ k ⊗ t) ⊕ x .c → abc ≡ chained (monic k low) (8 * s) 1 (runA ++ runB ++ runC)
-  unfolding runC
+  is-abc : (ab abc : ℕ) → ab ≡ rem (monic k low) (x .a % 2 ^ k ⊗ t) ⊕ x .b → abc ≡ rem (monic k low) (ab % 2 ^ k ⊗ t) ⊕ x .c → abc ≡ chained (monic k low) (8 * s) 1 (laneA ++ laneB ++ laneC)
+  unfolding laneC
   is-abc ab abc e f =
-      run-behind k low md (8 * s) q (runA ++ runB) runC ab (x .c) t abc (length-numbersAt (19 + 8 * q + 8 * q) 8 q sheet) (is-ab ab e)
-      (four .c ∙ by-table 0 runC (pow-pos k) (reduced .2)) et f
+      lane-behind k low md (8 * s) q (laneA ++ laneB) laneC ab (x .c) t abc (length-numbersAt (place + 8 * q + 8 * q) 8 q l) (is-ab ab e)
+      (four .c ∙ by-table 0 laneC (pow-pos k) (reduced .2)) et f
 
   is-abcd : (ab abc abcd : ℕ) → ab ≡ rem (monic k low) (x .a % 2 ^ k ⊗ t) ⊕ x .b → abc ≡ rem (monic k low) (ab % 2 ^ k ⊗ t) ⊕ x .c
-      → abcd ≡ rem (monic k low) (abc % 2 ^ k ⊗ t) ⊕ x .d → abcd ≡ chained (monic k low) (8 * s) 1 (runA ++ runB ++ runC ++ runD)
-  unfolding runD
+      → abcd ≡ rem (monic k low) (abc % 2 ^ k ⊗ t) ⊕ x .d → abcd ≡ chained (monic k low) (8 * s) 1 (laneA ++ laneB ++ laneC ++ laneD)
+  unfolding laneD
   is-abcd ab abc abcd e f g =
-      run-behind k low md (8 * s) q (runA ++ runB ++ runC) runD abc (x .d) t abcd (length-numbersAt (19 + 8 * q + 8 * q + 8 * q) 8 q sheet) (is-abc ab abc e f)
-      (four .d ∙ by-table 0 runD (pow-pos k) (reduced .3)) et g
+      lane-behind k low md (8 * s) q (laneA ++ laneB ++ laneC) laneD abc (x .d) t abcd (length-numbersAt (place + 8 * q + 8 * q + 8 * q) 8 q l) (is-abc ab abc e f)
+      (four .d ∙ by-table 0 laneD (pow-pos k) (reduced .3)) et g
 
   pub all-joined : (ab abc abcd y : ℕ) → ab ≡ rem (monic k low) (x .a % 2 ^ k ⊗ t) ⊕ x .b → abc ≡ rem (monic k low) (ab % 2 ^ k ⊗ t) ⊕ x .c
       → abcd ≡ rem (monic k low) (abc % 2 ^ k ⊗ t) ⊕ x .d
-      → y ≡ looping words abcd (numbersAt (19 + 32 * q) 8 (n - 4 * q) sheet)
-      → y ≡ joinedPages (monic k low) s (markOf (monic k low) []) (numbersAt 19 8 n sheet) .fingerprint
+      → y ≡ looping words abcd (numbersAt from 8 (n - 4 * q) l)
+      → y ≡ joinedPages (monic k low) s (markOf (monic k low) []) (numbersAt place 8 n l) .fingerprint
   unfolding rest
   all-joined ab abc abcd y e f g h =
       let d = is-abcd ab abc abcd e f g in
       h
-      ∙ by-table abcd rest (chain-lt k low md (8 * s) abcd (runA ++ runB ++ runC ++ runD) d) (reduced .4)
+      ∙ by-table abcd rest (chain-lt k low md (8 * s) abcd (laneA ++ laneB ++ laneC ++ laneD) d) (reduced .4)
       ∙ ap (λ (z : ℕ). chained (monic k low) (8 * s) z rest) d
-      ∙ sym (chained-append pos (8 * s) 1 (runA ++ runB ++ runC ++ runD) rest)
+      ∙ sym (chained-append pos (8 * s) 1 (laneA ++ laneB ++ laneC ++ laneD) rest)
       ∙ ap (chained (monic k low) (8 * s) 1) (sym all-fields)
-      ∙ ap (λ (z : ℕ). chained (monic k low) (8 * s) z (numbersAt 19 8 n sheet)) (sym (empty-print k low (md .0) (md .2)))
-      ∙ sym (joined-chained (monic k low) s (markOf (monic k low) []) (numbersAt 19 8 n sheet))
+      ∙ ap (λ (z : ℕ). chained (monic k low) (8 * s) z (numbersAt place 8 n l)) (sym (empty-print k low (md .0) (md .2)))
+      ∙ sym (joined-chained (monic k low) s (markOf (monic k low) []) (numbersAt place 8 n l))
 
--- few fields: one run
-pub few-joined : (k low : ℕ) → Modulus k low → (s n : ℕ) (sheet words : List ℕ) → Shifts (monic k low) (8 * s) words → someUnreduced k (numbersAt 19 8 n sheet) ≡ false
-    → looping words 1 (numbersAt 19 8 n sheet) ≡ joinedPages (monic k low) s (markOf (monic k low) []) (numbersAt 19 8 n sheet) .fingerprint
-few-joined k low md s n sheet words sh r =
+-- few fields: one lane
+pub few-joined : (k low : ℕ) → Modulus k low → (s place n : ℕ) (l words : List ℕ) → Shifts (monic k low) (8 * s) words → someUnreduced k (numbersAt place 8 n l) ≡ false
+    → looping words 1 (numbersAt place 8 n l) ≡ joinedPages (monic k low) s (markOf (monic k low) []) (numbersAt place 8 n l) .fingerprint
+few-joined k low md s place n l words sh r =
     let deg = monic-degree k low (md .2) in
-    looping-chained (monic-pos k low (md .2)) (8 * s) words sh (rw deg (md .1)) 1 (numbersAt 19 8 n sheet) (rw deg (pow-lt {i = 0} {j = k} (md .0))) (rw deg r)
-    ∙ ap (λ (z : ℕ). chained (monic k low) (8 * s) z (numbersAt 19 8 n sheet)) (sym (empty-print k low (md .0) (md .2)))
-    ∙ sym (joined-chained (monic k low) s (markOf (monic k low) []) (numbersAt 19 8 n sheet))
+    looping-chained (monic-pos k low (md .2)) (8 * s) words sh (rw deg (md .1)) 1 (numbersAt place 8 n l) (rw deg (pow-lt {i = 0} {j = k} (md .0))) (rw deg r)
+    ∙ ap (λ (z : ℕ). chained (monic k low) (8 * s) z (numbersAt place 8 n l)) (sym (empty-print k low (md .0) (md .2)))
+    ∙ sym (joined-chained (monic k low) s (markOf (monic k low) []) (numbersAt place 8 n l))
