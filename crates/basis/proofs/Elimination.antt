@@ -5,7 +5,8 @@ use mathlib.Core.Logic.{_↔_, _⊎_, inl, inr}
 use mathlib.Core.List.{List, [], _∷_, _++_, map}
 use Prim.Native.Nat.{ℕ, zero, suc, _+_, _-_, _*_, _/_, _%_, _^_, _<_}
 use native.Mathlib.Numerals.{add-one, one-add}
-use native.Mathlib.Nat.{add-zero, add-comm, zero-mod, mod-one, mod-lt, zero-mul, one-mul, mul-zero, zero-div, pow-suc, mod-eq-of-lt, div-one, div-div-eq-div-mul, pow-succ'}
+use native.Mathlib.Nat.{add-zero, add-comm, zero-mul, one-mul, mul-zero, pow-suc, pow-succ'}
+use native.Mathlib.Nat.{zero-mod, mod-one, mod-lt, mod-eq-of-lt, zero-div, div-one, div-div-eq-div-mul}
 use native.Mathlib.Omega.{arith}
 use lib.ListN.{length, length-map, length-append}
 use lib.Pow.{pow-pos, pow-lt, pow-add, split, high, low, shr-lt, recompose, mod-pow-add}
@@ -113,7 +114,9 @@ module _ (v : ℕ) (rows : List ℕ) where
     unfolding sumOf
     both =
         sum-last (a * 2 ^ length rows + b) v rows
-        ∙ ap₂ (λ (x y : ℕ). x ⊕ y) (ap (λ (x : ℕ). x * v) (ap (λ (x : ℕ). x % 2) (high a (length rows) small) ∙ e₁)) (sum-past a b rows ∙ ap (λ (x : ℕ). sumOf x rows) e₂)
+        ∙ ap₂ (λ (x y : ℕ). x ⊕ y)
+        (ap (λ (x : ℕ). x * v) (ap (λ (x : ℕ). x % 2) (high a (length rows) small) ∙ e₁))
+        (sum-past a b rows ∙ ap (λ (x : ℕ). sumOf x rows) e₂)
       where
         e₁ : a % 2 ≡ (b * 2 + a) % 2
         e₁ = omega arith
@@ -122,7 +125,10 @@ module _ (v : ℕ) (rows : List ℕ) where
         e₂ = omega arith
 
   last-first : Independent (rows ++ (v ∷ [])) → Independent (v ∷ rows)
-  last-first i h l e = omega (arith, ap (λ (x : ℕ). x / 2 ^ length rows) none, high (h % 2) (length rows) half, zero-div (2 ^ length rows), ap (λ (x : ℕ). x % 2 ^ length rows) none, low (h % 2) (length rows) half, zero-mod (2 ^ length rows))
+  last-first i h l e =
+      let quotient = ap (λ (x : ℕ). x / 2 ^ length rows) none in
+      let rest = ap (λ (x : ℕ). x % 2 ^ length rows) none in
+      omega (arith, high (h % 2) (length rows) half, zero-div (2 ^ length rows), low (h % 2) (length rows) half, zero-mod (2 ^ length rows))
     where
       half : h / 2 < 2 ^ length rows
       half = half-lt h (length rows) l
@@ -209,7 +215,9 @@ lowest-one (suc k) n p l = go (bit-cases (n % 2) (mod-2 n)) (λ q. lowest-one k 
 
     go : (n % 2 ≡ 0) ⊎ (n % 2 ≡ 1)
         → (0 < n / 2 → (trailingZeros k (n / 2) < k) × (n / 2 % 2 ^ trailingZeros k (n / 2) ≡ 0) × (n / 2 / 2 ^ trailingZeros k (n / 2) % 2 ≡ 1))
-        → (under (n % 2) (trailingZeros k (n / 2)) < suc k) × (n % 2 ^ under (n % 2) (trailingZeros k (n / 2)) ≡ 0) × (n / 2 ^ under (n % 2) (trailingZeros k (n / 2)) % 2 ≡ 1)
+        → (under (n % 2) (trailingZeros k (n / 2)) < suc k)
+        × (n % 2 ^ under (n % 2) (trailingZeros k (n / 2)) ≡ 0)
+        × (n / 2 ^ under (n % 2) (trailingZeros k (n / 2)) % 2 ≡ 1)
     go (inl z) rest =
         let r = rest (omega arith) in
         rw z (omega (arith, r .0), more (trailingZeros k (n / 2)) (r .1) z, rw (pow-succ', ← div-div-eq-div-mul) (r .2))

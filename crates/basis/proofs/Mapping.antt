@@ -1,32 +1,45 @@
 -- A buffer whose rows are replaced one by one, from the front, each by its value under f.
-use mathlib.Core.Path.{_≡_, refl, ap}
+use mathlib.Core.Path.{_≡_, refl, ap, ap₂, _∙_}
 use mathlib.Core.List.{List, [], _∷_, _++_, map}
 use Prim.Native.Nat.{ℕ, zero, suc, _+_, _<_}
 use native.Mathlib.Numerals.{add-one}
 use native.Mathlib.Nat.{le-of-suc-le-suc, not-suc-le-zero}
 use lib.ListN.{length, take, drop, getD, set}
 
+-- the first i of the given rows are replaced, each by its value under f
+abbrev pub Mapped : (ℕ → ℕ) → ℕ → List ℕ → List ℕ → Type 0
+Mapped f i given rows = rows ≡ map f (take i given) ++ drop i given
+
 module _ (f : ℕ → ℕ) where
-  pub length-mapped : (j : ℕ) (rows : List ℕ) → length (map f (take j rows) ++ drop j rows) ≡ length rows
-  length-mapped zero rows = refl
-  length-mapped (suc j) [] = refl
-  length-mapped (suc j) (r ∷ rows) = ap suc (length-mapped j rows)
+  long : (i : ℕ) (given : List ℕ) → length (map f (take i given) ++ drop i given) ≡ length given
+  long zero given = refl
+  long (suc i) [] = refl
+  long (suc i) (r ∷ given) = ap suc (long i given)
 
-  pub map-at : (j : ℕ) (rows : List ℕ) → getD (map f (take j rows) ++ drop j rows) j 0 ≡ getD rows j 0
-  map-at zero rows = refl
-  map-at (suc j) [] = refl
-  map-at (suc j) (r ∷ rows) = map-at j rows
+  entry : (i : ℕ) (given : List ℕ) → getD (map f (take i given) ++ drop i given) i 0 ≡ getD given i 0
+  entry zero given = refl
+  entry (suc i) [] = refl
+  entry (suc i) (r ∷ given) = entry i given
 
-  more : (j : ℕ) (rows : List ℕ) → j < length rows
-      → set (map f (take j rows) ++ drop j rows) j (f (getD rows j 0)) ≡ map f (take (suc j) rows) ++ drop (suc j) rows
-  more j [] h = absurd (not-suc-le-zero h)
-  more zero (r ∷ rows) h = refl
-  more (suc j) (r ∷ rows) h = ap (λ (x : List ℕ). f r ∷ x) (more j rows (le-of-suc-le-suc h))
+  more : (i : ℕ) (given : List ℕ) → i < length given
+      → set (map f (take i given) ++ drop i given) i (f (getD given i 0)) ≡ map f (take (suc i) given) ++ drop (suc i) given
+  more i [] h = absurd (not-suc-le-zero h)
+  more zero (r ∷ given) h = refl
+  more (suc i) (r ∷ given) h = ap (λ (x : List ℕ). f r ∷ x) (more i given (le-of-suc-le-suc h))
 
-  pub map-more : (j : ℕ) (rows : List ℕ) → j < length rows
-      → set (map f (take j rows) ++ drop j rows) j (f (getD rows j 0)) ≡ map f (take (j + 1) rows) ++ drop (j + 1) rows
-  map-more j rows h = rw add-one (more j rows h)
+  whole : (given : List ℕ) → map f (take (length given) given) ++ drop (length given) given ≡ map f given
+  whole [] = refl
+  whole (r ∷ given) = ap (λ (x : List ℕ). f r ∷ x) (whole given)
 
-  pub map-whole : (rows : List ℕ) → map f (take (length rows) rows) ++ drop (length rows) rows ≡ map f rows
-  map-whole [] = refl
-  map-whole (r ∷ rows) = ap (λ (x : List ℕ). f r ∷ x) (map-whole rows)
+  module _ (i : ℕ) (given : List ℕ) {rows : List ℕ} (h : Mapped f i given rows) where
+    pub mapped-length : length rows ≡ length given
+    mapped-length = ap length h ∙ long i given
+
+    pub mapped-at : getD rows i 0 ≡ getD given i 0
+    mapped-at = ap (λ (x : List ℕ). getD x i 0) h ∙ entry i given
+
+    pub mapped-next : {x : ℕ} → i < length given → x ≡ f (getD rows i 0) → Mapped f (i + 1) given (set rows i x)
+    mapped-next l e = ap₂ (λ (t : List ℕ) (y : ℕ). set t i y) h (e ∙ ap f mapped-at) ∙ rw add-one (more i given l)
+
+    pub mapped-whole : i ≡ length given → rows ≡ map f given
+    mapped-whole e = rw e at h ∙ whole given

@@ -9,7 +9,8 @@ use lib.ListN.{length, getD, set}
 use Rattle.gf2.specs.Polynomials.{_⊕_}
 use Rattle.gf2.proofs.Sums.{⊕-comm, ⊕-shl}
 use Rattle.gf2.proofs.Products.{by-low}
-use Rattle.lists.proofs.Lists.{stored}
+use Rattle.lists.specs.Lists.{listFrom}
+use Rattle.lists.proofs.Lists.{stored, length-list, list-at}
 use Rattle.gf2.proofs.Degrees.{half-lt}
 use Rattle.gf2.proofs.Linear.{Additive, at-zero, at-bit}
 use Rattle.basis.specs.Rows.{sumOf, Matrix}
@@ -39,13 +40,21 @@ module _ {L : ℕ → ℕ} (add : Additive L) where
           ∙ sym (⊕-shl s (x / 2 * 2) (x % 2))
           ∙ ap (λ (y : ℕ). y * 2 ^ s) (by-low x)
 
-  -- the first n rows are in
-  abbrev pub Filled : ℕ → List ℕ → Type 0
-  Filled n rows = (j : ℕ) → j < n → getD rows j 0 ≡ L (2 ^ j)
+  -- listed rows from t^i on
+  pub sum-listed : (i n x : ℕ) → x < 2 ^ n → sumOf x (listFrom (λ j. L (2 ^ j)) i n) ≡ L (x * 2 ^ i)
+  sum-listed i n x l =
+      sum-from (listFrom (λ j. L (2 ^ j)) i n) i (λ j m. list-at (λ j. L (2 ^ j)) i n j (rw (length-list (λ j. L (2 ^ j)) i n) at m)) x (rw length-list l)
 
-  pub filled-more : (n : ℕ) (rows : List ℕ) (x : ℕ) → n < length rows → x ≡ L (2 ^ n) → Filled n rows → Filled (n + 1) (set rows n x)
-  filled-more n rows x l e h j m = stored 0 (λ k y. y ≡ L (2 ^ k)) rows n x l e j (λ q. h j (omega (arith, q)))
+-- ---- the rows are filled in one by one
 
-  pub filled-matrix : (rows : List ℕ) → length rows ≡ 64 → Filled 64 rows → Matrix L rows
-  filled-matrix rows e h x l =
-      sum-from rows 0 (λ j m. h j (omega arith) ∙ ap (λ (n : ℕ). L (2 ^ n)) (sym (zero-add j))) x (rw e l) ∙ ap L (mul-one x)
+-- the rows before the n-th are in, and x is the n-th
+abbrev pub Filling : (ℕ → ℕ) → List ℕ → ℕ → ℕ → Type 0
+Filling L rows x n = (x ≡ L (2 ^ n)) × ((j : ℕ) → j < n → getD rows j 0 ≡ L (2 ^ j))
+
+module _ {L : ℕ → ℕ} (add : Additive L) (rows : List ℕ) (x n : ℕ) where
+  pub filling-next : n < length rows → Filling L rows x n → (y : ℕ) → y ≡ L (2 ^ (n + 1)) → Filling L (set rows n x) y (n + 1)
+  filling-next l h y e = (e, λ j m. stored 0 (λ k z. z ≡ L (2 ^ k)) rows n x l (h .0) j (λ q. h .1 j (omega (arith, q))))
+
+  pub filling-matrix : length rows ≡ 64 → n ≡ 64 → Filling L rows x n → Matrix L rows
+  filling-matrix e d h y l =
+      sum-from add rows 0 (λ j m. h .1 j (omega arith) ∙ ap (λ (i : ℕ). L (2 ^ i)) (sym (zero-add j))) y (rw e l) ∙ ap L (mul-one y)

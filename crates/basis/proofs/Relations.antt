@@ -3,12 +3,13 @@ use mathlib.Core.Path.{_≡_, refl, sym, ap, ap₂, _∙_}
 use mathlib.Core.Logic.{_⊎_, inl, inr}
 use mathlib.Core.List.{List, [], _∷_, map}
 use Prim.Native.Nat.{ℕ, zero, suc, _+_, _-_, _*_, _/_, _%_, _^_, _≤_, _<_, suc-le-suc}
-use native.Mathlib.Nat.{zero-mul, one-mul, zero-add, add-zero, sub-zero, add-suc, suc-add, le-suc, lt-of-lt-of-le, le-of-suc-le-suc, not-suc-le-zero, eq-zero-or-pos, div-self}
+use native.Mathlib.Nat.{zero-mul, one-mul, zero-add, add-zero, sub-zero, add-suc, suc-add, div-self}
+use native.Mathlib.Nat.{le-suc, lt-of-lt-of-le, le-of-suc-le-suc, not-suc-le-zero, eq-zero-or-pos}
 use native.Mathlib.Numerals.{add-one}
 use native.Mathlib.Omega.{arith}
 use lib.ListN.{length, take, drop, getD, set, replicate, length-map, length-replicate}
 use lib.Pow.{pow-pos, pow-mono}
-use lib.Seq.{length-take-le, getD-take}
+use lib.Seq.{length-take-le, take-length, getD-take}
 use borrow.Rule.Slice.PartMut.{putMid, mid-len, same-len-mid}
 use Rattle.gf2.specs.Polynomials.{_⊕_, Degree}
 use Rattle.gf2.proofs.Sums.{⊕-left-comm, ⊕-lt, ⊕-zero}
@@ -28,7 +29,7 @@ module _ (c w : ℕ) where
   length-added (r ∷ rows) [] = refl
   length-added (r ∷ rows) (s ∷ sums) = ap suc (length-added rows sums)
 
-  pub added-at : (j : ℕ) (rows sums : List ℕ) → getD (addWhere c w (take j rows) sums) j 0 ≡ getD sums j 0
+  added-at : (j : ℕ) (rows sums : List ℕ) → getD (addWhere c w (take j rows) sums) j 0 ≡ getD sums j 0
   unfolding addWhere
   added-at zero rows sums = refl
   added-at (suc j) [] sums = refl
@@ -44,9 +45,21 @@ module _ (c w : ℕ) where
   more (suc j) (r ∷ rows) [] h = refl
   more (suc j) (r ∷ rows) (s ∷ sums) h = ap (λ (x : List ℕ). (r / 2 ^ c % 2 * w ⊕ s) ∷ x) (more j rows sums (le-of-suc-le-suc h))
 
-  pub added-more : (j : ℕ) (rows sums : List ℕ) → j < length rows
-      → set (addWhere c w (take j rows) sums) j (getD rows j 0 / 2 ^ c % 2 * w ⊕ getD sums j 0) ≡ addWhere c w (take (j + 1) rows) sums
-  added-more j rows sums h = rw add-one (more j rows sums h)
+  -- the sums of the first j rows are changed
+  abbrev pub Added : ℕ → List ℕ → List ℕ → List ℕ → Type 0
+  Added j rows given sums = sums ≡ addWhere c w (take j rows) given
+
+  module _ (j : ℕ) (rows given : List ℕ) {sums : List ℕ} (h : Added j rows given sums) where
+    pub added-length : length sums ≡ length given
+    added-length = ap length h ∙ length-added (take j rows) given
+
+    pub added-next : {x y : ℕ} → j < length rows → y ≡ getD rows j 0 → x ≡ y / 2 ^ c % 2 * w ⊕ getD sums j 0 → Added (j + 1) rows given (set sums j x)
+    added-next l at e =
+        let same = ap (λ (t : List ℕ). getD t j 0) h ∙ added-at j rows given in
+        ap₂ (λ (t : List ℕ) (z : ℕ). set t j z) h (e ∙ ap₂ (λ (r s : ℕ). r / 2 ^ c % 2 * w ⊕ s) at same) ∙ rw add-one (more j rows given l)
+
+    pub added-whole : j ≡ length rows → sums ≡ addWhere c w rows given
+    added-whole e = rw (e, take-length) at h
 
 -- ---- rows and sums
 
@@ -99,16 +112,20 @@ module _ (given : List ℕ) (i n : ℕ) (rows sums : List ℕ) (l : i < n) (lr :
 
   pub tied-turn : (c : ℕ) (ys zs : List ℕ) → ys ≡ map (clear c (getD rows i 0)) (take (n - (i + 1)) (drop (i + 1) rows))
       → zs ≡ addWhere c (2 ^ i ⊕ getD sums i 0) (take (n - (i + 1)) (drop (i + 1) rows)) (take (n - (i + 1)) (drop (i + 1) sums))
-      → Tied given (i + 1) (take (n - (i + 1)) (drop (i + 1) (putMid (i + 1) (n - (i + 1)) rows ys))) (take (n - (i + 1)) (drop (i + 1) (putMid (i + 1) (n - (i + 1)) sums zs)))
+      → Tied given (i + 1)
+      (take (n - (i + 1)) (drop (i + 1) (putMid (i + 1) (n - (i + 1)) rows ys)))
+      (take (n - (i + 1)) (drop (i + 1) (putMid (i + 1) (n - (i + 1)) sums zs)))
   tied-turn c ys zs ey ez =
       rw (put-part (i + 1) (n - (i + 1)) rows ys (omega arith) ly, put-part (i + 1) (n - (i + 1)) sums zs (omega arith) lz, ey, ez, add-one i)
-      (tied-cleared given c (getD rows i 0) (2 ^ i ⊕ getD sums i 0) row-value (suc i) (take (n - suc i) (drop (suc i) rows)) (take (n - suc i) (drop (suc i) sums)) (deg-hi (2 ^ i ⊕ getD sums i 0) i new-degree) (rw (add-one i) at (parts .2)))
+      (tied-cleared given c (getD rows i 0) (2 ^ i ⊕ getD sums i 0) row-value (suc i)
+      (take (n - suc i) (drop (suc i) rows)) (take (n - suc i) (drop (suc i) sums))
+      (deg-hi (2 ^ i ⊕ getD sums i 0) i new-degree) (rw (add-one i) at (parts .2)))
     where
       ly : length ys ≡ n - (i + 1)
       ly = ap length ey ∙ length-map (take (n - (i + 1)) (drop (i + 1) rows)) (clear c (getD rows i 0)) ∙ mid-len (i + 1) n rows lr
 
       lz : length zs ≡ n - (i + 1)
-      lz = ap length ez ∙ length-added c (2 ^ i ⊕ getD sums i 0) (take (n - (i + 1)) (drop (i + 1) rows)) (take (n - (i + 1)) (drop (i + 1) sums)) ∙ mid-len (i + 1) n sums ls
+      lz = ap length ez ∙ length-added c (2 ^ i ⊕ getD sums i 0) _ _ ∙ mid-len (i + 1) n sums ls
 
 -- ---- independence
 
@@ -201,8 +218,8 @@ module _ (rows : List ℕ) (k : ℕ) where
       kept-turn l c one ys zs ey ez =
           record {
             reached = omega arith;
-            work-length = same-len-mid (i + 1) (k + 1 - (i + 1)) work ys (ap length ey ∙ length-map (take (k + 1 - (i + 1)) (drop (i + 1) work)) (clear c (getD work i 0))) ∙ s .work-length;
-            sums-length = same-len-mid (i + 1) (k + 1 - (i + 1)) sums zs (ap length ez ∙ length-added c (2 ^ i ⊕ getD sums i 0) (take (k + 1 - (i + 1)) (drop (i + 1) work)) (take (k + 1 - (i + 1)) (drop (i + 1) sums))) ∙ s .sums-length;
+            work-length = same-len-mid (i + 1) (k + 1 - (i + 1)) work ys (ap length ey ∙ simp length-map) ∙ s .work-length;
+            sums-length = same-len-mid (i + 1) (k + 1 - (i + 1)) sums zs (ap length ez ∙ length-added c (2 ^ i ⊕ getD sums i 0) _ _) ∙ s .sums-length;
             dependent = λ j. s .dependent (turn-behind i (k + 1) c work ys i-lt rows-there one ey .1 j);
             tied = tied-turn rows i (k + 1) work sums i-lt rows-there sums-there (s .tied) c ys zs ey ez;
           }

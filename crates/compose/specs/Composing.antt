@@ -2,21 +2,15 @@
 -- and its value.
 use mathlib.Core.Bool.{_||_, not}
 use mathlib.Core.List.{List, [], _∷_, _++_}
-use Prim.Native.Nat.{ℕ, _+_, _-_, _*_, _^_}
+use Prim.Native.Nat.{ℕ, _+_}
 use lib.Dec.{ltb, eqb}
 use lib.ListN.{length}
-use Rattle.gf2.specs.Polynomials.{_⊕_, rem}
 use Rattle.refusals.specs.declared.Refusal.the-variants.{TooLong, MarkNotReduced, PageLengthsDiffer, PagePastEnd}
 use Rattle.refusals.specs.Refusals.{Answer, Test, _⇒_, firstOf, passes}
 use Rattle.acceptance.specs.Keys.{keyTests}
 use Rattle.files.specs.declared.Mark.{Mark}
-use Rattle.files.specs.Files.{fingerprint}
-use Rattle.marks.specs.Feeding.{unreduced, sumTest}
-
--- F·t^(8b) + G + t^(8b), and a + b
-unfoldable pub joined : ℕ → Mark → Mark → Mark
-joined key x y =
-    record { fingerprint = rem key (x .fingerprint * 2 ^ (8 * y .length) ⊕ y .fingerprint ⊕ 2 ^ (8 * y .length)); length = x .length + y .length }
+use Rattle.files.specs.Files.{unreduced, joined, replaced}
+use Rattle.marks.specs.Feeding.{sumTest}
 
 -- numbers 7 and 8 of two marks
 abbrev pub marksTests : ℕ → Mark → Mark → List Test
@@ -31,14 +25,6 @@ joinBehind key m other = firstOf (joinTests key m other) m (joined key m other)
 
 unfoldable pub joinInFront : ℕ → Mark → Mark → Answer Mark Mark
 joinInFront key m other = firstOf (joinTests key m other) m (joined key other m)
-
--- the difference of the two pages' fingerprints, times t^(8 × bytes after the page), is added
-unfoldable pub replaced : ℕ → Mark → ℕ → List ℕ → List ℕ → Mark
-replaced key m place old new =
-    record {
-      fingerprint = rem key (m .fingerprint ⊕ (fingerprint key old ⊕ fingerprint key new) * 2 ^ (8 * (m .length - (place + length old))));
-      length = m .length;
-    }
 
 -- numbers 7 to 10
 abbrev pub pageTests : ℕ → Mark → ℕ → List ℕ → List ℕ → List Test

@@ -2,7 +2,7 @@
 -- the residues from 2 to 2^k - 1 draw it: the conjugates of that root.
 use mathlib.Core.Path.{_≡_, sym, ap, _∙_}
 use mathlib.Core.Logic.{_≢_, _⊎_, inl, inr, ⊎-elim}
-use Prim.Native.Nat.{ℕ, _+_, _/_, _%_, _^_, _≤_, _<_}
+use Prim.Native.Nat.{ℕ, _+_, _/_, _%_, _^_, _<_}
 use native.Mathlib.Nat.{lt-of-lt-of-le}
 use native.Mathlib.Decide.{decLt}
 use native.Mathlib.Omega.{arith}
@@ -11,17 +11,17 @@ use lib.Pow.{pow-mono}
 use Rattle.gf2.specs.Polynomials.{_⊕_, _⊗_, Degree, degree, Divides, rem, Irreducible}
 use Rattle.gf2.proofs.Sums.{⊕-zero, ⊕-lt, ⊕-bit}
 use Rattle.gf2.proofs.Products.{⊗-zero, ⊗-one, bit-cases, mod-2}
-use Rattle.gf2.proofs.Degrees.{degree-is, degree-eq, degree-⊗, deg-lo, deg-hi, deg-pos}
+use Rattle.gf2.proofs.Degrees.{degree-is, degree-eq, deg-lo, deg-hi, deg-pos}
 use Rattle.gf2.proofs.Divisors.{dvd-by, dvd-refl, dvd-small}
 use Rattle.gf2.proofs.Residues.{rem-lt, rem-of-dvd, dvd-of-rem-zero, dvd-of-rem}
-use Rattle.gf2.proofs.Irreducibles.{euclid-lemma, pos-left}
+use Rattle.gf2.proofs.Irreducibles.{euclid-lemma, pos-left, factor-degrees}
 use Rattle.fields.specs.Fields.{compose, at, Field}
 use Rattle.fields.proofs.Values.{compose-zero, compose-step, compose-⊗, compose-id, compose-cong}
 use Rattle.fields.proofs.Squaring.{power, squares}
 use Rattle.fields.proofs.Fermat.{fermat, fermat-all, frobenius-degree, frobenius-at, positive, one-lt, residues-differ}
-use Rattle.fields.proofs.Conjugates.{field-pos, field-degree, conjugates-differ}
+use Rattle.fields.proofs.Conjugates.{field-pos, field-degree, field-four, conjugates-differ}
 use Rattle.fields.proofs.Roots.{few-roots}
-use Rattle.fields.proofs.Pigeonhole.{Found, find}
+use Rattle.fields.proofs.Pigeonhole.{Found, stands}
 use Rattle.draw.specs.Drawing.{Draws}
 use Rattle.draw.proofs.Draws.{conjugate-is, conjugate-draws, only-conjugates}
 
@@ -55,10 +55,11 @@ module _ (f p k : ℕ) (irr-f : Irreducible f) (deg-f : Degree f k) (irr-p : Irr
   q-pos : 0 < q
   q-pos = pos-left q p (power k 2 ⊕ 2) splits (deg-pos (power k 2 ⊕ 2) (2 ^ k) whole-degree)
 
-  degrees : degree q + k ≡ 2 ^ k
+  degrees : 2 ^ k ≡ degree q + k
   degrees =
-      ap (λ (x : ℕ). degree q + x) (sym (degree-eq p k deg-p)) ∙ sym (degree-⊗ q p q-pos (deg-pos p k deg-p))
-      ∙ ap degree splits ∙ degree-eq (power k 2 ⊕ 2) (2 ^ k) whole-degree
+      sym (degree-eq (power k 2 ⊕ 2) (2 ^ k) whole-degree)
+      ∙ factor-degrees q p (power k 2 ⊕ 2) splits (deg-pos (power k 2 ⊕ 2) (2 ^ k) whole-degree)
+      ∙ ap (λ (x : ℕ). degree q + x) (degree-eq p k deg-p)
 
   q-lt : q < 2 ^ (2 ^ k)
   q-lt = lt-of-lt-of-le (deg-hi q (degree q) (degree-is q q-pos)) (pow-mono (omega (arith, degrees, positive f k irr-f deg-f)))
@@ -71,17 +72,14 @@ module _ (f p k : ℕ) (irr-f : Irreducible f) (deg-f : Degree f k) (irr-p : Irr
 
   has-root : Found (2 ^ k) 0 (at f p)
   unfolding at
-  has-root = go (find (at f p) 0 (2 ^ k))
-    where
-      go : Found (2 ^ k) 0 (at f p) ⊎ ((e : ℕ) → e < 2 ^ k → at f p e ≢ 0) → Found (2 ^ k) 0 (at f p)
-      go (inl r) = r
-      go (inr none) =
-          absurd (omega (
-            arith,
-            q-pos,
-            few-roots f k deg-f (one-lt f k irr-f deg-f) irr-f (2 ^ k) q (λ x. x) q-lt (residues-differ f k irr-f deg-f)
-                (λ e l. ⊎-elim (λ d. d) (λ d. absurd (none e l (rem-of-dvd pos (compose p e) d))) (either e)),
-          ))
+  has-root =
+      stands (at f p) 0 (2 ^ k)
+      (λ none. omega (
+        arith,
+        q-pos,
+        few-roots f k deg-f (one-lt f k irr-f deg-f) irr-f (2 ^ k) q (λ x. x) q-lt (residues-differ f k irr-f deg-f)
+            (λ e l. ⊎-elim (λ d. d) (λ d. absurd (none e l (rem-of-dvd pos (compose p e) d))) (either e)),
+      ))
 
 -- ---- 0 and 1 are no roots
 
@@ -104,17 +102,14 @@ module _ (f k : ℕ) (h : Field f k) (p : ℕ) (irr : Irreducible p) (deg : Degr
   pos-f : 0 < f
   pos-f = field-pos f k h
 
-  four-le : 4 ≤ 2 ^ k
-  four-le = pow-mono {i = 2} {j = k} (h .prime .proper)
-
   -- p(c) = 0 makes t - c a divisor
   no-digit-root : (c : ℕ) → c < 2 → at f p c ≡ 0 → ⊥
   unfolding at
   no-digit-root c l z =
-      ⊎-elim (λ e. omega (arith, ⊕-bit 1 c l)) (λ e. omega (arith, ⊕-bit 1 c l, deg-lo p k deg, four-le)) (irr .only (2 ⊕ c) divisor)
+      ⊎-elim (λ e. omega (arith, ⊕-bit 1 c l)) (λ e. omega (arith, ⊕-bit 1 c l, deg-lo p k deg, field-four f k h)) (irr .only (2 ⊕ c) divisor)
     where
       value-zero : compose p c ≡ 0
-      value-zero = dvd-small k (h .of-degree) (dvd-of-rem-zero pos-f (compose p c) z) (lt-of-lt-of-le (digit-value p c l) (omega (arith, four-le)))
+      value-zero = dvd-small k (h .of-degree) (dvd-of-rem-zero pos-f (compose p c) z) (lt-of-lt-of-le (digit-value p c l) (omega (arith, field-four f k h)))
 
       divisor : Divides (2 ⊕ c) p
       divisor = dvd-by (compose-cong (2 ⊕ c) p 2 c (dvd-refl (2 ⊕ c))) (rw (compose-id p, value-zero) (⊕-zero p))

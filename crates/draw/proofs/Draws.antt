@@ -1,27 +1,27 @@
 -- Rabin's drawing of a key: modulo f, irreducible of a prime degree k, each residue e but 0 and 1 is a root of exactly one
 -- polynomial of degree k over GF(2). That one is irreducible, and its roots are the k conjugates of e.
 use mathlib.Core.Path.{_≡_, sym, ap, _∙_}
-use mathlib.Core.Logic.{_≢_, _⊎_, inl, inr, ⊎-elim}
-use Prim.Native.Nat.{ℕ, zero, suc, _+_, _^_, _<_}
-use native.Mathlib.Nat.{lt-trans, two-pow-succ, le-of-suc-le-suc, not-suc-le-zero, lt-of-lt-of-le, div-self}
+use mathlib.Core.Logic.{_≢_, ⊎-elim}
+use Prim.Native.Nat.{ℕ, zero, suc, _+_, _^_, _≤_, _<_}
+use native.Mathlib.Nat.{lt-trans, two-pow-succ, le-of-suc-le-suc, not-suc-le-zero, div-self}
 use native.Mathlib.Decide.{decLt}
 use native.Mathlib.Omega.{arith}
 use borrow.Author.Tests.{eqb-true, eq-eqb}
 use lib.Dec.{eqb}
-use lib.Pow.{pow-pos, pow-lt, pow-mono}
+use lib.Pow.{pow-pos}
 use Rattle.gf2.specs.Polynomials.{_⊕_, degree, Divides, rem, Irreducible}
 use Rattle.gf2.proofs.Sums.{⊕-self, ⊕-comm, ⊕-eq, ⊕-lt, xor}
-use Rattle.gf2.proofs.Degrees.{degree-is, degree-eq, degree-⊗, deg-lo, deg-hi, deg-intro, deg-pos, deg-zero, deg-⊕, deg-cancel}
+use Rattle.gf2.proofs.Degrees.{degree-eq, deg-lo, deg-hi, deg-intro, deg-pos, deg-⊕, deg-cancel}
 use Rattle.gf2.proofs.Divisors.{dvd-by, dvd-⊕}
 use Rattle.gf2.proofs.Residues.{rem-lt, rem-small, rem-dvd, rem-cong, rem-of-dvd, dvd-of-rem-zero}
-use Rattle.gf2.proofs.Irreducibles.{irreducible, euclid-lemma, pos-left}
+use Rattle.gf2.proofs.Irreducibles.{irreducible, euclid-lemma, pos-left, factor-lt}
 use Rattle.fields.specs.Fields.{compose, at, Field}
 use Rattle.fields.proofs.Values.{compose-⊗, compose-cong, at-⊕}
 use Rattle.fields.proofs.Squaring.{power, compose-power, dvd-power, squares, squares-power}
-use Rattle.fields.proofs.Conjugates.{field-pos, field-degree, conjugates-differ}
+use Rattle.fields.proofs.Conjugates.{field-pos, field-degree, field-four, conjugates-differ}
 use Rattle.fields.proofs.Roots.{Different, few-roots}
-use Rattle.fields.proofs.Pigeonhole.{Collision, pigeonhole, Found, find}
-use Rattle.stock.proofs.Searches.{first-is}
+use Rattle.fields.proofs.Pigeonhole.{Collision, pigeonhole, Found, stands}
+use Rattle.lists.proofs.Searches.{first-is}
 use Rattle.draw.specs.Drawing.{Draws, drawn}
 
 module _ (f k : ℕ) (h : Field f k) where
@@ -31,8 +31,8 @@ module _ (f k : ℕ) (h : Field f k) where
   full : degree f ≡ k
   full = field-degree f k h
 
-  two-lt : 2 < 2 ^ k
-  two-lt = pow-lt {i = 1} {j = k} (h .prime .proper)
+  four : 4 ≤ 2 ^ k
+  four = field-four f k h
 
   at-lt : (p e : ℕ) → at f p e < 2 ^ k
   unfolding at
@@ -53,7 +53,7 @@ module _ (f k : ℕ) (h : Field f k) where
     -- a polynomial of degree below k would have k roots
     pub no-smaller : (p : ℕ) → p < 2 ^ k → at f p e ≡ 0 → p ≡ 0
     no-smaller p l z =
-        few-roots f k (h .of-degree) (omega (arith, two-lt)) (h .irreducible) k p (λ j. power j e) l
+        few-roots f k (h .of-degree) (omega (arith, four)) (h .irreducible) k p (λ j. power j e) l
         (conjugates-differ f k e h low high) (λ j a. conjugate-root p e j (vanishes p e z))
 
     -- ---- exactly one polynomial
@@ -116,7 +116,7 @@ module _ (f k : ℕ) (h : Field f k) where
     no-factor q n l d = omega (arith, no-smaller q l (is-zero q e d))
 
     pub drawn-irreducible : (p : ℕ) → Draws f k e p → Irreducible p
-    drawn-irreducible p a = irreducible p (omega (arith, deg-lo p k (a .of-degree), two-lt)) none
+    drawn-irreducible p a = irreducible p (omega (arith, deg-lo p k (a .of-degree), four)) none
       where
         p-pos : 0 < p
         p-pos = deg-pos p k (a .of-degree)
@@ -126,27 +126,13 @@ module _ (f k : ℕ) (h : Field f k) where
 
         none : (d : ℕ) → 1 < d → d < 2 ^ degree p → Divides d p → ⊥
         none d o l w =
-            ⊎-elim (no-factor q q-pos q-lt) (no-factor d d-pos (rw p-full at l))
+            ⊎-elim (no-factor q (pos-left q d p (w .product) p-pos) (rw p-full at (factor-lt q d p (w .product) p-pos (λ z. omega arith))))
+            (no-factor d (omega arith) (rw p-full at l))
             (euclid-lemma f (compose q e) (compose d e) (h .irreducible)
             (dvd-by (vanishes p e (a .root)) (ap (λ (x : ℕ). compose x e) (sym (w .product)) ∙ compose-⊗ q d e)))
           where
             q : ℕ
             q = w .quotient
-
-            q-pos : 0 < q
-            q-pos = pos-left q d p (w .product) p-pos
-
-            d-pos : 0 < d
-            d-pos = omega arith
-
-            degrees : k ≡ degree q + degree d
-            degrees = sym p-full ∙ ap degree (sym (w .product)) ∙ degree-⊗ q d q-pos d-pos
-
-            not-one : degree d ≢ 0
-            not-one z = omega (arith, deg-zero d (rw z at (degree-is d d-pos)))
-
-            q-lt : q < 2 ^ k
-            q-lt = lt-of-lt-of-le (deg-hi q (degree q) (degree-is q q-pos)) (pow-mono (omega (arith, degrees, not-one)))
 
     -- ---- its roots are the conjugates of e
 
@@ -184,13 +170,11 @@ module _ (f k : ℕ) (h : Field f k) where
       vanish (suc j) b = conjugate-root p e j (vanishes p e (a .root))
 
       pub only-conjugates : Found k x (λ j. squares f j e)
-      only-conjugates = go (find (λ j. squares f j e) x k)
-        where
-          go : Found k x (λ j. squares f j e) ⊎ ((j : ℕ) → j < k → squares f j e ≢ x) → Found k x (λ j. squares f j e)
-          go (inl r) = r
-          go (inr none) =
-              absurd (omega (
-                arith,
-                deg-pos p k (a .of-degree),
-                few-roots f k (h .of-degree) (omega (arith, two-lt)) (h .irreducible) (suc k) p (and-conjugates x) (deg-hi p k (a .of-degree)) (differ none) vanish,
-              ))
+      only-conjugates =
+          stands (λ j. squares f j e) x k
+          (λ none. omega (
+            arith,
+            deg-pos p k (a .of-degree),
+            few-roots f k (h .of-degree) (omega (arith, four)) (h .irreducible) (suc k) p (and-conjugates x) (deg-hi p k (a .of-degree))
+                (differ none) vanish,
+          ))

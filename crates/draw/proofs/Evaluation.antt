@@ -6,7 +6,9 @@ use native.Mathlib.Nat.{pow-suc, lt-of-lt-of-le}
 use native.Mathlib.Numerals.{add-one}
 use native.Mathlib.Omega.{arith}
 use lib.Pow.{pow-mono}
-use Rattle.gf2.specs.Polynomials.{_⊗_, Degree, rem, monic, Modulus}
+use Rattle.gf2.specs.Polynomials.{_⊗_, Degree, rem}
+use Rattle.gf2.specs.Moduli.{polynomial, Proper}
+use Rattle.gf2.specs.declared.Modulus.{Modulus}
 use Rattle.gf2.proofs.Degrees.{deg-hi, deg-pos}
 use Rattle.gf2.proofs.Monics.{monic-pos, monic-degree}
 use Rattle.gf2.proofs.Products.{⊕-⊗, ⊗-comm, ⊗-pow}
@@ -15,9 +17,12 @@ use Rattle.gf2.proofs.Residues.{rem-⊕}
 use Rattle.gf2.proofs.Steps.{residue-word, shift-next}
 use Rattle.basis.specs.Rows.{sumOf, NoRelation, Matrix}
 use Rattle.fields.specs.Fields.{compose, at, Field}
-use Rattle.fields.proofs.Values.{mulmod, at-⊕, at-one, at-dbl}
+use Rattle.fields.proofs.Values.{at-⊕, at-one, at-dbl}
 use Rattle.draw.specs.Drawing.{Draws, drawn}
 use Rattle.draw.proofs.Draws.{no-smaller, draw, drawn-is}
+
+pub positive : (p : Modulus) → Proper p → 0 < polynomial p
+positive p h = monic-pos (p .degree) (p .low) (h .2)
 
 -- ---- multiplication by a
 
@@ -36,23 +41,26 @@ module _ {f : ℕ} (pos : 0 < f) (a : ℕ) where
 
 -- ---- the value at e, modulo a polynomial as the code holds it
 
-module _ (k low : ℕ) (m : Modulus k low) (e : ℕ) where
-  pub value-additive : Additive (λ p. at (monic k low) p e)
-  value-additive = record { sum = λ p q. at-⊕ (monic-pos k low (m .2)) p q e }
+-- the rows are multiplication by e
+abbrev pub Times : Modulus → ℕ → List ℕ → Type 0
+Times p e rows = Proper p × (e < 2 ^ p .degree) × Matrix (λ x. rem (polynomial p) (x ⊗ e)) rows
 
-  pub first-power : at (monic k low) 1 e ≡ 1
-  first-power = at-one (monic-pos k low (m .2)) e (rw (monic-degree k low (m .2)) (pow-mono {i = 1} {j = k} (m .0)))
+module _ (p : Modulus) (m : Proper p) (e : ℕ) where
+  pub value-additive : Additive (λ q. at (polynomial p) q e)
+  value-additive = record { sum = λ q r. at-⊕ (positive p m) q r e }
 
-  pub next-power : e < 2 ^ k → (i x : ℕ) → x ≡ at (monic k low) (2 ^ i) e → rem (monic k low) (x ⊗ e) ≡ at (monic k low) (2 ^ (i + 1)) e
-  unfolding mulmod
+  pub first-power : at (polynomial p) 1 e ≡ 1
+  first-power = at-one (positive p m) e (rw (monic-degree (p .degree) (p .low) (m .2)) (pow-mono {i = 1} {j = p .degree} (m .0)))
+
+  pub next-power : e < 2 ^ p .degree → (i x : ℕ) → x ≡ at (polynomial p) (2 ^ i) e → rem (polynomial p) (x ⊗ e) ≡ at (polynomial p) (2 ^ (i + 1)) e
   next-power l i x q =
-      ap (λ (y : ℕ). rem (monic k low) (y ⊗ e)) q
-      ∙ sym (ap (λ (y : ℕ). at (monic k low) y e) (ap (λ (n : ℕ). 2 ^ n) (add-one i) ∙ pow-suc 2 i)
-      ∙ at-dbl (monic-pos k low (m .2)) (2 ^ i) e (rw (monic-degree k low (m .2)) l))
+      ap (λ (y : ℕ). rem (polynomial p) (y ⊗ e)) q
+      ∙ sym (ap (λ (y : ℕ). at (polynomial p) y e) (ap (λ (n : ℕ). 2 ^ n) (add-one i) ∙ pow-suc 2 i)
+      ∙ at-dbl (positive p m) (2 ^ i) e (rw (monic-degree (p .degree) (p .low) (m .2)) l))
 
-  pub value-word : (p : ℕ) → at (monic k low) p e < 2 ^ 64
+  pub value-word : (q : ℕ) → at (polynomial p) q e < 2 ^ 64
   unfolding at
-  value-word p = residue-word k low (m .2) (m .1) (compose p e)
+  value-word q = residue-word (p .degree) (p .low) (m .2) (m .1) (compose q e)
 
 -- ---- the relation among the powers
 

@@ -2,19 +2,16 @@
 -- accepted key of degree k, each such key is drawn by exactly k elements, and so their number times k is 2^k - 2. What fails for few
 -- keys therefore fails for few elements.
 use mathlib.Core.Path.{_≡_, refl, sym, ap, _∙_}
-use mathlib.Core.Logic.{_≢_}
-use mathlib.Core.Bool.{Bool, true, false, _&&_, _||_, not, cond, true≢false}
-use mathlib.Core.List.{List, [], _∷_}
-use Prim.Native.Nat.{ℕ, zero, suc, _+_, _-_, _*_, _%_, _^_, _≤_, _<_}
+use mathlib.Core.Bool.{Bool, true, false, cond}
+use Prim.Native.Nat.{ℕ, _+_, _-_, _*_, _^_, _≤_, _<_}
 use native.Mathlib.Nat.{one-mul, zero-mul, two-pow-succ}
 use native.Mathlib.Decide.{ℕ-discrete, decLt}
 use native.Mathlib.Omega.{arith}
-use lib.Dec.{T, T-not, leb, leb→le, eqb, eqb-refl}
-use lib.Pow.{pow-mono}
+use lib.Dec.{T, leb, leb→le, eqb}
 use borrow.Author.Tests.{eqb-true, eq-eqb, ne-eqb}
 use Rattle.gf2.specs.Polynomials.{degree}
-use Rattle.lists.specs.Lists.{All}
-use Rattle.lists.proofs.Truth.{and-left, and-right}
+use Rattle.lists.specs.Lists.{firstFrom, among}
+use Rattle.lists.proofs.Searches.{all-among}
 use Rattle.lists.proofs.Lists.{every, all-by-test}
 use Rattle.gf2.proofs.Degrees.{degree-is, degree-eq, deg-lo, deg-hi, deg-intro}
 use Rattle.acceptance.specs.Keys.{accepted}
@@ -22,62 +19,28 @@ use Rattle.acceptance.proofs.Laws.{accepted-iff, accepted-pos}
 use Rattle.lists.specs.Counts.{countFrom}
 use Rattle.lists.proofs.Counts.{count-is-sum, sum-same, sum-times, count-all, count-one, count-none, count-twice}
 use Rattle.fields.specs.Fields.{Prime, Field}
+use Rattle.fields.proofs.Primes.{firstDivisor, prime-by-test}
+use Rattle.fields.proofs.Conjugates.{field-four}
 use Rattle.fields.proofs.Pigeonhole.{Found}
 use Rattle.stock.specs.Stock.{stockKey}
 use Rattle.stock.proofs.Table.{stock-smallest}
-use Rattle.draw.specs.Drawing.{degrees, among, drawn, Draws}
+use Rattle.draw.specs.Drawing.{degrees, keyOf, elements, Draws}
 use Rattle.draw.proofs.Draws.{drawn-is, drawn-draws, drawn-irreducible}
 use Rattle.draw.proofs.Drawers.{Drawers, drawers}
 
--- ---- the listed degrees are primes from 11 to 61, by one computed test
-
--- none of 2, 3, .., n + 1 divides k
-undivided : ℕ → ℕ → Bool
-undivided k zero = true
-undivided k (suc n) = not (eqb (k % suc (suc n)) 0) && undivided k n
-
-none-divides : (k n d : ℕ) → T (undivided k n) → 1 < d → d < suc (suc n) → k % d ≢ 0
-unfolding undivided
-none-divides k zero d t l h e = omega arith
-none-divides k (suc n) d t l h e = go (ℕ-discrete d (suc (suc n))) (λ b. none-divides k n d (and-right (not (eqb (k % suc (suc n)) 0)) (undivided k n) t) l b e)
-  where
-    go : Dec (d ≡ suc (suc n)) → (d < suc (suc n) → ⊥) → ⊥
-    go (yes s) rest =
-        T-not (eqb (k % suc (suc n)) 0) (and-left (not (eqb (k % suc (suc n)) 0)) (undivided k n) t) (rw (rw s at e) (eqb-refl 0))
-    go (no s) rest = rest (omega arith)
-
--- a number from 11 to 61 that none of 2, .., k - 1 divides
-unfoldable prime-test : ℕ → Bool
-prime-test k = leb 11 k && leb k 61 && undivided k (k - 2)
-
-at-listed : (ks : List ℕ) (k : ℕ) → All (λ m. T (prime-test m)) ks → among k ks ≡ true → T (prime-test k)
-unfolding among
-at-listed [] k t e = absurd (true≢false (sym e))
-at-listed (m ∷ ks) k t e = go (eqb k m) refl e (at-listed ks k (t .1))
-  where
-    go : (b : Bool) → eqb k m ≡ b → (b || among k ks) ≡ true → (among k ks ≡ true → T (prime-test k)) → T (prime-test k)
-    go true q e rest = rw (eqb-true k m q) (t .0)
-    go false q e rest = rest e
-
-listed-test : (k : ℕ) → among k degrees ≡ true → T (prime-test k)
-unfolding every prime-test undivided
-listed-test k e = at-listed degrees k (all-by-test prime-test degrees tt) e
-
 module _ (k : ℕ) (listed : among k degrees ≡ true) where
+  -- ---- the listed degrees are primes from 11 to 61, by computed tests
+
+  passes : (test : ℕ → Bool) → T (every test degrees) → T (test k)
+  passes test t = all-among (λ m. T (test m)) degrees k (all-by-test test degrees t) listed
+
   pub range : (11 ≤ k) × (k ≤ 61)
-  unfolding prime-test
-  range =
-      let both = and-left (leb 11 k && leb k 61) (undivided k (k - 2)) (listed-test k listed) in
-      (leb→le 11 k (and-left (leb 11 k) (leb k 61) both), leb→le k 61 (and-right (leb 11 k) (leb k 61) both))
+  unfolding every
+  range = (leb→le 11 k (passes (leb 11) tt), leb→le k 61 (passes (λ m. leb m 61) tt))
 
   prime : Prime k
-  unfolding prime-test
-  prime =
-      record {
-        proper = omega (arith, range .0);
-        no-divisor =
-            λ d l h. none-divides k (k - 2) d (and-right (leb 11 k && leb k 61) (undivided k (k - 2)) (listed-test k listed)) l (omega (arith, range .0));
-      }
+  unfolding every firstDivisor firstFrom
+  prime = prime-by-test k (omega (arith, range .0)) (passes (λ m. eqb (firstDivisor m) m) tt)
 
   -- the stock key makes a field
   pub field : Field (stockKey k) k
@@ -90,35 +53,27 @@ module _ (k : ℕ) (listed : among k degrees ≡ true) where
       }
 
   four : 4 ≤ 2 ^ k
-  four = pow-mono {i = 2} {j = k} (omega (arith, range .0))
-
-  -- ---- the key that e draws, and how many elements pass a test
-
-  abbrev key : ℕ → ℕ
-  key e = drawn (stockKey k) k e
-
-  abbrev elements : (ℕ → Bool) → ℕ
-  elements t = countFrom t 2 (2 ^ k - 2)
+  four = field-four (stockKey k) k field
 
   -- ---- what an element draws is an accepted key of degree k
 
   module _ (e : ℕ) (low : 2 ≤ e) (high : e < 2 ^ k) where
-    pub key-drawn : Draws (stockKey k) k e (key e)
+    pub key-drawn : Draws (stockKey k) k e (keyOf k e)
     key-drawn = drawn-draws (stockKey k) k field e low high
 
-    pub key-degree : degree (key e) ≡ k
-    key-degree = degree-eq (key e) k (key-drawn .of-degree)
+    pub key-degree : degree (keyOf k e) ≡ k
+    key-degree = degree-eq (keyOf k e) k (key-drawn .of-degree)
 
-    pub key-accepted : accepted (key e) ≡ true
+    pub key-accepted : accepted (keyOf k e) ≡ true
     key-accepted =
-        accepted-iff (key e) .1 (
+        accepted-iff (keyOf k e) .1 (
           omega (arith, key-degree, range .0),
           omega (arith, key-degree, range .1),
-          drawn-irreducible (stockKey k) k field e low high (key e) key-drawn,
+          drawn-irreducible (stockKey k) k field e low high (keyOf k e) key-drawn,
         )
 
     -- and nothing else has degree k and the root e
-    pub key-only : (p : ℕ) → Draws (stockKey k) k e p → key e ≡ p
+    pub key-only : (p : ℕ) → Draws (stockKey k) k e p → keyOf k e ≡ p
     key-only p a = drawn-is (stockKey k) k field e low high p a
 
   -- ---- each accepted key of degree k is drawn by exactly k elements
@@ -133,8 +88,8 @@ module _ (k : ℕ) (listed : among k degrees ≡ true) where
 
     -- of the k elements one is e where e draws p, and none elsewhere
     one-place : (e : ℕ) → 2 ≤ e → e < 2 + (2 ^ k - 2)
-        → (cond true 1 0) * countFrom (λ j. eqb (element j) e) 0 k ≡ cond (eqb (key e) p) 1 0
-    one-place e low bound = one-mul (countFrom (λ j. eqb (element j) e) 0 k) ∙ go (ℕ-discrete (key e) p)
+        → (cond true 1 0) * countFrom (λ j. eqb (element j) e) 0 k ≡ cond (eqb (keyOf k e) p) 1 0
+    one-place e low bound = one-mul (countFrom (λ j. eqb (element j) e) 0 k) ∙ go (ℕ-discrete (keyOf k e) p)
       where
         high : e < 2 ^ k
         high = omega (arith, four)
@@ -147,23 +102,23 @@ module _ (k : ℕ) (listed : among k degrees ≡ true) where
             settle (no l) (yes m) = absurd (all-drawers .different j i m a (sym s))
             settle (no l) (no m) = omega arith
 
-        go : Dec (key e ≡ p) → countFrom (λ j. eqb (element j) e) 0 k ≡ cond (eqb (key e) p) 1 0
+        go : Dec (keyOf k e ≡ p) → countFrom (λ j. eqb (element j) e) 0 k ≡ cond (eqb (keyOf k e) p) 1 0
         go (yes s) =
-            rw (eq-eqb (key e) p s)
+            rw (eq-eqb (keyOf k e) p s)
             (count-one (λ j. eqb (element j) e) (found .place) 0 k (omega arith) (omega (arith, found .before)) (eq-eqb (element (found .place)) e (found .is))
             (λ j a b t. no-other (found .place) j (found .before) (omega arith) (found .is ∙ sym (eqb-true (element j) e t))))
           where
             found : Found k e element
             found = all-drawers .all e high (rw s at (key-drawn e low high))
         go (no s) =
-            rw (ne-eqb (key e) p s)
+            rw (ne-eqb (keyOf k e) p s)
             (count-none (λ j. eqb (element j) e) 0 k
             (λ j a b t. s (key-only e low high p (rw (eqb-true (element j) e t) at (all-drawers .draw j)))))
 
-    pub drawers-count : elements (λ e. eqb (key e) p) ≡ k
+    pub drawers-count : elements k (λ e. eqb (keyOf k e) p) ≡ k
     drawers-count =
-        count-is-sum (λ e. eqb (key e) p) 2 (2 ^ k - 2)
-        ∙ sym (sum-same (λ e. (cond true 1 0) * countFrom (λ j. eqb (element j) e) 0 k) (λ e. cond (eqb (key e) p) 1 0) 2 (2 ^ k - 2) one-place)
+        count-is-sum (λ e. eqb (keyOf k e) p) 2 (2 ^ k - 2)
+        ∙ sym (sum-same (λ e. (cond true 1 0) * countFrom (λ j. eqb (element j) e) 0 k) (λ e. cond (eqb (keyOf k e) p) 1 0) 2 (2 ^ k - 2) one-place)
         ∙ sym (count-twice element (λ x. true) 0 k 2 (2 ^ k - 2)
         (λ j a b. (all-drawers .above j, omega (arith, all-drawers .below j, four))))
         ∙ count-all (λ x. true) 0 k (λ j a b. refl)
@@ -172,27 +127,27 @@ module _ (k : ℕ) (listed : among k degrees ≡ true) where
 
   module _ (t : ℕ → Bool) (of-accepted : (p : ℕ) → t p ≡ true → accepted p ≡ true) where
     -- a key that passes is drawn by k elements; what does not pass is not counted
-    fibre : (p : ℕ) → 2 ^ k ≤ p → p < 2 ^ k + 2 ^ k → (cond (t p) 1 0) * elements (λ e. eqb (key e) p) ≡ (cond (t p) 1 0) * k
+    fibre : (p : ℕ) → 2 ^ k ≤ p → p < 2 ^ k + 2 ^ k → (cond (t p) 1 0) * elements k (λ e. eqb (keyOf k e) p) ≡ (cond (t p) 1 0) * k
     fibre p a b = go (t p) refl
       where
-        go : (c : Bool) → t p ≡ c → (cond c 1 0) * elements (λ e. eqb (key e) p) ≡ (cond c 1 0) * k
+        go : (c : Bool) → t p ≡ c → (cond c 1 0) * elements k (λ e. eqb (keyOf k e) p) ≡ (cond c 1 0) * k
         go true q = ap (λ (n : ℕ). 1 * n) (drawers-count p (of-accepted p q) (degree-eq p k (deg-intro p k a (omega (arith, two-pow-succ k)))))
-        go false q = zero-mul (elements (λ e. eqb (key e) p)) ∙ sym (zero-mul k)
+        go false q = zero-mul (elements k (λ e. eqb (keyOf k e) p)) ∙ sym (zero-mul k)
 
-    pub elements-count : elements (λ e. t (key e)) ≡ countFrom t (2 ^ k) (2 ^ k) * k
+    pub elements-count : elements k (λ e. t (keyOf k e)) ≡ countFrom t (2 ^ k) (2 ^ k) * k
     elements-count =
-        count-twice key t 2 (2 ^ k - 2) (2 ^ k) (2 ^ k) into
-        ∙ sum-same (λ p. (cond (t p) 1 0) * elements (λ e. eqb (key e) p)) (λ p. (cond (t p) 1 0) * k) (2 ^ k) (2 ^ k) fibre
+        count-twice (keyOf k) t 2 (2 ^ k - 2) (2 ^ k) (2 ^ k) into
+        ∙ sum-same (λ p. (cond (t p) 1 0) * elements k (λ e. eqb (keyOf k e) p)) (λ p. (cond (t p) 1 0) * k) (2 ^ k) (2 ^ k) fibre
         ∙ sum-times (λ p. cond (t p) 1 0) k (2 ^ k) (2 ^ k)
         ∙ ap (λ (n : ℕ). n * k) (sym (count-is-sum t (2 ^ k) (2 ^ k)))
       where
-        into : (e : ℕ) → 2 ≤ e → e < 2 + (2 ^ k - 2) → (2 ^ k ≤ key e) × (key e < 2 ^ k + 2 ^ k)
+        into : (e : ℕ) → 2 ≤ e → e < 2 + (2 ^ k - 2) → (2 ^ k ≤ keyOf k e) × (keyOf k e < 2 ^ k + 2 ^ k)
         into e a b =
             let d = key-drawn e a (omega (arith, four)) .of-degree in
-            (deg-lo (key e) k d, omega (arith, deg-hi (key e) k d, two-pow-succ k))
+            (deg-lo (keyOf k e) k d, omega (arith, deg-hi (keyOf k e) k d, two-pow-succ k))
 
   -- Rabin's Lemma 1: (the number of accepted keys of degree k) × k = 2^k - 2
   pub keys-count : countFrom accepted (2 ^ k) (2 ^ k) * k ≡ 2 ^ k - 2
   keys-count =
       sym (elements-count accepted (λ p e. e))
-      ∙ count-all (λ e. accepted (key e)) 2 (2 ^ k - 2) (λ e a b. key-accepted e a (omega (arith, four)))
+      ∙ count-all (λ e. accepted (keyOf k e)) 2 (2 ^ k - 2) (λ e a b. key-accepted e a (omega (arith, four)))

@@ -1,5 +1,4 @@
 pub mod Draws
 pub mod Drawers
 pub mod Fairness
-pub mod Lists
 pub mod Evaluation

@@ -1,14 +1,16 @@
 -- Drawing a key by Rabin's method (document 01, "Polynomials and keys"; 000, section 2).
 use mathlib.Core.Path.{_≡_}
-use mathlib.Core.Bool.{Bool, false, _||_, not}
+use mathlib.Core.Bool.{Bool, _||_, not}
 use mathlib.Core.List.{List, [], _∷_}
-use Prim.Native.Nat.{ℕ, _^_}
+use Prim.Native.Nat.{ℕ, _-_, _^_}
 use lib.Dec.{leb, ltb, eqb}
 use Rattle.gf2.specs.Polynomials.{Degree}
 use Rattle.fields.specs.Fields.{at}
 use Rattle.refusals.specs.declared.Refusal.the-variants.{DegreeNotListed, ElementOutOfRange}
 use Rattle.refusals.specs.Refusals.{Answer, Done, Refused, Test, _⇒_, firstOf}
-use Rattle.stock.specs.Stock.{firstFrom, stockKey}
+use Rattle.lists.specs.Lists.{firstFrom, among}
+use Rattle.lists.specs.Counts.{countFrom}
+use Rattle.stock.specs.Stock.{stockKey}
 use Rattle.draw.specs.declared.Drawn.{Drawn}
 use Rattle.draw.specs.declared.Drawn.the-variants as cases
 
@@ -16,20 +18,24 @@ use Rattle.draw.specs.declared.Drawn.the-variants as cases
 abbrev pub degrees : List ℕ
 degrees = 11 ∷ 13 ∷ 17 ∷ 19 ∷ 23 ∷ 29 ∷ 31 ∷ 37 ∷ 41 ∷ 43 ∷ 47 ∷ 53 ∷ 59 ∷ 61 ∷ []
 
-unfoldable pub among : ℕ → List ℕ → Bool
-among n [] = false
-among n (m ∷ ms) = eqb n m || among n ms
-
 -- the first polynomial p of degree k with p(e) = 0 modulo f, in the order of the numbers. It is the only one (`draw-unique`).
 unfoldable pub drawn : ℕ → ℕ → ℕ → ℕ
 drawn f k e = firstFrom (λ p. eqb (at f p e) 0) (2 ^ k) (2 ^ k)
+
+-- the key of degree k that e draws
+abbrev pub keyOf : ℕ → ℕ → ℕ
+keyOf k e = drawn (stockKey k) k e
+
+-- how many elements pass a test: the numbers from 2 to 2^k - 1
+abbrev pub elements : ℕ → (ℕ → Bool) → ℕ
+elements k test = countFrom test 2 (2 ^ k - 2)
 
 -- number 3, and number 4 of an element handed in
 abbrev pub drawTests : ℕ → ℕ → List Test
 drawTests k e = not (among k degrees) ⇒ DegreeNotListed ∷ (ltb e 2 || leb (2 ^ k) e) ⇒ ElementOutOfRange ∷ []
 
 unfoldable pub draw : ℕ → ℕ → Answer Unit ℕ
-draw k e = firstOf (drawTests k e) tt (drawn (stockKey k) k e)
+draw k e = firstOf (drawTests k e) tt (keyOf k e)
 
 -- the answer in code: its number, and the key
 abbrev pub answer : Drawn → Answer Unit ℕ

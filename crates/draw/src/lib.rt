@@ -3,10 +3,13 @@ ghost use mathlib.Core.Path.{_≡_};
 ghost use mathlib.Core.Bool.{_||_};
 ghost use Prim.Native.Nat.{_^_, _<_};
 ghost use lib.Dec.{leb, ltb};
-ghost use Rattle.gf2.specs.Polynomials.{_⊗_, monic, rem, Modulus};
+ghost use Rattle.lists.specs.Lists.{among};
+ghost use Rattle.gf2.specs.Polynomials.{_⊗_, rem};
+ghost use Rattle.gf2.specs.Moduli.{polynomial, Proper};
 ghost use Rattle.basis.specs.Rows.{Matrix};
 ghost use Rattle.fields.specs.Fields.{at, Field};
-ghost use Rattle.draw.specs.Drawing.{degrees, among, drawn, draw, answer};
+ghost use Rattle.draw.specs.Drawing.{degrees, drawn, draw, answer};
+use gf2::Modulus;
 use refusals::Refusal;
 
 // The answer to drawing: the key, or a refusal.
@@ -35,25 +38,25 @@ fn out_of_range(k: u32, element: u64) -> bool
 }
 
 // Multiplication by a, as a matrix: its rows are the residues of a, a·t, a·t^2, ..
-fn multiples(k: u32, low: u64, a: u64) -> [u64; 64]
-    requires { ⌜ Modulus k low × (a < 2 ^ k) ⌝ }
-    ensures { λ r. ⌜ Matrix (λ x. rem (monic k low) (x ⊗ a)) r ⌝ }
+fn multiples(p: Modulus, a: u64) -> [u64; 64]
+    requires { ⌜ Proper p × (a < 2 ^ p .degree) ⌝ }
+    ensures { λ r. ⌜ Matrix (λ x. rem (polynomial p) (x ⊗ a)) r ⌝ }
 {
     let mut rows: [u64; 64] = [0; 64];
     let mut x = a;
     for j in 0..64 {
         rows[j] = x;
-        x = gf2::step(k, low, x, 0);
+        x = gf2::step(p, x, 0);
     }
     rows
 }
 
 // The powers 1, e, e^2, .. as the rows of a matrix: that of the map which takes a polynomial to its value at e.
-fn powers(k: u32, low: u64, e: u64) -> [u64; 64]
-    requires { ⌜ Modulus k low × (e < 2 ^ k) ⌝ }
-    ensures { λ r. ⌜ Matrix (λ p. at (monic k low) p e) r ⌝ }
+fn powers(p: Modulus, e: u64) -> [u64; 64]
+    requires { ⌜ Proper p × (e < 2 ^ p .degree) ⌝ }
+    ensures { λ r. ⌜ Matrix (λ q. at (polynomial p) q e) r ⌝ }
 {
-    let times_e = multiples(k, low, e);
+    let times_e = multiples(p, e);
     let mut rows: [u64; 64] = [0; 64];
     let mut power: u64 = 1;
     for i in 0..64 {
@@ -63,12 +66,12 @@ fn powers(k: u32, low: u64, e: u64) -> [u64; 64]
     rows
 }
 
-// The minimal polynomial of e modulo a polynomial of degree k that makes a field: the relation among the powers of e.
-fn minimal_polynomial(k: u32, low: u64, e: u64) -> u64
-    requires { ⌜ Modulus k low × (k < 64) × Field (monic k low) k × (1 < e) × (e < 2 ^ k) ⌝ }
-    ensures { λ r. ⌜ r ≡ drawn (monic k low) k e ⌝ }
+// The minimal polynomial of e modulo a polynomial that makes a field: the relation among the powers of e.
+fn minimal_polynomial(p: Modulus, e: u64) -> u64
+    requires { ⌜ Proper p × (p .degree < 64) × Field (polynomial p) (p .degree) × (1 < e) × (e < 2 ^ p .degree) ⌝ }
+    ensures { λ r. ⌜ r ≡ drawn (polynomial p) (p .degree) e ⌝ }
 {
-    basis::relation(powers(k, low, e), k)
+    basis::relation(powers(p, e), p.degree)
 }
 
 // The key of a degree that an element draws. Numbers 3, 4.
@@ -83,7 +86,7 @@ pub fn draw(degree: u64, element: u64) -> Drawn
         return Drawn::Refused(Refusal::ElementOutOfRange);
     }
     let stock = stock::stock_key(k);
-    let low = gf2::low_bits(stock, k);
-    let key = minimal_polynomial(k, low, element);
+    let p = gf2::modulus_of(stock);
+    let key = minimal_polynomial(p, element);
     Drawn::Key(key)
 }

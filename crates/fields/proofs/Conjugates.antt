@@ -5,23 +5,27 @@ use Prim.Native.Nat.{ℕ, zero, suc, _+_, _*_, _-_, _/_, _%_, _^_, _≤_, _<_}
 use native.Mathlib.Nat.{le-refl, suc-mul, zero-mul, mod-lt, mod-add-div'}
 use native.Mathlib.Decide.{ℕ-discrete}
 use native.Mathlib.Omega.{arith}
+use lib.Pow.{pow-mono}
 use Rattle.gf2.specs.Polynomials.{_⊕_, _⊗_, degree, Divides, rem}
 use Rattle.gf2.proofs.Sums.{⊕-self, xor}
 use Rattle.gf2.proofs.Degrees.{degree-eq}
 use Rattle.gf2.proofs.Divisors.{dvd-by, dvd-zero, dvd-⊕}
 use Rattle.gf2.proofs.Residues.{rem-cong, rem-small}
-use Rattle.acceptance.proofs.Criterion.{irreducible-rigid}
+use Rattle.gf2.proofs.Criterion.{irreducible-rigid}
 use Rattle.fields.proofs.Squaring.{power, power-zero, power-suc, power-power, power-cong, same-power}
 use Rattle.fields.proofs.Fermat.{fermat-all}
 use Rattle.fields.specs.Fields.{Field}
 
--- the modulus of a field is not 0 and has its degree
+-- the modulus of a field is not 0 and has its degree, which is at least 2
 module _ (f k : ℕ) (h : Field f k) where
   pub field-pos : 0 < f
   field-pos = omega (arith, h .irreducible .proper)
 
   pub field-degree : degree f ≡ k
   field-degree = degree-eq f k (h .of-degree)
+
+  pub field-four : 4 ≤ 2 ^ k
+  field-four = pow-mono {i = 2} {j = k} (h .prime .proper)
 
 -- squaring j times gives e back
 abbrev Period : ℕ → ℕ → ℕ → Type 0

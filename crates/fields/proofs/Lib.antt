@@ -1,3 +1,4 @@
+pub mod Primes
 pub mod Values
 pub mod Squaring
 pub mod Roots

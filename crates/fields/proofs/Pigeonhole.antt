@@ -33,6 +33,14 @@ find g v (suc n) = go (ℕ-discrete (g n) v) (find g v n)
         pick i l (yes e) = rw e ne
         pick i l (no d) = none i (omega arith)
 
+-- where it cannot be that it stands nowhere
+pub stands : (g : ℕ → ℕ) (v n : ℕ) → (((i : ℕ) → i < n → g i ≢ v) → ⊥) → Found n v g
+stands g v n some = go (find g v n)
+  where
+    go : Found n v g ⊎ ((i : ℕ) → i < n → g i ≢ v) → Found n v g
+    go (inl f) = f
+    go (inr none) = absurd (some none)
+
 -- two of the first n are equal, or all are different
 pub collide : (n : ℕ) (g : ℕ → ℕ) → Collision n g ⊎ ((i j : ℕ) → i < j → j < n → g i ≢ g j)
 collide zero g = inr (λ i j l h. absurd (not-suc-le-zero h))
@@ -76,7 +84,9 @@ squeeze-inj v x y dx dy e = go (squeeze-cases v x dx) (squeeze-cases v y dy)
 -- n + 1 numbers below n are not all different
 pub pigeonhole : (n : ℕ) (g : ℕ → ℕ) → ((i : ℕ) → i ≤ n → g i < n) → Collision (suc n) g
 pigeonhole zero g h = absurd (not-suc-le-zero (h 0 (le-refl 0)))
-pigeonhole (suc n) g h = go (find g v (suc n)) (λ none. pigeonhole n (λ i. squeeze v (g i)) (λ i l. squeeze-lt v (g i) n (none i (omega arith)) (h i (le-step l)) last))
+pigeonhole (suc n) g h =
+    go (find g v (suc n))
+    (λ none. pigeonhole n (λ i. squeeze v (g i)) (λ i l. squeeze-lt v (g i) n (none i (omega arith)) (h i (le-step l)) last))
   where
     v : ℕ
     v = g (suc n)

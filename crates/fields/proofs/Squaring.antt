@@ -12,7 +12,7 @@ use Rattle.gf2.proofs.Divisors.{dvd-by, dvd-⊗}
 use Rattle.gf2.proofs.Residues.{rem-⊗, rem-small}
 use Rattle.gf2.proofs.Irreducibles.{euclid-lemma}
 use Rattle.fields.specs.Fields.{compose}
-use Rattle.fields.proofs.Values.{compose-id, compose-⊗, compose-square, compose-cong, mulmod}
+use Rattle.fields.proofs.Values.{compose-id, compose-⊗, compose-square, compose-cong}
 
 unfoldable pub power : ℕ → ℕ → ℕ
 power zero x = x
@@ -82,10 +82,10 @@ all-fixed f k x h =
 
 unfoldable pub squares : ℕ → ℕ → ℕ → ℕ
 squares f zero x = x
-squares f (suc j) x = mulmod f (squares f j x) (squares f j x)
+squares f (suc j) x = rem f (squares f j x ⊗ squares f j x)
 
 module _ {f : ℕ} (pos : 0 < f) where
   pub squares-power : (j x : ℕ) → x < 2 ^ degree f → squares f j x ≡ rem f (power j x)
-  unfolding squares mulmod power
+  unfolding squares power
   squares-power zero x h = sym (rem-small pos x h)
   squares-power (suc j) x h = ap (λ (z : ℕ). rem f (z ⊗ z)) (squares-power j x h) ∙ sym (rem-⊗ pos (power j x) (power j x))

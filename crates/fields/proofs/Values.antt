@@ -98,9 +98,6 @@ compose-cong f p a b h =
 
 -- ---- residues modulo f
 
-unfoldable pub mulmod : ℕ → ℕ → ℕ → ℕ
-mulmod f a b = rem f (a ⊗ b)
-
 module _ {f : ℕ} (pos : 0 < f) where
   pub at-⊕ : (p q e : ℕ) → at f (p ⊕ q) e ≡ at f p e ⊕ at f q e
   unfolding at
@@ -111,7 +108,7 @@ module _ {f : ℕ} (pos : 0 < f) where
   unfolding at
   at-one e o = ap (rem f) (compose-one e) ∙ rem-small pos 1 o
 
-  pub at-dbl : (p e : ℕ) → e < 2 ^ degree f → at f (p * 2) e ≡ mulmod f (at f p e) e
-  unfolding at mulmod
+  pub at-dbl : (p e : ℕ) → e < 2 ^ degree f → at f (p * 2) e ≡ rem f (at f p e ⊗ e)
+  unfolding at
   at-dbl p e h =
       ap (rem f) (compose-dbl p e) ∙ rem-⊗ pos (compose p e) e ∙ ap (λ (x : ℕ). rem f (rem f (compose p e) ⊗ x)) (rem-small pos e h)

@@ -1,14 +1,19 @@
 -- Laws of fingerprints: of a file with a part behind it, of two files joined, and of a file with a page replaced.
-use mathlib.Core.Path.{_≡_, sym, ap, ap₂, _∙_}
-use mathlib.Core.List.{List, _++_}
+use mathlib.Core.Path.{_≡_, refl, sym, ap, ap₂, _∙_}
+use mathlib.Core.Bool.{false}
+use mathlib.Core.List.{List, [], _++_}
 use Prim.Native.Nat.{ℕ, _*_, _^_, _<_}
 use native.Mathlib.Nat.{one-mul}
-use lib.ListN.{length}
-use Rattle.gf2.specs.Polynomials.{_⊕_, rem}
+use native.Mathlib.Omega.{arith}
+use lib.ListN.{length, length-append}
+use lib.Pow.{pow-lt}
+use borrow.Author.Tests.{lt-leb}
+use Rattle.gf2.specs.Polynomials.{_⊕_, degree, rem}
+use Rattle.gf2.proofs.Degrees.{degree-from}
 use Rattle.gf2.proofs.Sums.{⊕-move, xor}
-use Rattle.gf2.proofs.Residues.{rem-⊕}
+use Rattle.gf2.proofs.Residues.{rem-⊕, rem-small, rem-lt}
 use Rattle.gf2.proofs.Powers.{rem-rem, rem-shl}
-use Rattle.files.specs.Files.{bits, valueFrom, value, fingerprint}
+use Rattle.files.specs.Files.{bits, valueFrom, value, fingerprint, markOf, unreduced, fedMark, joined}
 use Rattle.files.specs.declared.Mark.{Mark}
 use Rattle.files.proofs.Values.{value-append, value-⊕, length-bits, bits-append, rem-from, value-change}
 
@@ -60,3 +65,26 @@ module _ {p : ℕ} (pos : 0 < p) where
       (ap (λ (x : ℕ). rem p (x * 2 ^ (8 * length post))) (sym (rem-⊕ pos (value old) (value new))) ∙ rem-shl pos (value old ⊕ value new) (8 * length post))
       ∙ sym (rem-⊕ pos (value (pre ++ old ++ post)) ((value old ⊕ value new) * 2 ^ (8 * length post)))
       ∙ ap (rem p) (sym (value-page pre old new post e))
+
+-- ---- true marks
+
+module _ (key : ℕ) (pos : 0 < key) (file : List ℕ) where
+  -- a true mark is reduced
+  pub true-reduced : unreduced key (markOf key file) ≡ false
+  unfolding markOf fingerprint
+  true-reduced = lt-leb (2 ^ degree key) (rem key (value file)) (rem-lt pos (value file))
+
+  -- a true mark fed is true of the file with the part behind it
+  pub fed-true : (part : List ℕ) → fedMark key (markOf key file) part ≡ markOf key (file ++ part)
+  unfolding fedMark markOf
+  fed-true part = mark-eq (fed pos file part) (sym (length-append file part))
+
+-- true marks joined are true of the files joined
+pub joined-true : {p : ℕ} (pos : 0 < p) (a b : List ℕ) → joined p (markOf p a) (markOf p b) ≡ markOf p (a ++ b)
+unfolding joined markOf
+joined-true pos a b = mark-eq (join pos a b) (sym (length-append a b))
+
+-- "The empty file has fingerprint 1."
+pub empty-mark : (key : ℕ) → 1 < key → markOf key [] ≡ record { fingerprint = 1; length = 0 }
+unfolding markOf fingerprint value valueFrom bits
+empty-mark key h = mark-eq (rem-small (omega arith) 1 (pow-lt {i = 0} (degree-from 1 key h))) refl

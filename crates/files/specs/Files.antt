@@ -1,9 +1,11 @@
 -- Files, fingerprints and marks (document 01, "Marks"; 003, section 2, with the 1 in front always). A file is its list of bytes.
 use mathlib.Core.Path.{_≡_}
+use mathlib.Core.Bool.{Bool}
 use mathlib.Core.List.{List, [], _∷_, _++_}
-use Prim.Native.Nat.{ℕ, zero, suc, _+_, _*_, _/_, _%_, _^_, _<_}
+use Prim.Native.Nat.{ℕ, zero, suc, _+_, _-_, _*_, _/_, _%_, _^_, _<_}
+use lib.Dec.{leb}
 use lib.ListN.{length}
-use Rattle.gf2.specs.Polynomials.{rem}
+use Rattle.gf2.specs.Polynomials.{_⊕_, degree, rem}
 use Rattle.lists.specs.Lists.{All}
 use Rattle.files.specs.declared.Mark.{Mark}
 
@@ -40,3 +42,26 @@ True key file m = m ≡ markOf key file
 -- every entry is a byte
 abbrev pub Bytes : List ℕ → Type 0
 Bytes file = All (λ b. b < 256) file
+
+-- ---- what calls make of marks, under a key: values alone, whatever is refused
+
+-- the fingerprint is not below 2^k (number 8)
+abbrev pub unreduced : ℕ → Mark → Bool
+unreduced key m = leb (2 ^ degree key) (m .fingerprint)
+
+-- the part goes behind what was fed: the residue of the bits behind the fingerprint
+unfoldable pub fedMark : ℕ → Mark → List ℕ → Mark
+fedMark key m part = record { fingerprint = rem key (valueFrom (m .fingerprint) (bits part)); length = m .length + length part }
+
+-- joined: F·t^(8b) + G + t^(8b), and a + b
+unfoldable pub joined : ℕ → Mark → Mark → Mark
+joined key x y =
+    record { fingerprint = rem key (x .fingerprint * 2 ^ (8 * y .length) ⊕ y .fingerprint ⊕ 2 ^ (8 * y .length)); length = x .length + y .length }
+
+-- a page replaced: the difference of the two pages' fingerprints, times t^(8 × bytes after the page), is added
+unfoldable pub replaced : ℕ → Mark → ℕ → List ℕ → List ℕ → Mark
+replaced key m place old new =
+    record {
+      fingerprint = rem key (m .fingerprint ⊕ (fingerprint key old ⊕ fingerprint key new) * 2 ^ (8 * (m .length - (place + length old))));
+      length = m .length;
+    }

@@ -7,12 +7,13 @@ use native.Mathlib.Nat.{le-refl, le-trans, lt-of-lt-of-le, lt-of-le-of-lt, zero-
 use native.Mathlib.Decide.{ℕ-discrete, decLt}
 use native.Mathlib.Omega.{arith}
 use lib.ListN.{length}
+use lib.Pow.{pow-mono}
 use Rattle.lists.specs.Lists.{All, Distinct}
 use Rattle.gf2.specs.Polynomials.{_⊕_, _⊗_, degree, Degree, rem, Divides, Irreducible}
 use Rattle.lists.proofs.Lists.{all-zip}
 use Rattle.gf2.proofs.Sums.{xor}
 use Rattle.gf2.proofs.Products.{zero-⊗, one-⊗, ⊕-⊗, ⊗-assoc, ⊗-comm, ring}
-use Rattle.gf2.proofs.Degrees.{degree-is, degree-eq, degree-⊗, deg-⊗, deg-lo, deg-hi, lt-of-pow-lt, deg-zero}
+use Rattle.gf2.proofs.Degrees.{degree-is, degree-eq, degree-⊗, deg-lo, deg-hi, lt-of-pow-lt, deg-zero}
 use Rattle.gf2.proofs.Divisors.{dvd-by, dvd-left, dvd-refl, dvd-zero, dvd-⊕, dvd-⊗, dvd-trans}
 use Rattle.gf2.proofs.Residues.{rem-lt, rem-dvd}
 
@@ -86,7 +87,19 @@ pos-left q d p e pos = go (eq-zero-or-pos q)
 pub pos-right : (q d p : ℕ) → q ⊗ d ≡ p → 0 < p → 0 < d
 pos-right q d p e pos = pos-left d q p (⊗-comm d q ∙ e) pos
 
--- a divisor of full degree is the whole
+-- the degrees of two factors add up,
+pub factor-degrees : (q d p : ℕ) → q ⊗ d ≡ p → 0 < p → degree p ≡ degree q + degree d
+factor-degrees q d p e pos = ap degree (sym e) ∙ degree-⊗ q d (pos-left q d p e pos) (pos-right q d p e pos)
+
+-- so beside a divisor that is not 1 the other factor is smaller,
+pub factor-lt : (q d p : ℕ) → q ⊗ d ≡ p → 0 < p → d ≢ 1 → q < 2 ^ degree p
+factor-lt q d p e pos ne =
+    lt-of-lt-of-le (deg-hi q (degree q) (degree-is q (pos-left q d p e pos))) (pow-mono (omega (arith, factor-degrees q d p e pos, proper)))
+  where
+    proper : degree d ≢ 0
+    proper z = ne (deg-zero d (rw z at (degree-is d (pos-right q d p e pos))))
+
+-- and a divisor of full degree is the whole
 pub whole : (d p : ℕ) → Divides d p → 0 < p → 2 ^ degree p ≤ d → d ≡ p
 whole d p h pos l = sym (one-⊗ d) ∙ ap (λ (x : ℕ). x ⊗ d) (sym q-one) ∙ h .product
   where
@@ -99,9 +112,6 @@ whole d p h pos l = sym (one-⊗ d) ∙ ap (λ (x : ℕ). x ⊗ d) (sym q-one) �
     d-pos : 0 < d
     d-pos = pos-right q d p (h .product) pos
 
-    degrees : degree p ≡ degree q + degree d
-    degrees = ap degree (sym (h .product)) ∙ degree-⊗ q d q-pos d-pos
-
     no-less : degree p ≤ degree d
     no-less = le-of-suc-le-suc (lt-of-pow-lt (degree p) (suc (degree d)) (lt-of-le-of-lt l (deg-hi d (degree d) (degree-is d d-pos))))
 
@@ -109,7 +119,7 @@ whole d p h pos l = sym (one-⊗ d) ∙ ap (λ (x : ℕ). x ⊗ d) (sym q-one) �
     q-one = deg-zero q (rw zero-degree at (degree-is q q-pos))
       where
         zero-degree : degree q ≡ 0
-        zero-degree = omega (arith, degrees, no-less)
+        zero-degree = omega (arith, factor-degrees q d p (h .product) pos, no-less)
 
 pub irreducible : (p : ℕ) → 1 < p → ((d : ℕ) → 1 < d → d < 2 ^ degree p → Divides d p → ⊥) → Irreducible p
 irreducible p lt none = record { proper = lt; only = λ d h. go d h (ℕ-discrete d 1) (decLt d (2 ^ degree p)) }
@@ -157,4 +167,4 @@ count k D (p ∷ ps) pos d f = omega (arith, count k q ps q-pos (d .1) rest, deg
     rest = all-zip (λ p′ ne g. other k q p p′ (f .0 .irreducible) ne (rw (← is) at g)) ps (d .0) (f .1)
 
     degree-D : degree D ≡ degree q + k
-    degree-D = ap degree (sym is) ∙ degree-eq (q ⊗ p) (degree q + k) (deg-⊗ q p (degree q) k (degree-is q q-pos) (f .0 .of-degree))
+    degree-D = factor-degrees q p D is pos ∙ ap (λ (x : ℕ). degree q + x) (degree-eq p k (f .0 .of-degree))

@@ -3,8 +3,9 @@ use mathlib.Core.Path.{_≡_, sym, ap, _∙_}
 use Prim.Native.Nat.{ℕ, _/_, _%_, _^_, _<_}
 use native.Mathlib.Nat.{one-mul, mod-lt, div-self}
 use native.Mathlib.Omega.{arith}
-use lib.Pow.{pow-pos, split}
-use Rattle.gf2.specs.Polynomials.{_⊕_, degree, Degree, monic, Modulus}
+use lib.Pow.{pow-pos, pow-lt, split}
+use Rattle.gf2.specs.Polynomials.{_⊕_, degree, Degree, monic}
+use Rattle.gf2.specs.Moduli.{polynomial, Proper, modulusOf}
 use Rattle.gf2.proofs.Sums.{⊕-append}
 use Rattle.gf2.proofs.Degrees.{degree-is, degree-eq, degree-from, deg-pos, deg-le, deg-⊕}
 
@@ -21,18 +22,22 @@ monic-degree k c h = degree-eq (monic k c) k (monic-deg k c h)
 pub monic-pos : (k c : ℕ) → c < 2 ^ k → 0 < monic k c
 monic-pos k c h = deg-pos (monic k c) k (monic-deg k c h)
 
+pub of-degree-one : (k c : ℕ) → 0 < k → c < 2 ^ k → 1 < monic k c
+unfolding monic
+of-degree-one k c p h = omega (arith, pow-lt {i = 0} p)
+
 -- every polynomial of degree k is one
 pub monic-of : (k p : ℕ) → Degree p k → monic k (p % 2 ^ k) ≡ p
 unfolding monic
 monic-of k p h = simp (h, one-mul) at (split p k)
 
--- ---- a number of 64 bits, split into its degree and its low word
+-- ---- a number of 64 bits, taken apart
 
 pub word-degree : (p : ℕ) → 0 < p → p < 2 ^ 64 → degree p < 64
 word-degree p h l = deg-le p (degree p) 64 (degree-is p h) l
 
-pub word-modulus : (p : ℕ) → 1 < p → p < 2 ^ 64 → Modulus (degree p) (p % 2 ^ degree p)
-word-modulus p h l = (degree-from 1 p h, omega (arith, word-degree p (omega arith) l), mod-lt p (pow-pos (degree p)))
+pub word-proper : (p : ℕ) → 1 < p → p < 2 ^ 64 → Proper (modulusOf p)
+word-proper p h l = (degree-from 1 p h, omega (arith, word-degree p (omega arith) l), mod-lt p (pow-pos (degree p)))
 
-pub word-monic : (p : ℕ) → 0 < p → monic (degree p) (p % 2 ^ degree p) ≡ p
-word-monic p h = monic-of (degree p) p (degree-is p h)
+pub word-whole : (p : ℕ) → 0 < p → polynomial (modulusOf p) ≡ p
+word-whole p h = monic-of (degree p) p (degree-is p h)

@@ -1,18 +1,20 @@
 -- What the code computes modulo t^k with the coefficients `low` below it: one bit behind a residue, a product and a power bit by bit.
 use mathlib.Core.Path.{_≡_, sym, ap, ap₂, _∙_}
-use mathlib.Core.Bool.{_||_}
+use mathlib.Core.Bool.{_||_, not}
 use mathlib.Core.Logic.{_⊎_, inl, inr}
 use Prim.Native.Nat.{ℕ, zero, suc, _+_, _-_, _*_, _/_, _%_, _^_, _≤_, _<_, zero-le}
-use native.Mathlib.Nat.{le-refl, lt-of-lt-of-le, div-eq-of-lt, one-mul, zero-mul, mul-one, mul-zero, mod-lt, pow-suc, pow-succ', add-zero, div-lt-iff-lt-mul, div-div-eq-div-mul}
+use native.Mathlib.Nat.{le-refl, lt-of-lt-of-le, div-eq-of-lt, one-mul, zero-mul, mul-one, mul-zero, mod-lt, pow-suc, pow-succ', add-zero, div-lt-iff-lt-mul, le-div-iff-mul-le, div-div-eq-div-mul}
 use native.Mathlib.Numerals.{add-one, one-add}
 use native.Mathlib.Decide.{decLt}
 use native.Mathlib.Omega.{arith}
 use lib.Bits.{bitOr, or-lt, or-add-and, and-le-l, and-le-r}
-use lib.Dec.{leb, lit<}
+use lib.Dec.{leb, ltb, lit<}
 use lib.Count.{leadingZeros, leading-length}
 use lib.Pow.{pow-pos, pow-mono, pow-lt, split, shl-exact, high, low, mod-pow-add}
-use borrow.Author.Tests.{le-leb, lt-leb}
-use Rattle.gf2.specs.Polynomials.{_⊕_, _⊗_, _⊗^_, monic, rem, Modulus}
+use borrow.Author.Tests.{le-leb, lt-leb, lt-ltb, le-ltb}
+use Rattle.gf2.specs.Polynomials.{_⊕_, _⊗_, _⊗^_, monic, rem}
+use Rattle.gf2.specs.Moduli.{polynomial, Proper}
+use Rattle.gf2.specs.declared.Modulus.{Modulus}
 use Rattle.gf2.proofs.Sums.{⊕-append, ⊕-comm}
 use Rattle.gf2.proofs.Products.{⊗-zero, ⊗-⊕, ⊗-comm, ⊗-pow, shl-suc, bit-cases, by-bit}
 use Rattle.gf2.proofs.Degrees.{half-pow}
@@ -64,13 +66,29 @@ module _ (k c : ℕ) (h : c < 2 ^ k) where
       go (inl e) = rw (e, zero-mul, mul-zero) (rem-zero (monic k c))
       go (inr e) = rw (e, one-mul, mul-one) residue-top
 
-pub residue-one : (k c : ℕ) → Modulus k c → rem (monic k c) 1 ≡ 1
-residue-one k c m = residue-small k c (m .2) 1 (pow-lt (m .0))
+pub residue-one : (p : Modulus) → Proper p → rem (polynomial p) 1 ≡ 1
+residue-one p h = residue-small (p .degree) (p .low) (h .2) 1 (pow-lt (h .0))
 
--- ---- one bit behind a residue
+pub residue-below : (p : Modulus) → Proper p → (x z : ℕ) → x ≡ rem (polynomial p) z → x < 2 ^ p .degree
+residue-below p h x z e = rw e (residue-lt (p .degree) (p .low) (h .2) z)
 
 pub less-one : (j : ℕ) → suc j - 1 ≡ j
 less-one j = omega arith
+
+-- ---- a residue, told by one shift that is right for degree 64 too
+
+pub residue-test : (k f : ℕ) → 0 < k → ltb (f / 2 ^ (k - 1)) 2 ≡ not (leb (2 ^ k) f)
+residue-test zero f h = absurd (omega arith)
+residue-test (suc j) f h = rw less-one (go (decLt f (2 ^ suc j)))
+  where
+    go : Dec (f < 2 ^ suc j) → ltb (f / 2 ^ j) 2 ≡ not (leb (2 ^ suc j) f)
+    go (yes l) = rw (lt-leb (2 ^ suc j) f l) (lt-ltb (f / 2 ^ j) 2 (div-lt-iff-lt-mul (pow-pos j) .1 (rw pow-succ' at l)))
+    go (no l) = rw (le-leb (2 ^ suc j) f (omega arith)) (le-ltb (f / 2 ^ j) 2 (le-div-iff-mul-le (pow-pos j) .1 (rw pow-succ' at le)))
+      where
+        le : 2 ^ suc j ≤ f
+        le = omega arith
+
+-- ---- one bit behind a residue
 
 -- the coefficient that falls out is a bit, and the others have room for one more
 pub top-bit : (k f : ℕ) → 0 < k → f < 2 ^ k → f / 2 ^ (k - 1) < 2
@@ -163,3 +181,19 @@ no-bits n h =
 pub next-bits : (n i : ℕ) → 0 < i → n / 2 ^ (i - 1) / 2 ≡ n / 2 ^ i
 next-bits n zero h = absurd (omega arith)
 next-bits n (suc j) h = rw less-one (div-div-eq-div-mul n (2 ^ j) 2 ∙ ap (λ (x : ℕ). n / x) (sym (pow-suc 2 j)))
+
+-- ---- one turn of the loops
+
+module _ {p : ℕ} (pos : 0 < p) where
+  -- a product: one bit more of the second factor
+  pub sum-next : (a b i sum shifted : ℕ) → shifted ≡ rem p (a * 2 ^ i) → sum ≡ rem p (a ⊗ (b % 2 ^ i))
+      → sum ⊕ shifted * (b / 2 ^ i % 2) ≡ rem p (a ⊗ (b % 2 ^ (i + 1)))
+  sum-next a b i sum shifted e d = rw (add-one, e, d) (sym (product-next pos a b i))
+
+  -- a power: one bit more of the exponent, which is 0, or 1
+  module _ (a n i x y : ℕ) (more : 0 < i) (e : x ≡ rem p (a ⊗^ (n / 2 ^ i))) (square : y ≡ rem p (x ⊗ x)) where
+    pub square-next : (n / 2 ^ (i - 1) % 2 ≡ 1 → ⊥) → y ≡ rem p (a ⊗^ (n / 2 ^ (i - 1)))
+    square-next even = square ∙ rw (e, ← (next-bits n i more)) (power-even pos a (n / 2 ^ (i - 1)) even)
+
+    pub times-next : (z : ℕ) → z ≡ rem p (y ⊗ a) → n / 2 ^ (i - 1) % 2 ≡ 1 → z ≡ rem p (a ⊗^ (n / 2 ^ (i - 1)))
+    times-next z times odd = times ∙ rw (square, e, ← (next-bits n i more)) (power-odd pos a (n / 2 ^ (i - 1)) odd)

@@ -1,1 +1,2 @@
 pub mod Polynomials
+pub mod Moduli

@@ -2,7 +2,7 @@
 -- So 2 is t, 2 ^ n is t^n, and the numbers below 2 ^ k are the polynomials of degree less than k.
 use mathlib.Core.Path.{_≡_}
 use mathlib.Core.Logic.{_⊎_}
-use Prim.Native.Nat.{ℕ, zero, suc, _+_, _*_, _/_, _%_, _^_, _≤_, _<_}
+use Prim.Native.Nat.{ℕ, zero, suc, _+_, _*_, _/_, _%_, _^_, _<_}
 use lib.Bits.{bitXor}
 
 -- ---- the sum: exclusive or
@@ -74,8 +74,3 @@ pub record Divides (d a : ℕ) : Type 0 where
 pub record Irreducible (p : ℕ) : Type 0 where
   pub proper : 1 < p
   pub only : (d : ℕ) → Divides d p → (d ≡ 1) ⊎ (d ≡ p)
-
--- ---- the modulus as the code holds it: a degree from 1 to 64 and the coefficients below t^k, so that degree 64 fits 64 bits
-
-abbrev pub Modulus : ℕ → ℕ → Type 0
-Modulus k low = (0 < k) × (k ≤ 64) × (low < 2 ^ k)

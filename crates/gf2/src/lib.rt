@@ -1,9 +1,17 @@
 // Polynomials over the field of two elements, as numbers: bit i is the coefficient of t^i. The definitions are in specs/, their laws in proofs/.
-// A modulus is its degree k, from 1 to 64, and its low word: the coefficients below t^k. These functions are for the project's own crates:
-// what they require, every caller proves.
+// These functions are for the project's own crates: what they require, every caller proves.
 ghost use mathlib.Core.Path.{_≡_};
+ghost use mathlib.Core.Bool.{not};
 ghost use Prim.Native.Nat.{_+_, _*_, _/_, _%_, _^_, _≤_, _<_};
-ghost use Rattle.gf2.specs.Polynomials.{_⊗_, _⊗^_, degree, monic, rem, Modulus};
+ghost use lib.Dec.{leb};
+ghost use Rattle.gf2.specs.Polynomials.{_⊗_, _⊗^_, degree, rem};
+ghost use Rattle.gf2.specs.Moduli.{polynomial, Proper, modulusOf};
+
+// A modulus: its degree, from 1 to 64, and the coefficients below t^degree, so that degree 64 fits a word.
+pub struct Modulus {
+    pub degree: u32,
+    pub low: u64,
+}
 
 // The degree of a nonzero polynomial: the place of its highest one bit.
 pub fn degree(p: u64) -> u32
@@ -22,47 +30,68 @@ pub fn low_bits(x: u64, n: u32) -> u64
     x % power
 }
 
-// One bit behind a residue. The coefficient that would reach t^k falls out, and t^k is the low word. No branch: the bits are data.
-pub fn step(k: u32, low: u64, f: u64, bit: u64) -> u64
-    requires { ⌜ Modulus k low × (f < 2 ^ k) × (bit < 2) ⌝ }
-    ensures { λ r. ⌜ r ≡ rem (monic k low) (f * 2 + bit) ⌝ }
+// A polynomial of degree 1 to 63 as a modulus.
+pub fn modulus_of(p: u64) -> Modulus
+    requires { ⌜ 1 < p ⌝ }
+    ensures { λ r. ⌜ r ≡ modulusOf p ⌝ }
 {
-    let cut = k - 1;
+    let k = degree(p);
+    Modulus {
+        degree: k,
+        low: low_bits(p, k),
+    }
+}
+
+// Whether a number is a residue: of lower degree than the modulus.
+pub fn is_residue(p: Modulus, f: u64) -> bool
+    requires { ⌜ Proper p ⌝ }
+    ensures { λ r. ⌜ r ≡ not (leb (2 ^ p .degree) f) ⌝ }
+{
+    f >> (p.degree - 1) < 2
+}
+
+// One bit behind a residue. The coefficient that would reach t^k falls out, and t^k is the coefficients below it. No branch: the bits are data.
+pub fn step(p: Modulus, f: u64, bit: u64) -> u64
+    requires { ⌜ Proper p × (f < 2 ^ p .degree) × (bit < 2) ⌝ }
+    ensures { λ r. ⌜ r ≡ rem (polynomial p) (f * 2 + bit) ⌝ }
+{
+    let cut = p.degree - 1;
     let top = (f >> cut) % 2;
     let rest = low_bits(f, cut);
-    let reduced = low * top;
+    let reduced = p.low * top;
     (rest * 2 + bit) ^ reduced
 }
 
 // The product of two residues, by the bits of b from the lowest.
-pub fn product(k: u32, low: u64, a: u64, b: u64) -> u64
-    requires { ⌜ Modulus k low × (a < 2 ^ k) × (b < 2 ^ k) ⌝ }
-    ensures { λ r. ⌜ r ≡ rem (monic k low) (a ⊗ b) ⌝ }
+pub fn product(p: Modulus, a: u64, b: u64) -> u64
+    requires { ⌜ Proper p × (a < 2 ^ p .degree) × (b < 2 ^ p .degree) ⌝ }
+    ensures { λ r. ⌜ r ≡ rem (polynomial p) (a ⊗ b) ⌝ }
 {
+    let k = p.degree;
     let mut sum: u64 = 0;
     let mut shifted = a;
     let mut i: u32 = 0;
     while i < k {
         let bit = (b >> i) % 2;
         sum = sum ^ (shifted * bit);
-        shifted = step(k, low, shifted, 0);
+        shifted = step(p, shifted, 0);
         i += 1;
     }
     sum
 }
 
 // The power a^n of a residue, by the bits of n from the highest: a square for each, and a product where the bit is one.
-pub fn power(k: u32, low: u64, a: u64, n: u64) -> u64
-    requires { ⌜ Modulus k low × (a < 2 ^ k) ⌝ }
-    ensures { λ r. ⌜ r ≡ rem (monic k low) (a ⊗^ n) ⌝ }
+pub fn power(p: Modulus, a: u64, n: u64) -> u64
+    requires { ⌜ Proper p × (a < 2 ^ p .degree) ⌝ }
+    ensures { λ r. ⌜ r ≡ rem (polynomial p) (a ⊗^ n) ⌝ }
 {
     let mut x: u64 = 1;
     let mut i = 64 - u64::leading_zeros(n);
     while 0 < i {
         i -= 1;
-        x = product(k, low, x, x);
+        x = product(p, x, x);
         if (n >> i) % 2 == 1 {
-            x = product(k, low, x, a);
+            x = product(p, x, a);
         }
     }
     x
@@ -95,17 +124,17 @@ fn first_power(n: u64, i: u32) -> u64
 }
 
 // The power t^n, likewise: a step where the bit is one. It begins with the highest bits, as far as they name a power below t^k.
-pub fn power_of_t(k: u32, low: u64, n: u64) -> u64
-    requires { ⌜ Modulus k low ⌝ }
-    ensures { λ r. ⌜ r ≡ rem (monic k low) (2 ^ n) ⌝ }
+pub fn power_of_t(p: Modulus, n: u64) -> u64
+    requires { ⌜ Proper p ⌝ }
+    ensures { λ r. ⌜ r ≡ rem (polynomial p) (2 ^ n) ⌝ }
 {
-    let mut i = low_places(k, n);
+    let mut i = low_places(p.degree, n);
     let mut x = first_power(n, i);
     while 0 < i {
         i -= 1;
-        x = product(k, low, x, x);
+        x = product(p, x, x);
         if (n >> i) % 2 == 1 {
-            x = step(k, low, x, 0);
+            x = step(p, x, 0);
         }
     }
     x

@@ -9,8 +9,8 @@ use lib.Dec.{T}
 use Rattle.gf2.specs.Polynomials.{_⊕_, longProduct, _⊗_, halvings, degree, reduce, longDivision, rem}
 use Rattle.lists.specs.Lists.{listFrom, same}
 use Rattle.lists.proofs.Lists.{same-eq, list-append, list-map, list-same}
-use Rattle.tables.specs.Tables.{word}
-use Rattle.tables.proofs.Rule.{power, word-row}
+use Rattle.lookups.specs.Rule.{word}
+use Rattle.lookups.proofs.Rule.{word-row}
 use Rattle.multiples.proofs.Doubling.{multiple-zero, multiple-double}
 
 unfoldable pub doubled : ℕ → List ℕ → List ℕ
@@ -25,7 +25,7 @@ row key x (suc b) = doubled (rem key (2 ^ b ⊗ x)) (row key x b)
 unfoldable pub rows : ℕ → ℕ → ℕ → List ℕ
 unfolding row doubled rem longDivision reduce degree halvings _⊗_ longProduct _⊕_
 rows w key zero = []
-rows w key (suc c) = rows w key c ++ row key (power key (degree key + w * c)) w
+rows w key (suc c) = rows w key c ++ row key (rem key (2 ^ degree key * 2 ^ (w * c))) w
 
 -- ---- the rows are the table's
 
@@ -54,12 +54,12 @@ module _ {key : ℕ} (pos : 0 < key) where
   rows-table w zero = rw zero-mul refl
   rows-table w (suc c) =
       ap₂ (λ (us vs : List ℕ). us ++ vs) (rows-table w c)
-      (row-is x w ∙ list-same (λ i. rem key (i ⊗ x)) (word w key) 0 (0 + c * 2 ^ w) (2 ^ w) (λ i l. rw (zero-add i, zero-add (c * 2 ^ w)) (sym (word-row w (degree key) pos refl c i l))))
+      (row-is x w ∙ list-same (λ i. rem key (i ⊗ x)) (word w key) 0 (0 + c * 2 ^ w) (2 ^ w) (λ i l. rw (zero-add i, zero-add (c * 2 ^ w)) (sym (word-row w pos c i l))))
       ∙ sym (list-append (word w key) 0 (c * 2 ^ w) (2 ^ w))
       ∙ ap (listFrom (word w key) 0) (sym (suc-mul c (2 ^ w)))
     where
       x : ℕ
-      x = power key (degree key + w * c)
+      x = rem key (2 ^ degree key * 2 ^ (w * c))
 
   -- words that pass the test are the table
   pub table-by-test : (w c : ℕ) (words : List ℕ) → T (same words (rows w key c)) → words ≡ listFrom (word w key) 0 (c * 2 ^ w)

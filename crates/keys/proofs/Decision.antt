@@ -3,84 +3,33 @@ use mathlib.Core.Path.{_≡_, refl, sym, ap, ap₂, _∙_}
 use mathlib.Core.Logic.{_⊎_, inl, inr}
 use mathlib.Core.Bool.{Bool, true, false, not, true≢false, false≢true}
 use mathlib.Core.List.{List}
-use Prim.Native.Nat.{ℕ, zero, suc, _+_, _-_, _*_, _/_, _%_, _^_, _≤_, _<_}
-use native.Mathlib.Nat.{zero-mul, one-mul, pow-suc, mod-lt, lt-of-lt-of-le, eq-zero-or-pos, div-eq-of-lt}
+use Prim.Native.Nat.{ℕ, suc, _+_, _-_, _*_, _/_, _%_, _^_, _≤_, _<_}
+use native.Mathlib.Nat.{mod-lt, lt-of-lt-of-le, eq-zero-or-pos, div-eq-of-lt}
 use native.Mathlib.Decide.{decLt}
 use native.Mathlib.Omega.{arith}
-use lib.Arith.{lt-one}
 use lib.ListN.{length, getD}
 use lib.Pow.{pow-pos, pow-mono, pow-add, split, high, shl-lt, shr-lt}
 use Rattle.gf2.specs.Polynomials.{_⊕_, _⊗_, degree, rem}
 use Rattle.lists.specs.Lists.{listFrom}
 use Rattle.gf2.proofs.Sums.{⊕-zero, ⊕-self, ⊕-eq, ⊕-swap, ⊕-lt, ⊕-append}
-use Rattle.gf2.proofs.Products.{zero-⊗, ⊗-zero, ⊗-one, ⊗-comm, ⊗-pow, ⊗-bit, bit-⊕, by-bit, bit-square, square-⊕, by-digits, ring}
-use Rattle.gf2.proofs.Degrees.{half-lt, degree-is, degree-⊗, deg-hi, deg-le, lt-of-high, pos-⊗, ⊗-no-zero}
-use Rattle.gf2.proofs.Residues.{rem-zero, rem-⊕, rem-small, rem-lt}
-use Rattle.acceptance.proofs.Criterion.{rigid-irreducible, irreducible-rigid}
+use Rattle.gf2.proofs.Products.{zero-⊗, ⊗-pow, square-⊕, ring}
+use Rattle.gf2.proofs.Degrees.{degree-is, degree-⊗, deg-hi, deg-le, lt-of-high, pos-⊗, ⊗-no-zero}
+use Rattle.gf2.proofs.Residues.{rem-⊕, rem-small, rem-lt}
+use Rattle.gf2.proofs.Criterion.{rigid-irreducible, irreducible-rigid}
 use Rattle.acceptance.specs.Keys.{reducible}
 use Rattle.acceptance.proofs.Laws.{irreducible-of, not-reducible}
 use Rattle.basis.specs.Rows.{sumOf, Independent}
-use Rattle.basis.proofs.Sums.{sum-map}
+use Rattle.basis.proofs.Matrices.{sum-listed}
 use Rattle.keys.specs.Squares.{square, oddPart, folded, squareRows, differenceRows}
 use Rattle.keys.proofs.Filling.{list-over}
-use Rattle.gf2.proofs.Linear.{Additive}
-use Rattle.lists.proofs.Lists.{length-list, list-map, list-same}
+use Rattle.gf2.proofs.Linear.{Additive, after, both, squared}
+use Rattle.lists.proofs.Lists.{length-list, list-same}
 use Rattle.keys.proofs.Folding.{Kernel, odd-kernel, fold-kernel}
 
--- ---- sums of listed rows
-
--- an additive function may be put through the sum
-sum-listed : {f : ℕ → ℕ} → Additive f → (g : ℕ → ℕ) (i n h : ℕ) → sumOf h (listFrom (λ j. f (g j)) i n) ≡ f (sumOf h (listFrom g i n))
-sum-listed {f} a g i n h = ap (sumOf h) (sym (list-map g f i n)) ∙ sum-map a h (listFrom g i n)
-
-sum-both : (f g : ℕ → ℕ) (i n h : ℕ) → sumOf h (listFrom (λ j. f j ⊕ g j) i n) ≡ sumOf h (listFrom f i n) ⊕ sumOf h (listFrom g i n)
-unfolding sumOf listFrom
-sum-both f g i zero h = sym (⊕-self 0)
-sum-both f g i (suc n) h =
-    ap₂ (λ (x y : ℕ). x ⊕ y) (bit-⊕ h (f i) (g i)) (sum-both f g (suc i) n (h / 2))
-    ∙ ⊕-swap (h % 2 * f i) (h % 2 * g i) (sumOf (h / 2) (listFrom f (suc i) n)) (sumOf (h / 2) (listFrom g (suc i) n))
-
-sum-powers : (i n h : ℕ) → h < 2 ^ n → sumOf h (listFrom (λ j. 2 ^ j) i n) ≡ 2 ^ i ⊗ h
-unfolding sumOf listFrom
-sum-powers i zero h l = rw (lt-one l) (sym (⊗-zero (2 ^ i)))
-sum-powers i (suc n) h l =
-    ap₂ (λ (x y : ℕ). x ⊕ y) (sym (⊗-bit h (2 ^ i))) (sum-powers (suc i) n (h / 2) (half-lt h n l) ∙ ap (λ (x : ℕ). x ⊗ (h / 2)) (pow-suc 2 i ∙ sym (⊗-pow 1 (2 ^ i))))
-    ∙ expand (2 ^ i) (h / 2) (h % 2) 2 ∙ ap (λ (x : ℕ). 2 ^ i ⊗ x) (by-digits h)
-  where
-    expand : (v g c t : ℕ) → v ⊗ c ⊕ v ⊗ t ⊗ g ≡ v ⊗ (g ⊗ t ⊕ c)
-    expand v g c t = simp ring
-
-module _ (p : ℕ) (pos : 0 < p) where
-  bit-rem : (h x : ℕ) → h % 2 * rem p x ≡ rem p (x ⊗ (h % 2))
-  bit-rem h x = by-bit (λ (c : ℕ). c * rem p x ≡ rem p (x ⊗ c)) (rw (zero-mul, ⊗-zero) (sym (rem-zero p))) (rw (one-mul, ⊗-one)) h
-
-  -- with h = 2 g + c
-  sum-squares : (i n h : ℕ) → h < 2 ^ n → sumOf h (listFrom (square p) i n) ≡ rem p (2 ^ (2 * i) ⊗ (h ⊗ h))
-  unfolding sumOf listFrom square
-  sum-squares i zero h l = rw (lt-one l, ⊗-zero, ⊗-zero) (sym (rem-zero p))
-  sum-squares i (suc n) h l =
-      ap₂ (λ (x y : ℕ). x ⊕ y) (bit-rem h x) (sum-squares (suc i) n (h / 2) (half-lt h n l) ∙ ap (λ (y : ℕ). rem p (y ⊗ (g ⊗ g))) up)
-      ∙ sym (rem-⊕ pos (x ⊗ c) (x ⊗ 2 ⊗ 2 ⊗ (g ⊗ g)))
-      ∙ ap (λ (y : ℕ). rem p (x ⊗ y ⊕ x ⊗ 2 ⊗ 2 ⊗ (g ⊗ g))) (sym (bit-square h))
-      ∙ ap (rem p) (expand x g c 2) ∙ ap (λ (y : ℕ). rem p (x ⊗ (y ⊗ y))) (by-digits h)
-    where
-      x : ℕ
-      x = 2 ^ (2 * i)
-
-      g : ℕ
-      g = h / 2
-
-      c : ℕ
-      c = h % 2
-
-      up : 2 ^ (2 * suc i) ≡ x ⊗ 2 ⊗ 2
-      up = ap (λ (y : ℕ). 2 ^ y) two-more ∙ pow-suc 2 (suc (2 * i)) ∙ rw (pow-suc 2 (2 * i), ⊗-pow 1 (2 ^ (2 * i)), ⊗-pow 1 (2 ^ (2 * i) * 2))
-        where
-          two-more : 2 * suc i ≡ suc (suc (2 * i))
-          two-more = omega arith
-
-      expand : (v g c t : ℕ) → v ⊗ (c ⊗ c) ⊕ v ⊗ t ⊗ t ⊗ (g ⊗ g) ≡ v ⊗ ((g ⊗ t ⊕ c) ⊗ (g ⊗ t ⊕ c))
-      expand v g c t = simp ring
+-- the square of t^i, as a value of squaring
+square-is : (p i : ℕ) → square p i ≡ rem p (2 ^ i ⊗ 2 ^ i)
+unfolding square
+square-is p i = let e : 2 * i ≡ i + i = omega arith in ap (rem p) (rw e (pow-add 2 i i ∙ sym (⊗-pow i (2 ^ i))))
 
 -- ---- the rows of the squares of t^h, .. t^(k - 1), for h half of k, rounded up, and n the other half
 
@@ -105,32 +54,30 @@ module _ (p : ℕ) (pos : 0 < p) (h n : ℕ) (whole : h + n ≡ degree p) (lower
     abbrev value : ℕ → ℕ
     value x = rem p (x ⊗ x) ⊕ δ x
 
+    value-additive : Additive (λ x. r (value x))
+    value-additive = after (t .additive) (both (after (record { sum = rem-⊕ pos }) squared) (t .δ-additive))
+
     sum-rows : (g : ℕ) → g < 2 ^ n → sumOf g rows ≡ r (value (g * 2 ^ h))
     sum-rows g l =
-        sum-listed (t .additive) (λ i. square p i ⊕ δ (2 ^ i)) h n g
-        ∙ ap r
-        (sum-both (square p) (λ i. δ (2 ^ i)) h n g
-        ∙ ap₂ (λ (x y : ℕ). x ⊕ y) (sum-squares p pos h n g l ∙ ap (rem p) shift) (sum-listed (t .δ-additive) (λ i. 2 ^ i) h n g ∙ ap δ (sum-powers h n g l ∙ ⊗-comm (2 ^ h) g ∙ ⊗-pow h g)))
-      where
-        expand : (v : ℕ) → v ⊗ v ⊗ (g ⊗ g) ≡ g ⊗ v ⊗ (g ⊗ v)
-        expand v = simp ring
-
-        twice : 2 ^ (2 * h) ≡ 2 ^ h ⊗ 2 ^ h
-        twice = let e : 2 * h ≡ h + h = omega arith in rw e (pow-add 2 h h ∙ sym (⊗-pow h (2 ^ h)))
-
-        shift : 2 ^ (2 * h) ⊗ (g ⊗ g) ≡ g * 2 ^ h ⊗ (g * 2 ^ h)
-        shift = ap (λ (y : ℕ). y ⊗ (g ⊗ g)) twice ∙ expand (2 ^ h) ∙ ap₂ (λ (y z : ℕ). y ⊗ z) (⊗-pow h g) (⊗-pow h g)
+        ap (sumOf g)
+        (list-same (λ i. r (square p i ⊕ δ (2 ^ i))) (λ i. r (value (2 ^ i))) h h n (λ i m. ap (λ (x : ℕ). r (x ⊕ δ (2 ^ (h + i)))) (square-is p (h + i))))
+        ∙ sum-listed value-additive h n g l
 
     parts : (g l : ℕ) → l < 2 ^ h → value (g * 2 ^ h ⊕ l) ≡ value (g * 2 ^ h) ⊕ (l ⊗ l ⊕ δ l)
     parts g l m =
-        ap₂ (λ (x y : ℕ). x ⊕ y) (ap (rem p) (square-⊕ (g * 2 ^ h) l) ∙ rem-⊕ pos (g * 2 ^ h ⊗ (g * 2 ^ h)) (l ⊗ l) ∙ ap (λ (y : ℕ). rem p (g * 2 ^ h ⊗ (g * 2 ^ h)) ⊕ y) (small-rem l m)) (t .δ-additive .sum (g * 2 ^ h) l)
+        ap₂ (λ (x y : ℕ). x ⊕ y)
+        (ap (rem p) (square-⊕ (g * 2 ^ h) l) ∙ rem-⊕ pos (g * 2 ^ h ⊗ (g * 2 ^ h)) (l ⊗ l)
+        ∙ ap (λ (y : ℕ). rem p (g * 2 ^ h ⊗ (g * 2 ^ h)) ⊕ y) (small-rem l m))
+        (t .δ-additive .sum (g * 2 ^ h) l)
         ∙ ⊕-swap (rem p (g * 2 ^ h ⊗ (g * 2 ^ h))) (l ⊗ l) (δ (g * 2 ^ h)) (δ l)
 
     abbrev Low : Type 0
     Low = (x : ℕ) → x < 2 ^ degree p → value x ≡ 0 → x < 2 ^ h
 
     there : Independent rows → Low
-    there i x l e = lt-of-high x h (i g (rw length-list small) (sum-rows g small ∙ ap r equal ∙ t .zero-at lo (lt-of-lt-of-le lo-lt (pow-mono {j = 32} (omega arith)))))
+    there i x l e =
+        lt-of-high x h
+        (i g (rw length-list small) (sum-rows g small ∙ ap r equal ∙ t .zero-at lo (lt-of-lt-of-le lo-lt (pow-mono {j = 32} (omega arith)))))
       where
         g : ℕ
         g = x / 2 ^ h
@@ -164,8 +111,8 @@ module _ (p : ℕ) (pos : 0 < p) (h n : ℕ) (whole : h + n ≡ degree p) (lower
 
         low : (l : ℕ) × (l < 2 ^ h) × (value (g * 2 ^ h) ≡ l ⊗ l ⊕ δ l)
         low =
-            t .only-at (value (g * 2 ^ h)) h (lt-of-lt-of-le small-value (pow-mono {j = 64} (omega arith))) (lt-of-lt-of-le small-value (pow-mono (omega arith)))
-            (sym (sum-rows g small) ∙ e)
+            t .only-at (value (g * 2 ^ h)) h (lt-of-lt-of-le small-value (pow-mono {j = 64} (omega arith)))
+            (lt-of-lt-of-le small-value (pow-mono (omega arith))) (sym (sum-rows g small) ∙ e)
 
         bound : g * 2 ^ h ⊕ low .0 < 2 ^ degree p
         bound = ⊕-lt (degree p) (g * 2 ^ h) (low .0) high-lt (lt-of-lt-of-le (low .1) (pow-mono (omega arith)))
@@ -240,11 +187,13 @@ module _ (p k : ℕ) (proper : 1 < p) (is : k ≡ degree p) (low : 0 < k) (high 
 
   pub irreducible-squares : reducible p ≡ false → Independent (squareRows p (k - k / 2) (k / 2))
   irreducible-squares e =
-      squares-back p pos (k - k / 2) (k / 2) whole (omega arith) (omega arith) (omega arith) word (irreducible-rigid p (irreducible-of p (omega arith) e) .no-nilpotent)
+      squares-back p pos (k - k / 2) (k / 2) whole (omega arith) (omega arith) (omega arith) word
+      (irreducible-rigid p (irreducible-of p (omega arith) e) .no-nilpotent)
 
   pub irreducible-differences : reducible p ≡ false → Independent (differenceRows p (k - k / 2) (k / 2))
   irreducible-differences e =
-      differences-back p pos (k - k / 2) (k / 2) whole (omega arith) (omega arith) (omega arith) word (irreducible-rigid p (irreducible-of p (omega arith) e) .no-idempotent)
+      differences-back p pos (k - k / 2) (k / 2) whole (omega arith) (omega arith) (omega arith) word
+      (irreducible-rigid p (irreducible-of p (omega arith) e) .no-idempotent)
 
   pub both-irreducible : Independent (squareRows p (k - k / 2) (k / 2)) → Independent (differenceRows p (k - k / 2) (k / 2)) → reducible p ≡ false
   both-irreducible i j =

@@ -1,5 +1,7 @@
 -- Listed values put through a function, and a buffer that is filled with them from the front.
 use mathlib.Core.Path.{_≡_, sym, ap, _∙_}
+use mathlib.Core.Bool.{Bool, true}
+use mathlib.Core.Logic.{_↔_}
 use mathlib.Core.List.{List, [], _∷_, _++_, append-nil}
 use Prim.Native.Nat.{ℕ, suc, _+_, _*_, _^_, _≤_, _<_}
 use native.Mathlib.Nat.{zero-add, add-zero, pow-suc}
@@ -10,6 +12,7 @@ use Rattle.gf2.specs.Polynomials.{rem}
 use Rattle.lists.specs.Lists.{listFrom}
 use Rattle.gf2.proofs.Powers.{rem-shl}
 use Rattle.lists.proofs.Lists.{length-list, list-at, list-more, list-same, written-next}
+use Rattle.basis.specs.Rows.{Independent}
 use Rattle.keys.specs.Squares.{square}
 
 -- listed values, each put through g with its place
@@ -33,11 +36,17 @@ module _ (f : ℕ → ℕ) (a i : ℕ) (rows : List ℕ) where
   pub fill-whole : i ≡ length rows → listFrom f a i ++ drop i rows ≡ listFrom f a (length rows)
   fill-whole e = rw (e, drop-length) (append-nil (listFrom f a (length rows)))
 
+-- what is decided of the filled buffer
+pub same-independent : {r : Bool} {xs ys : List ℕ} → xs ≡ ys → (r ≡ true) ↔ Independent xs → (r ≡ true) ↔ Independent ys
+same-independent e h = rw e at h
+
 -- two steps from a square to the next one
-pub next-square : (p : ℕ) → 0 < p → (i w : ℕ) → w ≡ square p i → rem p (rem p (w * 2 + 0) * 2 + 0) ≡ square p (i + 1)
+pub next-square : (p : ℕ) → 0 < p → (i w y z : ℕ) → w ≡ square p i → y ≡ rem p (w * 2 + 0) → z ≡ rem p (y * 2 + 0) → z ≡ square p (i + 1)
 unfolding square
-next-square p pos i w e =
-    ap (rem p) (add-zero (rem p (w * 2 + 0) * 2))
+next-square p pos i w y z e once twice =
+    twice
+    ∙ ap (λ (x : ℕ). rem p (x * 2 + 0)) once
+    ∙ ap (rem p) (add-zero (rem p (w * 2 + 0) * 2))
     ∙ ap (λ (x : ℕ). rem p (rem p x * 2)) (add-zero (w * 2) ∙ ap (λ (x : ℕ). x * 2) e)
     ∙ ap (λ (x : ℕ). rem p (x * 2)) (rem-shl pos (2 ^ (2 * i)) 1)
     ∙ rem-shl pos (2 ^ (2 * i) * 2) 1

@@ -1,78 +1,28 @@
--- What the callers of the test rely on. A caller that takes the answer t apart has `tested t ≡ testKey key` and, of its arm, t ≡ Accepted or
+-- What the callers of the test rely on. A caller that takes the answer t apart has `tested t ≡ testKey key` and, of its arm, t ≡ Accepted p or
 -- t ≡ Refused q.
 use mathlib.Core.Path.{_≡_, sym, ap, _∙_}
-use mathlib.Core.Bool.{true, false}
-use mathlib.Core.List.{List, [], _∷_, _++_}
-use Prim.Native.Nat.{ℕ, _%_, _^_, _≤_, _<_}
-use native.Mathlib.Omega.{arith}
-use lib.Dec.{ltb}
-use borrow.Author.Tests.{ltb-false}
-use Rattle.gf2.specs.Polynomials.{degree, monic, Modulus}
-use Rattle.gf2.proofs.Degrees.{degree-from}
-use Rattle.gf2.proofs.Monics.{word-degree, word-monic, word-modulus}
+use mathlib.Core.List.{List, _++_}
+use Prim.Native.Nat.{ℕ, _^_, _<_}
+use Rattle.gf2.specs.Moduli.{modulusOf}
+use Rattle.gf2.specs.declared.Modulus.{Modulus}
 use Rattle.refusals.specs.declared.Refusal.{Refusal}
-use Rattle.refusals.specs.declared.Refusal.the-variants.{KeyBelow256, KeyReducible}
-use Rattle.refusals.specs.Refusals.{Refused, numberOf, Test, _⇒_, firstOf}
-use Rattle.refusals.proofs.Laws as refusals
-use Rattle.acceptance.specs.Keys.{reducible, accepted, keyTests}
-use Rattle.acceptance.proofs.Laws.{accepted-small, key-iff}
+use Rattle.refusals.specs.Refusals.{Done, Refused, Test, firstOf}
+use Rattle.refusals.proofs.Laws.{done-clear, more-refused}
+use Rattle.acceptance.specs.Keys.{keyTests, Opened}
+use Rattle.acceptance.proofs.Laws.{key-iff}
 use Rattle.keys.specs.declared.Tested.{Tested}
 use Rattle.keys.specs.declared.Tested.the-variants as cases
 use Rattle.keys.specs.Testing.{testKey, tested}
 
--- ---- what a caller knows in each arm
-
--- neither 1 nor 2 applies
-pub record Passed (key : ℕ) : Type 0 where
-  pub low : ltb key 256 ≡ false
-  pub irreducible : reducible key ≡ false
-
-pub passed : (t : Tested) (key : ℕ) → tested t ≡ testKey key → t ≡ cases.Accepted → Passed key
-unfolding testKey
-passed t key e a =
-    record {
-      low = refusals.passed [] (reducible key ⇒ KeyReducible ∷ []) (ltb key 256) KeyBelow256 tt tt none;
-      irreducible = refusals.passed (ltb key 256 ⇒ KeyBelow256 ∷ []) [] (reducible key) KeyReducible tt tt none;
-    }
-  where
-    none : numberOf (testKey key) ≡ 0
-    none = ap numberOf (sym e ∙ ap tested a)
-
--- an accepted key passes
-pub accepted-passed : (key : ℕ) → accepted key ≡ true → Passed key
-accepted-passed key a = let k = key-iff key (accepted-small key a) .0 a in record { low = k .0; irreducible = k .1 }
-
-pub refused : (t : Tested) (key : ℕ) (q : Refusal) → tested t ≡ testKey key → t ≡ cases.Refused q → testKey key ≡ Refused q tt
-refused t key q e a = sym e ∙ ap tested a
-
--- ---- how the tests of a call that begin with those of the key go on
-
-module _ {S A : Type 0} (key : ℕ) (ts : List Test) (s : S) (v : A) where
-  pub first-passed : Passed key → firstOf (keyTests key ++ ts) s v ≡ firstOf ts s v
-  first-passed h = rw (h .low, h .irreducible)
-
-  pub first-refused : (q : Refusal) → testKey key ≡ Refused q tt → firstOf (keyTests key ++ ts) s v ≡ Refused q s
+module _ (t : Tested) (key : ℕ) (e : tested t ≡ testKey key) where
+  -- the accepted key is opened
+  pub opened : (p : Modulus) → key < 2 ^ 64 → t ≡ cases.Accepted p → Opened key p
   unfolding testKey
-  first-refused q e = refusals.more-refused (keyTests key) ts tt s tt v q e
+  opened p small a =
+      let c = done-clear (keyTests key) tt (modulusOf key) p (sym e ∙ ap tested a) in
+      record { is-accepted = key-iff key small .1 (c .0 .0, c .0 .1 .0); parts = sym (c .1) }
 
--- ---- a key that passed
-
-module _ {key : ℕ} (h : Passed key) where
-  pub passed-low : 256 ≤ key
-  passed-low = ltb-false key 256 (h .low)
-
-  pub passed-pos : 0 < key
-  passed-pos = omega (arith, passed-low)
-
-  pub passed-monic : monic (degree key) (key % 2 ^ degree key) ≡ key
-  passed-monic = word-monic key passed-pos
-
-  pub passed-from : 8 ≤ degree key
-  passed-from = degree-from 8 key passed-low
-
-  pub passed-word : key < 2 ^ 64 → degree key < 64
-  passed-word l = word-degree key passed-pos l
-
-  -- the modulus as the code holds it
-  pub passed-modulus : key < 2 ^ 64 → Modulus (degree key) (key % 2 ^ degree key)
-  passed-modulus l = word-modulus key (omega (arith, passed-low)) l
+  -- the tests of a call that begin with those of the key
+  pub refused : {S A : Type 0} (ts : List Test) (s : S) (v : A) (q : Refusal) → t ≡ cases.Refused q → firstOf (keyTests key ++ ts) s v ≡ Refused q s
+  unfolding testKey
+  refused ts s v q a = more-refused (keyTests key) ts tt s (modulusOf key) v q (sym e ∙ ap tested a)

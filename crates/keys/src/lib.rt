@@ -4,29 +4,32 @@ ghost use mathlib.Core.Bool.{true, not};
 ghost use mathlib.Core.Logic.{_↔_};
 ghost use Prim.Native.Nat.{_+_, _-_, _/_, _^_, _≤_, _<_};
 ghost use lib.ListN.{length, getD};
-ghost use Rattle.gf2.specs.Polynomials.{_⊕_, monic, Modulus};
+ghost use Rattle.gf2.specs.Polynomials.{_⊕_};
+ghost use Rattle.gf2.specs.Moduli.{polynomial, Proper};
 ghost use Rattle.lists.specs.Lists.{listFrom};
 ghost use Rattle.acceptance.specs.Keys.{reducible};
 ghost use Rattle.basis.specs.Rows.{Independent};
 ghost use Rattle.keys.specs.Squares.{square, evenRoot, oddPart, folded};
 ghost use Rattle.keys.specs.Testing.{testKey, tested};
+use gf2::Modulus;
 use refusals::Refusal;
 
-// The answer to the test of a key.
+// The answer to the test of a key: the opened key, or a refusal.
 pub enum Tested {
-    Accepted,
+    Accepted(Modulus),
     Refused(Refusal),
 }
 
 // The squares of t^h, .. t^(k - 1) modulo the key, with h half of k, rounded up. That of t^(h - 1) needs no division.
-fn square_rows(k: u32, low: u64, rows: &mut [u64])
-    requires { ⌜ Modulus k low × (k < 64) × (length (now rows) ≡ k / 2) ⌝ }
-    ensures { λ r. ⌜ now (rows .exit) ≡ listFrom (square (monic k low)) (k - k / 2) (k / 2) ⌝ }
+fn square_rows(p: Modulus, rows: &mut [u64])
+    requires { ⌜ Proper p × (p .degree < 64) × (length (now rows) ≡ p .degree / 2) ⌝ }
+    ensures { λ r. ⌜ now (rows .exit) ≡ listFrom (square (polynomial p)) (p .degree - p .degree / 2) (p .degree / 2) ⌝ }
 {
+    let k = p.degree;
     let h = k - k / 2;
     let mut w: u64 = 1 << (2 * h - 2);
     for i in 0..rows.len() {
-        w = gf2::step(k, low, gf2::step(k, low, w, 0), 0);
+        w = gf2::step(p, gf2::step(p, w, 0), 0);
         rows[i] = w;
     }
 }
@@ -87,15 +90,15 @@ fn independent_differences(rows: &mut [u64], h: usize) -> bool
     basis::independent(rows)
 }
 
-// Irreducible, that is: squaring modulo the key takes no residue to 0 but 0 and keeps none but 0 and 1.
-fn irreducible(key: u64) -> bool
-    requires { ⌜ 1 < key ⌝ }
-    ensures { λ r. ⌜ r ≡ not (reducible key) ⌝ }
+// Irreducible, that is: squaring modulo the polynomial takes no residue to 0 but 0 and keeps none but 0 and 1.
+fn irreducible(p: Modulus) -> bool
+    requires { ⌜ Proper p × (p .degree < 64) ⌝ }
+    ensures { λ r. ⌜ r ≡ not (reducible (polynomial p)) ⌝ }
 {
-    let k = gf2::degree(key);
+    let k = p.degree;
     let n = (k / 2) as usize;
     let mut squares: [u64; 32] = [0; 32];
-    square_rows(k, gf2::low_bits(key, k), &mut squares[..n]);
+    square_rows(p, &mut squares[..n]);
     let mut rows = squares;
     if !independent_squares(&mut rows[..n]) {
         return false;
@@ -110,11 +113,12 @@ pub fn test(key: u64) -> Tested
     if key < 256 {
         return Tested::Refused(Refusal::KeyBelow256);
     }
-    if key == stock::stock_key(gf2::degree(key)) {
-        return Tested::Accepted;
+    let p = gf2::modulus_of(key);
+    if key == stock::stock_key(p.degree) {
+        return Tested::Accepted(p);
     }
-    if !irreducible(key) {
+    if !irreducible(p) {
         return Tested::Refused(Refusal::KeyReducible);
     }
-    Tested::Accepted
+    Tested::Accepted(p)
 }

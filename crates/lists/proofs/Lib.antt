@@ -1,3 +1,4 @@
 pub mod Truth
 pub mod Lists
 pub mod Counts
+pub mod Searches

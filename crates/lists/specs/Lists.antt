@@ -1,7 +1,7 @@
--- Lists of numbers: the values of a function, the numbers that pass a test, whether two lists are the same, what holds of every entry, of at
--- least one entry, and that no entry stands twice.
+-- Lists of numbers: the values of a function, the numbers that pass a test and the first of them, whether a number is listed, whether two
+-- lists are the same, what holds of every entry, of at least one entry, and that no entry stands twice.
 use mathlib.Core.Logic.{_≢_, _⊎_}
-use mathlib.Core.Bool.{Bool, true, false, _&&_, cond}
+use mathlib.Core.Bool.{Bool, true, false, _&&_, _||_, cond}
 use mathlib.Core.List.{List, [], _∷_}
 use Prim.Native.Nat.{ℕ, zero, suc}
 use lib.Dec.{eqb}
@@ -15,6 +15,16 @@ listFrom f i (suc n) = f i ∷ listFrom f (suc i) n
 unfoldable pub passing : (ℕ → Bool) → ℕ → ℕ → List ℕ
 passing test n zero = []
 passing test n (suc c) = cond (test n) (n ∷ passing test (suc n) c) (passing test (suc n) c)
+
+-- the first number from n on that passes the test, c numbers being tried; n + c where none does
+unfoldable pub firstFrom : (ℕ → Bool) → ℕ → ℕ → ℕ
+firstFrom test n zero = n
+firstFrom test n (suc c) = cond (test n) n (firstFrom test (suc n) c)
+
+-- the number stands in the list
+unfoldable pub among : ℕ → List ℕ → Bool
+among n [] = false
+among n (m ∷ ms) = eqb n m || among n ms
 
 -- the same numbers in the same order
 unfoldable pub same : List ℕ → List ℕ → Bool

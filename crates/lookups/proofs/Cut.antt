@@ -3,16 +3,22 @@
 use mathlib.Core.Path.{_≡_, sym, ap, ap₂, _∙_}
 use mathlib.Core.List.{List}
 use Prim.Native.Nat.{ℕ, zero, suc, _+_, _-_, _*_, _/_, _%_, _^_, _≤_, _<_}
-use native.Mathlib.Nat.{lt-of-lt-of-le, add-zero, zero-add, add-comm, mul-comm, mod-eq-of-lt, mul-zero, mul-suc, mod-lt, zero-mul}
+use native.Mathlib.Nat.{lt-of-lt-of-le, zero-add, add-comm, mul-comm, mod-eq-of-lt, mul-zero, mul-one, mul-suc, mod-lt}
 use native.Mathlib.Omega.{arith}
 use lib.Arith.{lt-one, digits-lt}
 use lib.ListN.{getD}
 use lib.Pow.{pow-pos, pow-mono, pow-add, shr-lt, shr-shr, split, high, low, mod-pow-add}
-use Rattle.gf2.specs.Polynomials.{_⊕_, _⊗_, degree, rem}
-use Rattle.gf2.proofs.Sums.{⊕-append, ⊕-shl, ⊕-comm, ⊕-assoc, ⊕-zero}
-use Rattle.gf2.proofs.Powers.{rem-⊗-pow}
-use Rattle.gf2.proofs.Residues.{rem-zero, rem-small, rem-⊕}
-use Rattle.lookups.specs.Groups.{looked, Rows, ReducesByte, Reduces}
+use Rattle.gf2.specs.Polynomials.{_⊕_, _⊗_, rem}
+use Rattle.gf2.specs.Moduli.{polynomial, Proper}
+use Rattle.gf2.specs.declared.Modulus.{Modulus}
+use Rattle.gf2.proofs.Sums.{⊕-append, ⊕-comm, ⊕-assoc, ⊕-zero}
+use Rattle.gf2.proofs.Products.{zero-⊗, ⊗-comm, ⊗-shl, ⊗-pow, ⊕-⊗}
+use Rattle.gf2.proofs.Powers.{rem-⊗-right}
+use Rattle.gf2.proofs.Residues.{rem-zero, rem-⊕}
+use Rattle.gf2.proofs.Monics.{monic-pos}
+use Rattle.gf2.proofs.Steps.{residue-small}
+use Rattle.multiples.specs.Rows.{Rows}
+use Rattle.lookups.specs.Groups.{looked}
 
 -- what stands at t^(n + j) and above in a number with n new low digits, and what stands below
 module _ (f v n j : ℕ) (h : v < 2 ^ n) where
@@ -32,64 +38,81 @@ below-fits f v n j h l = lt-of-lt-of-le (rw (← (pow-add 2 j n)) at (digits-lt 
 pub all-fits : (f v n k : ℕ) → f < 2 ^ k → v < 2 ^ n → k + n ≤ 64 → f * 2 ^ n + v < 2 ^ 64
 all-fits f v n k hf h l = lt-of-lt-of-le (rw (← (pow-add 2 k n)) at (digits-lt hf h)) (pow-mono {i = k + n} {j = 64} l)
 
--- a number is its low w bits and the others
-digits : (w h e : ℕ) → h % 2 ^ w * 2 ^ e ⊕ h / 2 ^ w * 2 ^ (e + w) ≡ h * 2 ^ e
-digits w h e =
-    ap (λ (x : ℕ). h % 2 ^ w * 2 ^ e ⊕ x) (rw (pow-add 2 e w) (omega arith))
-    ∙ sym (⊕-shl e (h % 2 ^ w) (h / 2 ^ w * 2 ^ w))
-    ∙ ap (λ (x : ℕ). x * 2 ^ e) (⊕-comm (h % 2 ^ w) (h / 2 ^ w * 2 ^ w) ∙ ⊕-append (h / 2 ^ w) w (h % 2 ^ w) (mod-lt h (pow-pos w)) ∙ split h w)
+shift-over : (w h y : ℕ) → h ⊗ (y * 2 ^ w) ≡ h * 2 ^ w ⊗ y
+shift-over w h y = ⊗-shl w h y ∙ ap (λ (z : ℕ). z * 2 ^ w) (⊗-comm h y) ∙ sym (⊗-shl w y h) ∙ ⊗-comm y (h * 2 ^ w)
 
--- n groups of w bits, the lowest looked up in row j
-pub groups : (w e c : ℕ) {key : ℕ} (pos : 0 < key) (words : List ℕ) → Rows w e key c words → (n j h : ℕ) → j + n ≤ c → h < 2 ^ (w * n)
-    → looked w words n j h ≡ rem key (h * 2 ^ (e + w * j))
-unfolding looked
-groups w e c {key} pos words rows zero j h l b = rw (lt-one (rw mul-zero at b), zero-mul) (sym (rem-zero key))
-groups w e c {key} pos words rows (suc n) j h l b =
-    ap₂ (λ (x y : ℕ). x ⊕ y) (rows j (omega arith) (h % 2 ^ w) (mod-lt h (pow-pos w)) ∙ rem-⊗-pow pos (h % 2 ^ w) (e + w * j))
-    (groups w e c pos words rows n (suc j) (h / 2 ^ w) (omega arith) (shr-lt {n = h} (w * n) w (rw mul-suc at b)))
-    ∙ sym (rem-⊕ pos (h % 2 ^ w * 2 ^ (e + w * j)) (h / 2 ^ w * 2 ^ (e + w * suc j)))
-    ∙ ap (λ (x : ℕ). rem key (h % 2 ^ w * 2 ^ (e + w * j) ⊕ h / 2 ^ w * 2 ^ x)) (omega arith)
-    ∙ ap (rem key) (digits w h (e + w * j))
+-- the low w bits of h and the others, times y
+digits : (w h y : ℕ) → h % 2 ^ w ⊗ y ⊕ h / 2 ^ w ⊗ (y * 2 ^ w) ≡ h ⊗ y
+digits w h y =
+    ap (λ (z : ℕ). h % 2 ^ w ⊗ y ⊕ z) (shift-over w (h / 2 ^ w) y)
+    ∙ sym (⊕-⊗ (h % 2 ^ w) (h / 2 ^ w * 2 ^ w) y)
+    ∙ ap (λ (z : ℕ). z ⊗ y) (⊕-comm (h % 2 ^ w) (h / 2 ^ w * 2 ^ w) ∙ ⊕-append (h / 2 ^ w) w (h % 2 ^ w) (mod-lt h (pow-pos w)) ∙ split h w)
 
-module _ (w k : ℕ) {key : ℕ} (pos : 0 < key) (deg : degree key ≡ k) (words : List ℕ) (c : ℕ) (rows : Rows w k key c words) where
+module _ (w : ℕ) {key : ℕ} (pos : 0 < key) (x c : ℕ) (words : List ℕ) (rows : Rows w key x c words) where
+  -- n groups of w bits, the lowest looked up in row j
+  groups : (n j h : ℕ) → j + n ≤ c → h < 2 ^ (w * n) → looked w words n j h ≡ rem key (h ⊗ (x * 2 ^ (w * j)))
+  unfolding looked
+  groups zero j h l b = rw (lt-one (rw mul-zero at b), zero-⊗) (sym (rem-zero key))
+  groups (suc n) j h l b =
+      ap₂ (λ (y z : ℕ). y ⊕ z) (rows j (omega arith) (h % 2 ^ w) (mod-lt h (pow-pos w)) ∙ rem-⊗-right pos (h % 2 ^ w) (x * 2 ^ (w * j)))
+      (groups n (suc j) (h / 2 ^ w) (omega arith) (shr-lt {n = h} (w * n) w (rw mul-suc at b)) ∙ ap (λ (y : ℕ). rem key (h / 2 ^ w ⊗ y)) next)
+      ∙ sym (rem-⊕ pos (h % 2 ^ w ⊗ (x * 2 ^ (w * j))) (h / 2 ^ w ⊗ (x * 2 ^ (w * j) * 2 ^ w)))
+      ∙ ap (rem key) (digits w h (x * 2 ^ (w * j)))
+    where
+      next : x * 2 ^ (w * suc j) ≡ x * 2 ^ (w * j) * 2 ^ w
+      next = rw (mul-suc, pow-add) (omega arith)
+
+  pub looked-all : (n h : ℕ) → n ≤ c → h < 2 ^ (w * n) → looked w words n 0 h ≡ rem key (h ⊗ x)
+  looked-all n h l b = groups n 0 h (omega arith) b ∙ ap (λ (y : ℕ). rem key (h ⊗ y)) (rw (mul-zero w) (mul-one x))
+
+-- by the rows of a power of t
+pub looked-shift : (w : ℕ) {key : ℕ} (pos : 0 < key) (e c : ℕ) (words : List ℕ) → Rows w key (2 ^ e) c words → (n h : ℕ) → n ≤ c → h < 2 ^ (w * n)
+    → looked w words n 0 h ≡ rem key (h * 2 ^ e)
+looked-shift w {key} pos e c words rows n h l b = looked-all w pos (2 ^ e) c words rows n h l b ∙ ap (rem key) (⊗-pow e h)
+
+module _ (w : ℕ) (p : Modulus) (proper : Proper p) (words : List ℕ) (c : ℕ) (rows : Rows w (polynomial p) (2 ^ p .degree) c words) where
+  abbrev k : ℕ
+  k = p .degree
+
+  pos : 0 < polynomial p
+  pos = monic-pos (p .degree) (p .low) (proper .2)
+
   -- n groups of w bits at t^k and above, and what stands below
-  pub cut : (n v : ℕ) → n ≤ c → v < 2 ^ (w * n + k)
-      → v % 2 ^ k ⊕ looked w words n 0 (v / 2 ^ k) ≡ rem key v
+  cut : (n v : ℕ) → n ≤ c → v < 2 ^ (w * n + k)
+      → v % 2 ^ k ⊕ looked w words n 0 (v / 2 ^ k) ≡ rem (polynomial p) v
   cut n v l b =
-      ap₂ (λ (x y : ℕ). x ⊕ y) (sym (rem-small pos (v % 2 ^ k) (rw deg (mod-lt v (pow-pos k)))))
-      (groups w k c pos words rows n 0 (v / 2 ^ k) (omega arith) (shr-lt {n = v} (w * n) k b)
-      ∙ ap (λ (x : ℕ). rem key (v / 2 ^ k * 2 ^ x)) (rw mul-zero (add-zero k)))
+      ap₂ (λ (x y : ℕ). x ⊕ y) (sym (residue-small k (p .low) (proper .2) (v % 2 ^ k) (mod-lt v (pow-pos k))))
+      (looked-shift w pos k c words rows n (v / 2 ^ k) l (shr-lt {n = v} (w * n) k b))
       ∙ sym (rem-⊕ pos (v % 2 ^ k) (v / 2 ^ k * 2 ^ k))
-      ∙ ap (rem key)
+      ∙ ap (rem (polynomial p))
       (⊕-comm (v % 2 ^ k) (v / 2 ^ k * 2 ^ k)
       ∙ ⊕-append (v / 2 ^ k) k (v % 2 ^ k) (mod-lt v (pow-pos k))
       ∙ split v k)
 
   -- the same of v behind f, n groups of w bits
-  module _ (n f v : ℕ) (l : n ≤ c) (hf : f < 2 ^ k) (hv : v < 2 ^ (w * n)) where
+  module _ (n f v : ℕ) (l : n ≤ c) (hf : f < 2 ^ p .degree) (hv : v < 2 ^ (w * n)) where
     behind-lt : f * 2 ^ (w * n) + v < 2 ^ (w * n + k)
     behind-lt = rw (pow-add 2 (w * n) k, mul-comm (2 ^ (w * n)) (2 ^ k)) (digits-lt hf hv)
 
-    pub cut-behind : (f * 2 ^ (w * n) + v) % 2 ^ k ⊕ looked w words n 0 ((f * 2 ^ (w * n) + v) / 2 ^ k) ≡ rem key (f * 2 ^ (w * n) + v)
-    cut-behind = cut n (f * 2 ^ (w * n) + v) l behind-lt
+    -- x is what stands below t^k
+    pub cut-behind : (x : ℕ) → x ≡ (f * 2 ^ (w * n) + v) % 2 ^ p .degree
+        → x ⊕ looked w words n 0 ((f * 2 ^ (w * n) + v) / 2 ^ p .degree) ≡ rem (polynomial p) (f * 2 ^ (w * n) + v)
+    cut-behind x e = ap (λ (y : ℕ). y ⊕ looked w words n 0 ((f * 2 ^ (w * n) + v) / 2 ^ k)) e ∙ cut n (f * 2 ^ (w * n) + v) l behind-lt
 
-    -- where the degree is no less than the bits behind, from f alone
-    pub cut-high : (j : ℕ) → k ≡ w * n + j → (f % 2 ^ j * 2 ^ (w * n) + v) ⊕ looked w words n 0 (f / 2 ^ j) ≡ rem key (f * 2 ^ (w * n) + v)
-    cut-high j e =
-        ap₂ (λ (x y : ℕ). x ⊕ looked w words n 0 y)
+    -- where the degree is no less than the bits behind, from f alone: x is the rest of f
+    pub cut-high : (j x : ℕ) → p .degree ≡ w * n + j → x ≡ f % 2 ^ j → (x * 2 ^ (w * n) + v) ⊕ looked w words n 0 (f / 2 ^ j) ≡ rem (polynomial p) (f * 2 ^ (w * n) + v)
+    cut-high j x e ex =
+        ap (λ (y : ℕ). (y * 2 ^ (w * n) + v) ⊕ looked w words n 0 (f / 2 ^ j)) ex
+        ∙ ap₂ (λ (x y : ℕ). x ⊕ looked w words n 0 y)
         (sym (below f v (w * n) j hv) ∙ ap (λ (m : ℕ). (f * 2 ^ (w * n) + v) % 2 ^ m) (sym e))
         (sym (above f v (w * n) j hv) ∙ ap (λ (m : ℕ). (f * 2 ^ (w * n) + v) / 2 ^ m) (sym e))
-        ∙ cut-behind
+        ∙ cut n (f * 2 ^ (w * n) + v) l behind-lt
 
 -- the n highest bits of f
 pub top-lt : (f n k : ℕ) → n ≤ k → f < 2 ^ k → f / 2 ^ (k - n) < 2 ^ n
 top-lt f n k l h =
     let e : k ≡ n + (k - n) = omega arith in
     shr-lt {n = f} n (k - n) (rw e at h)
-
--- words for four bytes are words for one
-pub first-row : (k low : ℕ) (words : List ℕ) → Reduces k low words → ReducesByte k low words
-first-row k low words r = (r .0, r .1, omega (arith, r .2), λ j l. r .3 j (omega arith))
 
 -- ---- the sums as the code has them
 

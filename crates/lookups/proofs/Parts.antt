@@ -1,4 +1,4 @@
--- Laws of feeding a part by pieces: some bytes at a time, and in runs that are joined.
+-- Laws of feeding a part by pieces: some bytes at a time, and in lanes that are joined.
 use mathlib.Core.Path.{_≡_, refl, sym, ap, ap₂, _∙_}
 use mathlib.Core.List.{List, [], _∷_, _++_}
 use Prim.Native.Nat.{ℕ, _+_, _-_, _*_, _^_, _≤_, _<_}
@@ -6,14 +6,15 @@ use native.Mathlib.Nat.{le-refl, mod-eq-of-lt}
 use native.Mathlib.Omega.{arith}
 use lib.ListN.{length, getD, take, drop, take-append-drop, length-drop, drop-of-length-le}
 use lib.Seq.{drop-cons, drop-drop, length-take-le, take-add, take-all}
-use Rattle.gf2.specs.Polynomials.{_⊕_, _⊗_, degree, monic, rem}
+use Rattle.gf2.specs.Polynomials.{_⊕_, _⊗_, degree, rem}
+use Rattle.gf2.specs.Moduli.{polynomial, Proper}
+use Rattle.gf2.specs.declared.Modulus.{Modulus}
 use Rattle.lists.proofs.Lists.{drop-next}
-use Rattle.gf2.proofs.Sums.{⊕-lt}
 use Rattle.gf2.proofs.Products.{⊗-pow}
 use Rattle.gf2.proofs.Residues.{rem-⊕, rem-small}
 use Rattle.gf2.proofs.Powers.{rem-shl, rem-⊗-right}
 use Rattle.gf2.proofs.Monics.{monic-pos, monic-degree}
-use Rattle.gf2.proofs.Steps.{residue-lt}
+use Rattle.gf2.proofs.Steps.{residue-below}
 use Rattle.files.specs.Files.{bits, valueFrom}
 use Rattle.files.proofs.Values.{value-append, value-split, value-lt, value-⊕, length-bits, bits-append, value-byte, rem-from}
 
@@ -42,10 +43,14 @@ take-four p i l =
       drop-to p (i + 3) (i + 4) (omega arith) (omega arith),
     )
 
-pub value-four : (p : List ℕ) (i : ℕ) → i + 4 ≤ length p → getD p i 0 < 256 → getD p (i + 1) 0 < 256 → getD p (i + 2) 0 < 256 → getD p (i + 3) 0 < 256
-    → ((getD p i 0 * 256 + getD p (i + 1) 0) * 256 + getD p (i + 2) 0) * 256 + getD p (i + 3) 0 ≡ valueFrom 0 (bits (take 4 (drop i p)))
-value-four p i l ha hb hc hd =
-    sym (ap (λ (q : List ℕ). valueFrom 0 (bits q)) (take-four p i l) ∙ four (getD p i 0) (getD p (i + 1) 0) (getD p (i + 2) 0) (getD p (i + 3) 0) ha hb hc hd)
+-- v is the byte at place i
+abbrev Byte : List ℕ → ℕ → ℕ → Type 0
+Byte p i v = (v ≡ getD p i 0) × (v < 256)
+
+pub value-four : (p : List ℕ) (i a b c d : ℕ) → i + 4 ≤ length p → Byte p i a → Byte p (i + 1) b → Byte p (i + 2) c → Byte p (i + 3) d
+    → ((a * 256 + b) * 256 + c) * 256 + d ≡ valueFrom 0 (bits (take 4 (drop i p)))
+value-four p i a b c d l ha hb hc hd =
+    sym (ap (λ (q : List ℕ). valueFrom 0 (bits q)) (take-four p i l) ∙ rw (← (ha .0), ← (hb .0), ← (hc .0), ← (hd .0)) (four a b c d (ha .1) (hb .1) (hc .1) (hd .1)))
 
 pub value-one : (p : List ℕ) (i : ℕ) → i < length p → getD p i 0 < 256 → getD p i 0 ≡ valueFrom 0 (bits (take 1 (drop i p)))
 value-one p i l h = rw (drop-cons p i 0 l) (sym (byte 0 (getD p i 0) [] h ∙ unfold valueFrom bits in (omega arith)))
@@ -76,14 +81,6 @@ module _ (p : List ℕ) (i c : ℕ) (l : i + c ≤ length p) where
       ∙ rem-from pos (x * 2 ^ (8 * c) + valueFrom 0 (bits (take c (drop i p)))) (bits (drop (i + c) p))
       ∙ ap (rem key) (sym (value-piece x))
 
-pub fed-byte : {key : ℕ} (pos : 0 < key) (p : List ℕ) (i x y : ℕ) → i < length p → getD p i 0 < 256 → y ≡ rem key (x * 2 ^ 8 + getD p i 0)
-    → rem key (valueFrom y (bits (drop (i + 1) p))) ≡ rem key (valueFrom x (bits (drop i p)))
-fed-byte {key} pos p i x y l h e = fed-piece p i 1 (omega arith) pos x y (e ∙ ap (λ (b : ℕ). rem key (x * 2 ^ 8 + b)) (value-one p i l h))
-
-pub fed-four : {key : ℕ} (pos : 0 < key) (p : List ℕ) (i x v y : ℕ) → i + 4 ≤ length p → v ≡ valueFrom 0 (bits (take 4 (drop i p))) → y ≡ rem key (x * 2 ^ 32 + v)
-    → rem key (valueFrom y (bits (drop (i + 4) p))) ≡ rem key (valueFrom x (bits (drop i p)))
-fed-four {key} pos p i x v y l ev ey = fed-piece p i 4 l pos x y (ey ∙ ap (λ (z : ℕ). rem key (x * 2 ^ 32 + z)) ev)
-
 pub four-lt : (p : List ℕ) (i v : ℕ) → i + 4 ≤ length p → v ≡ valueFrom 0 (bits (take 4 (drop i p))) → v < 2 ^ 32
 four-lt p i v l e = rw e (value-piece-lt p i 4 l)
 
@@ -103,29 +100,43 @@ value-eight p i v w l ev ew =
 pub fed-all : {key : ℕ} (pos : 0 < key) (p : List ℕ) (i x : ℕ) → length p ≤ i → x < 2 ^ degree key → rem key (valueFrom x (bits (drop i p))) ≡ x
 fed-all {key} pos p i x l h = rw (drop-of-length-le p {i = i} l) (unfold valueFrom bits in (rem-small pos x h))
 
--- ---- a loop over a part: x stands for f and the bytes before place i
+-- ---- a loop over a part: x stands for f and the bytes from place `from` to place i
 
-abbrev pub Going : ℕ → ℕ → ℕ → List ℕ → ℕ → ℕ → Type 0
-Going k low f p i x = (x < 2 ^ k) × (rem (monic k low) (valueFrom x (bits (drop i p))) ≡ rem (monic k low) (valueFrom f (bits p)))
+abbrev pub Going : Modulus → ℕ → List ℕ → ℕ → ℕ → ℕ → Type 0
+Going p f part from i x =
+    (x < 2 ^ p .degree) × (rem (polynomial p) (valueFrom x (bits (drop i part))) ≡ rem (polynomial p) (valueFrom f (bits (drop from part))))
 
-module _ (k low : ℕ) (m : low < 2 ^ k) (f : ℕ) (p : List ℕ) (i x : ℕ) (g : Going k low f p i x) where
-  pub going-four : (v y : ℕ) → i + 4 ≤ length p → v ≡ valueFrom 0 (bits (take 4 (drop i p))) → y ≡ rem (monic k low) (x * 2 ^ 32 + v) → Going k low f p (i + 4) y
-  going-four v y l ev ey = (rw ey (residue-lt k low m (x * 2 ^ 32 + v)), fed-four (monic-pos k low m) p i x v y l ev ey ∙ g .1)
+module _ (p : Modulus) (proper : Proper p) (f : ℕ) (part : List ℕ) (from i x : ℕ) (g : Going p f part from i x) where
+  pos : 0 < polynomial p
+  pos = monic-pos (p .degree) (p .low) (proper .2)
 
-  pub going-all : length p ≤ i → x ≡ rem (monic k low) (valueFrom f (bits p))
-  going-all l = sym (fed-all (monic-pos k low m) p i x l (rw (monic-degree k low m) (g .0))) ∙ g .1
+  -- c bytes more
+  going : (c v y : ℕ) → i + c ≤ length part → v ≡ valueFrom 0 (bits (take c (drop i part))) → y ≡ rem (polynomial p) (x * 2 ^ (8 * c) + v) → Going p f part from (i + c) y
+  going c v y l ev ey = (
+    residue-below p proper y (x * 2 ^ (8 * c) + v) ey,
+    fed-piece part i c l pos x y (ey ∙ ap (λ (z : ℕ). rem (polynomial p) (x * 2 ^ (8 * c) + z)) ev) ∙ g .1,
+  )
 
--- the length of a run
-pub run-length : (p : List ℕ) (a b n : ℕ) → b ≡ a + n → b ≤ length p → length (take (b - a) (drop a p)) ≡ n
-run-length p a b n e l =
+  pub going-one : (y : ℕ) → i < length part → getD part i 0 < 256 → y ≡ rem (polynomial p) (x * 2 ^ 8 + getD part i 0) → Going p f part from (i + 1) y
+  going-one y l h ey = going 1 (getD part i 0) y (omega arith) (value-one part i l h) ey
+
+  pub going-four : (v y : ℕ) → i + 4 ≤ length part → v ≡ valueFrom 0 (bits (take 4 (drop i part))) → y ≡ rem (polynomial p) (x * 2 ^ 32 + v) → Going p f part from (i + 4) y
+  going-four v y l ev ey = going 4 v y l ev ey
+
+  pub going-all : length part ≤ i → x ≡ rem (polynomial p) (valueFrom f (bits (drop from part)))
+  going-all l = sym (fed-all pos part i x l (rw (monic-degree (p .degree) (p .low) (proper .2)) (g .0))) ∙ g .1
+
+-- the length of a lane
+pub lane-length : (p : List ℕ) (a b n : ℕ) → b ≡ a + n → b ≤ length p → length (take (b - a) (drop a p)) ≡ n
+lane-length p a b n e l =
     let d : b - a ≡ n = omega arith in
     length-take-le (b - a) (drop a p) (rw length-drop (omega arith)) ∙ d
 
--- ---- runs, each fed for itself, all but the first from 0
+-- ---- lanes, each fed for itself, all but the first from 0
 
-runs-join : {key : ℕ} (pos : 0 < key) (f : ℕ) (p q : List ℕ)
+lanes-join : {key : ℕ} (pos : 0 < key) (f : ℕ) (p q : List ℕ)
     → rem key (rem key (valueFrom f (bits p)) ⊗ rem key (2 ^ (8 * length q))) ⊕ rem key (valueFrom 0 (bits q)) ≡ rem key (valueFrom f (bits (p ++ q)))
-runs-join {key} pos f p q =
+lanes-join {key} pos f p q =
     ap (λ (x : ℕ). x ⊕ rem key (valueFrom 0 (bits q)))
     (rem-⊗-right pos (rem key (valueFrom f (bits p))) (2 ^ (8 * length q))
     ∙ ap (rem key) (⊗-pow (8 * length q) (rem key (valueFrom f (bits p))))
@@ -137,29 +148,26 @@ runs-join {key} pos f p q =
     ∙ sym (value-append f (bits p) (bits q))
     ∙ ap (valueFrom f) (sym (bits-append p q)))
 
-pub joined-lt : (k low : ℕ) → low < 2 ^ k → (x t y z r : ℕ) → r ≡ rem (monic k low) (x ⊗ t) ⊕ y → y ≡ rem (monic k low) z → r < 2 ^ k
-joined-lt k low m x t y z r er ey = rw (er, ey) (⊕-lt k (rem (monic k low) (x ⊗ t)) (rem (monic k low) z) (residue-lt k low m (x ⊗ t)) (residue-lt k low m z))
-
 module _ {key : ℕ} (pos : 0 < key) (f : ℕ) (p : List ℕ) where
-  -- the run of n bytes from place a to place b joined
-  pub run-joined : (a b n x y t r : ℕ) → b ≡ a + n → b ≤ length p
+  -- the lane of n bytes from place a to place b joined
+  pub lane-joined : (a b n x y t r : ℕ) → b ≡ a + n → b ≤ length p
       → x ≡ rem key (valueFrom f (bits (take a p)))
       → y ≡ rem key (valueFrom 0 (bits (take (b - a) (drop a p))))
       → t ≡ rem key (2 ^ (8 * n))
       → r ≡ rem key (x ⊗ t) ⊕ y
       → r ≡ rem key (valueFrom f (bits (take b p)))
-  run-joined a b n x y t r e l ex ey et er =
-      let q = run-length p a b n e l in
+  lane-joined a b n x y t r e l ex ey et er =
+      let q = lane-length p a b n e l in
       let w : a + (b - a) ≡ b = omega arith in
       er
       ∙ ap₂ (λ (u v : ℕ). u ⊕ v) (ap₂ (λ (u v : ℕ). rem key (u ⊗ v)) ex (et ∙ ap (λ (u : ℕ). rem key (2 ^ (8 * u))) (sym q))) ey
-      ∙ runs-join pos f (take a p) (take (b - a) (drop a p))
+      ∙ lanes-join pos f (take a p) (take (b - a) (drop a p))
       ∙ ap (λ (w : List ℕ). rem key (valueFrom f (bits w))) (sym (take-add a (b - a) p) ∙ ap (λ (u : ℕ). take u p) w)
 
   -- and what is left behind them
-  pub run-rest : (b x r : ℕ) → x ≡ rem key (valueFrom f (bits (take b p))) → r ≡ rem key (valueFrom x (bits (take (length p - b) (drop b p))))
+  pub lane-rest : (b x r : ℕ) → x ≡ rem key (valueFrom f (bits (take b p))) → r ≡ rem key (valueFrom x (bits (take (length p - b) (drop b p))))
       → r ≡ rem key (valueFrom f (bits p))
-  run-rest b x r ex er =
+  lane-rest b x r ex er =
       er
       ∙ ap₂ (λ (u : ℕ) (q : List ℕ). rem key (valueFrom u (bits q))) ex (take-all (length p - b) (drop b p) (rw length-drop (le-refl (length p - b))))
       ∙ rem-from pos (valueFrom f (bits (take b p))) (bits (drop b p))

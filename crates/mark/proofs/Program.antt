@@ -8,21 +8,21 @@ use native.Mathlib.Omega.{arith}
 use lib.Dec.{ltb}
 use lib.ListN.{length, take, drop, length-append, take-append-drop}
 use lib.Seq.{drop-append-le}
-use borrow.Author.Tests.{lt-ltb, le-ltb}
+use borrow.Author.Tests.{lt-ltb, le-ltb, ltb-false}
 use Rattle.lists.specs.Lists.{listFrom}
-use Rattle.lists.proofs.Lists.{length-list}
 use Rattle.refusals.specs.declared.Refusal.{Refusal}
-use Rattle.refusals.specs.declared.Refusal.the-variants.{KeyBelow256, KeyReducible, TooLong}
+use Rattle.refusals.specs.declared.Refusal.the-variants.{KeyBelow256, KeyReducible, TooLong, MarkNotReduced}
 use Rattle.refusals.specs.Refusals.{Answer, Done, Refused, _⇒_, firstOf, passes, longest}
-use Rattle.acceptance.specs.Keys.{reducible}
+use Rattle.refusals.proofs.Laws.{Clear, clear-done, more-clear, first-true}
+use Rattle.refusals.proofs.Lengths.{sum-passes, sum-fits}
+use Rattle.acceptance.specs.Keys.{reducible, keyTests}
 use Rattle.files.specs.declared.Mark.{Mark}
-use Rattle.files.specs.Files.{markOf}
-use Rattle.keys.proofs.Laws.{Passed, passed-pos}
-use Rattle.marks.specs.Feeding.{begin, fedMark, feedTests, begunUnder, fedUnder}
-use Rattle.marks.proofs.Laws.{sum-passes, sum-fits, feed-long, feed-passed, true-reduced, fed-true}
-use Rattle.tables.specs.Tables.{word, makeTable, feedTable}
-use Rattle.tables.proofs.Rule.{table-follows}
-use Rattle.tables.proofs.Calls.{make-done, feed-tested}
+use Rattle.files.specs.Files.{markOf, unreduced, fedMark}
+use Rattle.files.proofs.Marks.{true-reduced, fed-true}
+use Rattle.lookups.specs.Rule.{word}
+use Rattle.tables.specs.Tables.{sizeTest, tableTests, makeTable}
+use Rattle.tables.proofs.Laws.{size-passed, clear-table}
+use Rattle.marks.specs.Feeding.{feedTests, begin, feedTable, begunUnder, fedUnder}
 use Rattle.printing.specs.declared.KeyLine.{KeyLine}
 use Rattle.printing.specs.declared.KeyLine.the-variants.{NoKey, Key}
 use Rattle.printing.specs.Printing.{keyLine, noKey, refused, answerText, markFile, printedAfter, printed}
@@ -71,27 +71,41 @@ stopped : (key : ℕ) (words : List ℕ) (r : Refusal) (m : Mark) (parts : List 
 stopped key words r m [] = refl
 stopped key words r m (part ∷ parts) = refl
 
-module _ (key : ℕ) (h : Passed key) where
-  -- the table that was made passes its tests
+module _ (key : ℕ) (h : Clear (keyTests key)) where
+  pos : 0 < key
+  pos = omega (arith, ltb-false key 256 (h .0))
+
+  -- the table that is made passes its tests
   table : List ℕ
   table = listFrom (word 8 key) 0 1024
 
-  tested : (m : Mark) (part : List ℕ) → feedTable key m table part ≡ firstOf (feedTests key m part) m (fedMark key m part)
-  unfolding table
-  tested m part = feed-tested key m (listFrom (word 8 key) 0 1024) part h (length-list (word 8 key) 0 1024) (table-follows (word 8 key) 0 1024)
+  made : (blank : List ℕ) → length blank ≡ 1024 → makeTable key blank ≡ Done table
+  unfolding table makeTable
+  made blank e =
+      more-clear (keyTests key) (sizeTest blank ∷ []) blank (listFrom (word 8 key) 0 1024) h
+      ∙ size-passed blank [] blank (listFrom (word 8 key) 0 1024) e
+
+  tested : (m : Mark) (part : List ℕ) → feedTable key m table part ≡ firstOf (feedTests key m (length part)) m (fedMark key m part)
+  unfolding table feedTable
+  tested m part =
+      let words = listFrom (word 8 key) 0 1024 in
+      more-clear (keyTests key) (tableTests key words ++ feedTests key m (length part)) m (fedMark key m part) h
+      ∙ more-clear (tableTests key words) (feedTests key m (length part)) m (fedMark key m part) (clear-table words key refl)
 
   feed-goes : (file part : List ℕ) → length file + length part ≤ longest → feedTable key (markOf key file) table part ≡ Done (markOf key (file ++ part))
   unfolding markOf
   feed-goes file part l =
       tested (markOf key file) part
-      ∙ feed-passed key (markOf key file) part (markOf key file) (fedMark key (markOf key file) part) (sum-fits (length file) (length part) l) (true-reduced key (passed-pos h) file)
-      ∙ ap Done (fed-true key (passed-pos h) file part)
+      ∙ clear-done (feedTests key (markOf key file) (length part)) (markOf key file) (fedMark key (markOf key file) part)
+      (sum-fits (length file) (length part) l, (true-reduced key pos file, tt))
+      ∙ ap Done (fed-true key pos file part)
 
   feed-stops : (file part : List ℕ) → longest < length file + length part → feedTable key (markOf key file) table part ≡ Refused TooLong (markOf key file)
   unfolding markOf
   feed-stops file part l =
-      tested (markOf key file) part
-      ∙ feed-long key (markOf key file) part (markOf key file) (fedMark key (markOf key file) part) (sum-passes (length file) (length part) l)
+      let m = markOf key file in
+      tested m part
+      ∙ first-true _ TooLong (unreduced key m ⇒ MarkNotReduced ∷ []) m (fedMark key m part) (sum-passes (length file) (length part) l)
 
   -- number 7 of a whole file
   abbrev judged : List ℕ → Answer Unit Mark
@@ -125,7 +139,7 @@ module _ (key : ℕ) (h : Passed key) where
       → calls key (Done (markOf key [])) blank parts ≡ answerText (begunUnder key (judged (joined parts)))
   unfolding table
   accepted-marked blank parts e =
-      ap (λ (t : Answer (List ℕ) (List ℕ)). answerText (fedUnder key (feedsBy key t (markOf key []) parts))) (make-done key blank h e)
+      ap (λ (t : Answer (List ℕ) (List ℕ)). answerText (fedUnder key (feedsBy key t (markOf key []) parts))) (made blank e)
       ∙ text-told key (feeds key table (Done (markOf key [])) parts)
       ∙ ap (λ (a : Answer Unit Mark). answerText (begunUnder key a)) (feeds-told [] parts (omega arith))
 
@@ -136,10 +150,11 @@ key-marked key blank parts e = go (ltb key 256) (reducible key) refl refl
   where
     go : (x y : Bool) → ltb key 256 ≡ x → reducible key ≡ y
         → calls key (firstOf (x ⇒ KeyBelow256 ∷ y ⇒ KeyReducible ∷ []) tt (markOf key [])) blank parts
-        ≡ answerText (begunUnder key (firstOf (x ⇒ KeyBelow256 ∷ y ⇒ KeyReducible ∷ passes (length (joined parts) ∷ []) ⇒ TooLong ∷ []) tt (markOf key (joined parts))))
+        ≡ answerText
+        (begunUnder key (firstOf (x ⇒ KeyBelow256 ∷ y ⇒ KeyReducible ∷ passes (length (joined parts) ∷ []) ⇒ TooLong ∷ []) tt (markOf key (joined parts))))
     go true y t u = refl
     go false true t u = refl
-    go false false t u = accepted-marked key (record { low = t; irreducible = u }) blank parts e
+    go false false t u = accepted-marked key (t, (u, tt)) blank parts e
 
 -- the program's text, of an input that is read in any parts behind its first 17 bytes
 pub program : (input blank : List ℕ) (parts : List (List ℕ)) → length blank ≡ 1024 → joined parts ≡ drop 17 input

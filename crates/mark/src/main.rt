@@ -7,7 +7,7 @@ use marks::Fed;
 use marks::Running;
 use printing::KeyLine;
 use refusals::Refusal;
-use tables::Made;
+use refusals::Reply;
 ghost use Rattle.io.specs.Counts.{Counts};
 
 enum Step {
@@ -23,7 +23,7 @@ fn feed_some(m: Running, words: &[u64], buffer: &mut [u8]) -> Step {
         return Step::End;
     }
     let n = io::count(got, buffer);
-    match tables::feed(m, words, &buffer[..n]) {
+    match m.feed_table(words, &buffer[..n]) {
         Fed::Next(next) => Step::More(next),
         Fed::Refused(r, _) => Step::Stopped(r),
     }
@@ -55,10 +55,10 @@ fn feed_rest(start: Running, words: &[u64]) -> Fed {
 // Makes the key's table, and feeds the bytes that were read behind the key's line and then the rest of the input.
 fn feed_file(m: Running, first: &[u8]) -> Fed {
     let mut words = [0u64; 1024];
-    if let Made::Refused(r) = tables::make(m.key, &mut words) {
+    if let Reply::Refused(r) = tables::make(m.key, &mut words) {
         return Fed::Refused(r, m);
     }
-    match tables::feed(m, &words, first) {
+    match m.feed_table(&words, first) {
         Fed::Next(next) => feed_rest(next, &words),
         Fed::Refused(r, kept) => Fed::Refused(r, kept),
     }

@@ -1,24 +1,19 @@
--- Beginning a mark and feeding it by bits (document 01, "Marks"): each call is its tests, in the order of their numbers, and its value.
-use mathlib.Core.Bool.{Bool}
+-- Beginning a mark and feeding it, by bits and by tables (document 01, "Marks", "Tables"): each call is its tests, in the order of their numbers, and its value.
 use mathlib.Core.List.{List, [], _∷_, _++_}
-use Prim.Native.Nat.{ℕ, _+_, _^_}
-use lib.Dec.{leb}
+use Prim.Native.Nat.{ℕ, _+_}
 use lib.ListN.{length}
-use Rattle.gf2.specs.Polynomials.{degree, rem}
 use Rattle.refusals.specs.declared.Refusal.the-variants.{TooLong, MarkNotReduced}
 use Rattle.refusals.specs.Refusals.{Answer, Done, Refused, Test, _⇒_, firstOf, passes}
 use Rattle.acceptance.specs.Keys.{keyTests}
+use Rattle.tables.specs.Tables.{tableTests}
+use Rattle.house.specs.House.{houseWords}
 use Rattle.files.specs.declared.Mark.{Mark}
-use Rattle.files.specs.Files.{bits, valueFrom, markOf}
+use Rattle.files.specs.Files.{markOf, unreduced, fedMark}
 use Rattle.marks.specs.declared.Running.{Running}
 use Rattle.marks.specs.declared.Begun.{Begun}
 use Rattle.marks.specs.declared.Begun.the-variants as begun-cases
 use Rattle.marks.specs.declared.Fed.{Fed}
 use Rattle.marks.specs.declared.Fed.the-variants as fed-cases
-
--- number 8: the fingerprint is not below 2^k
-abbrev pub unreduced : ℕ → Mark → Bool
-unreduced key m = leb (2 ^ degree key) (m .fingerprint)
 
 -- number 7 of two lengths handed in that are added
 abbrev pub sumTest : ℕ → ℕ → Test
@@ -28,15 +23,20 @@ sumTest a b = passes (a ∷ b ∷ (a + b) ∷ []) ⇒ TooLong
 unfoldable pub begin : ℕ → Answer Unit Mark
 begin key = firstOf (keyTests key) tt (markOf key [])
 
-abbrev pub feedTests : ℕ → Mark → List ℕ → List Test
-feedTests key m part = sumTest (m .length) (length part) ∷ unreduced key m ⇒ MarkNotReduced ∷ []
-
--- the part goes behind what was fed: the residue of the bits behind the fingerprint
-unfoldable pub fedMark : ℕ → Mark → List ℕ → Mark
-fedMark key m part = record { fingerprint = rem key (valueFrom (m .fingerprint) (bits part)); length = m .length + length part }
+-- numbers 7 and 8 of a mark to which n bytes are fed
+abbrev pub feedTests : ℕ → Mark → ℕ → List Test
+feedTests key m n = sumTest (m .length) n ∷ unreduced key m ⇒ MarkNotReduced ∷ []
 
 unfoldable pub feedBits : ℕ → Mark → List ℕ → Answer Mark Mark
-feedBits key m part = firstOf (keyTests key ++ feedTests key m part) m (fedMark key m part)
+feedBits key m part = firstOf (keyTests key ++ feedTests key m (length part)) m (fedMark key m part)
+
+-- All words are tested first, so the value is the one of feeding by bits: a reader need not believe how the words are used.
+unfoldable pub feedTable : ℕ → Mark → List ℕ → List ℕ → Answer Mark Mark
+feedTable key m words part = firstOf (keyTests key ++ tableTests key words ++ feedTests key m (length part)) m (fedMark key m part)
+
+-- under the house key's constant words: feeding by them, whatever the key
+unfoldable pub feedHouse : ℕ → Mark → List ℕ → Answer Mark Mark
+feedHouse key m part = feedTable key m houseWords part
 
 -- ---- the answers in code: their numbers and values
 

@@ -1,15 +1,19 @@
-// Feeding a file to a running mark, bit by bit.
+// Feeding a file to a running mark: bit by bit, by a lent table, and by the house key's constant words.
+use files::Mark;
+use gf2::Modulus;
 use keys::Tested;
 use refusals::Refusal;
+use refusals::Reply;
 ghost use mathlib.Core.Path.{_≡_};
-ghost use mathlib.Core.Bool.{not};
-ghost use mathlib.Core.List.{[], _∷_};
-ghost use Prim.Native.Nat.{_+_, _*_, _^_, _<_};
-ghost use lib.Dec.{leb};
-ghost use Rattle.gf2.specs.Polynomials.{rem, monic, Modulus};
-ghost use Rattle.refusals.specs.Refusals.{passes};
-ghost use Rattle.files.specs.Files.{bits, valueFrom};
-ghost use Rattle.marks.specs.Feeding.{begin, feedBits, markIn, begun, begunUnder, fed, fedUnder};
+ghost use mathlib.Core.List.{_++_};
+ghost use Prim.Native.Nat.{_+_};
+ghost use lib.ListN.{length};
+ghost use Rattle.refusals.specs.Refusals.{firstOf, told, judged};
+ghost use Rattle.acceptance.specs.Keys.{Opened};
+ghost use Rattle.files.specs.Files.{fedMark};
+ghost use Rattle.lookups.specs.Rule.{Table};
+ghost use Rattle.tables.specs.Tables.{tableTests};
+ghost use Rattle.marks.specs.Feeding.{begin, feedTests, feedBits, feedTable, feedHouse, markIn, begun, begunUnder, fed, fedUnder};
 
 // A running mark (document 01's term): the state of a fingerprint that is taken as the file is read. Numbers only.
 pub struct Running {
@@ -30,61 +34,92 @@ pub enum Fed {
     Refused(Refusal, Running),
 }
 
-// Number 7 applies neither to two lengths nor to their sum, which is not made: it might not fit 64 bits.
-pub fn fits(a: u64, b: u64) -> bool
-    ensures { λ r. ⌜ r ≡ not (passes (a ∷ b ∷ (a + b) ∷ [])) ⌝ }
+// Numbers 7 and 8 of a running mark and of n bytes that are to be fed to it, under its opened key.
+fn judge(p: Modulus, m: Running, n: u64) -> Reply
+    requires { ⌜ Opened (m .key) p ⌝ }
+    ensures { λ r. ⌜ told r ≡ judged (feedTests (m .key) (markIn m) n) ⌝ }
 {
-    if 4294967295 < a {
-        return false;
+    if !refusals::fits(m.length, n) {
+        return Reply::Refused(Refusal::TooLong);
     }
-    b <= 4294967295 - a
+    if !gf2::is_residue(p, m.fingerprint) {
+        return Reply::Refused(Refusal::MarkNotReduced);
+    }
+    Reply::Done
 }
 
-// Number 8 does not apply to the fingerprint f under a key of degree k.
-pub fn reduced(k: u32, f: u64) -> bool
-    requires { ⌜ k < 64 ⌝ }
-    ensures { λ r. ⌜ r ≡ not (leb (2 ^ k) f) ⌝ }
+// A part fed bit by bit, after the test of the key.
+fn feed_bits(p: Modulus, m: Running, part: &[u8]) -> Fed
+    requires { ⌜ Opened (m .key) p ⌝ }
+    ensures { λ r. ⌜ fed r ≡ fedUnder (m .key) (firstOf (feedTests (m .key) (markIn m) (length (now (part .entry)))) (markIn m)
+        (fedMark (m .key) (markIn m) (now (part .entry)))) ⌝ }
 {
-    f >> k == 0
+    let n = part.len() as u64;
+    match judge(p, m, n) {
+        Reply::Refused(r) => Fed::Refused(r, m),
+        Reply::Done => {
+            let next = files::feed_bytes(p, m.fingerprint, part);
+            let total = m.length + n;
+            Fed::Next(Running {
+                key: m.key,
+                fingerprint: next,
+                length: total,
+            })
+        }
+    }
 }
 
-// A byte behind a residue, the high bit first.
-pub fn feed_byte(k: u32, low: u64, f: u64, b: u8) -> u64
-    requires { ⌜ Modulus k low × (f < 2 ^ k) ⌝ }
-    ensures { λ r. ⌜ r ≡ rem (monic k low) (f * 256 + b) ⌝ }
+// A part fed by the table of the key, four bytes at a time, after the tests of key and words.
+fn feed_looked(p: Modulus, m: Running, words: &[u64], part: &[u8]) -> Fed
+    requires { ⌜ Opened (m .key) p × Table (m .key) (now words) ⌝ }
+    ensures { λ r. ⌜ fed r ≡ fedUnder (m .key) (firstOf (feedTests (m .key) (markIn m) (length (now (part .entry)))) (markIn m)
+        (fedMark (m .key) (markIn m) (now (part .entry)))) ⌝ }
 {
-    let mut x = f;
-    let mut n: u32 = 8;
-    while 0 < n {
-        n -= 1;
-        let bit = (b >> n) % 2;
-        x = gf2::step(k, low, x, bit as u64);
+    let n = part.len() as u64;
+    match judge(p, m, n) {
+        Reply::Refused(r) => Fed::Refused(r, m),
+        Reply::Done => {
+            let next = lookups::fed(words, p, m.fingerprint, part);
+            let total = m.length + n;
+            Fed::Next(Running {
+                key: m.key,
+                fingerprint: next,
+                length: total,
+            })
+        }
     }
-    x
 }
 
-// The bytes of a part behind a residue.
-pub fn feed_bytes(k: u32, low: u64, f: u64, part: &[u8]) -> u64
-    requires { ⌜ Modulus k low × (f < 2 ^ k) ⌝ }
-    ensures { λ r. ⌜ r ≡ rem (monic k low) (valueFrom f (bits (now (part .entry)))) ⌝ }
+// The same, after the test of the key: all words are tested first.
+fn feed_under(p: Modulus, m: Running, words: &[u64], part: &[u8]) -> Fed
+    requires { ⌜ Opened (m .key) p ⌝ }
+    ensures { λ r. ⌜ fed r ≡ fedUnder (m .key) (firstOf (tableTests (m .key) (now (words .entry)) ++ feedTests (m .key) (markIn m) (length (now (part .entry))))
+        (markIn m) (fedMark (m .key) (markIn m) (now (part .entry)))) ⌝ }
 {
-    let mut x = f;
-    let mut i = 0;
-    while i < part.len() {
-        x = feed_byte(k, low, x, part[i]);
-        i += 1;
+    match tables::judge(p, words) {
+        Reply::Refused(r) => Fed::Refused(r, m),
+        Reply::Done => feed_looked(p, m, words, part),
     }
-    x
 }
 
 impl Running {
+    // Its mark, without the key.
+    pub fn mark(self) -> Mark
+        ensures { λ r. ⌜ r ≡ markIn self ⌝ }
+    {
+        Mark {
+            fingerprint: self.fingerprint,
+            length: self.length,
+        }
+    }
+
     // The mark of the empty file under a key. Numbers 1, 2.
     pub fn begin(key: u64) -> Begun
         ensures { λ r. ⌜ begun r ≡ begunUnder key (begin key) ⌝ }
     {
         match keys::test(key) {
             Tested::Refused(r) => Begun::Refused(r),
-            Tested::Accepted => Begun::Started(Running {
+            Tested::Accepted(_) => Begun::Started(Running {
                 key: key,
                 fingerprint: 1,
                 length: 0,
@@ -96,29 +131,32 @@ impl Running {
     pub fn feed(self, part: &[u8]) -> Fed
         ensures { λ r. ⌜ fed r ≡ fedUnder (self .key) (feedBits (self .key) (markIn self) (now (part .entry))) ⌝ }
     {
-        let key = self.key;
-        let f = self.fingerprint;
-        let length = self.length;
-        let n = part.len() as u64;
-        match keys::test(key) {
-            Tested::Refused(r) => {
-                return Fed::Refused(r, self);
-            }
-            Tested::Accepted => {}
+        match keys::test(self.key) {
+            Tested::Refused(r) => Fed::Refused(r, self),
+            Tested::Accepted(p) => feed_bits(p, self, part),
         }
-        if !fits(length, n) {
-            return Fed::Refused(Refusal::TooLong, self);
+    }
+
+    // The same by the lent table, all of whose words are tested first. Numbers 1, 2, 5, 6, 7, 8.
+    pub fn feed_table(self, words: &[u64], part: &[u8]) -> Fed
+        ensures { λ r. ⌜ fed r ≡ fedUnder (self .key) (feedTable (self .key) (markIn self) (now (words .entry)) (now (part .entry))) ⌝ }
+    {
+        match keys::test(self.key) {
+            Tested::Refused(r) => Fed::Refused(r, self),
+            Tested::Accepted(p) => feed_under(p, self, words, part),
         }
-        let k = gf2::degree(key);
-        if !reduced(k, f) {
-            return Fed::Refused(Refusal::MarkNotReduced, self);
+    }
+
+    // The same by the house key's constant words. Under that key they are right and nothing is tested but the lengths and the mark; under another
+    // key they are tested like a lent table. Numbers 1, 2, 6, 7, 8.
+    pub fn feed_house(self, part: &[u8]) -> Fed
+        ensures { λ r. ⌜ fed r ≡ fedUnder (self .key) (feedHouse (self .key) (markIn self) (now (part .entry))) ⌝ }
+    {
+        let words = house::words();
+        if self.key == house::KEY {
+            let p = gf2::modulus_of(self.key);
+            return feed_looked(p, self, &words, part);
         }
-        let next = feed_bytes(k, gf2::low_bits(key, k), f, part);
-        let total = length + n;
-        Fed::Next(Running {
-            key: key,
-            fingerprint: next,
-            length: total,
-        })
+        self.feed_table(&words, part)
     }
 }

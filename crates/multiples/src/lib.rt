@@ -1,12 +1,14 @@
-// Rows of multiples: the residues of i·x modulo a polynomial, for i from 0 to 2^width - 1, in consecutive words. A row is filled, and tested,
-// by doubling. These functions are for the project's own crates: what they require, every caller proves.
+// Rows of multiples: the residues of i·x modulo a polynomial, for i from 0 to 2^width - 1, in consecutive words, and the same of x·t^width,
+// x·t^(2·width) and so on in the rows behind. A row is filled, and tested, by doubling. These functions are for the project's own crates:
+// what they require, every caller proves.
+use gf2::Modulus;
 ghost use mathlib.Core.Path.{_≡_};
 ghost use mathlib.Core.Bool.{true};
 ghost use mathlib.Core.Logic.{_↔_};
-ghost use Prim.Native.Nat.{_+_, _^_, _≤_, _<_};
+ghost use Prim.Native.Nat.{_+_, _*_, _^_, _≤_, _<_};
 ghost use lib.ListN.{length};
-ghost use Rattle.gf2.specs.Polynomials.{monic, Modulus};
-ghost use Rattle.multiples.specs.Rows.{Multiples, Shifted, SameBefore};
+ghost use Rattle.gf2.specs.Moduli.{polynomial, Proper};
+ghost use Rattle.multiples.specs.Rows.{Multiples, Rows, Shifted, SameBefore};
 
 // The n words from place `at` on, each with y added, go behind them.
 fn double(words: &mut [u64], at: usize, n: usize, y: u64)
@@ -22,9 +24,9 @@ fn double(words: &mut [u64], at: usize, n: usize, y: u64)
 }
 
 // A row: word at + i becomes the residue of i times x, for each i below 2^width.
-pub fn fill_row(words: &mut [u64], at: usize, width: u32, k: u32, low: u64, x: u64)
-    requires { ⌜ Modulus k low × (x < 2 ^ k) × (at + 2 ^ width ≤ length (now words)) ⌝ }
-    ensures { λ r. ⌜ Multiples (monic k low) x at (2 ^ width) (now (words .exit)) × SameBefore at (now (words .entry)) (now (words .exit)) ⌝ }
+pub fn fill_row(words: &mut [u64], at: usize, width: u32, p: Modulus, x: u64)
+    requires { ⌜ Proper p × (x < 2 ^ p .degree) × (at + 2 ^ width ≤ length (now words)) ⌝ }
+    ensures { λ r. ⌜ Multiples (polynomial p) x at (2 ^ width) (now (words .exit)) × SameBefore at (now (words .entry)) (now (words .exit)) ⌝ }
 {
     words[at] = 0;
     let mut n: usize = 1;
@@ -32,7 +34,7 @@ pub fn fill_row(words: &mut [u64], at: usize, width: u32, k: u32, low: u64, x: u
     let mut b: u32 = 0;
     while b < width {
         double(words, at, n, y);
-        y = gf2::step(k, low, y, 0);
+        y = gf2::step(p, y, 0);
         n = n * 2;
         b += 1;
     }
@@ -54,9 +56,9 @@ fn differences(words: &[u64], at: usize, n: usize, y: u64) -> u64
 }
 
 // Whether word at + i is the residue of i times x, for each i below 2^width.
-pub fn row_holds(words: &[u64], at: usize, width: u32, k: u32, low: u64, x: u64) -> bool
-    requires { ⌜ Modulus k low × (x < 2 ^ k) × (at + 2 ^ width ≤ length (now words)) ⌝ }
-    ensures { λ r. ⌜ (r ≡ true) ↔ Multiples (monic k low) x at (2 ^ width) (now (words .entry)) ⌝ }
+fn row_holds(words: &[u64], at: usize, width: u32, p: Modulus, x: u64) -> bool
+    requires { ⌜ Proper p × (x < 2 ^ p .degree) × (at + 2 ^ width ≤ length (now words)) ⌝ }
+    ensures { λ r. ⌜ (r ≡ true) ↔ Multiples (polynomial p) x at (2 ^ width) (now (words .entry)) ⌝ }
 {
     let mut sum = words[at];
     let mut n: usize = 1;
@@ -64,9 +66,52 @@ pub fn row_holds(words: &[u64], at: usize, width: u32, k: u32, low: u64, x: u64)
     let mut b: u32 = 0;
     while b < width {
         sum = sum | differences(words, at, n, y);
-        y = gf2::step(k, low, y, 0);
+        y = gf2::step(p, y, 0);
         n = n * 2;
         b += 1;
     }
     sum == 0
+}
+
+fn row_size(width: u32) -> usize
+    requires { ⌜ width < 64 ⌝ }
+    ensures { λ r. ⌜ r ≡ 2 ^ width ⌝ }
+{
+    1 << width
+}
+
+// Rows one behind the other, each with the multiples of t^width times the start of the row before it: the start of the next row is the word
+// in the middle of this one, shifted by one place.
+pub fn fill_rows(words: &mut [u64], width: u32, rows: usize, p: Modulus, x: u64)
+    requires { ⌜ Proper p × (x < 2 ^ p .degree) × (0 < width) × (width < 64) × (rows * 2 ^ width ≤ length (now words)) ⌝ }
+    ensures { λ r. ⌜ Rows width (polynomial p) x rows (now (words .exit)) ⌝ }
+{
+    let size = row_size(width);
+    let mut y = x;
+    let mut j: usize = 0;
+    while j < rows {
+        let at = j * size;
+        fill_row(words, at, width, p, y);
+        y = gf2::step(p, words[at + size / 2], 0);
+        j += 1;
+    }
+}
+
+// Whether the words are such rows.
+pub fn rows_hold(words: &[u64], width: u32, rows: usize, p: Modulus, x: u64) -> bool
+    requires { ⌜ Proper p × (x < 2 ^ p .degree) × (0 < width) × (width < 64) × (rows * 2 ^ width ≤ length (now words)) ⌝ }
+    ensures { λ r. ⌜ (r ≡ true) ↔ Rows width (polynomial p) x rows (now (words .entry)) ⌝ }
+{
+    let size = row_size(width);
+    let mut y = x;
+    let mut j: usize = 0;
+    while j < rows {
+        let at = j * size;
+        if !row_holds(words, at, width, p, y) {
+            return false;
+        }
+        y = gf2::step(p, words[at + size / 2], 0);
+        j += 1;
+    }
+    true
 }

@@ -1,20 +1,24 @@
--- Laws of a buffer with a text at a place.
+-- Laws of a buffer with a text at a place, of texts one behind the other, and of a label with a number behind it.
 use mathlib.Core.Path.{_≡_, sym, ap, ap₂, _∙_}
 use mathlib.Core.List.{List, _++_, append-assoc, append-nil}
-use Prim.Native.Nat.{ℕ, _+_, _-_, _≤_}
+use Prim.Native.Nat.{ℕ, _+_, _-_, _^_, _≤_, _<_}
 use native.Mathlib.Nat.{zero-add, add-assoc}
 use native.Mathlib.Omega.{arith}
 use lib.ListN.{length, take, drop, length-append, length-drop}
 use lib.Seq.{length-take-le, take-at, drop-append-add, drop-drop, take-length, take-all, drop-length}
 use borrow.Rule.Slice.PartMut.{midOf, putMid, post-is}
 use Rattle.io.specs.Counts.{Counts}
-use Rattle.printing.specs.Printing.{putAt}
+use Rattle.io.specs.Digits.{digits, Fewest}
+use Rattle.printing.specs.Printing.{numeral, putAt}
+use Rattle.printing.proofs.Numerals.{numeral-is, fewest-le}
 
 module _ (out : List ℕ) (at : ℕ) where
   -- a text copied to the front of what lies from the place on
   pub put-mid : (text : List ℕ) → at ≤ length out
       → putMid at (length out - at) out (take (length text) text ++ drop (length text) (midOf at (length out - at) out)) ≡ putAt out at text
-  put-mid text h = rw (post-is at (length out) out h, drop-length out, append-nil, take-length text, mid, drop-drop) (sym (append-assoc (take at out) text (drop (at + length text) out)))
+  put-mid text h =
+      rw (post-is at (length out) out h, drop-length out, append-nil, take-length text, mid, drop-drop)
+      (sym (append-assoc (take at out) text (drop (at + length text) out)))
     where
       mid : midOf at (length out - at) out ≡ drop at out
       mid = take-all (length out - at) (drop at out) (omega (arith, length-drop at out))
@@ -49,16 +53,41 @@ module _ (out : List ℕ) (at : ℕ) where
           ∙ drop-drop (length t) (at + length s) out
           ∙ ap (λ (n : ℕ). drop n out) (add-assoc at (length s) (length t) ∙ ap (λ (n : ℕ). at + n) (sym (length-append s t)))
 
-  -- the buffer l has the text at the place, and n is the place behind it
-  abbrev pub Holds : ℕ → List ℕ → List ℕ → Type 0
-  Holds n l text = (n ≡ at + length text) × (l ≡ putAt out at text)
+-- the buffer `out` became l, with the text at the place `at`, and n is the place behind it
+pub record Holds (out : List ℕ) (at n : ℕ) (l text : List ℕ) : Type 0 where
+  pub behind : n ≡ at + length text
+  pub put : l ≡ putAt out at text
 
-  pub put-next : (s t l l′ : List ℕ) (n n′ : ℕ) → n ≤ length out → Holds n l s → n′ ≡ n + length t → l′ ≡ putAt l n t → Holds n′ l′ (s ++ t)
-  put-next s t l l′ n n′ b h e f = (
-    e ∙ ap (λ (x : ℕ). x + length t) (h .0) ∙ add-assoc at (length s) (length t) ∙ ap (λ (x : ℕ). at + x) (sym (length-append s t)),
-    f ∙ ap₂ (λ (x : List ℕ) (m : ℕ). putAt x m t) (h .1) (h .0) ∙ put-put s t (rw (h .0) at b),
-  )
+module _ {out : List ℕ} {at n : ℕ} {l s : List ℕ} (room : n ≤ length out) (h : Holds out at n l s) where
+  -- one text more
+  pub put-next : {n′ : ℕ} {l′ : List ℕ} (t : List ℕ) → n′ ≡ n + length t → l′ ≡ putAt l n t → Holds out at n′ l′ (s ++ t)
+  put-next t e f = record {
+    behind =
+        e ∙ ap (λ (x : ℕ). x + length t) (h .behind) ∙ add-assoc at (length s) (length t) ∙ ap (λ (x : ℕ). at + x) (sym (length-append s t));
+    put = f ∙ ap₂ (λ (x : List ℕ) (m : ℕ). putAt x m t) (h .put) (h .behind) ∙ put-put out at s t (rw (h .behind) at room);
+  }
+
+-- a label and a number, where the number is known by another name
+pub put-number : (out : List ℕ) (at : ℕ) {r m n : ℕ} {l : List ℕ} (label : List ℕ) (b : ℕ) → m ≡ n
+    → r ≡ at + length (label ++ numeral b m) → l ≡ putAt out at (label ++ numeral b m) → Holds out at r l (label ++ numeral b n)
+put-number out at label b same e f = record {
+  behind = e ∙ ap (λ (x : ℕ). at + length (label ++ numeral b x)) same;
+  put = f ∙ ap (λ (x : ℕ). putAt out at (label ++ numeral b x)) same;
+}
 
 -- what the writer of a whole text shows
-pub whole : (out text l : List ℕ) (n : ℕ) → n ≤ length out → Holds out 0 n l text → (n ≡ length text) × (Counts n l × (l ≡ putAt out 0 text))
-whole out text l n b h = (h .0 ∙ zero-add (length text), (put-counts out 0 text l n (rw (h .0) at b) (h .0) (h .1), h .1))
+pub whole : {out text l : List ℕ} {n : ℕ} → n ≤ length out → Holds out 0 n l text → (n ≡ length text) × (Counts n l × (l ≡ putAt out 0 text))
+whole {out} {text} {l} {n} room h =
+    (h .behind ∙ zero-add (length text), (put-counts out 0 text l n (rw (h .behind) at room) (h .behind) (h .put), h .put))
+
+-- a label, and behind it the fewest digits of n in base b; s digits hold n
+module _ (b s n : ℕ) (two : 1 < b) (some : 0 < s) (fits : n < b ^ s) {k : ℕ} (few : Fewest b 1 n k) where
+  pub few-digits : k ≤ s
+  few-digits = fewest-le b two s n k some fits few
+
+  pub numeral-put : (out : List ℕ) (at : ℕ) {r : ℕ} {l : List ℕ} (label text : List ℕ) → k ≡ length text → text ≡ digits b k n
+      → r ≡ at + length (label ++ text) → l ≡ putAt out at (label ++ text)
+      → (r ≡ at + length (label ++ numeral b n)) × ((r ≤ at + length label + s) × (l ≡ putAt out at (label ++ numeral b n)))
+  numeral-put out at label text long is e f =
+      let same : text ≡ numeral b n = is ∙ numeral-is b two n k few in
+      (rw same at e, (omega (arith, length-append label text, few-digits), rw same at f))

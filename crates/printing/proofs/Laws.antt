@@ -1,8 +1,8 @@
--- Laws of the key's line: one digit more, which tests make it a key, and how many bytes decide it.
+-- Laws of the key's line: the value of a byte, one digit more, which tests make it a key, and how many bytes decide it.
 use mathlib.Core.Path.{_≡_, refl, sym, ap, _∙_}
 use mathlib.Core.Bool.{Bool, true, false, cond, _&&_, and-false}
 use mathlib.Core.List.{List, [], _∷_}
-use Prim.Native.Nat.{ℕ, zero, suc, _+_, _*_, _^_, _≤_, _<_, min}
+use Prim.Native.Nat.{ℕ, zero, suc, _+_, _-_, _*_, _^_, _≤_, _<_, min}
 use lib.Pow.{pow-add}
 use native.Mathlib.Nat.{zero-add, min-zero, zero-min, suc-min-suc, min-eq-left, min-eq-right}
 use native.Mathlib.Decide.{decLe, decLt}
@@ -16,6 +16,27 @@ use Rattle.bytes.specs.Bytes.{indexOf, indexAfter, slice}
 use Rattle.lists.proofs.Truth.{and-both}
 use Rattle.printing.specs.Printing.{digit, allDigits, hexFrom, keyBefore, keyLine}
 use Rattle.printing.specs.declared.KeyLine.the-variants.{NoKey, Key}
+
+-- the value of a byte, by the range that holds it
+pub digit-under : (b : ℕ) → b < 48 → digit b ≡ 16
+unfolding digit
+digit-under b h = simp (lt-leb 48 b h, lt-leb 97 b (omega arith))
+
+pub digit-decimal : (b : ℕ) → 48 ≤ b → b ≤ 57 → digit b ≡ b - 48
+unfolding digit
+digit-decimal b l h = simp (le-leb 48 b l, le-leb b 57 h)
+
+pub digit-between : (b : ℕ) → 57 < b → b < 97 → digit b ≡ 16
+unfolding digit
+digit-between b l h = simp (lt-leb b 57 l, and-false (leb 48 b), lt-leb 97 b h)
+
+pub digit-letter : (b : ℕ) → 97 ≤ b → b ≤ 102 → digit b ≡ b - 97 + 10
+unfolding digit
+digit-letter b l h = simp (lt-leb b 57 (omega arith), and-false (leb 48 b), le-leb 97 b l, le-leb b 102 h) (omega arith)
+
+pub digit-over : (b : ℕ) → 102 < b → digit b ≡ 16
+unfolding digit
+digit-over b h = simp (lt-leb b 57 (omega arith), and-false (leb 48 b), lt-leb b 102 h, and-false (leb 97 b))
 
 module _ (line : List ℕ) (i : ℕ) (h : i < length line) where
   pub digits-next : allDigits (drop i line) ≡ (ltb (digit (getD line i 0)) 16 && allDigits (drop (i + 1) line))

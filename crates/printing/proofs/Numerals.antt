@@ -1,7 +1,8 @@
 -- The fewest digits that hold a number are its numeral.
 use mathlib.Core.Path.{_≡_, refl, _∙_}
 use Prim.Native.Nat.{ℕ, zero, suc, _-_, _/_, _^_, _≤_, _<_}
-use native.Mathlib.Nat.{le-refl, one-mul, mul-le-mul-right, mod-eq-of-lt, pow-zero, pow-suc, one-le-pow, pow-le-pow-right, div-lt-iff-lt-mul, le-div-iff-mul-le, div-lt-self}
+use native.Mathlib.Nat.{le-refl, one-mul, mul-le-mul-right, mod-eq-of-lt, pow-zero, pow-suc, one-le-pow, pow-le-pow-right}
+use native.Mathlib.Nat.{div-lt-iff-lt-mul, le-div-iff-mul-le, div-lt-self}
 use native.Mathlib.Decide.{decLt}
 use native.Mathlib.Omega.{arith}
 use borrow.Author.Tests.{lt-ltb, le-ltb}

@@ -7,5 +7,6 @@ use Rattle.files.specs.Files.{bits, lowBits, value, valueFrom, fingerprint, mar
 use Rattle.printing.specs.Printing.{ascii, printed, keyLine, keyBefore, allDigits, digit, hexFrom, digitsOf, numeral, report, markFile}
 
 pub example : printed (ascii "11b\nAB") ≡ ascii "key 8 11b\nbytes 2\nmark 9d\n"
-unfolding ascii printed keyLine keyBefore allDigits digit hexFrom digitsOf numeral report markFile indexOf indexAfter degree halvings rem longDivision reduce _⊕_ reducible anyBelow bits lowBits value valueFrom fingerprint markOf
+unfolding ascii printed keyLine keyBefore allDigits digit hexFrom digitsOf numeral report markFile
+    indexOf indexAfter degree halvings rem longDivision reduce _⊕_ reducible anyBelow bits lowBits value valueFrom fingerprint markOf
 example = refl

@@ -20,18 +20,17 @@ pub enum KeyLine {
 fn digit(b: u8) -> u64
     ensures { λ r. ⌜ r ≡ digit b ⌝ }
 {
-    let byte = b as u64;
-    if byte < 48 {
+    if b < b'0' {
         return 16;
     }
-    if byte <= 57 {
-        return byte - 48;
+    if b <= b'9' {
+        return (b - b'0') as u64;
     }
-    if byte < 97 {
+    if b < b'a' {
         return 16;
     }
-    if byte <= 102 {
-        return byte - 87;
+    if b <= b'f' {
+        return (b - b'a') as u64 + 10;
     }
     16
 }
@@ -67,7 +66,7 @@ fn hex_value(line: &[u8]) -> u64
 pub fn key_line(input: &[u8]) -> KeyLine
     ensures { λ r. ⌜ r ≡ keyLine (now (input .entry)) ⌝ }
 {
-    let n = bytes::scan::find(input, 0, input.len(), 10);
+    let n = bytes::scan::find(input, 0, input.len(), b'\n');
     if n == input.len() {
         return KeyLine::NoKey;
     }

@@ -1,20 +1,20 @@
 -- Degree 11, element 3: modulo the stock key 0x805, the polynomial 0xF0B is 0 at 3, and it is the only one of degree 11.
-use mathlib.Core.Path.{_≡_, refl, ap, _∙_}
-use mathlib.Core.List.{[], _∷_}
+use mathlib.Core.Path.{_≡_, refl, sym, ap, _∙_}
 use Prim.Native.Nat.{ℕ}
 use native.Mathlib.Omega.{arith}
 use Rattle.gf2.specs.Polynomials.{_⊕_, longProduct, _⊗_, halvings, degree, reduce, longDivision, rem}
 use Rattle.refusals.specs.Refusals.{Done}
 use Rattle.stock.specs.Stock.{stockKey}
-use Rattle.stock.proofs.Searches.{stock-is}
-use Rattle.stock.proofs.Sieve.{stockedTable, smallest-at}
+use Rattle.stock.proofs.Sieve.{left}
+use Rattle.stock.proofs.Table.{divisors, entry-stock}
 use Rattle.fields.specs.Fields.{terms, compose, at}
-use Rattle.draw.specs.Drawing.{among, draw}
+use Rattle.lists.specs.Lists.{among}
+use Rattle.draw.specs.Drawing.{draw}
 use Rattle.draw.proofs.Fairness.{key-only}
 
 stock-11 : stockKey 11 ≡ 0x805
-unfolding stockedTable
-stock-11 = stock-is 11 0x805 (smallest-at (0x805 ∷ []) ((7 ∷ []) ∷ []) 10 (omega arith) (omega arith) tt 0 (omega arith))
+unfolding divisors left
+stock-11 = sym (entry-stock 11 (omega arith) (omega arith))
 
 root : at 0x805 0xF0B 3 ≡ 0
 unfolding at compose terms longProduct _⊗_ rem longDivision reduce degree halvings _⊕_

@@ -3,8 +3,8 @@ use mathlib.Core.Path.{refl}
 use Rattle.gf2.specs.Polynomials.{_⊕_, halvings, degree, reduce, longDivision, rem}
 use Rattle.acceptance.specs.Keys.{anyBelow, reducible}
 use Rattle.keys.specs.Testing.{testKey}
-use Rattle.files.specs.Files.{lowBits, bits, valueFrom, value, fingerprint}
-use Rattle.compose.specs.Composing.{joined, joinBehind}
+use Rattle.files.specs.Files.{lowBits, bits, valueFrom, value, fingerprint, joined}
+use Rattle.compose.specs.Composing.{joinBehind}
 use Rattle.search.proofs.Readings.{collision-reading}
 use Rattle.readings.specs.Readings.{Readings}
 use Rattle.readings.proofs.Drawing.{drawn-by-3}

@@ -27,7 +27,7 @@ Readings =
     -- keys
     (numberOf (testKey 0x101) ≡ 2)
     × (numberOf (testKey 0x405) ≡ 2)
-    × (testKey 0x11B ≡ Done tt)
+    × (testKey 0x11B ≡ Done (record { degree = 8; low = 0x1B }))
     -- drawing, degree 11, element 3
     × (draw 11 3 ≡ Done 0xF0B)
     -- key 0x11B, file to fingerprint

@@ -1,6 +1,12 @@
-// The refusals of document 01, each by name, and the number of each.
+// The refusals of document 01, each by name, and the number of each; the limit of lengths.
 ghost use mathlib.Core.Path.{_≡_};
-ghost use Rattle.refusals.specs.Refusals.{number};
+ghost use mathlib.Core.Bool.{not};
+ghost use mathlib.Core.List.{[], _∷_};
+ghost use Prim.Native.Nat.{_+_};
+ghost use Rattle.refusals.specs.Refusals.{number, numberOf, told, passes};
+
+// The limit of lengths (number 7), in bytes.
+pub const LONGEST: u64 = 4294967295;
 
 pub enum Refusal {
     KeyBelow256,
@@ -17,6 +23,12 @@ pub enum Refusal {
     PageSize,
     BufferShort,
     SheetMalformed,
+}
+
+// The answer of a call that gives no value: done, or refused.
+pub enum Reply {
+    Done,
+    Refused(Refusal),
 }
 
 // The number of a refusal, from 1 to 14.
@@ -39,4 +51,37 @@ pub fn number(r: Refusal) -> u32
         Refusal::BufferShort => 13,
         Refusal::SheetMalformed => 14,
     }
+}
+
+// The number of a reply: 0, or the refusal's.
+pub fn number_of(reply: Reply) -> u32
+    ensures { λ n. ⌜ n ≡ numberOf (told reply) ⌝ }
+{
+    match reply {
+        Reply::Done => 0,
+        Reply::Refused(r) => number(r),
+    }
+}
+
+// Number 7 applies neither to two lengths nor to their sum, which is not made: it might not fit 64 bits.
+pub fn fits(a: u64, b: u64) -> bool
+    ensures { λ r. ⌜ r ≡ not (passes (a ∷ b ∷ (a + b) ∷ [])) ⌝ }
+{
+    if LONGEST < a {
+        return false;
+    }
+    b <= LONGEST - a
+}
+
+// Number 7 applies to none of three lengths.
+pub fn within(x: u64, y: u64, z: u64) -> bool
+    ensures { λ r. ⌜ r ≡ not (passes (x ∷ y ∷ z ∷ [])) ⌝ }
+{
+    if LONGEST < x {
+        return false;
+    }
+    if LONGEST < y {
+        return false;
+    }
+    z <= LONGEST
 }

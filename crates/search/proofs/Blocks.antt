@@ -6,7 +6,7 @@ use Prim.Native.Nat.{ℕ, _+_, _-_, _≤_, _<_}
 use native.Mathlib.Nat.{zero-add}
 use native.Mathlib.Omega.{arith}
 use borrow.Author.Tests.{eq-eqb}
-use lib.ListN.{length, getD}
+use lib.ListN.{length, getD, set}
 use lib.Seq.{sets}
 use Rattle.lists.specs.Lists.{passing}
 use Rattle.files.specs.Files.{fingerprint}
@@ -15,10 +15,10 @@ use Rattle.windows.specs.declared.rolling.Setup.{Setup}
 use Rattle.search.specs.Searching.{windows, isPlace, alike, isAlarm, places, alarms, counts, overlay}
 use Rattle.windows.specs.Rolling.{window, residue, keyOf, Filled, hit}
 use Rattle.windows.proofs.Windows.{window-length}
-use Rattle.search.specs.Flagged.{flaggedPlace, flaggedAlarm, flaggedPlaces, flaggedAlarms}
-use Rattle.search.proofs.Comparing.{same-is}
+use Rattle.search.specs.Flagged.{NextFlagged, flaggedPlace, flaggedAlarm, flaggedPlaces, flaggedAlarms}
+use Rattle.search.proofs.Comparing.{same-is, unflagged-place, unflagged-alarm, flagged-place, flagged-alarm}
 use Rattle.windows.proofs.Residues.{without-one}
-use Rattle.search.proofs.Numbers.{passing-same, overlay-sets}
+use Rattle.search.proofs.Numbers.{passing-same, overlay-sets, Tally, tally-skip, tally-place, tally-alarm}
 
 -- a place has the pattern's fingerprint
 place-alike : (p : ℕ) (text pattern : List ℕ) (i : ℕ) → isPlace text pattern i ≡ true → alike p text pattern i ≡ true
@@ -33,12 +33,12 @@ and-implied false false h = refl
 
 module _ (s : Setup) (text pattern : List ℕ) (from size : ℕ) (flags : List Bool) (pos : 0 < keyOf s) (em : s .m ≡ length pattern)
     (ew : s .wanted ≡ residue (keyOf s) pattern) (fits : from + size + length pattern ≤ length text + 1)
-    (marked : Filled false (hit s text from) 0 size flags) where
+    (flagged : Filled false (hit s text from) 0 size flags) where
   flag-alike : (i : ℕ) → from ≤ i → i < from + size → getD flags (i - from) false ≡ alike (keyOf s) text pattern i
   unfolding hit alike
   flag-alike i l h =
       let e : from + (i - from) ≡ i = omega arith in
-      marked .entry (i - from) (omega arith) (omega arith)
+      flagged .entry (i - from) (omega arith) (omega arith)
       ∙ rw (e, em, ew)
       (sym (without-one pos (window (length pattern) text i) pattern (window-length (length pattern) text i (omega arith))))
 
@@ -56,6 +56,30 @@ module _ (s : Setup) (text pattern : List ℕ) (from size : ℕ) (flags : List B
       rw (zero-add from)
       (passing-same (flaggedAlarm flags text pattern from) (isAlarm (keyOf s) text pattern) from size
       (λ i l h. ap (λ (b : Bool). b && not (isPlace text pattern i)) (flag-alike i l h)))
+
+-- ---- a count under way over the flagged windows, one turn: the window at i is flagged, and `next` is the flagged one behind it
+
+module _ (flags : List Bool) (text pattern : List ℕ) (from size : ℕ) where
+  abbrev pub Counted : List ℕ → ℕ → ℕ → List ℕ → ℕ → ℕ → ℕ → Type 0
+  Counted = Tally (flaggedPlace flags text pattern from) (flaggedAlarm flags text pattern from) from size
+
+  module _ {words₀ words : List ℕ} {p₀ a₀ p a i : ℕ} (t : Counted words₀ p₀ a₀ words p a i) where
+    -- windows without a flag are passed over
+    pub skipped : (next : ℕ) → NextFlagged flags i size next → Counted words₀ p₀ a₀ words p a next
+    skipped next f =
+        tally-skip t next (f .low) (f .high)
+        (λ j l h. (unflagged-place flags text pattern from j (f .none j l h), unflagged-alarm flags text pattern from j (f .none j l h)))
+
+  module _ {words₀ words : List ℕ} {p₀ a₀ p a i : ℕ} (t : Counted words₀ p₀ a₀ words p a i) (l : i < size) (flag : getD flags i false ≡ true) (next b : ℕ) (eb : b ≡ a)
+      (f : NextFlagged flags (i + 1) size next) where
+    pub place-next : (after : List ℕ) → after ≡ set words p (from + i) → isPlace text pattern (from + i) ≡ true → Counted words₀ p₀ a₀ after (p + 1) b next
+    place-next after e z =
+        rw (e, eb)
+        (skipped (tally-place t l (flagged-place flags text pattern from i true flag z) (flagged-alarm flags text pattern from i true flag z)) next f)
+
+    pub alarm-next : isPlace text pattern (from + i) ≡ false → Counted words₀ p₀ a₀ words p (b + 1) next
+    alarm-next z =
+        rw eb (skipped (tally-alarm t l (flagged-place flags text pattern from i false flag z) (flagged-alarm flags text pattern from i false flag z)) next f)
 
 -- what was found of all windows is what the call answers
 pub all-found : (p : ℕ) (text pattern words₀ words : List ℕ) (found : Counts) (n : ℕ) → n ≡ windows text pattern

@@ -1,6 +1,6 @@
 -- Laws of the numbers that pass a test, of the words they are written to, and of counting them.
 use mathlib.Core.Path.{_≡_, refl, sym, ap, ap₂, _∙_}
-use mathlib.Core.Bool.{Bool, true, false}
+use mathlib.Core.Bool.{Bool, true, false, cond}
 use mathlib.Core.List.{List, [], _∷_, _++_}
 use Prim.Native.Nat.{ℕ, zero, suc, _+_, _-_, _≤_, _<_}
 use native.Mathlib.Nat.{add-zero, zero-add, add-suc, suc-add, le-refl}
@@ -8,7 +8,7 @@ use native.Mathlib.Numerals.{add-one}
 use native.Mathlib.Omega.{arith}
 use lib.ListN.{length, set, length-append}
 use lib.Seq.{sets, length-sets}
-use Rattle.lists.specs.Lists.{keep, passing}
+use Rattle.lists.specs.Lists.{passing}
 use Rattle.search.specs.Searching.{overlay}
 
 -- ---- the numbers that pass a test
@@ -30,25 +30,25 @@ module _ (test : ℕ → Bool) where
   passing-no n zero h = passing-none n
   passing-no n (suc c) h = passing-miss n c (h n (le-refl n) (omega arith)) ∙ passing-no (suc n) c (λ i a b. h i (omega arith) (omega arith))
 
-  keep-append : (b : Bool) (n : ℕ) (x y : List ℕ) → keep b n (x ++ y) ≡ keep b n x ++ y
-  keep-append true n x y = refl
-  keep-append false n x y = refl
+  cond-append : (b : Bool) (n : ℕ) (x y : List ℕ) → cond b (n ∷ (x ++ y)) (x ++ y) ≡ cond b (n ∷ x) x ++ y
+  cond-append true n x y = refl
+  cond-append false n x y = refl
 
   pub passing-append : (n c e : ℕ) → passing test n (c + e) ≡ passing test n c ++ passing test (n + c) e
   unfolding passing
   passing-append n zero e = rw (zero-add, add-zero)
   passing-append n (suc c) e =
       rw (suc-add c e, add-suc n c, ← (suc-add n c))
-      (ap (keep (test n) n) (passing-append (suc n) c e) ∙ keep-append (test n) n (passing test (suc n) c) (passing test (suc n + c) e))
+      (ap (λ (z : List ℕ). cond (test n) (n ∷ z) z) (passing-append (suc n) c e) ∙ cond-append (test n) n (passing test (suc n) c) (passing test (suc n + c) e))
 
-  keep-length : (b : Bool) (n c : ℕ) (x : List ℕ) → length x ≤ c → length (keep b n x) ≤ suc c
-  keep-length true n c x h = omega arith
-  keep-length false n c x h = omega arith
+  cond-length : (b : Bool) (n c : ℕ) (x : List ℕ) → length x ≤ c → length (cond b (n ∷ x) x) ≤ suc c
+  cond-length true n c x h = omega arith
+  cond-length false n c x h = omega arith
 
   pub passing-length : (n c : ℕ) → length (passing test n c) ≤ c
   unfolding passing
   passing-length n zero = omega arith
-  passing-length n (suc c) = keep-length (test n) n c (passing test (suc n) c) (passing-length (suc n) c)
+  passing-length n (suc c) = cond-length (test n) n c (passing test (suc n) c) (passing-length (suc n) c)
 
   -- what is left from the i-th of c numbers on
   left : (n i c : ℕ) → i < c → passing test (n + i) (c - i) ≡ passing test (n + i) (suc (c - (i + 1)))
@@ -85,7 +85,7 @@ pub passing-same : (t u : ℕ → Bool) (n c : ℕ) → ((i : ℕ) → n ≤ i �
 unfolding passing
 passing-same t u n zero h = refl
 passing-same t u n (suc c) h =
-    ap₂ (λ (b : Bool) (x : List ℕ). keep b n x) (h n (le-refl n) (omega arith))
+    ap₂ (λ (b : Bool) (x : List ℕ). cond b (n ∷ x) x) (h n (le-refl n) (omega arith))
     (passing-same t u (suc n) c (λ i a b. h i (omega arith) (omega arith)))
 
 -- ---- words written one after the other; past the end nothing is written

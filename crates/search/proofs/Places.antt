@@ -2,14 +2,14 @@
 -- with its fingerprint and other bytes.
 use mathlib.Core.Path.{_≡_, refl, sym, ap, _∙_}
 use mathlib.Core.Logic.{inl, inr, _↔_, _≢_}
-use mathlib.Core.Bool.{Bool, true, false, not, true≢false}
+use mathlib.Core.Bool.{Bool, true, false, not, true≢false, cond}
 use mathlib.Core.List.{List, [], _∷_}
 use Prim.Native.Nat.{ℕ, zero, suc, _+_, _-_, _≤_, _<_}
 use native.Mathlib.Decide.{ℕ-discrete}
 use native.Mathlib.Omega.{arith}
 use borrow.Author.Tests.{eq-eqb, eqb-true, not-true}
 use lib.ListN.{length, take, drop}
-use Rattle.lists.specs.Lists.{keep, passing, All, Some}
+use Rattle.lists.specs.Lists.{passing, All, Some}
 use Rattle.lists.proofs.Lists.{Passes, all-passing, passing-above}
 use Rattle.lists.proofs.Truth.{and-both, by-cases}
 use Rattle.files.specs.Files.{fingerprint}
@@ -38,7 +38,7 @@ module _ (test : ℕ → Bool) where
   passing-rising n zero = tt
   passing-rising n (suc c) = go (test n) (passing-rising (suc n) c)
     where
-      go : (b : Bool) → Rising (passing test (suc n) c) → Rising (keep b n (passing test (suc n) c))
+      go : (b : Bool) → Rising (passing test (suc n) c) → Rising (cond b (n ∷ passing test (suc n) c) (passing test (suc n) c))
       go true h = (passing-above test n c, h)
       go false h = h
 
@@ -50,7 +50,7 @@ module _ (test : ℕ → Bool) where
   in-passing i n zero l h e = absurd (omega arith)
   in-passing i n (suc c) l h e = go (test n) refl (ℕ-discrete n i) (λ m. in-passing i (suc n) c m (omega arith) e)
     where
-      go : (b : Bool) → test n ≡ b → Dec (n ≡ i) → (suc n ≤ i → In i (passing test (suc n) c)) → In i (keep b n (passing test (suc n) c))
+      go : (b : Bool) → test n ≡ b → Dec (n ≡ i) → (suc n ≤ i → In i (passing test (suc n) c)) → In i (cond b (n ∷ passing test (suc n) c) (passing test (suc n) c))
       go true f (yes q) k = inl q
       go true f (no q) k = inr (k (omega arith))
       go false f (yes q) k = absurd (true≢false (sym e ∙ ap test (sym q) ∙ f))

@@ -43,12 +43,19 @@ overlay [] words = words
 overlay (p ∷ ps) [] = []
 overlay (p ∷ ps) (w ∷ words) = p ∷ overlay ps words
 
+-- the lent words with the first places
+abbrev pub written : List ℕ → List ℕ → List ℕ → List ℕ
+written text pattern words = overlay (places text pattern) words
+
 -- ---- the call
 
--- numbers 1, 2, 7 and 11
+-- numbers 7 and 11
+abbrev pub textTests : List ℕ → List ℕ → List Test
+textTests text pattern = passes (length text ∷ length pattern ∷ []) ⇒ TooLong ∷ eqb (length pattern) 0 ⇒ EmptyPattern ∷ []
+
+-- and those of the key
 abbrev pub searchTests : ℕ → List ℕ → List ℕ → List Test
-searchTests key text pattern =
-    keyTests key ++ passes (length text ∷ length pattern ∷ []) ⇒ TooLong ∷ eqb (length pattern) 0 ⇒ EmptyPattern ∷ []
+searchTests key text pattern = keyTests key ++ textTests text pattern
 
 -- the number of places, and the number of false alarms
 unfoldable pub counts : ℕ → List ℕ → List ℕ → Counts
@@ -59,7 +66,7 @@ search key text pattern = firstOf (searchTests key text pattern) tt (counts key 
 
 -- the lent words after the call
 unfoldable pub wordsAfter : ℕ → List ℕ → List ℕ → List ℕ → List ℕ
-wordsAfter key text pattern words = stateOf (firstOf (searchTests key text pattern) words (overlay (places text pattern) words))
+wordsAfter key text pattern words = stateOf (firstOf (searchTests key text pattern) words (written text pattern words))
 
 -- the answer in code
 abbrev pub searched : Searched → Answer Unit Counts

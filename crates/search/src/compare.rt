@@ -48,7 +48,7 @@ fn next_flagged(flags: &[bool; 1024], first: usize, size: usize) -> usize
 }
 
 // The flagged windows of a block, added to what was found before. The comparison leaves off at the first byte that differs; a place is written
-// behind the earlier ones, as far as the words reach.
+// behind the earlier ones, as far as the lent words reach.
 pub fn compare(
     text: &[u8],
     pattern: &[u8],
@@ -56,7 +56,7 @@ pub fn compare(
     from: usize,
     size: usize,
     found: Counts,
-    words: &mut [u32],
+    places: &mut [u32],
 ) -> Counts
     requires { ⌜ (size ≤ 1024)
         × (from + size + length (now pattern) ≤ length (now text) + 1)
@@ -66,7 +66,7 @@ pub fn compare(
         × (found .alarms ≤ from) ⌝ }
     ensures { λ r. ⌜ (r .places ≡ found .places + length (flaggedPlaces (now (flags .entry)) (now (text .entry)) (now (pattern .entry)) from size))
         × (r .alarms ≡ found .alarms + length (flaggedAlarms (now (flags .entry)) (now (text .entry)) (now (pattern .entry)) from size))
-        × (now (words .exit) ≡ sets (now (words .entry)) (found .places) (flaggedPlaces (now (flags .entry)) (now (text .entry)) (now (pattern .entry)) from size)) ⌝ }
+        × (now (places .exit) ≡ sets (now (places .entry)) (found .places) (flaggedPlaces (now (flags .entry)) (now (text .entry)) (now (pattern .entry)) from size)) ⌝ }
 {
     let m = pattern.len();
     let mut count = found.places;
@@ -84,8 +84,8 @@ pub fn compare(
             j += 1;
         }
         let n = count as usize;
-        if n < words.len() {
-            words[n] = at as u32;
+        if n < places.len() {
+            places[n] = at as u32;
         }
         count += 1;
     }

@@ -1,4 +1,5 @@
 // The search for a pattern in a text by a rolling fingerprint.
+use gf2::Modulus;
 use keys::Tested;
 use refusals::Refusal;
 use windows::flags;
@@ -10,9 +11,10 @@ mod compare; // the bytes of windows against the pattern's
 ghost use mathlib.Core.Path.{_≡_};
 ghost use Prim.Native.Nat.{_≤_, _<_};
 ghost use lib.ListN.{length};
-ghost use Rattle.gf2.specs.Polynomials.{monic, Modulus};
-ghost use Rattle.search.specs.Searching.{places, counts, overlay, search, wordsAfter, searched};
-ghost use Rattle.windows.specs.Rolling.{window, residue, keyOf, Ready};
+ghost use Rattle.gf2.specs.Moduli.{polynomial, Proper};
+ghost use Rattle.refusals.specs.Refusals.{firstOf, stateOf};
+ghost use Rattle.windows.specs.Rolling.{residue, keyOf, ResidueAt, Ready};
+ghost use Rattle.search.specs.Searching.{counts, written, textTests, search, wordsAfter, searched};
 
 // The number of places, and the number of false alarms.
 pub struct Counts {
@@ -34,16 +36,16 @@ fn search_blocks(
     text: &[u8],
     pattern: &[u8],
     first: u64,
-    words: &mut [u32],
+    places: &mut [u32],
 ) -> Counts
     requires { ⌜ Ready s (now reduce) (now outgoing)
         × (s .m ≡ length (now pattern))
         × (s .wanted ≡ residue (keyOf s) (now pattern))
-        × (first ≡ residue (keyOf s) (window (s .m) (now text) 0))
+        × ResidueAt s (now text) 0 first
         × (length (now pattern) ≤ length (now text))
         × (length (now text) ≤ 4294967295) ⌝ }
     ensures { λ r. ⌜ (r ≡ counts (keyOf s) (now (text .entry)) (now (pattern .entry)))
-        × (now (words .exit) ≡ overlay (places (now (text .entry)) (now (pattern .entry))) (now (words .entry))) ⌝ }
+        × (now (places .exit) ≡ written (now (text .entry)) (now (pattern .entry)) (now (places .entry))) ⌝ }
 {
     let mut flags: [bool; 1024] = [false; 1024];
     let windows = text.len() - pattern.len() + 1;
@@ -54,50 +56,41 @@ fn search_blocks(
     let mut g = first;
     let mut from: usize = 0;
     while from < windows {
-        let b = flags::mark_block(s, reduce, outgoing, text, from, g, &mut flags);
-        found = compare::compare(text, pattern, &flags, from, b.size, found, words);
+        let b = flags::flag_block(s, reduce, outgoing, text, from, g, &mut flags);
+        found = compare::compare(text, pattern, &flags, from, b.size, found, places);
         from += b.size;
         g = b.next;
     }
     found
 }
 
-// Under the key of degree k whose coefficients below t^k are `low`.
-fn search_under(k: u32, low: u64, text: &[u8], pattern: &[u8], words: &mut [u32]) -> Counts
-    requires { ⌜ Modulus k low × (8 ≤ k) × (0 < length (now pattern)) × (length (now pattern) ≤ length (now text)) × (length (now text) ≤ 4294967295) ⌝ }
-    ensures { λ r. ⌜ (r ≡ counts (monic k low) (now (text .entry)) (now (pattern .entry)))
-        × (now (words .exit) ≡ overlay (places (now (text .entry)) (now (pattern .entry))) (now (words .entry))) ⌝ }
+// The search proper, under a modulus: its tables, and the residues to begin with.
+fn search_text(p: Modulus, text: &[u8], pattern: &[u8], places: &mut [u32]) -> Counts
+    requires { ⌜ Proper p × (8 ≤ p .degree) × (0 < length (now pattern)) × (length (now pattern) ≤ length (now text)) × (length (now text) ≤ 4294967295) ⌝ }
+    ensures { λ r. ⌜ (r ≡ counts (polynomial p) (now (text .entry)) (now (pattern .entry)))
+        × (now (places .exit) ≡ written (now (text .entry)) (now (pattern .entry)) (now (places .entry))) ⌝ }
 {
     let mut reduce: [u64; 256] = [0; 256];
-    multiples::fill_row(&mut reduce, 0, 8, k, low, low);
-    let begin = rolling::read_first(k, low, &reduce, text, pattern);
+    multiples::fill_row(&mut reduce, 0, 8, p, p.low);
+    let begin = rolling::read_first(p, &reduce, text, pattern);
     let mut outgoing: [u64; 256] = [0; 256];
-    multiples::fill_row(&mut outgoing, 0, 8, k, low, begin.shift);
+    multiples::fill_row(&mut outgoing, 0, 8, p, begin.shift);
     let s = Setup {
-        k,
-        low,
+        modulus: p,
         m: pattern.len(),
         wanted: begin.wanted,
     };
-    search_blocks(s, &reduce, &outgoing, text, pattern, begin.first, words)
+    search_blocks(s, &reduce, &outgoing, text, pattern, begin.first, places)
 }
 
-// All places of the pattern in the text, rising, overlaps included: the first ones into the lent words, as far as they reach.
-// Numbers 1, 2, 7, 11.
-pub fn search(key: u64, text: &[u8], pattern: &[u8], words: &mut [u32]) -> Searched
-    ensures { λ r. ⌜ (searched r ≡ search key (now (text .entry)) (now (pattern .entry)))
-        × (now (words .exit) ≡ wordsAfter key (now (text .entry)) (now (pattern .entry)) (now (words .entry))) ⌝ }
+// The search under an opened key. Numbers 7, 11.
+fn search_under(p: Modulus, text: &[u8], pattern: &[u8], places: &mut [u32]) -> Searched
+    requires { ⌜ Proper p × (8 ≤ p .degree) ⌝ }
+    ensures { λ r. ⌜ (searched r ≡ firstOf (textTests (now (text .entry)) (now (pattern .entry))) tt (counts (polynomial p) (now (text .entry)) (now (pattern .entry))))
+        × (now (places .exit) ≡ stateOf (firstOf (textTests (now (text .entry)) (now (pattern .entry))) (now (places .entry))
+        (written (now (text .entry)) (now (pattern .entry)) (now (places .entry))))) ⌝ }
 {
-    match keys::test(key) {
-        Tested::Refused(r) => {
-            return Searched::Refused(r);
-        }
-        Tested::Accepted => {}
-    }
-    if 4294967295 < text.len() {
-        return Searched::Refused(Refusal::TooLong);
-    }
-    if 4294967295 < pattern.len() {
+    if !refusals::within(text.len() as u64, pattern.len() as u64, 0) {
         return Searched::Refused(Refusal::TooLong);
     }
     if pattern.len() == 0 {
@@ -109,7 +102,17 @@ pub fn search(key: u64, text: &[u8], pattern: &[u8], words: &mut [u32]) -> Searc
             alarms: 0,
         });
     }
-    let k = gf2::degree(key);
-    let low = gf2::low_bits(key, k);
-    Searched::Found(search_under(k, low, text, pattern, words))
+    Searched::Found(search_text(p, text, pattern, places))
+}
+
+// All places of the pattern in the text, rising, overlaps included: the first ones into the lent words, as far as they reach.
+// Numbers 1, 2, 7, 11.
+pub fn search(key: u64, text: &[u8], pattern: &[u8], places: &mut [u32]) -> Searched
+    ensures { λ r. ⌜ (searched r ≡ search key (now (text .entry)) (now (pattern .entry)))
+        × (now (places .exit) ≡ wordsAfter key (now (text .entry)) (now (pattern .entry)) (now (places .entry))) ⌝ }
+{
+    match keys::test(key) {
+        Tested::Refused(r) => Searched::Refused(r),
+        Tested::Accepted(p) => search_under(p, text, pattern, places),
+    }
 }

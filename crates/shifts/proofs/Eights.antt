@@ -4,7 +4,9 @@ use mathlib.Core.List.{List}
 use Prim.Native.Nat.{ℕ, _+_, _*_, _^_, _≤_, _<_}
 use native.Mathlib.Nat.{one-mul}
 use lib.ListN.{length, getD, take, drop, drop-of-length-le}
-use Rattle.gf2.specs.Polynomials.{_⊕_, monic, rem, Modulus}
+use Rattle.gf2.specs.Polynomials.{_⊕_, rem}
+use Rattle.gf2.specs.Moduli.{polynomial, Proper}
+use Rattle.gf2.specs.declared.Modulus.{Modulus}
 use Rattle.gf2.proofs.Sums.{⊕-append, ⊕-lt}
 use Rattle.gf2.proofs.Residues.{rem-⊕}
 use Rattle.gf2.proofs.Powers.{rem-rem}
@@ -14,39 +16,56 @@ use Rattle.files.specs.Files.{bits, valueFrom}
 use Rattle.files.proofs.Values.{rem-from}
 use Rattle.lookups.specs.Groups.{looked}
 use Rattle.lookups.proofs.Parts.{fed-piece, value-piece-lt}
-use Rattle.shifts.specs.Shifts.{Shifts}
+use Rattle.shifts.specs.Shifts.{Shifts, FedEights}
 use Rattle.shifts.proofs.Products.{shifted, word-one}
 
 -- x, a number of 64 bits, stands for a leading 1 and the bytes before place i
 abbrev pub StandsFor : ℕ → List ℕ → ℕ → ℕ → Type 0
-StandsFor key p i x = (x < 2 ^ 64) × (rem key (valueFrom x (bits (drop i p))) ≡ rem key (valueFrom 1 (bits p)))
+StandsFor key part i x = (x < 2 ^ 64) × (rem key (valueFrom x (bits (drop i part))) ≡ rem key (valueFrom 1 (bits part)))
 
-module _ (k low : ℕ) (m : Modulus k low) (words : List ℕ) (s : Shifts (monic k low) 64 words) (p : List ℕ) where
-  pos : 0 < monic k low
-  pos = monic-pos k low (m .2)
+-- modulo each polynomial by which the words shift eight bytes
+abbrev pub Stands : List ℕ → List ℕ → ℕ → ℕ → Type 0
+Stands words part i x = (p : Modulus) → Proper p → Shifts (polynomial p) 64 words → StandsFor (polynomial p) part i x
+
+module _ (p : Modulus) (proper : Proper p) (words : List ℕ) (s : Shifts (polynomial p) 64 words) (part : List ℕ) where
+  pos : 0 < polynomial p
+  pos = monic-pos (p .degree) (p .low) (proper .2)
 
   -- eight bytes more behind x, of which z is the shift
-  eight-more : (i x z v : ℕ) → i + 8 ≤ length p → z ≡ rem (monic k low) (x * 2 ^ 64) → v ≡ valueFrom 0 (bits (take 8 (drop i p)))
-      → rem (monic k low) (valueFrom x (bits (drop i p))) ≡ rem (monic k low) (valueFrom 1 (bits p)) → StandsFor (monic k low) p (i + 8) (z ⊕ v)
+  eight-more : (i x z v : ℕ) → i + 8 ≤ length part → z ≡ rem (polynomial p) (x * 2 ^ 64) → v ≡ valueFrom 0 (bits (take 8 (drop i part)))
+      → rem (polynomial p) (valueFrom x (bits (drop i part))) ≡ rem (polynomial p) (valueFrom 1 (bits part)) → StandsFor (polynomial p) part (i + 8) (z ⊕ v)
   eight-more i x z v l ez ev g =
-      let b : v < 2 ^ 64 = rw ev (value-piece-lt p i 8 l) in (
-        ⊕-lt 64 z v (rw ez (residue-word k low (m .2) (m .1) (x * 2 ^ 64))) b,
-        sym (rem-from pos (z ⊕ v) (bits (drop (i + 8) p)))
-            ∙ fed-piece p i 8 l pos x (rem (monic k low) (z ⊕ v))
+      let b : v < 2 ^ 64 = rw ev (value-piece-lt part i 8 l) in (
+        ⊕-lt 64 z v (rw ez (residue-word (p .degree) (p .low) (proper .2) (proper .1) (x * 2 ^ 64))) b,
+        sym (rem-from pos (z ⊕ v) (bits (drop (i + 8) part)))
+            ∙ fed-piece part i 8 l pos x (rem (polynomial p) (z ⊕ v))
             (rem-⊕ pos z v
-            ∙ ap (λ (y : ℕ). y ⊕ rem (monic k low) v) (ap (rem (monic k low)) ez ∙ rem-rem pos (x * 2 ^ 64))
+            ∙ ap (λ (y : ℕ). y ⊕ rem (polynomial p) v) (ap (rem (polynomial p)) ez ∙ rem-rem pos (x * 2 ^ 64))
             ∙ sym (rem-⊕ pos (x * 2 ^ 64) v)
-            ∙ ap (rem (monic k low)) (⊕-append x 64 v b ∙ ap (λ (y : ℕ). x * 2 ^ 64 + y) ev))
+            ∙ ap (rem (polynomial p)) (⊕-append x 64 v b ∙ ap (λ (y : ℕ). x * 2 ^ 64 + y) ev))
             ∙ g,
       )
 
-  pub first-eight : (v : ℕ) → 8 ≤ length p → v ≡ valueFrom 0 (bits (take 8 (drop 0 p))) → StandsFor (monic k low) p 8 (getD words 1 0 ⊕ v)
-  first-eight v l ev = eight-more 0 1 (getD words 1 0) v l (word-one pos 64 words s ∙ ap (rem (monic k low)) (sym (one-mul (2 ^ 64)))) ev refl
+  first-of : (v : ℕ) → 8 ≤ length part → v ≡ valueFrom 0 (bits (take 8 (drop 0 part))) → StandsFor (polynomial p) part 8 (getD words 1 0 ⊕ v)
+  first-of v l ev = eight-more 0 1 (getD words 1 0) v l (word-one pos 64 words s ∙ ap (rem (polynomial p)) (sym (one-mul (2 ^ 64)))) ev refl
 
-  pub next-eight : (i x z v : ℕ) → StandsFor (monic k low) p i x → i + 8 ≤ length p → z ≡ looked 8 words 8 0 x → v ≡ valueFrom 0 (bits (take 8 (drop i p)))
-      → StandsFor (monic k low) p (i + 8) (z ⊕ v)
-  next-eight i x z v g l ez ev = eight-more i x z v l (ez ∙ shifted pos 64 words x s (g .0)) ev (g .1)
+  next-of : (i x z v : ℕ) → StandsFor (polynomial p) part i x → i + 8 ≤ length part → z ≡ looked 8 words 8 0 x → v ≡ valueFrom 0 (bits (take 8 (drop i part)))
+      → StandsFor (polynomial p) part (i + 8) (z ⊕ v)
+  next-of i x z v g l ez ev = eight-more i x z v l (ez ∙ shifted pos 64 words x s (g .0)) ev (g .1)
 
   -- nothing is left
-  pub all-eights : (i x : ℕ) → StandsFor (monic k low) p i x → length p ≤ i → rem (monic k low) x ≡ rem (monic k low) (valueFrom 1 (bits p))
-  all-eights i x g l = sym (rw (drop-of-length-le p {i = i} l) (unfold valueFrom bits in refl)) ∙ g .1
+  all-of : (i x : ℕ) → StandsFor (polynomial p) part i x → length part ≤ i → rem (polynomial p) x ≡ rem (polynomial p) (valueFrom 1 (bits part))
+  all-of i x g l = sym (rw (drop-of-length-le part {i = i} l) (unfold valueFrom bits in refl)) ∙ g .1
+
+-- ---- one turn
+
+module _ (words part : List ℕ) where
+  pub first-eight : (v : ℕ) → 8 ≤ length part → v ≡ valueFrom 0 (bits (take 8 (drop 0 part))) → Stands words part 8 (getD words 1 0 ⊕ v)
+  first-eight v l ev p h s = first-of p h words s part v l ev
+
+  pub next-eight : (i x z v : ℕ) → Stands words part i x → i + 8 ≤ length part → z ≡ looked 8 words 8 0 x → v ≡ valueFrom 0 (bits (take 8 (drop i part)))
+      → Stands words part (i + 8) (z ⊕ v)
+  next-eight i x z v g l ez ev p h s = next-of p h words s part i x z v (g p h s) l ez ev
+
+  pub all-eights : (i x : ℕ) → Stands words part i x → length part ≤ i → FedEights words part x
+  all-eights i x g l p h s = all-of p h words s part i x (g p h s) l

@@ -1,8 +1,10 @@
--- Polynomials over GF(2) for tests that the checker computes: a data type of coefficients, the highest first. The checker adds two of
--- them some six times as fast as it takes `bitXor` of numbers. `value k w` is the number that the first k coefficients of w write.
+-- Polynomials over GF(2) a second time, for tests that the checker computes: a data type of coefficients, the highest first. The checker
+-- adds two of them some six times as fast as it takes `bitXor` of numbers. Theorems speak of numbers; the laws here link the two: `value k w`
+-- is the number that the first k coefficients of w write.
 use mathlib.Core.Path.{_≡_, refl, sym, ap, ap₂, _∙_}
 use Prim.Native.Nat.{ℕ, zero, suc, _+_, _*_, _/_, _%_, _^_, _≤_, _<_, suc-le-suc}
-use native.Mathlib.Nat.{le-trans, le-of-suc-le, le-of-suc-le-suc, not-suc-le-zero, zero-add, suc-add, zero-mul, one-mul, mul-one, pow-suc, le-suc, lt-of-lt-of-le, le-refl, le-add-left, mod-one, mod-lt, mul-comm}
+use native.Mathlib.Nat.{le-trans, le-of-suc-le, le-of-suc-le-suc, not-suc-le-zero, le-suc, lt-of-lt-of-le, le-refl, le-add-left}
+use native.Mathlib.Nat.{zero-add, suc-add, zero-mul, one-mul, mul-one, mul-comm, pow-suc, mod-one, mod-lt}
 use native.Mathlib.Numerals.{one-add}
 use native.Mathlib.Omega.{arith}
 use lib.Pow.{pow-pos, pow-mono, pow-lt, pow-add, mod-pow-add}
@@ -114,7 +116,10 @@ modulus-deg k p = monic-deg k (value k p) (value-lt k p)
 
 module _ (k : ℕ) (p : Word) (fits : size p ≤ k) where
   multiple : (j : ℕ) → modulus k p * 2 ^ j ≡ 2 ^ (j + k) ⊕ value (j + k) p
-  multiple j = ap (λ (x : ℕ). x * 2 ^ j) (monic-⊕ k (value k p) (value-lt k p)) ∙ ⊕-shl j (2 ^ k) (value k p) ∙ ap₂ (λ (x y : ℕ). x ⊕ y) (mul-comm (2 ^ k) (2 ^ j) ∙ sym (pow-add 2 j k)) (sym (value-shl j k p fits))
+  multiple j =
+      ap (λ (x : ℕ). x * 2 ^ j) (monic-⊕ k (value k p) (value-lt k p))
+      ∙ ⊕-shl j (2 ^ k) (value k p)
+      ∙ ap₂ (λ (x y : ℕ). x ⊕ y) (mul-comm (2 ^ k) (2 ^ j) ∙ sym (pow-add 2 j k)) (sym (value-shl j k p fits))
 
   less : (t a b r : ℕ) → a ⊕ b ⊕ r ⊕ (t ⊕ a) ≡ t ⊕ b ⊕ r
   less t a b r = simp xor

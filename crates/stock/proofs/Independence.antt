@@ -3,7 +3,7 @@
 use mathlib.Core.Path.{_≡_, refl, sym, _∙_}
 use mathlib.Core.Logic.{_⊎_, inl, inr}
 use mathlib.Core.Bool.{Bool, true, false}
-use mathlib.Core.List.{List, [], _∷_}
+use mathlib.Core.List.{List, [], _∷_, map}
 use Prim.Native.Nat.{ℕ, zero, suc, _*_, _/_, _%_, _^_, _≤_, _<_, zero-le}
 use native.Mathlib.Nat.{le-trans, le-refl, le-suc, le-of-suc-le-suc, not-suc-le-zero, not-le-of-lt, lt-of-lt-of-le, zero-mul, one-mul, div-self}
 use native.Mathlib.Omega.{arith}
@@ -14,6 +14,7 @@ use Rattle.gf2.specs.Polynomials.{_⊕_}
 use Rattle.gf2.proofs.Sums.{⊕-zero, zero-⊕, ⊕-self, ⊕-assoc, ⊕-left-comm, ⊕-lt, ⊕-eq, xor}
 use Rattle.gf2.proofs.Products.{by-bit, bit-cases, mod-2}
 use Rattle.gf2.proofs.Degrees.{half-lt, deg-⊕, deg-lo}
+use Rattle.basis.specs.Rows.{sumOf, Independent}
 use Rattle.stock.proofs.Coefficients.{Word, end, O, I, value, value-lt, plus, value-plus}
 
 -- a slot for each place, the highest first: what stands below the leading one of the basis word there. `failed`: a word was
@@ -203,32 +204,30 @@ kept (suc n) (some v b) (I w) x t (inr s) = inr (kept n b (plus v w) (x ⊕ (2 ^
 
 -- ---- independence
 
--- the sum of the words at the ones of h, its lowest digit for the first word
-unfoldable pub sum : ℕ → ℕ → List Word → ℕ
-sum k h [] = 0
-sum k h (w ∷ ws) = h % 2 * value k w ⊕ sum k (h / 2) ws
-
-sum-in : (k : ℕ) (ws : List Word) (h : ℕ) → T (sound (basis k ws)) → Span k (basis k ws) (sum k h ws)
-unfolding sum basis
+sum-in : (k : ℕ) (ws : List Word) (h : ℕ) → T (sound (basis k ws)) → Span k (basis k ws) (sumOf h (map (value k) ws))
+unfolding sumOf basis
 sum-in k [] h t = span-zero k (empty k)
 sum-in k (w ∷ ws) h t =
-    span-⊕ k (insert w b) (h % 2 * value k w) (sum k (h / 2) ws)
+    span-⊕ k (insert w b) (h % 2 * value k w) (sumOf (h / 2) (map (value k) ws))
     (by-bit (λ (c : ℕ). Span k (insert w b) (c * value k w)) (rw zero-mul (span-zero k (insert w b))) (rw one-mul (inserted k b w t)) h)
-    (kept k b w (sum k (h / 2) ws) t (sum-in k ws (h / 2) (sound-before b w t)))
+    (kept k b w (sumOf (h / 2) (map (value k) ws)) t (sum-in k ws (h / 2) (sound-before b w t)))
   where
     b : Basis
     b = basis k ws
 
-pub independent : (k : ℕ) (ws : List Word) → T (sound (basis k ws)) → (h : ℕ) → h < 2 ^ length ws → sum k h ws ≡ 0 → h ≡ 0
-unfolding sum basis
+pub independent : (k : ℕ) (ws : List Word) → T (sound (basis k ws)) → Independent (map (value k) ws)
+unfolding sumOf basis
 independent k [] t h l e = omega arith
-independent k (w ∷ ws) t h l e = go (independent k ws (sound-before b w t) (h / 2) (half-lt h (length ws) l)) (bit-cases (h % 2) (mod-2 h))
+independent k (w ∷ ws) t h l e = go (independent k ws (sound-before b w t) (h / 2) (half-lt h (length rest-values) l)) (bit-cases (h % 2) (mod-2 h))
   where
     b : Basis
     b = basis k ws
 
-    go : (sum k (h / 2) ws ≡ 0 → h / 2 ≡ 0) → (h % 2 ≡ 0) ⊎ (h % 2 ≡ 1) → h ≡ 0
+    rest-values : List ℕ
+    rest-values = map (value k) ws
+
+    go : (sumOf (h / 2) rest-values ≡ 0 → h / 2 ≡ 0) → (h % 2 ≡ 0) ⊎ (h % 2 ≡ 1) → h ≡ 0
     go rest (inl z) = omega (arith, rest (rw (z, zero-mul, zero-⊕) at e))
     go rest (inr o) =
         absurd (refused k b w (slots-basis k ws)
-        (span-by k b _ _ (sum-in k ws (h / 2) (sound-before b w t)) (sym (⊕-eq (value k w) (sum k (h / 2) ws) (rw (o, one-mul) at e)))) t)
+        (span-by k b _ _ (sum-in k ws (h / 2) (sound-before b w t)) (sym (⊕-eq (value k w) (sumOf (h / 2) rest-values) (rw (o, one-mul) at e)))) t)

@@ -1,26 +1,30 @@
 -- A test that the checker computes, and that shows a polynomial over GF(2) irreducible: the squares t^(2i) are independent modulo it,
--- and so are t^(2i) ⊕ t^i for i > 0 (acceptance/proofs/Criterion, after Berlekamp).
+-- and so are t^(2i) ⊕ t^i for i > 0 (gf2/proofs/Criterion, after Berlekamp).
 use mathlib.Core.Path.{_≡_, refl, sym, ap, ap₂, _∙_}
 use mathlib.Core.Bool.{Bool, _&&_}
-use mathlib.Core.List.{List, [], _∷_}
+use mathlib.Core.List.{List, [], _∷_, map}
 use Prim.Native.Nat.{ℕ, zero, suc, _*_, _/_, _%_, _^_, _≤_, _<_}
-use native.Mathlib.Nat.{le-of-eq, zero-mul, one-mul, pow-suc, lt-of-lt-of-le, mod-eq-of-lt}
+use native.Mathlib.Nat.{le-of-eq, mul-one, pow-suc, lt-of-lt-of-le, mod-eq-of-lt}
 use native.Mathlib.Omega.{arith}
-use lib.Arith.{lt-one}
 use lib.Dec.{T, eqb, eqb→eq}
-use lib.ListN.{length}
 use lib.Pow.{pow-pos}
 use Rattle.gf2.specs.Polynomials.{_⊕_, _⊗_, degree, Degree, monic, rem, Irreducible}
+use Rattle.lists.specs.Lists.{listFrom}
 use Rattle.lists.proofs.Truth.{and-left, and-right}
-use Rattle.gf2.proofs.Sums.{⊕-self, ⊕-cancel, ⊕-swap}
-use Rattle.gf2.proofs.Products.{⊗-zero, ⊗-one, one-⊗, ⊗-pow, ⊗-assoc, bit-⊕, by-bit, bit-square, by-digits, ring}
+use Rattle.lists.proofs.Lists.{length-list}
+use Rattle.gf2.proofs.Sums.{⊕-self, ⊕-zero}
+use Rattle.gf2.proofs.Products.{one-⊗, ⊗-pow, by-bit, by-low, ring}
 use Rattle.gf2.proofs.Degrees.{half-lt, degree-eq, deg-lo, deg-pos}
 use Rattle.gf2.proofs.Monics.{monic-of}
-use Rattle.gf2.proofs.Residues.{rem-⊕, rem-small, rem-zero}
+use Rattle.gf2.proofs.Linear.{Additive, after, both, squared, at-zero}
+use Rattle.gf2.proofs.Residues.{rem-⊕, rem-small}
 use Rattle.gf2.proofs.Powers.{rem-⊗-left}
-use Rattle.acceptance.proofs.Criterion.{rigid-irreducible}
-use Rattle.stock.proofs.Coefficients.{Word, value, value-lt, plus, value-plus, size, divide, divide-rem, divide-size, value-shl, modulus, modulus-deg, word, digit, value-word, size-word}
-use Rattle.stock.proofs.Independence.{basis, sound, insert, empty, sum, independent}
+use Rattle.gf2.proofs.Criterion.{rigid-irreducible}
+use Rattle.basis.specs.Rows.{Independent}
+use Rattle.basis.proofs.Matrices.{sum-listed}
+use Rattle.stock.proofs.Coefficients.{Word, value, plus, value-plus, size, word, digit, value-word, size-word}
+use Rattle.stock.proofs.Coefficients.{divide, divide-rem, divide-size, value-shl, modulus, modulus-deg}
+use Rattle.stock.proofs.Independence.{basis, sound, insert, empty, independent}
 
 -- ---- the test
 
@@ -59,14 +63,7 @@ unfoldable pub passes : ℕ → Word → Bool
 unfolding injective two-fixed powers squares sums basis sound insert empty word digit plus divide
 passes n p = injective n p && two-fixed n p
 
--- ---- what the lists' sums are, for a polynomial P with the residue R
-
-lengths : (p : Word) (n : ℕ) (a b : Word) → (length (powers p n a) ≡ n) × (length (squares p n b) ≡ n) × (length (sums (powers p n a) (squares p n b)) ≡ n)
-unfolding powers squares sums
-lengths p zero a b = (refl, refl, refl)
-lengths p (suc n) a b =
-    let r = lengths p n (divide p 1 a) (divide p 1 (divide p 1 b)) in
-    (ap suc (r .0), ap suc (r .1), ap suc (r .2))
+-- ---- the words' values: those of linear maps at the powers of t, modulo the polynomial P
 
 module _ (k : ℕ) (p : Word) (fits : size p ≤ k) where
   abbrev P : ℕ
@@ -78,123 +75,120 @@ module _ (k : ℕ) (p : Word) (fits : size p ≤ k) where
   small : (x : ℕ) → x < 2 ^ k → rem P x ≡ x
   small x h = rem-small pos x (rw (degree-eq (modulus k p) k (modulus-deg k p)) h)
 
-  times-t : (w : Word) → size w ≤ k → value k (divide p 1 w) ≡ rem P (value k w ⊗ 2)
-  times-t w h = sym (divide-rem k p fits 1 w) ∙ ap (rem (modulus k p)) (value-shl 1 k w h ∙ sym (⊗-pow 1 (value k w)))
+  reduction : Additive (rem P)
+  reduction = record { sum = rem-⊕ pos }
 
-  bit-small : (h v : ℕ) → v < 2 ^ k → h % 2 * v ≡ rem P (v ⊗ (h % 2))
-  bit-small h v l =
-      by-bit (λ (c : ℕ). c * v ≡ rem P (v ⊗ c)) (rw (zero-mul, ⊗-zero) (sym (rem-zero P))) (rw (one-mul, ⊗-one) (sym (small v l))) h
+  squaring : Additive (λ x. rem P (x ⊗ x))
+  squaring = after reduction squared
 
-  power-step : (v g c : ℕ) → rem P (v ⊗ c) ⊕ rem P (rem P (v ⊗ 2) ⊗ g) ≡ rem P (v ⊗ (g ⊗ 2 ⊕ c))
-  power-step v g c =
-      ap (λ (x : ℕ). rem P (v ⊗ c) ⊕ x) (rem-⊗-left pos (v ⊗ 2) g) ∙ sym (rem-⊕ pos (v ⊗ c) (v ⊗ 2 ⊗ g)) ∙ ap (rem P) (expand v g c 2)
+  times-t : (w : Word) → size w ≤ k → (x : ℕ) → value k w ≡ rem P x → value k (divide p 1 w) ≡ rem P (x ⊗ 2)
+  times-t w h x e =
+      sym (divide-rem k p fits 1 w) ∙ ap (rem P) (value-shl 1 k w h ∙ sym (⊗-pow 1 (value k w)))
+      ∙ ap (λ (y : ℕ). rem P (y ⊗ 2)) e ∙ rem-⊗-left pos x 2
+
+  power-up : (i : ℕ) → 2 ^ i ⊗ 2 ≡ 2 ^ suc i
+  power-up i = ⊗-pow 1 (2 ^ i) ∙ sym (pow-suc 2 i)
+
+  next-power : (i : ℕ) (a : Word) → size a ≤ k → value k a ≡ rem P (2 ^ i) → value k (divide p 1 a) ≡ rem P (2 ^ suc i)
+  next-power i a f e = times-t a f (2 ^ i) e ∙ ap (rem P) (power-up i)
+
+  next-square : (i : ℕ) (b : Word) → size b ≤ k → value k b ≡ rem P (2 ^ i ⊗ 2 ^ i)
+      → value k (divide p 1 (divide p 1 b)) ≡ rem P (2 ^ suc i ⊗ 2 ^ suc i)
+  next-square i b f e =
+      times-t (divide p 1 b) (divide-size k p fits 1 b f) (2 ^ i ⊗ 2 ^ i ⊗ 2) (times-t b f (2 ^ i ⊗ 2 ^ i) e)
+      ∙ ap (rem P) (sorted (2 ^ i) 2 ∙ ap (λ (x : ℕ). x ⊗ x) (power-up i))
     where
-      expand : (v g c t : ℕ) → v ⊗ c ⊕ v ⊗ t ⊗ g ≡ v ⊗ (g ⊗ t ⊕ c)
-      expand v g c t = simp ring
+      sorted : (v t : ℕ) → v ⊗ v ⊗ t ⊗ t ≡ v ⊗ t ⊗ (v ⊗ t)
+      sorted v t = simp ring
 
-  square-step : (v g c : ℕ) → c ⊗ c ≡ c
-      → rem P (v ⊗ c) ⊕ rem P (rem P (rem P (v ⊗ 2) ⊗ 2) ⊗ (g ⊗ g)) ≡ rem P (v ⊗ ((g ⊗ 2 ⊕ c) ⊗ (g ⊗ 2 ⊕ c)))
-  square-step v g c e =
-      ap₂ (λ (x y : ℕ). rem P (v ⊗ x) ⊕ y) (sym e)
-      (rem-⊗-left pos (rem P (v ⊗ 2) ⊗ 2) (g ⊗ g) ∙ ap (rem P) (⊗-assoc (rem P (v ⊗ 2)) 2 (g ⊗ g)) ∙ rem-⊗-left pos (v ⊗ 2) (2 ⊗ (g ⊗ g)))
-      ∙ sym (rem-⊕ pos (v ⊗ (c ⊗ c)) (v ⊗ 2 ⊗ (2 ⊗ (g ⊗ g)))) ∙ ap (rem P) (expand v g c 2)
-    where
-      expand : (v g c t : ℕ) → v ⊗ (c ⊗ c) ⊕ v ⊗ t ⊗ (t ⊗ (g ⊗ g)) ≡ v ⊗ ((g ⊗ t ⊕ c) ⊗ (g ⊗ t ⊕ c))
-      expand v g c t = simp ring
+  twice-size : (b : Word) → size b ≤ k → size (divide p 1 (divide p 1 b)) ≤ k
+  twice-size b f = divide-size k p fits 1 (divide p 1 b) (divide-size k p fits 1 b f)
 
-  sum-powers : (n h : ℕ) (a : Word) → h < 2 ^ n → size a ≤ k → sum k h (powers p n a) ≡ rem P (value k a ⊗ h)
-  unfolding sum powers
-  sum-powers zero h a l f = rw (lt-one l, ⊗-zero) (sym (rem-zero P))
-  sum-powers (suc n) h a l f =
-      ap₂ (λ (x y : ℕ). x ⊕ y) (bit-small h (value k a) (value-lt k a))
-      (sum-powers n (h / 2) (divide p 1 a) (half-lt h n l) (divide-size k p fits 1 a f) ∙ ap (λ (x : ℕ). rem P (x ⊗ (h / 2))) (times-t a f))
-      ∙ power-step (value k a) (h / 2) (h % 2) ∙ ap (λ (x : ℕ). rem P (value k a ⊗ x)) (by-digits h)
+  values-squares : (n i : ℕ) (b : Word) → size b ≤ k → value k b ≡ rem P (2 ^ i ⊗ 2 ^ i)
+      → map (value k) (squares p n b) ≡ listFrom (λ j. rem P (2 ^ j ⊗ 2 ^ j)) i n
+  unfolding squares listFrom
+  values-squares zero i b f e = refl
+  values-squares (suc n) i b f e =
+      ap₂ {C = List ℕ} (λ (x : ℕ) (xs : List ℕ). x ∷ xs) e
+      (values-squares n (suc i) (divide p 1 (divide p 1 b)) (twice-size b f) (next-square i b f e))
 
-  twice-t : (b : Word) → size b ≤ k → value k (divide p 1 (divide p 1 b)) ≡ rem P (rem P (value k b ⊗ 2) ⊗ 2)
-  twice-t b f = times-t (divide p 1 b) (divide-size k p fits 1 b f) ∙ ap (λ (x : ℕ). rem P (x ⊗ 2)) (times-t b f)
-
-  sum-squares : (n h : ℕ) (b : Word) → h < 2 ^ n → size b ≤ k → sum k h (squares p n b) ≡ rem P (value k b ⊗ (h ⊗ h))
-  unfolding sum squares
-  sum-squares zero h b l f = rw (lt-one l, ⊗-zero, ⊗-zero) (sym (rem-zero P))
-  sum-squares (suc n) h b l f =
-      ap₂ (λ (x y : ℕ). x ⊕ y) (bit-small h (value k b) (value-lt k b))
-      (sum-squares n (h / 2) (divide p 1 (divide p 1 b)) (half-lt h n l) (divide-size k p fits 1 (divide p 1 b) (divide-size k p fits 1 b f))
-      ∙ ap (λ (x : ℕ). rem P (x ⊗ (h / 2 ⊗ (h / 2)))) (twice-t b f))
-      ∙ square-step (value k b) (h / 2) (h % 2) (bit-square h) ∙ ap (λ (x : ℕ). rem P (value k b ⊗ (x ⊗ x))) (by-digits h)
-
-  sum-sums : (n h : ℕ) (a b : Word) → sum k h (sums (powers p n a) (squares p n b)) ≡ sum k h (powers p n a) ⊕ sum k h (squares p n b)
-  unfolding sum sums powers squares
-  sum-sums zero h a b = sym (⊕-self 0)
-  sum-sums (suc n) h a b =
-      ap₂ (λ (x y : ℕ). h % 2 * x ⊕ y) (value-plus k a b) (sum-sums n (h / 2) (divide p 1 a) (divide p 1 (divide p 1 b)))
-      ∙ ap (λ (x : ℕ). x ⊕ (sum k (h / 2) (powers p n (divide p 1 a)) ⊕ sum k (h / 2) (squares p n (divide p 1 (divide p 1 b))))) (bit-⊕ h (value k a) (value k b))
-      ∙ ⊕-swap (h % 2 * value k a) (h % 2 * value k b) (sum k (h / 2) (powers p n (divide p 1 a))) (sum k (h / 2) (squares p n (divide p 1 (divide p 1 b))))
+  values-sums : (n i : ℕ) (a b : Word) → size a ≤ k → size b ≤ k → value k a ≡ rem P (2 ^ i) → value k b ≡ rem P (2 ^ i ⊗ 2 ^ i)
+      → map (value k) (sums (powers p n a) (squares p n b)) ≡ listFrom (λ j. rem P (2 ^ j) ⊕ rem P (2 ^ j ⊗ 2 ^ j)) i n
+  unfolding sums powers squares listFrom
+  values-sums zero i a b f g d e = refl
+  values-sums (suc n) i a b f g d e =
+      ap₂ {C = List ℕ} (λ (x : ℕ) (xs : List ℕ). x ∷ xs) (value-plus k a b ∙ ap₂ (λ (x y : ℕ). x ⊕ y) d e)
+      (values-sums n (suc i) (divide p 1 a) (divide p 1 (divide p 1 b)) (divide-size k p fits 1 a f) (twice-size b g)
+      (next-power i a f d) (next-square i b g e))
 
 -- ---- a polynomial that passes is irreducible
 
 one-lt : (n : ℕ) → 1 < 2 ^ suc n
 one-lt n = rw pow-suc (omega (arith, pow-pos n))
 
-cancels : (c x y h : ℕ) → c ⊕ x ≡ h → c ⊕ y ≡ h → x ⊕ y ≡ 0
-cancels c x y h e f = ap (λ (z : ℕ). z ⊕ y) (⊕-cancel c x y (e ∙ sym f)) ∙ ⊕-self y
-
-value-one : (n : ℕ) → value (suc n) (one n) ≡ 1
-value-one n = value-word (suc n) 1 ∙ mod-eq-of-lt (one-lt n)
-
 module _ (n : ℕ) (p : Word) (fits : size p ≤ suc n) where
+  abbrev R : ℕ → ℕ
+  R x = rem (modulus (suc n) p) x
+
+  rem-one : R 1 ≡ 1
+  rem-one = small (suc n) p fits 1 (one-lt n)
+
   size-one : size (one n) ≤ suc n
   size-one = le-of-eq (size-word (suc n) 1)
 
-  size-t : size (by-t n p) ≤ suc n
-  size-t = divide-size (suc n) p fits 1 (one n) size-one
+  value-one : value (suc n) (one n) ≡ R 1
+  value-one = value-word (suc n) 1 ∙ mod-eq-of-lt (one-lt n) ∙ sym rem-one
 
-  R : ℕ → ℕ
-  R x = rem (modulus (suc n) p) x
+  value-square : value (suc n) (one n) ≡ R (1 ⊗ 1)
+  value-square = value-one ∙ ap R (sym (one-⊗ 1))
 
   no-nilpotent : T (injective n p) → (h : ℕ) → 0 < h → h < 2 ^ suc n → R (h ⊗ h) ≡ 0 → ⊥
-  unfolding injective R
+  unfolding injective
   no-nilpotent t h l s e =
       omega (
         arith,
-        independent (suc n) (squares p (suc n) (one n)) t h (rw (lengths p (suc n) (one n) (one n) .1) s)
-            (sum-squares (suc n) p fits (suc n) h (one n) s size-one ∙ rw (value-one n, one-⊗) e),
+        rows h (rw length-list s) (sum-listed (squaring (suc n) p fits) 0 (suc n) h s ∙ ap (λ (x : ℕ). R (x ⊗ x)) (mul-one h) ∙ e),
       )
+    where
+      rows : Independent (listFrom (λ j. R (2 ^ j ⊗ 2 ^ j)) 0 (suc n))
+      rows =
+          rw (values-squares (suc n) p fits (suc n) 0 (one n) size-one value-square) at
+          (independent (suc n) (squares p (suc n) (one n)) t)
 
-  -- with h = 2 g ⊕ c: t g and t² g² are h ⊕ c and h² ⊕ c modulo the polynomial
-  linear : (h : ℕ) → h < 2 ^ suc n → R (1 ⊗ (h % 2)) ⊕ sum (suc n) (h / 2) (powers p n (by-t n p)) ≡ h
-  unfolding R
-  linear h s =
-      ap (λ (x : ℕ). R (1 ⊗ (h % 2)) ⊕ x)
-      (sum-powers (suc n) p fits n (h / 2) (by-t n p) (half-lt h n s) size-t
-      ∙ ap (λ (x : ℕ). R (x ⊗ (h / 2))) (times-t (suc n) p fits (one n) size-one ∙ ap (λ (x : ℕ). R (x ⊗ 2)) (value-one n)))
-      ∙ power-step (suc n) p fits 1 (h / 2) (h % 2) ∙ ap (λ (x : ℕ). R (1 ⊗ x)) (by-digits h) ∙ ap R (one-⊗ h) ∙ small (suc n) p fits h s
+  -- x and its square
+  difference : Additive (λ x. R x ⊕ R (x ⊗ x))
+  difference = both (reduction (suc n) p fits) (squaring (suc n) p fits)
 
-  quadratic : (h : ℕ) → h < 2 ^ suc n → R (1 ⊗ (h % 2)) ⊕ sum (suc n) (h / 2) (squares p n (divide p 1 (by-t n p))) ≡ R (h ⊗ h)
-  unfolding R
-  quadratic h s =
-      ap (λ (x : ℕ). R (1 ⊗ (h % 2)) ⊕ x)
-      (sum-squares (suc n) p fits n (h / 2) (divide p 1 (by-t n p)) (half-lt h n s) (divide-size (suc n) p fits 1 (by-t n p) size-t)
-      ∙ ap (λ (x : ℕ). R (x ⊗ (h / 2 ⊗ (h / 2))))
-      (twice-t (suc n) p fits (one n) size-one ∙ ap (λ (x : ℕ). R (R (x ⊗ 2) ⊗ 2)) (value-one n)))
-      ∙ square-step (suc n) p fits 1 (h / 2) (h % 2) (bit-square h) ∙ ap (λ (x : ℕ). R (1 ⊗ (x ⊗ x))) (by-digits h) ∙ ap R (one-⊗ (h ⊗ h))
+  -- it is 0 at a residue that squaring fixes; so it is at h = 2 g ⊕ c less its lowest coefficient
+  at-rest : (h : ℕ) → h < 2 ^ suc n → R (h ⊗ h) ≡ h → R (h / 2 * 2) ⊕ R (h / 2 * 2 ⊗ (h / 2 * 2)) ≡ 0
+  at-rest h s e =
+      sym (⊕-zero (D (h / 2 * 2))) ∙ ap (λ (x : ℕ). D (h / 2 * 2) ⊕ x) (sym (at-digit h))
+      ∙ sym (difference .sum (h / 2 * 2) (h % 2)) ∙ ap D (by-low h)
+      ∙ ap₂ (λ (x y : ℕ). x ⊕ y) (small (suc n) p fits h s) e ∙ ⊕-self h
+    where
+      D : ℕ → ℕ
+      D x = R x ⊕ R (x ⊗ x)
 
-  fixed-sum : (h : ℕ) → h < 2 ^ suc n → R (h ⊗ h) ≡ h
-      → sum (suc n) (h / 2) (sums (powers p n (by-t n p)) (squares p n (divide p 1 (by-t n p)))) ≡ 0
-  fixed-sum h s e =
-      sum-sums (suc n) p fits n (h / 2) (by-t n p) (divide p 1 (by-t n p))
-      ∙ cancels (R (1 ⊗ (h % 2))) _ _ h (linear h s) (quadratic h s ∙ e)
+      at-digit : (h : ℕ) → D (h % 2) ≡ 0
+      at-digit = by-bit (λ (c : ℕ). D c ≡ 0) (at-zero difference) (ap (λ (x : ℕ). R 1 ⊕ R x) (one-⊗ 1) ∙ ⊕-self (R 1))
 
   no-idempotent : T (two-fixed n p) → (h : ℕ) → 1 < h → h < 2 ^ suc n → R (h ⊗ h) ≡ h → ⊥
   unfolding two-fixed
   no-idempotent t h l s e =
       omega (
         arith,
-        independent (suc n) (sums (powers p n (by-t n p)) (squares p n (divide p 1 (by-t n p)))) t (h / 2)
-            (rw (lengths p n (by-t n p) (divide p 1 (by-t n p)) .2) (half-lt h n s)) (fixed-sum h s e),
+        rows (h / 2) (rw length-list (half-lt h n s)) (sum-listed difference 1 n (h / 2) (half-lt h n s) ∙ at-rest h s e),
       )
+    where
+      rows : Independent (listFrom (λ j. R (2 ^ j) ⊕ R (2 ^ j ⊗ 2 ^ j)) 1 n)
+      rows =
+          rw (values-sums (suc n) p fits n 1 (by-t n p) (divide p 1 (by-t n p)) (divide-size (suc n) p fits 1 (one n) size-one)
+          (twice-size (suc n) p fits (one n) size-one) (next-power (suc n) p fits 0 (one n) size-one value-one)
+          (next-square (suc n) p fits 0 (one n) size-one value-square)) at
+          (independent (suc n) (sums (powers p n (by-t n p)) (squares p n (divide p 1 (by-t n p)))) t)
 
   pub passes-irreducible : T (passes n p) → Irreducible (modulus (suc n) p)
-  unfolding passes R
+  unfolding passes
   passes-irreducible t =
       rigid-irreducible (modulus (suc n) p)
       (record {

@@ -1,4 +1,4 @@
--- The theorems about the stock list: one law for a list that passes the test, and the test, computed.
+-- The theorems about the stock list, and the test, computed once.
 use mathlib.Core.Path.{_≡_, refl, sym}
 use mathlib.Core.List.{List, [], _∷_}
 use Prim.Native.Nat.{ℕ, _+_, _-_, _≤_, _<_}
@@ -7,7 +7,7 @@ use native.Mathlib.Omega.{arith}
 use lib.Dec.{T}
 use lib.ListN.{length, getD}
 use Rattle.stock.specs.Stock.{stockKey, Smallest}
-use Rattle.stock.proofs.Sieve.{stockedTable, smallest-at}
+use Rattle.stock.proofs.Sieve.{stockedTable, left, smallest-at}
 use Rattle.stock.proofs.Searches.{stock-is}
 
 -- for each degree from 8 on: divisors beside t and t + 1, of which every smaller number of that degree than the stock key has one
@@ -61,7 +61,8 @@ divisors =
     (7 ∷ 11 ∷ 13 ∷ 19 ∷ 25 ∷ 87 ∷ 109 ∷ 995 ∷ 5139 ∷ 11439 ∷ 757525 ∷ []) ∷
     (7 ∷ 11 ∷ 13 ∷ 19 ∷ 25 ∷ 31 ∷ 41 ∷ 47 ∷ 55 ∷ 59 ∷ 67 ∷ 131 ∷ 143 ∷ 167 ∷ 361 ∷ 419 ∷ 841 ∷ 1435 ∷ 3305 ∷ 64931 ∷ []) ∷
     (7 ∷ 13 ∷ 41 ∷ 55 ∷ 103 ∷ 117 ∷ 193 ∷ 239 ∷ 299 ∷ 357 ∷ 1125 ∷ 17099 ∷ 123437 ∷ []) ∷
-    (7 ∷ 11 ∷ 13 ∷ 19 ∷ 25 ∷ 31 ∷ 37 ∷ 47 ∷ 55 ∷ 73 ∷ 213 ∷ 3771 ∷ 260413 ∷ 4706181 ∷ 8163469 ∷ 11811265 ∷ 14725265 ∷ 268435459 ∷ 268435465 ∷ 268435471 ∷ 7528517531 ∷ []) ∷
+    (7 ∷ 11 ∷ 13 ∷ 19 ∷ 25 ∷ 31 ∷ 37 ∷ 47 ∷ 55 ∷ 73 ∷ 213 ∷ 3771 ∷ 260413 ∷ 4706181 ∷ 8163469 ∷
+    11811265 ∷ 14725265 ∷ 268435459 ∷ 268435465 ∷ 268435471 ∷ 7528517531 ∷ []) ∷
     (7 ∷ 11 ∷ 25 ∷ 59 ∷ []) ∷
     (7 ∷ 11 ∷ 13 ∷ 19 ∷ 25 ∷ 41 ∷ 47 ∷ 55 ∷ 97 ∷ 2053 ∷ 2811 ∷ 50881 ∷ 635233 ∷ 25490401 ∷ 536870917 ∷ []) ∷
     (7 ∷ 11 ∷ 13 ∷ 19 ∷ 25 ∷ 31 ∷ 37 ∷ 47 ∷ 55 ∷ 73 ∷ 115 ∷ 137 ∷ 167 ∷ 253 ∷ 283 ∷ 973 ∷ 26103 ∷ 96075 ∷ 8685311 ∷ 20386973 ∷ []) ∷
@@ -71,41 +72,33 @@ divisors =
     [] ∷
     []
 
--- the test of a stock list
-abbrev pub Stocked : List ℕ → Type 0
-Stocked ps = T (stockedTable 7 ps divisors)
+-- what they leave, which the checker finds: the stock list
+abbrev pub keys : List ℕ
+keys = left 8 divisors
 
-module _ (ps : List ℕ) (all : length ps ≡ 56) (tested : Stocked ps) (k : ℕ) (lo : 8 ≤ k) (hi : k < 64) where
-  pub entry-smallest : Smallest k (getD ps (k - 8) 0)
-  entry-smallest = rw place at (smallest-at ps divisors 7 (le-refl 8) (rw all (le-refl 63)) tested (k - 8) (rw all (omega arith)))
+tested : T (stockedTable 7 divisors)
+unfolding divisors left
+tested = tt
+
+degrees : length divisors ≡ 56
+unfolding divisors
+degrees = refl
+
+module _ (k : ℕ) (lo : 8 ≤ k) (hi : k < 64) where
+  entry-smallest : Smallest k (getD keys (k - 8) 0)
+  entry-smallest = rw place at (smallest-at divisors 7 (le-refl 8) (rw degrees (le-refl 63)) tested (k - 8) (rw degrees (omega arith)))
     where
       place : 8 + (k - 8) ≡ k
       place = omega arith
 
-  -- a list that passes is the stock list
-  pub entry-stock : getD ps (k - 8) 0 ≡ stockKey k
-  entry-stock = sym (stock-is k (getD ps (k - 8) 0) entry-smallest)
-
--- ---- such a list
-
-unfoldable pub keys : List ℕ
-keys =
-    0x11b ∷ 0x203 ∷ 0x409 ∷ 0x805 ∷ 0x1009 ∷ 0x201b ∷ 0x4021 ∷ 0x8003 ∷ 0x1002b ∷ 0x20009 ∷ 0x40009 ∷ 0x80027 ∷ 0x100009 ∷ 0x200005 ∷ 0x400003 ∷ 0x800021 ∷ 0x100001b ∷ 0x2000009 ∷ 0x400001b ∷ 0x8000027 ∷ 0x10000003 ∷ 0x20000005 ∷ 0x40000003 ∷ 0x80000009 ∷ 0x10000008d ∷ 0x20000004b ∷ 0x40000001b ∷ 0x800000005 ∷ 0x1000000035 ∷ 0x200000003f ∷ 0x4000000063 ∷ 0x8000000011 ∷ 0x10000000039 ∷ 0x20000000009 ∷ 0x40000000027 ∷ 0x80000000059 ∷ 0x100000000021 ∷ 0x20000000001b ∷ 0x400000000003 ∷ 0x800000000021 ∷ 0x100000000002d ∷ 0x2000000000071 ∷ 0x400000000001d ∷ 0x800000000004b ∷ 0x10000000000009 ∷ 0x20000000000047 ∷ 0x4000000000007d ∷ 0x80000000000047 ∷ 0x100000000000095 ∷ 0x200000000000011 ∷ 0x400000000000063 ∷ 0x80000000000007b ∷ 0x1000000000000003 ∷ 0x2000000000000027 ∷ 0x4000000000000069 ∷ 0x8000000000000003 ∷ []
-
-tested : Stocked keys
-unfolding keys divisors stockedTable
-tested = tt
-
-module _ (k : ℕ) (lo : 8 ≤ k) (hi : k < 64) where
-  all : length keys ≡ 56
-  unfolding keys
-  all = refl
+  pub entry-stock : getD keys (k - 8) 0 ≡ stockKey k
+  entry-stock = sym (stock-is k (getD keys (k - 8) 0) entry-smallest)
 
   -- for each degree 8 to 63 the stock key is accepted, has that degree, and is the smallest such number
   pub stock-smallest : Smallest k (stockKey k)
-  stock-smallest = rw (entry-stock keys all tested k lo hi) at (entry-smallest keys all tested k lo hi)
+  stock-smallest = rw entry-stock at entry-smallest
 
 -- the house key
 pub stock-61 : stockKey 61 ≡ 0x2000000000000027
-unfolding keys
-stock-61 = sym (entry-stock keys refl tested 61 (omega arith) (omega arith))
+unfolding divisors left
+stock-61 = sym (entry-stock 61 (omega arith) (omega arith))

@@ -1,4 +1,6 @@
-// The stock list: a fixed table, one key a degree.
+// The stock list: a fixed table, one key a degree. The checker finds the same list by the divisors in proofs/Table.antt, and computes that
+// each key is irreducible. That is done in a second arithmetic, on coefficients (proofs/Coefficients.antt): on numbers it would take the
+// checker several times as long.
 ghost use mathlib.Core.Path.{_≡_};
 ghost use Prim.Native.Nat.{_≤_, _<_};
 ghost use Rattle.stock.specs.Stock.{stockKey};

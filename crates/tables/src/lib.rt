@@ -1,97 +1,58 @@
-// Tables of residues: making one, testing one against its key, and feeding a file by one, four bytes at a time.
+// Tables of residues: making one, and testing one against its key.
+use gf2::Modulus;
 use keys::Tested;
-use marks::Fed;
-use marks::Running;
 use refusals::Refusal;
+use refusals::Reply;
 ghost use mathlib.Core.Path.{_≡_};
-ghost use Rattle.marks.specs.Feeding.{markIn, fed, fedUnder};
-ghost use Rattle.tables.specs.Tables.{makeTable, testTable, feedTable};
-ghost use Rattle.tables.specs.Answers.{made, checked};
+ghost use mathlib.Core.List.{[], _∷_};
+ghost use Rattle.gf2.specs.Moduli.{polynomial, Proper};
+ghost use Rattle.lists.specs.Lists.{listFrom};
+ghost use Rattle.refusals.specs.Refusals.{firstOf, reply, told, judged};
+ghost use Rattle.lookups.specs.Rule.{word};
+ghost use Rattle.tables.specs.Tables.{sizeTest, tableTests, makeTable, testTable};
 
-pub mod feeding;
-pub mod rows;
-
-// The answer to the making of a table: the lent words are the key's table, or a refusal.
-pub enum Made {
-    Done,
-    Refused(Refusal),
+// The table of a modulus into the lent words. Number 5.
+fn make_under(p: Modulus, words: &mut [u64]) -> Reply
+    requires { ⌜ Proper p ⌝ }
+    ensures { λ r. ⌜ reply (now (words .exit)) r ≡ firstOf (sizeTest (now (words .entry)) ∷ []) (now (words .entry)) (listFrom (word 8 (polynomial p)) 0 1024) ⌝ }
+{
+    if words.len() == 1024 {
+        lookups::fill_table(words, p);
+        return Reply::Done;
+    }
+    Reply::Refused(Refusal::TableSize)
 }
 
-// The answer to the test of a table: the lent words are the key's table, or a refusal.
-pub enum Checked {
-    Right,
-    Refused(Refusal),
+// Are the lent words the table of a modulus? Numbers 5, 6. For our own crates, which hold an opened key.
+pub fn judge(p: Modulus, words: &[u64]) -> Reply
+    requires { ⌜ Proper p ⌝ }
+    ensures { λ r. ⌜ told r ≡ judged (tableTests (polynomial p) (now (words .entry))) ⌝ }
+{
+    if words.len() != 1024 {
+        return Reply::Refused(Refusal::TableSize);
+    }
+    if !lookups::table_holds(words, p) {
+        return Reply::Refused(Refusal::TableWord);
+    }
+    Reply::Done
 }
 
 // The key's table into the lent words. Numbers 1, 2, 5.
-pub fn make(key: u64, words: &mut [u64]) -> Made
-    ensures { λ r. ⌜ made (now (words .exit)) r ≡ makeTable key (now (words .entry)) ⌝ }
+pub fn make(key: u64, words: &mut [u64]) -> Reply
+    ensures { λ r. ⌜ reply (now (words .exit)) r ≡ makeTable key (now (words .entry)) ⌝ }
 {
     match keys::test(key) {
-        Tested::Refused(r) => {
-            return Made::Refused(r);
-        }
-        Tested::Accepted => {}
+        Tested::Refused(r) => Reply::Refused(r),
+        Tested::Accepted(p) => make_under(p, words),
     }
-    if words.len() != 1024 {
-        return Made::Refused(Refusal::TableSize);
-    }
-    let k = gf2::degree(key);
-    rows::fill(words, k, gf2::low_bits(key, k));
-    Made::Done
 }
 
 // Are the lent words the key's table? Numbers 1, 2, 5, 6.
-pub fn test(key: u64, words: &[u64]) -> Checked
-    ensures { λ r. ⌜ checked r ≡ testTable key (now (words .entry)) ⌝ }
+pub fn test(key: u64, words: &[u64]) -> Reply
+    ensures { λ r. ⌜ told r ≡ testTable key (now (words .entry)) ⌝ }
 {
     match keys::test(key) {
-        Tested::Refused(r) => {
-            return Checked::Refused(r);
-        }
-        Tested::Accepted => {}
+        Tested::Refused(r) => Reply::Refused(r),
+        Tested::Accepted(p) => judge(p, words),
     }
-    if words.len() != 1024 {
-        return Checked::Refused(Refusal::TableSize);
-    }
-    let k = gf2::degree(key);
-    if !rows::holds(words, k, gf2::low_bits(key, k)) {
-        return Checked::Refused(Refusal::TableWord);
-    }
-    Checked::Right
-}
-
-// The mark of what was fed with the part behind it, by the lent table, all of whose words are tested first. Numbers 1, 2, 5, 6, 7, 8.
-pub fn feed(m: Running, words: &[u64], part: &[u8]) -> Fed
-    ensures { λ r. ⌜ fed r ≡ fedUnder (m .key) (feedTable (m .key) (markIn m) (now (words .entry)) (now (part .entry))) ⌝ }
-{
-    let key = m.key;
-    let f = m.fingerprint;
-    let length = m.length;
-    let n = part.len() as u64;
-    match keys::test(key) {
-        Tested::Refused(r) => {
-            return Fed::Refused(r, m);
-        }
-        Tested::Accepted => {}
-    }
-    if words.len() != 1024 {
-        return Fed::Refused(Refusal::TableSize, m);
-    }
-    let k = gf2::degree(key);
-    let low = gf2::low_bits(key, k);
-    if !rows::holds(words, k, low) {
-        return Fed::Refused(Refusal::TableWord, m);
-    }
-    if !marks::fits(length, n) {
-        return Fed::Refused(Refusal::TooLong, m);
-    }
-    if !marks::reduced(k, f) {
-        return Fed::Refused(Refusal::MarkNotReduced, m);
-    }
-    Fed::Next(Running {
-        key: key,
-        fingerprint: feeding::fed(words, k, low, f, part),
-        length: length + n,
-    })
 }

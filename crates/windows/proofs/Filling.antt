@@ -1,4 +1,4 @@
--- Laws of lists whose entries follow a rule: one run of entries, and four runs side by side.
+-- Laws of lists whose entries follow a rule: one lane of entries, and four lanes side by side.
 use mathlib.Core.Path.{_≡_, _∙_}
 use mathlib.Core.Logic.{_⊎_, inl, inr, _≢_}
 use mathlib.Core.List.{List}
@@ -38,23 +38,23 @@ module _ {A : Type 0} {d : A} {rule : ℕ → A} where
       go i a b (yes q) = f .entry i a q
       go i a b (no q) = g .entry i (omega arith) b
 
--- ---- four runs of 256 entries, j of each filled
+-- ---- four lanes of 256 entries, j of each filled
 
 module _ {A : Type 0} (d : A) (rule : ℕ → A) where
-  abbrev pub Runs : ℕ → List A → Type 0
-  Runs j l =
+  abbrev pub LanesFilled : ℕ → List A → Type 0
+  LanesFilled j l =
       (length l ≡ 1024)
       × Filled d rule 0 j l
       × Filled d rule 256 (j + 256) l
       × Filled d rule 512 (j + 512) l
       × Filled d rule 768 (j + 768) l
 
-  pub runs-begin : (l : List A) → length l ≡ 1024 → Runs 0 l
-  runs-begin l e = (e, filled-none 0 l, filled-none 256 l, filled-none 512 l, filled-none 768 l)
+  pub lanes-begin : (l : List A) → length l ≡ 1024 → LanesFilled 0 l
+  lanes-begin l e = (e, filled-none 0 l, filled-none 256 l, filled-none 512 l, filled-none 768 l)
 
-  pub runs-more : (j : ℕ) (l : List A) (u v w x : A) → j < 256 → Runs j l → u ≡ rule j → v ≡ rule (j + 256) → w ≡ rule (j + 512) → x ≡ rule (j + 768)
-      → Runs (j + 1) (set (set (set (set l j u) (j + 256) v) (j + 512) w) (j + 768) x)
-  runs-more j l u v w x h (n, p, q, r, s) eu ev ew ex =
+  pub lanes-more : (j : ℕ) (l : List A) (u v w x : A) → j < 256 → LanesFilled j l → u ≡ rule j → v ≡ rule (j + 256) → w ≡ rule (j + 512) → x ≡ rule (j + 768)
+      → LanesFilled (j + 1) (set (set (set (set l j u) (j + 256) v) (j + 512) w) (j + 768) x)
+  lanes-more j l u v w x h (n, p, q, r, s) eu ev ew ex =
       let l1 = set l j u in
       let l2 = set l1 (j + 256) v in
       let l3 = set l2 (j + 512) w in
@@ -88,5 +88,7 @@ module _ {A : Type 0} (d : A) (rule : ℕ → A) where
             (omega arith) ex),
       )
 
-  pub runs-end : (l : List A) → Runs 256 l → Filled d rule 0 1024 l
-  runs-end l (n, p, q, r, s) = filled-join 0 768 1024 l (filled-join 0 512 768 l (filled-join 0 256 512 l p q) r) s
+  pub lanes-end : (j : ℕ) (l : List A) → j ≡ 256 → LanesFilled j l → Filled d rule 0 1024 l
+  lanes-end j l e f =
+      let (n, p, q, r, s) = rw e at f in
+      filled-join 0 768 1024 l (filled-join 0 512 768 l (filled-join 0 256 512 l p q) r) s

@@ -1,8 +1,9 @@
 -- Laws of the residue without the leading 1: of bytes appended and of the next window; and of the tables.
 use mathlib.Core.Path.{_≡_, sym, ap, _∙_}
+use mathlib.Core.Bool.{Bool, false}
 use mathlib.Core.List.{List, [], _∷_, _++_}
-use Prim.Native.Nat.{ℕ, suc, _+_, _*_, _^_, _<_}
-use native.Mathlib.Nat.{add-zero, one-mul, zero-mul, zero-add, mod-eq-of-lt}
+use Prim.Native.Nat.{ℕ, suc, _+_, _*_, _^_, _≤_, _<_}
+use native.Mathlib.Nat.{add-zero, mul-one, one-mul, zero-mul, zero-add, mod-eq-of-lt}
 use native.Mathlib.Decide.{ℕ-discrete}
 use native.Mathlib.Numerals.{add-one}
 use native.Mathlib.Omega.{arith}
@@ -10,19 +11,21 @@ use borrow.Author.Tests.{eq-eqb, ne-eqb}
 use lib.Dec.{eqb}
 use lib.ListN.{length, getD}
 use lib.Pow.{pow-add}
-use Rattle.gf2.specs.Polynomials.{_⊕_, _⊗_, monic, rem}
+use Rattle.gf2.specs.Polynomials.{_⊕_, _⊗_, rem}
+use Rattle.gf2.specs.Moduli.{polynomial, Proper}
+use Rattle.gf2.specs.declared.Modulus.{Modulus}
 use Rattle.gf2.proofs.Sums.{⊕-cancel, ⊕-comm, ⊕-move}
 use Rattle.gf2.proofs.Products.{⊗-pow}
 use Rattle.gf2.proofs.Residues.{rem-zero, rem-⊕}
 use Rattle.gf2.proofs.Powers.{rem-⊗-right, rem-shl}
-use Rattle.gf2.proofs.Steps.{residue-lt, residue-top}
-use Rattle.multiples.specs.Rows.{Multiples}
-use Rattle.lookups.specs.Groups.{Rows}
+use Rattle.gf2.proofs.Monics.{monic-pos}
+use Rattle.gf2.proofs.Steps.{residue-below, residue-top}
+use Rattle.multiples.specs.Rows.{Multiples, Rows}
 use Rattle.files.specs.Files.{bits, valueFrom, value, fingerprint}
 use Rattle.files.proofs.Values.{value-append, value-⊕, value-byte, length-bits, bits-append, rem-from}
 use Rattle.windows.specs.declared.rolling.Setup.{Setup}
-use Rattle.windows.specs.Rolling.{window, residue, keyOf, hit}
-use Rattle.windows.proofs.Windows.{window-length, window-more, window-front}
+use Rattle.windows.specs.Rolling.{window, residue, keyOf, ResidueAt, Filled, hit, Flagged}
+use Rattle.windows.proofs.Windows.{window-length, window-more, window-front, window-none}
 
 one-byte : (s b : ℕ) → b < 256 → valueFrom s (bits (b ∷ [])) ≡ s * 256 + b
 unfolding valueFrom bits
@@ -68,9 +71,9 @@ module _ {p : ℕ} (pos : 0 < p) where
       ∙ ap (rem p) (one-byte (rem p (valueFrom 0 (bits a))) b h)
 
   -- a power of t, eight places up
-  pub shift-next : (i : ℕ) → rem p (rem p (2 ^ (8 * i)) * 256 + 0) ≡ rem p (2 ^ (8 * (i + 1)))
-  shift-next i =
-      rw add-zero
+  pub shift-more : (i x r : ℕ) → x ≡ rem p (2 ^ (8 * i)) → r ≡ rem p (x * 256 + 0) → r ≡ rem p (2 ^ (8 * (i + 1)))
+  shift-more i x r ex er =
+      er ∙ rw (ex, add-zero)
       (rem-shl pos (2 ^ (8 * i)) 8 ∙ ap (rem p) (sym (pow-add 2 (8 * i) 8) ∙ ap (λ (n : ℕ). 2 ^ n) e))
     where
       e : 8 * i + 8 ≡ 8 * (i + 1)
@@ -103,10 +106,6 @@ module _ {p : ℕ} (pos : 0 < p) where
           ∙ rw (window-length m text (suc i) (omega arith)))
 
   -- the same as the code goes: x is the residue of a window, and r is made of it, the byte at e, and the table's entry for the first byte
-  pub read-on : (m : ℕ) (text : List ℕ) (i e x r : ℕ) → i + m ≡ e → e < length text → getD text e 0 < 256
-      → x ≡ residue p (window m text i) → r ≡ rem p (x * 256 + getD text e 0) → r ≡ residue p (window (m + 1) text i)
-  read-on m text i e x r q h l ex er = er ∙ rw (ex, ← q) (sym (residue-more m text i (rw q h) (rw q l)))
-
   pub rolled : (m : ℕ) (text outgoing : List ℕ) (i e x r : ℕ) → i + m ≡ e → e < length text → getD text i 0 < 256 → getD text e 0 < 256
       → Multiples p (2 ^ (8 * m)) 0 256 outgoing → x ≡ residue p (window m text i)
       → r ≡ rem p (x * 256 + getD text e 0) ⊕ getD outgoing (getD text i 0) 0 → r ≡ residue p (window m text (i + 1))
@@ -115,26 +114,49 @@ module _ {p : ℕ} (pos : 0 < p) where
       ∙ rw (ex, ← q, rw zero-add at (t (getD text i 0) lx))
       (sym (residue-next m text i (rw q h) lx (rw q ly)))
 
-pub residue-below : (k c : ℕ) → c < 2 ^ k → (bytes : List ℕ) → residue (monic k c) bytes < 2 ^ k
-unfolding residue
-residue-below k c h bytes = residue-lt k c h (valueFrom 0 (bits bytes))
+-- ---- a window read byte by byte: x is the residue of its first j bytes
 
-pub same-place : (p m : ℕ) (text : List ℕ) (i j : ℕ) → i ≡ j → residue p (window m text i) ≡ residue p (window m text j)
-same-place p m text i j e = ap (λ (n : ℕ). residue p (window m text n)) e
+module _ (p : Modulus) (proper : Proper p) (text : List ℕ) (i : ℕ) where
+  abbrev pub Read : ℕ → ℕ → Type 0
+  Read j x = x ≡ residue (polynomial p) (window j text i)
 
-pub hit-is : (s : Setup) (text : List ℕ) (from j x : ℕ) → x ≡ residue (keyOf s) (window (s .m) text (from + j)) → eqb x (s .wanted) ≡ hit s text from j
+  pos : 0 < polynomial p
+  pos = monic-pos (p .degree) (p .low) (proper .2)
+
+  pub read-none : Read 0 0
+  read-none = sym (rw window-none (residue-none pos))
+
+  pub read-below : (j x : ℕ) → Read j x → x < 2 ^ p .degree
+  unfolding residue
+  read-below j x e = residue-below p proper x (valueFrom 0 (bits (window j text i))) e
+
+  -- the byte at e comes in behind
+  pub read-more : (j e x r : ℕ) → i + j ≡ e → e < length text → getD text e 0 < 256 → Read j x → r ≡ rem (polynomial p) (x * 256 + getD text e 0) → Read (j + 1) r
+  read-more j e x r q h l ex er = er ∙ rw (ex, ← q) (sym (residue-more pos j text i (rw q h) (rw q l)))
+
+  pub read-all : (j m x : ℕ) → j ≡ m → Read j x → Read m x
+  read-all j m x e h = rw (← e) h
+
+pub same-place : (s : Setup) (text : List ℕ) (i j x : ℕ) → i ≡ j → ResidueAt s text i x → ResidueAt s text j x
+same-place s text i j x e h = h ∙ ap (λ (n : ℕ). residue (keyOf s) (window (s .m) text n)) e
+
+pub hit-is : (s : Setup) (text : List ℕ) (from j x : ℕ) → ResidueAt s text (from + j) x → eqb x (s .wanted) ≡ hit s text from j
 unfolding hit
 hit-is s text from j x e = ap (λ (y : ℕ). eqb y (s .wanted)) e
+
+pub flagged-all : (s : Setup) (text : List ℕ) (from j size x : ℕ) (flags : List Bool) → j ≡ size → (from + j + s .m ≤ length text → ResidueAt s text (from + j) x)
+    → Filled false (hit s text from) 0 j flags → Flagged s text from size x flags
+flagged-all s text from j size x flags e next f = rw (← e) (record { flags = f; next = next })
 
 -- ---- the tables
 
 -- the multiples of a residue are those of what it is the residue of
-pub multiples-of : {p : ℕ} (pos : 0 < p) (c : ℕ) (table : List ℕ) → Multiples p (rem p c) 0 256 table → Multiples p c 0 256 table
-multiples-of pos c table t i h = t i h ∙ rem-⊗-right pos i c
+pub multiples-of : (p : Modulus) → Proper p → (c x : ℕ) (table : List ℕ) → x ≡ rem (polynomial p) c → Multiples (polynomial p) x 0 256 table → Multiples (polynomial p) c 0 256 table
+multiples-of p h c x table e t i l =
+    t i l ∙ ap (λ (y : ℕ). rem (polynomial p) (i ⊗ y)) e ∙ rem-⊗-right (monic-pos (p .degree) (p .low) (h .2)) i c
 
 -- t^k is the low word, so its multiples are the one row of words that takes a byte at t^k and above off
-pub one-row : (k c : ℕ) → c < 2 ^ k → (table : List ℕ) → Multiples (monic k c) c 0 256 table → Rows 8 k (monic k c) 1 table
-one-row k c h table t j l i b =
+pub one-row : (p : Modulus) → Proper p → (table : List ℕ) → Multiples (polynomial p) (p .low) 0 256 table → Rows 8 (polynomial p) (2 ^ p .degree) 1 table
+one-row p h table t j l i b =
     let z : j ≡ 0 = omega arith in
-    let e : k + 8 * 0 ≡ k = omega arith in
-    rw (z, e, residue-top k c h) (t i b)
+    rw (z, mul-one (2 ^ p .degree), residue-top (p .degree) (p .low) (h .2)) (t i b)

@@ -5,7 +5,8 @@ use mathlib.Core.List.{List}
 use Prim.Native.Nat.{ℕ, _+_, _*_, _^_, _≤_, _<_}
 use lib.Dec.{eqb}
 use lib.ListN.{length, take, drop, getD}
-use Rattle.gf2.specs.Polynomials.{monic, rem}
+use Rattle.gf2.specs.Polynomials.{rem}
+use Rattle.gf2.specs.Moduli.{polynomial}
 use Rattle.multiples.specs.Rows.{Multiples}
 use Rattle.lookups.specs.Groups.{ReducesByte}
 use Rattle.files.specs.Files.{bits, valueFrom}
@@ -24,12 +25,16 @@ pub record Filled {A : Type 0} (default : A) (rule : ℕ → A) (n c : ℕ) (lis
   pub entry : (i : ℕ) → n ≤ i → i < c → getD list i default ≡ rule i
 
 abbrev pub keyOf : Setup → ℕ
-keyOf s = monic (s .k) (s .low)
+keyOf s = polynomial (s .modulus)
+
+-- x is the residue of the window at the place i
+abbrev pub ResidueAt : Setup → List ℕ → ℕ → ℕ → Type 0
+ResidueAt s text i x = x ≡ residue (keyOf s) (window (s .m) text i)
 
 -- the two tables of 256 words: the multiples of t^k, for the byte that comes in, and of t^(8m), for the one that goes out
 pub record Ready (s : Setup) (reduceTable outgoingTable : List ℕ) : Type 0 where
   pub some : 0 < s .m
-  pub reduce : ReducesByte (s .k) (s .low) reduceTable
+  pub reduce : ReducesByte (s .modulus) reduceTable
   pub outgoing : Multiples (keyOf s) (2 ^ (8 * s .m)) 0 256 outgoingTable
 
 -- of the window j places behind `from`: it has the wanted residue
@@ -37,6 +42,6 @@ unfoldable pub hit : Setup → List ℕ → ℕ → ℕ → Bool
 hit s text from j = eqb (residue (keyOf s) (window (s .m) text (from + j))) (s .wanted)
 
 -- the flags of `size` windows, and the residue of the next one, if there is a next one
-pub record Marked (s : Setup) (text : List ℕ) (from size rest : ℕ) (marks : List Bool) : Type 0 where
-  pub flags : Filled false (hit s text from) 0 size marks
-  pub next : from + size + s .m ≤ length text → rest ≡ residue (keyOf s) (window (s .m) text (from + size))
+pub record Flagged (s : Setup) (text : List ℕ) (from size rest : ℕ) (list : List Bool) : Type 0 where
+  pub flags : Filled false (hit s text from) 0 size list
+  pub next : from + size + s .m ≤ length text → ResidueAt s text (from + size) rest

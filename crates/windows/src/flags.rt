@@ -1,19 +1,13 @@
 // Which windows have the pattern's residue: a flag for each window of a block.
 use super::rolling;
 use super::rolling::Setup;
+use lookups::Lanes;
 ghost use mathlib.Core.Path.{_≡_};
 ghost use mathlib.Core.Bool.{false};
 ghost use Prim.Native.Nat.{_+_, _≤_, _<_};
 ghost use lib.ListN.{length};
 ghost use Rattle.lookups.specs.Groups.{ReducesByte};
-ghost use Rattle.windows.specs.Rolling.{window, residue, keyOf, Ready, hit, Filled, Marked};
-
-// The residues of three windows.
-pub struct Three {
-    pub b: u64,
-    pub c: u64,
-    pub d: u64,
-}
+ghost use Rattle.windows.specs.Rolling.{ResidueAt, Ready, hit, Filled, Flagged};
 
 // How many windows were looked at, and the residue of the next one.
 pub struct Block {
@@ -21,12 +15,13 @@ pub struct Block {
     pub next: u64,
 }
 
-// The residues of the windows 256, 512 and 768 places behind `from`.
-fn three_windows(s: Setup, reduce: &[u64], text: &[u8], from: usize) -> Three
-    requires { ⌜ ReducesByte (s .k) (s .low) (now reduce) × (from + 768 + s .m ≤ length (now text)) ⌝ }
-    ensures { λ r. ⌜ (r .b ≡ residue (keyOf s) (window (s .m) (now (text .entry)) (from + 256)))
-        × (r .c ≡ residue (keyOf s) (window (s .m) (now (text .entry)) (from + 512)))
-        × (r .d ≡ residue (keyOf s) (window (s .m) (now (text .entry)) (from + 768))) ⌝ }
+// Four lanes of windows, 256 places apart: the residue of the first window is g, the other three are read.
+fn start_lanes(s: Setup, reduce: &[u64], text: &[u8], from: usize, g: u64) -> Lanes
+    requires { ⌜ ReducesByte (s .modulus) (now reduce) × (from + 768 + s .m ≤ length (now text)) × ResidueAt s (now text) from g ⌝ }
+    ensures { λ r. ⌜ ResidueAt s (now (text .entry)) (from + 0) (r .a)
+        × ResidueAt s (now (text .entry)) (from + 256) (r .b)
+        × ResidueAt s (now (text .entry)) (from + 512) (r .c)
+        × ResidueAt s (now (text .entry)) (from + 768) (r .d) ⌝ }
 {
     let mut b: u64 = 0;
     let mut c: u64 = 0;
@@ -34,16 +29,16 @@ fn three_windows(s: Setup, reduce: &[u64], text: &[u8], from: usize) -> Three
     let mut j: usize = 0;
     while j < s.m {
         let i = from + j;
-        b = lookups::feed_one(reduce, s.k, s.low, b, text[i + 256]);
-        c = lookups::feed_one(reduce, s.k, s.low, c, text[i + 512]);
-        d = lookups::feed_one(reduce, s.k, s.low, d, text[i + 768]);
+        b = lookups::feed_one(reduce, s.modulus, b, text[i + 256]);
+        c = lookups::feed_one(reduce, s.modulus, c, text[i + 512]);
+        d = lookups::feed_one(reduce, s.modulus, d, text[i + 768]);
         j += 1;
     }
-    Three { b, c, d }
+    Lanes { a: g, b, c, d }
 }
 
-// 1,024 windows in four runs of 256, rolled side by side: a step waits for the last one of its own run alone.
-fn four_runs(
+// 1,024 windows in four lanes of 256, rolled side by side: a step waits for the last one of its own lane alone.
+fn four_lanes(
     s: Setup,
     reduce: &[u64],
     outgoing: &[u64; 256],
@@ -55,13 +50,13 @@ fn four_runs(
     requires { ⌜ Ready s (now reduce) (now outgoing)
         × (length (now flags) ≡ 1024)
         × (from + 1024 + s .m ≤ length (now text))
-        × (g ≡ residue (keyOf s) (window (s .m) (now text) from)) ⌝ }
-    ensures { λ r. ⌜ (r ≡ residue (keyOf s) (window (s .m) (now (text .entry)) (from + 1024)))
+        × ResidueAt s (now text) from g ⌝ }
+    ensures { λ r. ⌜ ResidueAt s (now (text .entry)) (from + 1024) r
         × Filled false (hit s (now (text .entry)) from) 0 1024 (now (flags .exit))
         × (length (now (flags .exit)) ≡ 1024) ⌝ }
 {
-    let starts = three_windows(s, reduce, text, from);
-    let mut a = g;
+    let starts = start_lanes(s, reduce, text, from, g);
+    let mut a = starts.a;
     let mut b = starts.b;
     let mut c = starts.c;
     let mut d = starts.d;
@@ -96,8 +91,8 @@ fn one_by_one(
         × (length (now flags) ≡ 1024)
         × (from + size + s .m ≤ length (now text) + 1)
         × (size ≤ 1024)
-        × (g ≡ residue (keyOf s) (window (s .m) (now text) from)) ⌝ }
-    ensures { λ r. ⌜ Marked s (now (text .entry)) from size r (now (flags .exit)) × (length (now (flags .exit)) ≡ 1024) ⌝ }
+        × ResidueAt s (now text) from g ⌝ }
+    ensures { λ r. ⌜ Flagged s (now (text .entry)) from size r (now (flags .exit)) × (length (now (flags .exit)) ≡ 1024) ⌝ }
 {
     let mut a = g;
     let mut j: usize = 0;
@@ -118,8 +113,8 @@ fn least(a: usize, b: usize) -> usize
     if a < b { a } else { b }
 }
 
-// The next windows, at most 1,024. Four runs pay off where the windows that three of them start with are not too long to read.
-pub fn mark_block(
+// The next windows, at most 1,024. Four lanes pay off where the windows that three of them start with are not too long to read.
+pub fn flag_block(
     s: Setup,
     reduce: &[u64],
     outgoing: &[u64; 256],
@@ -131,17 +126,17 @@ pub fn mark_block(
     requires { ⌜ Ready s (now reduce) (now outgoing)
         × (length (now flags) ≡ 1024)
         × (from + s .m ≤ length (now text))
-        × (g ≡ residue (keyOf s) (window (s .m) (now text) from)) ⌝ }
+        × ResidueAt s (now text) from g ⌝ }
     ensures { λ r. ⌜ (0 < r .size)
         × (r .size ≤ 1024)
         × (from + r .size + s .m ≤ length (now (text .entry)) + 1)
-        × Marked s (now (text .entry)) from (r .size) (r .next) (now (flags .exit))
+        × Flagged s (now (text .entry)) from (r .size) (r .next) (now (flags .exit))
         × (length (now (flags .exit)) ≡ 1024) ⌝ }
 {
     let left = text.len() - s.m + 1 - from;
     if s.m <= 512 {
         if 1024 < left {
-            let next = four_runs(s, reduce, outgoing, text, from, g, flags);
+            let next = four_lanes(s, reduce, outgoing, text, from, g, flags);
             return Block { size: 1024, next };
         }
     }

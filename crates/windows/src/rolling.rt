@@ -1,16 +1,17 @@
 // Residues of windows, by two tables of 256 words: `reduce` for the byte that comes in, `outgoing` for the byte that goes out. The leading 1 of
 // the fingerprint is left off: windows and pattern are equally long, and have it in common.
+use gf2::Modulus;
 ghost use mathlib.Core.Path.{_≡_};
 ghost use Prim.Native.Nat.{_+_, _*_, _^_, _≤_, _<_};
 ghost use lib.ListN.{length};
-ghost use Rattle.gf2.specs.Polynomials.{monic, rem};
+ghost use Rattle.gf2.specs.Polynomials.{rem};
+ghost use Rattle.gf2.specs.Moduli.{polynomial};
 ghost use Rattle.lookups.specs.Groups.{ReducesByte};
-ghost use Rattle.windows.specs.Rolling.{window, residue, keyOf, Ready};
+ghost use Rattle.windows.specs.Rolling.{window, residue, ResidueAt, Ready};
 
-// What stays the same from window to window: the key's degree and low word, the pattern's length and its residue.
+// What stays the same from window to window: the modulus, the pattern's length and its residue.
 pub struct Setup {
-    pub k: u32,
-    pub low: u64,
+    pub modulus: Modulus,
     pub m: usize,
     pub wanted: u64,
 }
@@ -26,30 +27,30 @@ pub struct Start {
 pub fn roll(s: Setup, reduce: &[u64], outgoing: &[u64; 256], text: &[u8], i: usize, g: u64) -> u64
     requires { ⌜ Ready s (now reduce) (now outgoing)
         × (i + s .m < length (now text))
-        × (g ≡ residue (keyOf s) (window (s .m) (now text) i)) ⌝ }
-    ensures { λ r. ⌜ r ≡ residue (keyOf s) (window (s .m) (now (text .entry)) (i + 1)) ⌝ }
+        × ResidueAt s (now text) i g ⌝ }
+    ensures { λ r. ⌜ ResidueAt s (now (text .entry)) (i + 1) r ⌝ }
 {
-    let longer = lookups::feed_one(reduce, s.k, s.low, g, text[i + s.m]);
+    let longer = lookups::feed_one(reduce, s.modulus, g, text[i + s.m]);
     let first = text[i] as usize;
     let gone = outgoing[first];
     longer ^ gone
 }
 
 // Reads the first window and the pattern.
-pub fn read_first(k: u32, low: u64, reduce: &[u64], text: &[u8], pattern: &[u8]) -> Start
-    requires { ⌜ ReducesByte k low (now reduce) × (length (now pattern) ≤ length (now text)) ⌝ }
-    ensures { λ r. ⌜ (r .first ≡ residue (monic k low) (window (length (now (pattern .entry))) (now (text .entry)) 0))
-        × (r .wanted ≡ residue (monic k low) (now (pattern .entry)))
-        × (r .shift ≡ rem (monic k low) (2 ^ (8 * length (now (pattern .entry))))) ⌝ }
+pub fn read_first(p: Modulus, reduce: &[u64], text: &[u8], pattern: &[u8]) -> Start
+    requires { ⌜ ReducesByte p (now reduce) × (length (now pattern) ≤ length (now text)) ⌝ }
+    ensures { λ r. ⌜ (r .first ≡ residue (polynomial p) (window (length (now (pattern .entry))) (now (text .entry)) 0))
+        × (r .wanted ≡ residue (polynomial p) (now (pattern .entry)))
+        × (r .shift ≡ rem (polynomial p) (2 ^ (8 * length (now (pattern .entry))))) ⌝ }
 {
     let mut first: u64 = 0;
     let mut wanted: u64 = 0;
     let mut shift: u64 = 1;
     let mut i: usize = 0;
     while i < pattern.len() {
-        first = lookups::feed_one(reduce, k, low, first, text[i]);
-        wanted = lookups::feed_one(reduce, k, low, wanted, pattern[i]);
-        shift = lookups::feed_one(reduce, k, low, shift, 0);
+        first = lookups::feed_one(reduce, p, first, text[i]);
+        wanted = lookups::feed_one(reduce, p, wanted, pattern[i]);
+        shift = lookups::feed_one(reduce, p, shift, 0);
         i += 1;
     }
     Start {

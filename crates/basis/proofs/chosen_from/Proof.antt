@@ -13,7 +13,8 @@ wrapping-sub-u64-requires c κs = search needs
 returns : tie.Need-returns
 returns c =
     let a = c .before .args in
-    masked-from (a .c) (a .v) (a .x) (c .wrapping-sub-u64 .result) (c .before .pre .0) (search needs) (c .before .pre .1) (search needs) (c .wrapping-sub-u64 .ensures)
+    let p = c .before .pre in
+    masked-from (a .c) (a .v) (a .x) (c .wrapping-sub-u64 .result) (p .0) (search needs) (p .1) (search needs) (c .wrapping-sub-u64 .ensures)
 
 pub chosen-from-spec : {M : Type 1} → statement M
 chosen-from-spec = tie.close (tie.spec shl-bit wrapping-sub-u64-requires returns)

@@ -1,21 +1,20 @@
 -- The loop's invariant: the rows before j are cleared, and their sums are changed. The measure is the number of rows that are left.
-use mathlib.Core.Path.{_≡_, refl, ap, _∙_}
-use mathlib.Core.List.{List, map, _++_}
+use mathlib.Core.Path.{_≡_, refl, ap}
 use Prim.Native.Nat.{ℕ, _-_, _≤_}
 use native.Mathlib.Omega.{arith}
 use borrow.Author.Needs.{needs}
-use lib.ListN.{length, take, drop, getD}
-use lib.Seq.{take-length}
+use lib.Bits.{bitXor}
+use lib.ListN.{length, getD}
 use Rattle.gf2.specs.Polynomials.{_⊕_}
 use Rattle.basis.specs.Rows.{clear, addWhere}
-use Rattle.basis.proofs.Mapping.{map-at, map-more, map-whole, length-mapped}
-use Rattle.basis.proofs.Relations.{length-added, added-at, added-more}
+use Rattle.basis.proofs.Mapping.{Mapped, mapped-length, mapped-at, mapped-next, mapped-whole}
+use Rattle.basis.proofs.Relations.{Added, added-length, added-next, added-whole}
 use Rattle.basis.proofs.clear_with_sums.Statement.{statement}
 use Rattle.basis.proofs.clear_with_sums.Tie as tie
 
 abbrev Inv-loop : tie.InvT-loop
 Inv-loop rows₀ sums₀ v w c j₀ j-end rows sums j =
-    (j ≤ length rows₀) × (rows ≡ map (clear c v) (take j rows₀) ++ drop j rows₀) × (sums ≡ addWhere c w (take j rows₀) sums₀)
+    (j ≤ length rows₀) × Mapped (clear c v) j rows₀ rows × Added c w j rows₀ sums₀ sums
 
 abbrev μ-loop : tie.MeasureT-loop
 μ-loop rows₀ sums₀ v w c j₀ j-end rows sums j = length rows₀ - j
@@ -24,16 +23,22 @@ loop-holds : tie.Need-loop-holds Inv-loop μ-loop
 unfolding addWhere
 loop-holds c = (omega arith, refl, refl)
 
--- the buffers keep their lengths
-rows-same : (c : tie.At-loop Inv-loop μ-loop) → length (c .loop .rows) ≡ length (c .before .before .before .args .rows .now)
-rows-same c =
-    let a = c .before .before .before .args in
-    ap length (c .loop .inv .1) ∙ length-mapped (clear (a .c) (a .v)) (c .loop .j) (a .rows .now)
+-- the call's start, and the turn that a place belongs to
+abbrev start : tie.At-loop Inv-loop μ-loop → tie.Start Inv-loop μ-loop
+start l = l .before .before .before
 
-sums-same : (c : tie.At-loop Inv-loop μ-loop) → length (c .loop .sums) ≡ length (c .before .before .before .args .sums .now)
-sums-same c =
-    let a = c .before .before .before .args in
-    ap length (c .loop .inv .2) ∙ length-added (a .c) (a .w) (take (c .loop .j) (a .rows .now)) (a .sums .now)
+abbrev read-at : tie.After-chosen Inv-loop μ-loop → tie.At-loop Inv-loop μ-loop
+read-at c = c .before .before .before
+
+abbrev turn : tie.After-slice-known4 Inv-loop μ-loop → tie.At-loop Inv-loop μ-loop
+turn c = read-at (c .before .before)
+
+-- the buffers keep their lengths
+rows-same : (l : tie.At-loop Inv-loop μ-loop) → length (l .loop .rows) ≡ length (start l .args .rows .now)
+rows-same l = let a = start l .args in mapped-length (clear (a .c) (a .v)) (l .loop .j) (a .rows .now) (l .loop .inv .1)
+
+sums-same : (l : tie.At-loop Inv-loop μ-loop) → length (l .loop .sums) ≡ length (start l .args .sums .now)
+sums-same l = let a = start l .args in added-length (a .c) (a .w) (l .loop .j) (a .rows .now) (a .sums .now) (l .loop .inv .2)
 
 mul-r : tie.Need-mul-r Inv-loop μ-loop
 mul-r c = omega arith
@@ -51,7 +56,7 @@ mul-rows : tie.Need-mul-rows Inv-loop μ-loop
 mul-rows c = omega arith
 
 slice-write-rows : tie.Need-slice-write-rows Inv-loop μ-loop
-slice-write-rows c = omega (arith, rows-same (c .before .before .before))
+slice-write-rows c = omega (arith, rows-same (read-at c))
 
 chosen-requires-2 : tie.Need-chosen-requires-2 Inv-loop μ-loop
 chosen-requires-2 c κs = search needs
@@ -60,13 +65,13 @@ mul-sums : tie.Need-mul-sums Inv-loop μ-loop
 mul-sums c = omega arith
 
 slice-read-sums : tie.Need-slice-read-sums Inv-loop μ-loop
-slice-read-sums c = omega (arith, sums-same (c .before .before .before .before .before))
+slice-read-sums c = omega (arith, sums-same (turn c))
 
 mul-sums-2 : tie.Need-mul-sums-2 Inv-loop μ-loop
 mul-sums-2 c = omega arith
 
 slice-write-sums : tie.Need-slice-write-sums Inv-loop μ-loop
-slice-write-sums c = omega (arith, sums-same (c .before .before .before .before .before))
+slice-write-sums c = omega (arith, sums-same (turn c))
 
 add-j : tie.Need-add-j Inv-loop μ-loop
 add-j c = omega arith
@@ -77,15 +82,15 @@ loop-less c = omega arith
 loop-again : tie.Need-loop-again Inv-loop μ-loop
 unfolding clear _⊕_
 loop-again c =
-    let s = c .before .before .before .before .before in
-    let a = s .before .before .before .args in
-    let l = s .loop in
+    let a = start (turn c) .args in
+    let l = turn c .loop in
     let f = clear (a .c) (a .v) in
-    let row : getD (l .rows) (l .j) 0 ≡ getD (a .rows .now) (l .j) 0 = ap (λ (x : List ℕ). getD x (l .j) 0) (l .inv .1) ∙ map-at f (l .j) (a .rows .now) in
-    let sum : getD (l .sums) (l .j) 0 ≡ getD (a .sums .now) (l .j) 0 = ap (λ (x : List ℕ). getD x (l .j) 0) (l .inv .2) ∙ added-at (a .c) (a .w) (l .j) (a .rows .now) (a .sums .now) in (
+    let row = ap (λ (x : ℕ). bitXor x (getD (l .rows) (l .j) 0)) (c .before .before .chosen .ensures) in
+    let sum = ap (λ (x : ℕ). bitXor x (getD (l .sums) (l .j) 0)) (c .before .chosen2 .ensures) in
+    let at = mapped-at f (l .j) (a .rows .now) (l .inv .1) in (
       omega arith,
-      rw (c .before .before .chosen .ensures, row, l .inv .1) (map-more f (l .j) (a .rows .now) (omega arith)),
-      rw (c .before .chosen2 .ensures, row, sum, l .inv .2) (added-more (a .c) (a .w) (l .j) (a .rows .now) (a .sums .now) (omega arith)),
+      mapped-next f (l .j) (a .rows .now) (l .inv .1) (omega arith) row,
+      added-next (a .c) (a .w) (l .j) (a .rows .now) (a .sums .now) (l .inv .2) (omega arith) at sum,
     )
 
 same-length : tie.Need-same-length Inv-loop μ-loop
@@ -96,11 +101,10 @@ same-length-2 c = sums-same (c .before)
 
 returns : tie.Need-returns Inv-loop μ-loop
 returns c =
-    let a = c .before .before .before .before .args in
-    let l = c .before .loop in
-    let e : l .j ≡ length (a .rows .now) = omega arith in (
-      rw e at (l .inv .1) ∙ map-whole (clear (a .c) (a .v)) (a .rows .now),
-      rw e at (l .inv .2) ∙ ap (λ (x : List ℕ). addWhere (a .c) (a .w) x (a .sums .now)) (take-length (a .rows .now)),
+    let a = start (c .before) .args in
+    let l = c .before .loop in (
+      mapped-whole (clear (a .c) (a .v)) (l .j) (a .rows .now) (l .inv .1) (omega arith),
+      added-whole (a .c) (a .w) (l .j) (a .rows .now) (a .sums .now) (l .inv .2) (omega arith),
     )
 
 pub clear-with-sums-spec : {M : Type 1} → statement M

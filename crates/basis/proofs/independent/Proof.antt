@@ -18,6 +18,16 @@ Inv-loop rows₀ n₀ rows n = (n ≤ length rows₀) × (length rows ≡ length
 abbrev μ-loop : tie.MeasureT-loop
 μ-loop rows₀ n₀ rows n = n
 
+-- the turn that a place belongs to
+abbrev read-at : tie.After-lowest-one Inv-loop μ-loop → tie.After-slice-known2 Inv-loop μ-loop
+read-at c = c .before .before
+
+abbrev one-at : tie.After-slice-known3 Inv-loop μ-loop → tie.After-lowest-one Inv-loop μ-loop
+one-at c = let cleared = c .before .before in cleared .before .before
+
+abbrev turn : tie.After-slice-known2 Inv-loop μ-loop → tie.At-loop Inv-loop μ-loop
+turn c = c .before .before
+
 loop-holds : tie.Need-loop-holds Inv-loop μ-loop
 loop-holds c = let rows = c .before .args .rows .now in (omega arith, refl, rw take-length (λ i. i, λ i. i))
 
@@ -31,11 +41,11 @@ slice-read-v : tie.Need-slice-read-v Inv-loop μ-loop
 slice-read-v c = omega arith
 
 same-length : tie.Need-same-length Inv-loop μ-loop
-same-length c = c .before .before .before .loop .inv .1
+same-length c = turn (c .before) .loop .inv .1
 
 returns : tie.Need-returns Inv-loop μ-loop
 returns c =
-    let l = c .before .before .before .loop in
+    let l = turn (c .before) .loop in
     (λ f. absurd (false≢true f), λ i. absurd (last-zero (l .n) (l .rows) (omega arith) (omega arith) (c .if1 .taken) (l .inv .2 .0 i)))
 
 lowest-one-requires : tie.Need-lowest-one-requires Inv-loop μ-loop
@@ -45,9 +55,7 @@ slice-relend-prefix-clear-column : tie.Need-slice-relend-prefix-clear-column Inv
 slice-relend-prefix-clear-column c = omega arith
 
 slice-aggregate-clear-column : tie.Need-slice-aggregate-clear-column Inv-loop μ-loop
-slice-aggregate-clear-column c =
-    let l = c .before .before .before .before .before .loop in
-    sym (length-take-le (l .n - 1) (l .rows) (omega arith))
+slice-aggregate-clear-column c = let l = turn (read-at (c .before)) .loop in sym (length-take-le (l .n - 1) (l .rows) (omega arith))
 
 clear-column-requires : tie.Need-clear-column-requires Inv-loop μ-loop
 clear-column-requires c κs = let one = c .before .lowest-one .ensures in (one .0, one .1)
@@ -57,8 +65,8 @@ loop-less c = omega arith
 
 loop-again : tie.Need-loop-again Inv-loop μ-loop
 loop-again c =
-    let l = c .before .before .before .before .before .before .before .before .loop in
-    let one = c .before .before .before .before .lowest-one in
+    let l = turn (read-at (one-at c)) .loop in
+    let one = one-at c .lowest-one in
     let clear = c .before .before .clear-column in
     let t = turn-before (l .n) (l .rows) (omega arith) (omega arith) (one .result) (clear .last .0) (one .ensures .2) (clear .ensures) in (
       omega arith,

@@ -16,6 +16,16 @@ Inv-loop k work₀ sums₀ last n i₀ work sums i = Kept work₀ k i work sums
 abbrev μ-loop : tie.MeasureT-loop
 μ-loop k work₀ sums₀ last n i₀ work sums i = k - i
 
+-- the turn that a place belongs to
+abbrev turn : tie.After-lowest-one Inv-loop μ-loop → tie.At-loop Inv-loop μ-loop
+turn c = c .before .before
+
+abbrev cleared-at : tie.After-sums2 Inv-loop μ-loop → tie.After-clear-with-sums Inv-loop μ-loop
+cleared-at c = c .before .before
+
+abbrev one-at : tie.After-sums Inv-loop μ-loop → tie.After-lowest-one Inv-loop μ-loop
+one-at c = c .before .before
+
 add-n : tie.Need-add-n Inv-loop μ-loop
 add-n c = omega arith
 
@@ -72,8 +82,8 @@ part-sums-end c = omega arith
 
 clear-with-sums-requires : tie.Need-clear-with-sums-requires Inv-loop μ-loop
 clear-with-sums-requires c κs =
-    let l = c .before .before .before .before .loop in
-    (c .before .before .lowest-one .ensures .0, simp (length-take, length-drop, l .inv .work-length, l .inv .sums-length))
+    let l = turn (one-at c) .loop in
+    (one-at c .lowest-one .ensures .0, simp (length-take, length-drop, l .inv .work-length, l .inv .sums-length))
 
 add-i : tie.Need-add-i Inv-loop μ-loop
 add-i c = omega arith
@@ -84,10 +94,10 @@ loop-less c = omega arith
 loop-again : tie.Need-loop-again Inv-loop μ-loop
 unfolding _⊕_
 loop-again c =
-    let s = c .before .before .before .before .before .before .before .before in
-    let l = c .before .before .before .before .before .before .before .loop in
-    let one = c .before .before .before .before .before .lowest-one in
-    let clear = c .before .before .clear-with-sums in
+    let clear = cleared-at c .clear-with-sums in
+    let one = one-at (cleared-at c .before) .lowest-one in
+    let l = turn (one-at (cleared-at c .before)) .loop in
+    let s = turn (one-at (cleared-at c .before)) .before in
     kept-turn (s .args .rows) (s .args .k) (s .pre .0) (l .i) (l .work) (l .sums) (l .inv) (omega arith) (one .result) (one .ensures .2)
     (clear .last .0) (clear .last .1 .0) (clear .ensures .0) (rw (shifted-one (l .i) (omega arith)) at (clear .ensures .1))
 
@@ -106,7 +116,8 @@ returns c =
     let s = c .before .before in
     let l = c .before .loop in
     let e : l .i ≡ s .args .k = omega arith in
-    relation-found (s .args .rows) (s .args .k) (s .pre .0) (l .work) (l .sums) (rw e at (l .inv)) (1 * 2 ^ (s .args .k) % 2 ^ 64) (shifted-one (s .args .k) (s .pre .0))
+    relation-found (s .args .rows) (s .args .k) (s .pre .0) (l .work) (l .sums) (rw e at (l .inv)) (1 * 2 ^ (s .args .k) % 2 ^ 64)
+    (shifted-one (s .args .k) (s .pre .0))
 
 pub relation-spec : {M : Type 1} → statement M
 relation-spec =

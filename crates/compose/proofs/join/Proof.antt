@@ -1,114 +1,75 @@
--- `compose::join` meets its contract: the tests in their order, and the value by `joined_residue`.
-use mathlib.Core.Path.{_≡_}
-use mathlib.Core.Bool.{true, false, _||_}
-use mathlib.Core.List.{List, [], _∷_}
-use Prim.Native.Nat.{ℕ, _+_, _<_}
+-- `compose::join` meets its contract: the tests of the key, and then those of `join_under`.
+use mathlib.Core.Path.{sym, ap, _∙_}
 use native.Mathlib.Omega.{arith}
 use borrow.Author.Needs.{needs}
-use borrow.Author.Tests.{leb-false}
-use Rattle.gf2.proofs.Monics.{word-degree, word-modulus, word-monic}
-use Rattle.refusals.specs.Refusals.{passes}
-use Rattle.refusals.proofs.Laws.{holds, fails}
-use Rattle.marks.specs.Feeding.{unreduced}
-use Rattle.marks.proofs.Laws.{sum-within}
-use Rattle.files.specs.declared.Mark.{Mark}
-use Rattle.compose.specs.Composing.{joined}
+use Rattle.acceptance.specs.Keys.{Opened}
+use Rattle.acceptance.proofs.Opened.{opened-first}
+use Rattle.files.specs.Files.{joined}
+use Rattle.keys.proofs.Laws.{opened, refused}
+use Rattle.marks.specs.Feeding.{markIn, fedUnder}
+use Rattle.compose.specs.Composing.{marksTests}
 use Rattle.compose.proofs.join.Statement.{statement}
 use Rattle.compose.proofs.join.Tie as tie
 
-abbrev lengths : Mark → Mark → List ℕ
-lengths x y = x .length ∷ y .length ∷ (x .length + y .length) ∷ []
+-- ---- the places: from each one to an earlier one
 
--- ---- what is known after each test that failed
+abbrev test→start : tie.After-test → tie.Start
+test→start c = c .before
 
-short : (c : tie.Else1) → let a = c .before .before .args in passes (lengths (a .first) (a .second)) ≡ false
-short c = let a = c .before .before .args in fails _ (passes (lengths (a .first) (a .second))) (c .before .fits2 .ensures) (c .if1 .left)
+abbrev p→start : tie.After-p → tie.Start
+p→start c = c .before .before .before
 
-first-low : (c : tie.Else2) → let a = c .before .before .before .before .before .args in unreduced (a .m .key) (a .first) ≡ false
-first-low c =
-    let a = c .before .before .before .before .before .args in
-    fails _ (unreduced (a .m .key) (a .first)) (rw (c .before .before .degree .ensures) at (c .before .reduced .ensures)) (c .if2 .left)
+abbrev p→test : tie.After-p → tie.After-test
+p→test c = c .before .before
 
-second-low : (c : tie.Else3) → let a = c .before .before .before .before .before .before .before .args in unreduced (a .m .key) (a .second) ≡ false
-second-low c =
-    let a = c .before .before .before .before .before .before .before .args in
-    fails _ (unreduced (a .m .key) (a .second)) (rw (c .before .before .before .before .degree .ensures) at (c .before .reduced2 .ensures)) (c .if3 .left)
+abbrev known-told→start : tie.After-known-told → tie.Start
+known-told→start c = test→start (c .before .before .before)
 
--- ---- the needs
+abbrev known-told→test : tie.After-known-told → tie.After-test
+known-told→test c = c .before .before .before
 
-fits-requires : tie.Need-fits-requires
-fits-requires c κs = search needs
+abbrev known-told2→p : tie.After-known-told2 → tie.After-p
+known-told2→p c = c .before
+
+abbrev known-told→r : tie.After-known-told → tie.After-r
+known-told→r c = c .before
+
+abbrev join-under→start : tie.After-join-under → tie.Start
+join-under→start c = p→start (c .before .before)
+
+abbrev join-under→p : tie.After-join-under → tie.After-p
+join-under→p c = known-told2→p (c .before)
+
+test-requires : tie.Need-test-requires
+test-requires c κs = search needs
+
+enum-known-r : tie.Need-enum-known-r
+enum-known-r c = search needs
 
 returns : tie.Need-returns
 returns c =
-    let a = c .before .before .args in
-    rw (holds _ (passes (lengths (a .first) (a .second))) (c .before .fits2 .ensures) (c .if1 .taken))
+    let a = known-told→start c .args in
+    let key = a .m .key in
+    let t = known-told→test c .test in
+    sym (ap (fedUnder key) (refused (t .result) key (t .ensures) (marksTests key (a .first) (a .second)) (markIn (a .m)) (joined key (a .first) (a .second)) _ (known-told→r c .r .given .1)))
 
-degree-requires : tie.Need-degree-requires
-degree-requires c κs = search needs
+enum-known-p : tie.Need-enum-known-p
+enum-known-p c = search needs
 
--- the degree as the code has it
-degree-low : (c : tie.After-degree) → c .degree .result < 64
-degree-low c = let s = c .before .before .before in rw (c .degree .ensures) (word-degree (s .args .m .key) (omega arith) (omega arith))
+key-opened : (c : tie.After-p) → Opened (p→start c .args .m .key) (c .p .given .0 .0)
+key-opened c =
+    let t = p→test c .test in
+    opened (t .result) (p→start c .args .m .key) (t .ensures) _ (omega arith) (c .p .given .1)
 
-reduced-requires : tie.Need-reduced-requires
-reduced-requires c κs = degree-low c
+join-under-requires : tie.Need-join-under-requires
+join-under-requires c κs = key-opened (known-told2→p c)
 
 returns-2 : tie.Need-returns-2
 returns-2 c =
-    let a = c .before .before .before .before .before .args in
-    let u = holds _ (unreduced (a .m .key) (a .first)) (rw (c .before .before .degree .ensures) at (c .before .reduced .ensures)) (c .if2 .taken) in
-    let w : (unreduced (a .m .key) (a .first) || unreduced (a .m .key) (a .second)) ≡ true = rw u in
-    rw (short (c .before .before .before), w)
-
-reduced-requires-2 : tie.Need-reduced-requires-2
-reduced-requires-2 c κs = degree-low (c .before .before)
-
-returns-3 : tie.Need-returns-3
-returns-3 c =
-    let a = c .before .before .before .before .before .before .before .args in
-    let v = holds _ (unreduced (a .m .key) (a .second)) (rw (c .before .before .before .before .degree .ensures) at (c .before .reduced2 .ensures)) (c .if3 .taken) in
-    let w : (unreduced (a .m .key) (a .first) || unreduced (a .m .key) (a .second)) ≡ true = rw (first-low (c .before .before), v) in
-    rw (short (c .before .before .before .before .before), w)
-
-low-bits-requires : tie.Need-low-bits-requires
-low-bits-requires c κs = degree-low (c .before .before .before .before)
-
-joined-residue-requires : tie.Need-joined-residue-requires
-joined-residue-requires c κs =
-    let d = c .before .before .before .before .before in
-    let a = c .before .before .before .before .before .before .before .before .args in (
-      rw (c .low-bits .ensures, d .degree .ensures) (word-modulus (a .m .key) (omega arith) (omega arith)),
-      rw (d .degree .ensures) (leb-false _ _ (first-low (c .before .before .before))),
-      rw (d .degree .ensures) (leb-false _ _ (second-low (c .before))),
-      omega (arith, sum-within (a .first .length) (a .second .length) (short (c .before .before .before .before .before .before))),
-    )
-
-add-t17 : tie.Need-add-t17
-add-t17 c =
-    let a = c .before .before .before .before .before .before .before .before .before .args in
-    record { fits = omega (arith, sum-within (a .first .length) (a .second .length) (short (c .before .before .before .before .before .before .before))) }
-
-returns-4 : tie.Need-returns-4
-unfolding joined
-returns-4 c =
-    let a = c .before .before .before .before .before .before .before .before .before .args in
+    let a = join-under→start c .args in
     let key = a .m .key in
-    let w : (unreduced key (a .first) || unreduced key (a .second)) ≡ false = rw (first-low (c .before .before .before .before), second-low (c .before .before)) in
-    rw (c .joined-residue .ensures, c .before .low-bits .ensures, c .before .before .before .before .before .before .degree .ensures, word-monic key (omega arith), short (c .before .before .before .before .before .before .before), w)
+    c .join-under .ensures
+    ∙ sym (ap (fedUnder key) (opened-first (key-opened (join-under→p c)) (marksTests key (a .first) (a .second)) (markIn (a .m)) (joined key (a .first) (a .second))))
 
 pub join-spec : {M : Type 1} → statement M
-join-spec =
-    tie.close
-    (tie.spec
-    fits-requires
-    returns
-    degree-requires
-    reduced-requires
-    returns-2
-    reduced-requires-2
-    returns-3
-    low-bits-requires
-    joined-residue-requires
-    add-t17
-    returns-4)
+join-spec = tie.close (tie.spec test-requires enum-known-r enum-known-p join-under-requires returns returns-2)

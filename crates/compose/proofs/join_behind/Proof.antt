@@ -1,40 +1,26 @@
--- `compose::join_behind` meets its contract: the tests of the key, and then those of `join`.
-use mathlib.Core.Path.{sym, ap, _∙_}
+-- `compose::join_behind` meets its contract: that of `join`, with the running mark's own mark first.
+use mathlib.Core.Path.{ap, _∙_}
 use borrow.Author.Needs.{needs}
-use Rattle.keys.proofs.Laws.{passed, refused, first-passed, first-refused, passed-low}
+use Rattle.refusals.specs.Refusals.{firstOf}
+use Rattle.files.specs.declared.Mark.{Mark}
+use Rattle.files.specs.Files.{joined}
 use Rattle.marks.specs.Feeding.{markIn, fedUnder}
-use Rattle.compose.specs.Composing.{marksTests, joined, joinBehind}
+use Rattle.compose.specs.Composing.{joinTests, joinBehind}
 use Rattle.compose.proofs.join_behind.Statement.{statement}
 use Rattle.compose.proofs.join_behind.Tie as tie
 
-test-requires : tie.Need-test-requires
-test-requires c κs = search needs
-
-enum-known-r : tie.Need-enum-known-r
-enum-known-r c = search needs
-
-enum-told : tie.Need-enum-told
-enum-told c = search needs
+mark-requires : tie.Need-mark-requires
+mark-requires c κs = search needs
 
 join-requires : tie.Need-join-requires
-join-requires c κs = let t = c .before .before in passed-low (passed (t .test .result) _ (t .test .ensures) (c .enum-told .given .1))
+join-requires c κs = search needs
 
 returns : tie.Need-returns
 unfolding joinBehind
 returns c =
-    let t = c .before .before .before in
-    let a = t .before .args in
-    let m = markIn (a .m) in
-    sym (ap (fedUnder (a .m .key)) (first-refused (a .m .key) (marksTests (a .m .key) m (a .other)) m (joined (a .m .key) m (a .other)) _ (refused (t .test .result) (a .m .key) _ (t .test .ensures) (c .before .r .given .1))))
-
-returns-2 : tie.Need-returns-2
-unfolding joinBehind
-returns-2 c =
-    let t = c .before .before .before in
-    let a = t .before .args in
-    let m = markIn (a .m) in
-    c .join .ensures
-    ∙ sym (ap (fedUnder (a .m .key)) (first-passed (a .m .key) (marksTests (a .m .key) m (a .other)) m (joined (a .m .key) m (a .other)) (passed (t .test .result) (a .m .key) (t .test .ensures) (c .before .enum-told .given .1))))
+    let a = c .before .before .args in
+    let key = a .m .key in
+    c .join .ensures ∙ ap (λ (x : Mark). fedUnder key (firstOf (joinTests key x (a .other)) (markIn (a .m)) (joined key x (a .other)))) (c .before .mark .ensures)
 
 pub join-behind-spec : {M : Type 1} → statement M
-join-behind-spec = tie.close (tie.spec test-requires enum-known-r enum-told join-requires returns returns-2)
+join-behind-spec = tie.close (tie.spec mark-requires join-requires returns)

@@ -1,44 +1,32 @@
--- `compose::join_in_front` meets its contract: the tests of the key, and then those of `join`.
-use mathlib.Core.Path.{sym, ap, _∙_}
-use mathlib.Core.List.{List}
+-- `compose::join_in_front` meets its contract: that of `join`, with the running mark's own mark second. The tests do not depend on the order.
+use mathlib.Core.Path.{ap, _∙_}
+use mathlib.Core.List.{List, _++_}
 use borrow.Author.Needs.{needs}
 use Rattle.refusals.specs.Refusals.{Test, firstOf}
-use Rattle.keys.proofs.Laws.{passed, refused, first-passed, first-refused, passed-low}
+use Rattle.acceptance.specs.Keys.{keyTests}
+use Rattle.files.specs.declared.Mark.{Mark}
+use Rattle.files.specs.Files.{joined}
 use Rattle.marks.specs.Feeding.{markIn, fedUnder}
-use Rattle.compose.specs.Composing.{marksTests, joined, joinInFront}
+use Rattle.compose.specs.Composing.{joinTests, joinInFront}
 use Rattle.compose.proofs.Laws.{marks-swap}
 use Rattle.compose.proofs.join_in_front.Statement.{statement}
 use Rattle.compose.proofs.join_in_front.Tie as tie
 
-test-requires : tie.Need-test-requires
-test-requires c κs = search needs
-
-enum-known-r : tie.Need-enum-known-r
-enum-known-r c = search needs
-
-enum-told : tie.Need-enum-told
-enum-told c = search needs
+mark-requires : tie.Need-mark-requires
+mark-requires c κs = search needs
 
 join-requires : tie.Need-join-requires
-join-requires c κs = let t = c .before .before in passed-low (passed (t .test .result) _ (t .test .ensures) (c .enum-told .given .1))
+join-requires c κs = search needs
 
 returns : tie.Need-returns
 unfolding joinInFront
 returns c =
-    let t = c .before .before .before in
-    let a = t .before .args in
-    let m = markIn (a .m) in
-    sym (ap (fedUnder (a .m .key)) (first-refused (a .m .key) (marksTests (a .m .key) m (a .other)) m (joined (a .m .key) (a .other) m) _ (refused (t .test .result) (a .m .key) _ (t .test .ensures) (c .before .r .given .1))))
-
-returns-2 : tie.Need-returns-2
-unfolding joinInFront
-returns-2 c =
-    let t = c .before .before .before in
-    let a = t .before .args in
+    let a = c .before .before .args in
+    let key = a .m .key in
     let m = markIn (a .m) in
     c .join .ensures
-    ∙ ap (λ (ts : List Test). fedUnder (a .m .key) (firstOf ts m (joined (a .m .key) (a .other) m))) (marks-swap (a .m .key) (a .other) m)
-    ∙ sym (ap (fedUnder (a .m .key)) (first-passed (a .m .key) (marksTests (a .m .key) m (a .other)) m (joined (a .m .key) (a .other) m) (passed (t .test .result) (a .m .key) (t .test .ensures) (c .before .enum-told .given .1))))
+    ∙ ap (λ (x : Mark). fedUnder key (firstOf (joinTests key (a .other) x) m (joined key (a .other) x))) (c .before .mark .ensures)
+    ∙ ap (λ (ts : List Test). fedUnder key (firstOf (keyTests key ++ ts) m (joined key (a .other) m))) (marks-swap key (a .other) m)
 
 pub join-in-front-spec : {M : Type 1} → statement M
-join-in-front-spec = tie.close (tie.spec test-requires enum-known-r enum-told join-requires returns returns-2)
+join-in-front-spec = tie.close (tie.spec mark-requires join-requires returns)

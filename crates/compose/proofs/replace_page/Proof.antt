@@ -1,11 +1,54 @@
 -- `compose::replace_page` meets its contract: the tests of the key, and then those of `replace`.
 use mathlib.Core.Path.{sym, ap, _∙_}
+use mathlib.Core.List.{List}
+use native.Mathlib.Omega.{arith}
 use borrow.Author.Needs.{needs}
-use Rattle.keys.proofs.Laws.{passed, refused, first-passed, first-refused, passed-low}
+use Rattle.refusals.specs.Refusals.{Test}
+use Rattle.acceptance.specs.Keys.{Opened}
+use Rattle.acceptance.proofs.Opened.{opened-first}
+use Rattle.files.specs.declared.Mark.{Mark}
+use Rattle.files.specs.Files.{replaced}
+use Rattle.keys.proofs.Laws.{opened, refused}
 use Rattle.marks.specs.Feeding.{markIn, fedUnder}
-use Rattle.compose.specs.Composing.{pageTests, replaced, replacePage}
+use Rattle.compose.specs.Composing.{pageTests, replacePage}
 use Rattle.compose.proofs.replace_page.Statement.{statement}
 use Rattle.compose.proofs.replace_page.Tie as tie
+
+-- ---- the places: from each one to an earlier one
+
+abbrev test→start : tie.After-test → tie.Start
+test→start c = c .before .before .before
+
+abbrev p→start : tie.After-p → tie.Start
+p→start c = test→start (c .before .before)
+
+abbrev p→test : tie.After-p → tie.After-test
+p→test c = c .before .before
+
+abbrev known-told→start : tie.After-known-told → tie.Start
+known-told→start c = test→start (c .before .before .before)
+
+abbrev known-told→test : tie.After-known-told → tie.After-test
+known-told→test c = c .before .before .before
+
+abbrev known-told2→p : tie.After-known-told2 → tie.After-p
+known-told2→p c = c .before
+
+abbrev known-told→r : tie.After-known-told → tie.After-r
+known-told→r c = c .before
+
+abbrev replace→start : tie.After-replace → tie.Start
+replace→start c = p→start (c .before .before)
+
+abbrev replace→p : tie.After-replace → tie.After-p
+replace→p c = known-told2→p (c .before)
+
+-- the tests behind those of the key, and the value
+abbrev tests : tie.Start → List Test
+tests s = pageTests (s .args .m .key) (markIn (s .args .m)) (s .args .place) (s .args .old .now) (s .args .new .now)
+
+abbrev value : tie.Start → Mark
+value s = replaced (s .args .m .key) (markIn (s .args .m)) (s .args .place) (s .args .old .now) (s .args .new .now)
 
 test-requires : tie.Need-test-requires
 test-requires c κs = search needs
@@ -13,28 +56,32 @@ test-requires c κs = search needs
 enum-known-r : tie.Need-enum-known-r
 enum-known-r c = search needs
 
-enum-told : tie.Need-enum-told
-enum-told c = search needs
-
-replace-requires : tie.Need-replace-requires
-replace-requires c κs = let t = c .before .before in passed-low (passed (t .test .result) _ (t .test .ensures) (c .enum-told .given .1))
-
 returns : tie.Need-returns
 unfolding replacePage
 returns c =
-    let t = c .before .before .before in
-    let a = t .before .before .before .args in
-    let m = markIn (a .m) in
-    sym (ap (fedUnder (a .m .key)) (first-refused (a .m .key) (pageTests (a .m .key) m (a .place) (a .old .now) (a .new .now)) m (replaced (a .m .key) m (a .place) (a .old .now) (a .new .now)) _ (refused (t .test .result) (a .m .key) _ (t .test .ensures) (c .before .r .given .1))))
+    let s = known-told→start c in
+    let key = s .args .m .key in
+    let t = known-told→test c .test in
+    sym (ap (fedUnder key) (refused (t .result) key (t .ensures) (tests s) (markIn (s .args .m)) (value s) _ (known-told→r c .r .given .1)))
+
+enum-known-p : tie.Need-enum-known-p
+enum-known-p c = search needs
+
+key-opened : (c : tie.After-p) → Opened (p→start c .args .m .key) (c .p .given .0 .0)
+key-opened c =
+    let t = p→test c .test in
+    opened (t .result) (p→start c .args .m .key) (t .ensures) _ (omega arith) (c .p .given .1)
+
+replace-requires : tie.Need-replace-requires
+replace-requires c κs = key-opened (known-told2→p c)
 
 returns-2 : tie.Need-returns-2
 unfolding replacePage
 returns-2 c =
-    let t = c .before .before .before in
-    let a = t .before .before .before .args in
-    let m = markIn (a .m) in
+    let s = replace→start c in
+    let key = s .args .m .key in
     c .replace .ensures
-    ∙ sym (ap (fedUnder (a .m .key)) (first-passed (a .m .key) (pageTests (a .m .key) m (a .place) (a .old .now) (a .new .now)) m (replaced (a .m .key) m (a .place) (a .old .now) (a .new .now)) (passed (t .test .result) (a .m .key) (t .test .ensures) (c .before .enum-told .given .1))))
+    ∙ sym (ap (fedUnder key) (opened-first (key-opened (replace→p c)) (tests s) (markIn (s .args .m)) (value s)))
 
 pub replace-page-spec : {M : Type 1} → statement M
-replace-page-spec = tie.close (tie.spec test-requires enum-known-r enum-told replace-requires returns returns-2)
+replace-page-spec = tie.close (tie.spec test-requires enum-known-r enum-known-p replace-requires returns returns-2)

@@ -1,6 +1,6 @@
 -- `draw::listed` meets its contract: the match names the degrees of the list.
+use Rattle.lists.proofs.Searches.{one-among, none-among}
 use Rattle.draw.specs.Drawing.{degrees}
-use Rattle.draw.proofs.Lists.{one-among, none-among}
 use Rattle.draw.proofs.listed.Statement.{statement}
 use Rattle.draw.proofs.listed.Tie as tie
 

@@ -12,6 +12,11 @@ Inv-loop k n i₀ i = (i ≤ 64) × (n / 2 ^ i < k)
 abbrev μ-loop : tie.MeasureT-loop
 μ-loop k n i₀ i = i
 
+-- ---- the places: from each one to an earlier one
+
+abbrev then1→at-loop : tie.Then1 Inv-loop μ-loop → tie.At-loop Inv-loop μ-loop
+then1→at-loop c = c .before .before
+
 sub-i : tie.Need-sub-i Inv-loop μ-loop
 sub-i c = leading-le 64 (c .args .n)
 
@@ -28,7 +33,7 @@ shr-if1 : tie.Need-shr-if1 Inv-loop μ-loop
 shr-if1 c = omega arith
 
 returns : tie.Need-returns Inv-loop μ-loop
-returns c = c .before .before .loop .inv
+returns c = then1→at-loop c .loop .inv
 
 sub-i-2 : tie.Need-sub-i-2 Inv-loop μ-loop
 sub-i-2 c = omega arith

@@ -5,11 +5,12 @@ use native.Mathlib.Nat.{add-zero, div-one}
 use native.Mathlib.Omega.{arith}
 use lib.Pow.{pow-lt}
 use borrow.Author.Needs.{needs}
-use Rattle.gf2.specs.Polynomials.{_⊗_, _⊗^_, monic, rem}
+use Rattle.gf2.specs.Polynomials.{_⊗_, _⊗^_, rem}
+use Rattle.gf2.specs.Moduli.{polynomial}
 use Rattle.gf2.proofs.Products.{⊗-pow}
 use Rattle.gf2.proofs.Powers.{pow-t}
 use Rattle.gf2.proofs.Monics.{monic-pos}
-use Rattle.gf2.proofs.Steps.{residue-lt, residue-small, power-even, power-odd, next-bits}
+use Rattle.gf2.proofs.Steps.{residue-lt, residue-small, square-next, times-next}
 use Rattle.gf2.proofs.power_of_t.Statement.{statement}
 use Rattle.gf2.proofs.power_of_t.Tie as tie
 
@@ -17,10 +18,51 @@ double : (x : ℕ) → x * 2 + 0 ≡ x ⊗ 2
 double x = add-zero (x * 2) ∙ sym (⊗-pow 1 x)
 
 abbrev Inv-loop : tie.InvT-loop
-Inv-loop k low n i₀ x₀ i x = (i ≤ 64) × (x ≡ rem (monic k low) (2 ⊗^ (n / 2 ^ i)))
+Inv-loop p n i₀ x₀ i x = (i ≤ 64) × (x ≡ rem (polynomial p) (2 ⊗^ (n / 2 ^ i)))
 
 abbrev μ-loop : tie.MeasureT-loop
-μ-loop k low n i₀ x₀ i x = i
+μ-loop p n i₀ x₀ i x = i
+
+-- ---- the places: from each one to an earlier one
+
+abbrev low-places→start : tie.After-low-places Inv-loop μ-loop → tie.Start Inv-loop μ-loop
+low-places→start c = c .before
+
+abbrev first-power→start : tie.After-first-power Inv-loop μ-loop → tie.Start Inv-loop μ-loop
+first-power→start c = low-places→start (c .before)
+
+abbrev in-loop→start : tie.In-loop Inv-loop μ-loop → tie.Start Inv-loop μ-loop
+in-loop→start c = first-power→start (c .before .before)
+
+abbrev loop→start : tie.After-loop Inv-loop μ-loop → tie.Start Inv-loop μ-loop
+loop→start c = first-power→start (c .before .before)
+
+abbrev in-loop→at-loop : tie.In-loop Inv-loop μ-loop → tie.At-loop Inv-loop μ-loop
+in-loop→at-loop c = c .before
+
+abbrev then1→start : tie.Then1 Inv-loop μ-loop → tie.Start Inv-loop μ-loop
+then1→start c = in-loop→start (c .before .before)
+
+abbrev else1→start : tie.Else1 Inv-loop μ-loop → tie.Start Inv-loop μ-loop
+else1→start c = in-loop→start (c .before .before)
+
+abbrev then1→at-loop : tie.Then1 Inv-loop μ-loop → tie.At-loop Inv-loop μ-loop
+then1→at-loop c = in-loop→at-loop (c .before .before)
+
+abbrev else1→at-loop : tie.Else1 Inv-loop μ-loop → tie.At-loop Inv-loop μ-loop
+else1→at-loop c = in-loop→at-loop (c .before .before)
+
+abbrev then1→product : tie.Then1 Inv-loop μ-loop → tie.After-product Inv-loop μ-loop
+then1→product c = c .before
+
+abbrev step→start : tie.After-step Inv-loop μ-loop → tie.Start Inv-loop μ-loop
+step→start c = then1→start (c .before)
+
+abbrev step→at-loop : tie.After-step Inv-loop μ-loop → tie.At-loop Inv-loop μ-loop
+step→at-loop c = then1→at-loop (c .before)
+
+abbrev step→product : tie.After-step Inv-loop μ-loop → tie.After-product Inv-loop μ-loop
+step→product c = then1→product (c .before)
 
 low-places-requires : tie.Need-low-places-requires Inv-loop μ-loop
 low-places-requires c κs = c .pre .0
@@ -30,11 +72,11 @@ first-power-requires c κs = let e = c .low-places .ensures in (e .0, omega (ari
 
 loop-holds : tie.Need-loop-holds Inv-loop μ-loop
 loop-holds c =
-    let s = c .before .before in
+    let s = first-power→start c in
     let e = c .before .low-places .ensures in (
       e .0,
-      c .first-power .ensures ∙ sym (ap (rem (monic (s .args .k) (s .args .low))) (pow-t (s .args .n / 2 ^ (c .before .low-places .result)))
-          ∙ residue-small (s .args .k) (s .args .low) (s .pre .2) (2 ^ (s .args .n / 2 ^ (c .before .low-places .result))) (pow-lt (e .1))),
+      c .first-power .ensures ∙ sym (ap (rem (polynomial (s .args .p))) (pow-t (s .args .n / 2 ^ (c .before .low-places .result)))
+          ∙ residue-small (s .args .p .degree) (s .args .p .low) (s .pre .2) (2 ^ (s .args .n / 2 ^ (c .before .low-places .result))) (pow-lt (e .1))),
     )
 
 sub-i : tie.Need-sub-i Inv-loop μ-loop
@@ -42,9 +84,9 @@ sub-i c = omega arith
 
 product-requires : tie.Need-product-requires Inv-loop μ-loop
 product-requires c κs =
-    let s = c .before .before .before .before in
+    let s = in-loop→start c in
     let l = c .before .loop in
-    let h = rw (← (l .inv .1)) at (residue-lt (s .args .k) (s .args .low) (s .pre .2) (2 ⊗^ (s .args .n / 2 ^ (l .i)))) in
+    let h = rw (← (l .inv .1)) at (residue-lt (s .args .p .degree) (s .args .p .low) (s .pre .2) (2 ⊗^ (s .args .n / 2 ^ (l .i)))) in
     (s .pre, h, h)
 
 cast-if1 : tie.Need-cast-if1 Inv-loop μ-loop
@@ -55,23 +97,23 @@ shr-if1 c = omega arith
 
 step-requires : tie.Need-step-requires Inv-loop μ-loop
 step-requires c κs =
-    let s = c .before .before .before .before .before .before in
-    let x = c .before .before .before .loop .x in
-    (s .pre, rw (c .before .product .ensures) (residue-lt (s .args .k) (s .args .low) (s .pre .2) (x ⊗ x)), omega arith)
+    let s = then1→start c in
+    let x = then1→at-loop c .loop .x in
+    (s .pre, rw (c .before .product .ensures) (residue-lt (s .args .p .degree) (s .args .p .low) (s .pre .2) (x ⊗ x)), omega arith)
 
 loop-less : tie.Need-loop-less Inv-loop μ-loop
 loop-less c = omega arith
 
 loop-again : tie.Need-loop-again Inv-loop μ-loop
 loop-again c =
-    let s = c .before .before .before .before .before .before .before in
+    let s = step→start c in
     let a = s .args in
-    let l = c .before .before .before .before .loop in
-    let pos = monic-pos (a .k) (a .low) (s .pre .2) in
-    let h : 0 < l .i = omega arith in (
+    let l = step→at-loop c .loop in
+    let y = step→product c .product in
+    let pos = monic-pos (a .p .degree) (a .p .low) (s .pre .2) in
+    let twice = c .step .ensures ∙ ap (rem (polynomial (a .p))) (double (y .result)) in (
       omega arith,
-      rw (c .step .ensures, double, c .before .before .product .ensures, l .inv .1, ← (next-bits (a .n) (l .i) h))
-          (power-odd pos 2 (a .n / 2 ^ (l .i - 1)) (c .before .if1 .taken)),
+      times-next pos 2 (a .n) (l .i) (l .x) (y .result) (omega arith) (l .inv .1) (y .ensures) _ twice (c .before .if1 .taken),
     )
 
 loop-less-2 : tie.Need-loop-less-2 Inv-loop μ-loop
@@ -79,21 +121,18 @@ loop-less-2 c = omega arith
 
 loop-again-2 : tie.Need-loop-again-2 Inv-loop μ-loop
 loop-again-2 c =
-    let s = c .before .before .before .before .before .before in
+    let s = else1→start c in
     let a = s .args in
-    let l = c .before .before .before .loop in
-    let pos = monic-pos (a .k) (a .low) (s .pre .2) in
-    let h : 0 < l .i = omega arith in (
-      omega arith,
-      rw (c .before .product .ensures, l .inv .1, ← (next-bits (a .n) (l .i) h)) (power-even pos 2 (a .n / 2 ^ (l .i - 1)) (c .if1 .left)),
-    )
+    let l = else1→at-loop c .loop in
+    let pos = monic-pos (a .p .degree) (a .p .low) (s .pre .2) in
+    (omega arith, square-next pos 2 (a .n) (l .i) (l .x) _ (omega arith) (l .inv .1) (c .before .product .ensures) (c .if1 .left))
 
 returns : tie.Need-returns Inv-loop μ-loop
 returns c =
-    let a = c .before .before .before .before .args in
+    let a = loop→start c .args in
     let l = c .before .loop in
     let e : l .i ≡ 0 = omega arith in
-    l .inv .1 ∙ ap (λ (i : ℕ). rem (monic (a .k) (a .low)) (2 ⊗^ (a .n / 2 ^ i))) e ∙ ap (λ (m : ℕ). rem (monic (a .k) (a .low)) (2 ⊗^ m)) (div-one (a .n)) ∙ ap (rem (monic (a .k) (a .low))) (pow-t (a .n))
+    l .inv .1 ∙ ap (λ (i : ℕ). rem (polynomial (a .p)) (2 ⊗^ (a .n / 2 ^ i))) e ∙ ap (λ (m : ℕ). rem (polynomial (a .p)) (2 ⊗^ m)) (div-one (a .n)) ∙ ap (rem (polynomial (a .p))) (pow-t (a .n))
 
 pub power-of-t-spec : {M : Type 1} → statement M
 power-of-t-spec =

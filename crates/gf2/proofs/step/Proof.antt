@@ -11,6 +11,11 @@ use Rattle.gf2.proofs.Steps.{step-is, top-bit, append-lt, bit-mul-le}
 use Rattle.gf2.proofs.step.Statement.{statement}
 use Rattle.gf2.proofs.step.Tie as tie
 
+-- ---- the places: from each one to an earlier one
+
+abbrev struct-known2→start : tie.After-struct-known2 → tie.Start
+struct-known2→start c = c .before .before .before
+
 sub-cut : tie.Need-sub-cut
 sub-cut c = search needs
 
@@ -29,32 +34,32 @@ one-bit k f p l = mod-eq-of-lt (top-bit k f p l)
 
 mul-reduced : tie.Need-mul-reduced
 mul-reduced c =
-    let a = c .before .args in
-    let p = c .before .pre in
-    record { fits = omega (arith, bit-mul-le (a .low) (a .f / 2 ^ (a .k - 1) % 2) (mod-2 (a .f / 2 ^ (a .k - 1)))) }
+    let a = struct-known2→start c .args in
+    let p = struct-known2→start c .pre in
+    record { fits = omega (arith, bit-mul-le (a .p .low) (a .f / 2 ^ (a .p .degree - 1) % 2) (mod-2 (a .f / 2 ^ (a .p .degree - 1)))) }
 
--- the residue with the bit behind it, less the coefficient that falls out, is below 2 ^ k
+-- the residue with the bit behind it, less the coefficient that falls out, is below 2 ^ p .degree
 rest-fits : (k f b : ℕ) → 0 < k → k ≤ 64 → b < 2 → f % 2 ^ (k - 1) * 2 + b < 2 ^ 64
 rest-fits k f b p l m = lt-of-lt-of-le (append-lt k f b p m) (pow-mono l)
 
 mul-result : tie.Need-mul-result
 mul-result c =
-    let a = c .before .args in
-    let p = c .before .pre in
-    record { fits = omega (arith, c .low-bits .ensures, rest-fits (a .k) (a .f) (a .bit) (p .0 .0) (p .0 .1) (p .2)) }
+    let a = struct-known2→start c .args in
+    let p = struct-known2→start c .pre in
+    record { fits = omega (arith, c .before .low-bits .ensures, rest-fits (a .p .degree) (a .f) (a .bit) (p .0 .0) (p .0 .1) (p .2)) }
 
 add-result : tie.Need-add-result
 add-result c =
-    let a = c .before .args in
-    let p = c .before .pre in
-    record { fits = omega (arith, c .low-bits .ensures, rest-fits (a .k) (a .f) (a .bit) (p .0 .0) (p .0 .1) (p .2)) }
+    let a = struct-known2→start c .args in
+    let p = struct-known2→start c .pre in
+    record { fits = omega (arith, c .before .low-bits .ensures, rest-fits (a .p .degree) (a .f) (a .bit) (p .0 .0) (p .0 .1) (p .2)) }
 
 returns : tie.Need-returns
 unfolding _⊕_
 returns c =
-    let a = c .before .args in
-    let p = c .before .pre in
-    rw (c .low-bits .ensures, one-bit (a .k) (a .f) (p .0 .0) (p .1)) (sym (step-is (a .k) (a .low) (a .f) (a .bit) (p .0 .0) (p .0 .2) (p .1) (p .2)))
+    let a = struct-known2→start c .args in
+    let p = struct-known2→start c .pre in
+    rw (c .before .low-bits .ensures, one-bit (a .p .degree) (a .f) (p .0 .0) (p .1)) (sym (step-is (a .p .degree) (a .p .low) (a .f) (a .bit) (p .0 .0) (p .0 .2) (p .1) (p .2)))
 
 pub step-spec : {M : Type 1} → statement M
 step-spec = tie.close (tie.spec sub-cut cast-top shr-top low-bits-requires mul-reduced mul-result add-result returns)

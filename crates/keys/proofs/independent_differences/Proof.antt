@@ -10,7 +10,7 @@ use Rattle.gf2.specs.Polynomials.{_⊕_}
 use Rattle.lists.specs.Lists.{listFrom}
 use Rattle.gf2.proofs.Steps.{shifted-one}
 use Rattle.keys.specs.Squares.{folded}
-use Rattle.keys.proofs.Filling.{length-filled, filled-at, fill, fill-whole}
+use Rattle.keys.proofs.Filling.{length-filled, filled-at, fill, fill-whole, same-independent}
 use Rattle.keys.proofs.independent_differences.Statement.{statement}
 use Rattle.keys.proofs.independent_differences.Tie as tie
 
@@ -24,14 +24,43 @@ Inv-loop rows₀ h i₀ i-end rows i = (i ≤ length rows₀) × (rows ≡ listF
 abbrev μ-loop : tie.MeasureT-loop
 μ-loop rows₀ h i₀ i-end rows i = length rows₀ - i
 
+-- ---- the places: from each one to an earlier one
+
+abbrev at-loop→start : tie.At-loop Inv-loop μ-loop → tie.Start Inv-loop μ-loop
+at-loop→start c = c .before .before
+
+abbrev slice-known2→at-loop : tie.After-slice-known2 Inv-loop μ-loop → tie.At-loop Inv-loop μ-loop
+slice-known2→at-loop c = c .before .before
+
+abbrev independent→start : tie.After-independent Inv-loop μ-loop → tie.Start Inv-loop μ-loop
+independent→start c = at-loop→start (c .before .before .before)
+
+abbrev fold→start : tie.After-fold Inv-loop μ-loop → tie.Start Inv-loop μ-loop
+fold→start c = at-loop→start (c .before .before .before)
+
+abbrev independent→at-loop : tie.After-independent Inv-loop μ-loop → tie.At-loop Inv-loop μ-loop
+independent→at-loop c = c .before .before .before
+
+abbrev fold→at-loop : tie.After-fold Inv-loop μ-loop → tie.At-loop Inv-loop μ-loop
+fold→at-loop c = slice-known2→at-loop (c .before)
+
+abbrev slice-known3→start : tie.After-slice-known3 Inv-loop μ-loop → tie.Start Inv-loop μ-loop
+slice-known3→start c = independent→start (c .before .before)
+
+abbrev slice-known3→at-loop : tie.After-slice-known3 Inv-loop μ-loop → tie.At-loop Inv-loop μ-loop
+slice-known3→at-loop c = independent→at-loop (c .before .before)
+
+abbrev slice-known3→independent : tie.After-slice-known3 Inv-loop μ-loop → tie.After-independent Inv-loop μ-loop
+slice-known3→independent c = c .before .before
+
 loop-holds : tie.Need-loop-holds Inv-loop μ-loop
 unfolding listFrom
 loop-holds c = (omega arith, refl)
 
 -- the buffer keeps its length
-same : (c : tie.At-loop Inv-loop μ-loop) → length (c .loop .rows) ≡ length (c .before .before .args .rows .now)
+same : (c : tie.At-loop Inv-loop μ-loop) → length (c .loop .rows) ≡ length (at-loop→start c .args .rows .now)
 same c =
-    let a = c .before .before .args in
+    let a = at-loop→start c .args in
     ap length (c .loop .inv .1) ∙ length-filled (value (a .h) (a .rows .now)) 0 (c .loop .i) (a .rows .now) (c .loop .inv .0)
 
 add-power : tie.Need-add-power Inv-loop μ-loop
@@ -44,7 +73,7 @@ mul-fold : tie.Need-mul-fold Inv-loop μ-loop
 mul-fold c = omega arith
 
 slice-read-fold : tie.Need-slice-read-fold Inv-loop μ-loop
-slice-read-fold c = omega (arith, same (c .before .before))
+slice-read-fold c = omega (arith, same (slice-known2→at-loop c))
 
 fold-requires : tie.Need-fold-requires Inv-loop μ-loop
 fold-requires c κs = search needs
@@ -53,7 +82,7 @@ mul-rows : tie.Need-mul-rows Inv-loop μ-loop
 mul-rows c = omega arith
 
 slice-write-rows : tie.Need-slice-write-rows Inv-loop μ-loop
-slice-write-rows c = omega (arith, same (c .before .before .before))
+slice-write-rows c = omega (arith, same (fold→at-loop c))
 
 add-i : tie.Need-add-i Inv-loop μ-loop
 add-i c = omega arith
@@ -64,8 +93,8 @@ loop-less c = omega arith
 loop-again : tie.Need-loop-again Inv-loop μ-loop
 unfolding _⊕_
 loop-again c =
-    let a = c .before .before .before .before .before .args in
-    let l = c .before .before .before .loop in
+    let a = fold→start c .args in
+    let l = fold→at-loop c .loop in
     let f : ℕ → ℕ = value (a .h) (a .rows .now) in
     let row : getD (l .rows) (l .i) 0 ≡ getD (a .rows .now) (l .i) 0 = ap (λ (x : List ℕ). getD x (l .i) 0) (l .inv .1) ∙ filled-at f 0 (l .i) (a .rows .now) (omega arith) in
     let e : c .fold .result ≡ f (l .i) = c .fold .ensures ∙ ap₂ (λ (x y : ℕ). folded 6 (x ⊕ y)) row (shifted-one (a .h + l .i) (omega arith)) in
@@ -75,15 +104,15 @@ independent-requires : tie.Need-independent-requires Inv-loop μ-loop
 independent-requires c κs = search needs
 
 same-length : tie.Need-same-length Inv-loop μ-loop
-same-length c = c .before .before .independent .kept .0 ∙ same (c .before .before .before .before .before)
+same-length c = slice-known3→independent c .independent .kept .0 ∙ same (slice-known3→at-loop c)
 
 returns : tie.Need-returns Inv-loop μ-loop
 returns c =
-    let a = c .before .before .before .before .before .before .before .args in
-    let l = c .before .before .before .before .before .loop in
+    let a = slice-known3→start c .args in
+    let l = slice-known3→at-loop c .loop in
     let f : ℕ → ℕ = value (a .h) (a .rows .now) in
     let e : l .rows ≡ listFrom f 0 (length (a .rows .now)) = l .inv .1 ∙ fill-whole f 0 (l .i) (a .rows .now) (omega arith) in
-    rw e at (c .before .before .independent .ensures)
+    same-independent e (slice-known3→independent c .independent .ensures)
 
 pub independent-differences-spec : {M : Type 1} → statement M
 independent-differences-spec =

@@ -8,7 +8,7 @@ use native.Mathlib.Omega.{arith}
 use lib.ListN.{length, drop, getD}
 use Rattle.lists.specs.Lists.{listFrom}
 use Rattle.keys.specs.Squares.{oddPart}
-use Rattle.keys.proofs.Filling.{length-filled, filled-at, fill, fill-whole}
+use Rattle.keys.proofs.Filling.{length-filled, filled-at, fill, fill-whole, same-independent}
 use Rattle.keys.proofs.independent_squares.Statement.{statement}
 use Rattle.keys.proofs.independent_squares.Tie as tie
 
@@ -18,21 +18,50 @@ Inv-loop rows₀ i₀ i-end rows i = (i ≤ length rows₀) × (rows ≡ listFro
 abbrev μ-loop : tie.MeasureT-loop
 μ-loop rows₀ i₀ i-end rows i = length rows₀ - i
 
+-- ---- the places: from each one to an earlier one
+
+abbrev at-loop→start : tie.At-loop Inv-loop μ-loop → tie.Start Inv-loop μ-loop
+at-loop→start c = c .before .before
+
+abbrev slice-known2→at-loop : tie.After-slice-known2 Inv-loop μ-loop → tie.At-loop Inv-loop μ-loop
+slice-known2→at-loop c = c .before .before
+
+abbrev independent→start : tie.After-independent Inv-loop μ-loop → tie.Start Inv-loop μ-loop
+independent→start c = at-loop→start (c .before .before .before)
+
+abbrev odd-part→start : tie.After-odd-part Inv-loop μ-loop → tie.Start Inv-loop μ-loop
+odd-part→start c = at-loop→start (c .before .before .before)
+
+abbrev independent→at-loop : tie.After-independent Inv-loop μ-loop → tie.At-loop Inv-loop μ-loop
+independent→at-loop c = c .before .before .before
+
+abbrev odd-part→at-loop : tie.After-odd-part Inv-loop μ-loop → tie.At-loop Inv-loop μ-loop
+odd-part→at-loop c = slice-known2→at-loop (c .before)
+
+abbrev slice-known3→start : tie.After-slice-known3 Inv-loop μ-loop → tie.Start Inv-loop μ-loop
+slice-known3→start c = independent→start (c .before .before)
+
+abbrev slice-known3→at-loop : tie.After-slice-known3 Inv-loop μ-loop → tie.At-loop Inv-loop μ-loop
+slice-known3→at-loop c = independent→at-loop (c .before .before)
+
+abbrev slice-known3→independent : tie.After-slice-known3 Inv-loop μ-loop → tie.After-independent Inv-loop μ-loop
+slice-known3→independent c = c .before .before
+
 loop-holds : tie.Need-loop-holds Inv-loop μ-loop
 unfolding listFrom
 loop-holds c = (omega arith, refl)
 
 -- the buffer keeps its length
-same : (c : tie.At-loop Inv-loop μ-loop) → length (c .loop .rows) ≡ length (c .before .before .args .rows .now)
+same : (c : tie.At-loop Inv-loop μ-loop) → length (c .loop .rows) ≡ length (at-loop→start c .args .rows .now)
 same c =
-    let rows₀ = c .before .before .args .rows .now in
+    let rows₀ = at-loop→start c .args .rows .now in
     ap length (c .loop .inv .1) ∙ length-filled (λ j. oddPart (getD rows₀ j 0)) 0 (c .loop .i) rows₀ (c .loop .inv .0)
 
 mul-odd-part : tie.Need-mul-odd-part Inv-loop μ-loop
 mul-odd-part c = omega arith
 
 slice-read-odd-part : tie.Need-slice-read-odd-part Inv-loop μ-loop
-slice-read-odd-part c = omega (arith, same (c .before .before))
+slice-read-odd-part c = omega (arith, same (slice-known2→at-loop c))
 
 odd-part-requires : tie.Need-odd-part-requires Inv-loop μ-loop
 odd-part-requires c κs = search needs
@@ -41,7 +70,7 @@ mul-rows : tie.Need-mul-rows Inv-loop μ-loop
 mul-rows c = omega arith
 
 slice-write-rows : tie.Need-slice-write-rows Inv-loop μ-loop
-slice-write-rows c = omega (arith, same (c .before .before .before))
+slice-write-rows c = omega (arith, same (odd-part→at-loop c))
 
 add-i : tie.Need-add-i Inv-loop μ-loop
 add-i c = omega arith
@@ -51,8 +80,8 @@ loop-less c = omega arith
 
 loop-again : tie.Need-loop-again Inv-loop μ-loop
 loop-again c =
-    let rows₀ = c .before .before .before .before .before .args .rows .now in
-    let l = c .before .before .before .loop in
+    let rows₀ = odd-part→start c .args .rows .now in
+    let l = odd-part→at-loop c .loop in
     let f : ℕ → ℕ = λ j. oddPart (getD rows₀ j 0) in
     let e = ap (λ (x : List ℕ). oddPart (getD x (l .i) 0)) (l .inv .1) ∙ ap oddPart (filled-at f 0 (l .i) rows₀ (omega arith)) in
     (omega arith, rw (l .inv .1) (fill f 0 (l .i) rows₀ (c .odd-part .result) (omega arith) (c .odd-part .ensures ∙ e ∙ ap f (sym (zero-add (l .i))))))
@@ -61,15 +90,15 @@ independent-requires : tie.Need-independent-requires Inv-loop μ-loop
 independent-requires c κs = search needs
 
 same-length : tie.Need-same-length Inv-loop μ-loop
-same-length c = c .before .before .independent .kept .0 ∙ same (c .before .before .before .before .before)
+same-length c = slice-known3→independent c .independent .kept .0 ∙ same (slice-known3→at-loop c)
 
 returns : tie.Need-returns Inv-loop μ-loop
 returns c =
-    let rows₀ = c .before .before .before .before .before .before .before .args .rows .now in
-    let l = c .before .before .before .before .before .loop in
+    let rows₀ = slice-known3→start c .args .rows .now in
+    let l = slice-known3→at-loop c .loop in
     let f : ℕ → ℕ = λ j. oddPart (getD rows₀ j 0) in
     let e : l .rows ≡ listFrom f 0 (length rows₀) = l .inv .1 ∙ fill-whole f 0 (l .i) rows₀ (omega arith) in
-    rw e at (c .before .before .independent .ensures)
+    same-independent e (slice-known3→independent c .independent .ensures)
 
 pub independent-squares-spec : {M : Type 1} → statement M
 independent-squares-spec =

@@ -1,12 +1,16 @@
 -- `test` meets its contract.
-use mathlib.Core.Path.{_≡_, ap, _∙_}
-use Prim.Native.Nat.{_≤_, _<_}
+use mathlib.Core.Path.{_≡_, sym, ap, _∙_}
+use mathlib.Core.Bool.{false, not}
+use Prim.Native.Nat.{ℕ, _≤_, _<_}
 use native.Mathlib.Omega.{arith}
 use borrow.Author.Needs.{needs}
 use borrow.Author.Tests.{lt-ltb, le-ltb}
-use Rattle.gf2.specs.Polynomials.{degree}
+use Rattle.gf2.specs.Moduli.{polynomial, Proper, modulusOf}
+use Rattle.gf2.specs.declared.Modulus.{Modulus}
 use Rattle.gf2.proofs.Degrees.{degree-from}
-use Rattle.gf2.proofs.Monics.{word-degree}
+use Rattle.gf2.proofs.Monics.{word-degree, word-proper, word-whole}
+use lib.Dec.{ltb}
+use Rattle.refusals.specs.Refusals.{Done}
 use Rattle.refusals.proofs.Laws.{holds, fails}
 use Rattle.acceptance.specs.Keys.{reducible, accepted}
 use Rattle.acceptance.proofs.Laws.{key-iff}
@@ -16,58 +20,93 @@ use Rattle.keys.specs.Testing.{testKey}
 use Rattle.keys.proofs.test.Statement.{statement}
 use Rattle.keys.proofs.test.Tie as tie
 
+-- ---- the places: from each one to an earlier one
+
+abbrev modulus-of→start : tie.After-modulus-of → tie.Start
+modulus-of→start c = c .before .before
+
+abbrev then2→modulus-of : tie.Then2 → tie.After-modulus-of
+then2→modulus-of c = c .before .before
+
+abbrev else2→modulus-of : tie.Else2 → tie.After-modulus-of
+else2→modulus-of c = c .before .before
+
+abbrev then3→modulus-of : tie.Then3 → tie.After-modulus-of
+then3→modulus-of c = else2→modulus-of (c .before .before)
+
+abbrev else3→modulus-of : tie.Else3 → tie.After-modulus-of
+else3→modulus-of c = else2→modulus-of (c .before .before)
+
 returns : tie.Need-returns
 unfolding testKey
 returns c = rw (lt-ltb (c .before .args .key) 256 (c .if1 .taken))
 
-degree-requires : tie.Need-degree-requires
-degree-requires c κs = search needs
+modulus-of-requires : tie.Need-modulus-of-requires
+modulus-of-requires c κs = omega arith
+
+-- ---- the key, taken apart
 
 -- a key of at least 256 has a stock key beside it
-in-range : (c : tie.After-degree) → (8 ≤ c .degree .result) × (c .degree .result < 64)
+in-range : (c : tie.After-modulus-of) → let k = c .modulus-of .result .degree in (8 ≤ k) × (k < 64)
 in-range c =
-    let key = c .before .before .args .key in
-    let e = c .degree .ensures in
-    (rw e (degree-from 8 key (c .before .if1 .left)), rw e (word-degree key (omega arith) (c .before .before .fits .key .fits)))
+    let key = modulus-of→start c .args .key in
+    let e = ap (λ (p : Modulus). p .degree) (c .modulus-of .ensures) in
+    (rw e (degree-from 8 key (c .before .if1 .left)), rw e (word-degree key (omega arith) (modulus-of→start c .fits .key .fits)))
+
+proper : (c : tie.After-modulus-of) → Proper (c .modulus-of .result)
+proper c =
+    let key = modulus-of→start c .args .key in
+    rw (c .modulus-of .ensures) (word-proper key (omega arith) (modulus-of→start c .fits .key .fits))
+
+whole : (c : tie.After-modulus-of) → polynomial (c .modulus-of .result) ≡ modulus-of→start c .args .key
+whole c =
+    let key = modulus-of→start c .args .key in
+    ap polynomial (c .modulus-of .ensures) ∙ word-whole key (omega arith)
+
+-- where no test of the key holds, the answer is the key taken apart
+accepted-is : (key : ℕ) (p : Modulus) → p ≡ modulusOf key → ltb key 256 ≡ false → reducible key ≡ false → Done p ≡ testKey key
+unfolding testKey
+accepted-is key p e a b = ap Done e ∙ sym (rw (a, b))
 
 stock-key-requires : tie.Need-stock-key-requires
 stock-key-requires c κs = in-range c
 
 returns-2 : tie.Need-returns-2
-unfolding testKey
 returns-2 c =
-    let s = c .before .before .before .before in
-    let k = c .before .before .degree .result in
-    let r = in-range (c .before .before) in
+    let m = then2→modulus-of c in
+    let s = modulus-of→start m in
+    let k = m .modulus-of .result .degree in
+    let r = in-range m in
     let is : s .args .key ≡ stockKey k = c .if2 .taken ∙ c .before .stock-key .ensures in
     let e = key-iff (s .args .key) (s .fits .key .fits) .0 (ap accepted is ∙ stock-smallest k (r .0) (r .1) .is-accepted) in
-    rw (e .0, e .1)
+    accepted-is (s .args .key) (m .modulus-of .result) (m .modulus-of .ensures) (e .0) (e .1)
 
 irreducible-requires : tie.Need-irreducible-requires
-irreducible-requires c κs = search needs
+irreducible-requires c κs = let m = else2→modulus-of c in (proper m, in-range m .1)
 
 returns-3 : tie.Need-returns-3
 unfolding testKey
 returns-3 c =
-    let key = c .before .before .before .before .before .before .args .key in
+    let m = then3→modulus-of c in
+    let key = modulus-of→start m .args .key in
     let i = c .before .irreducible in
-    let e = holds (i .result) (reducible key) (i .ensures) (c .if3 .taken) in
-    rw (le-ltb key 256 (c .before .before .before .before .before .if1 .left), e)
+    let e = holds (i .result) (reducible key) (i .ensures ∙ ap (λ (q : ℕ). not (reducible q)) (whole m)) (c .if3 .taken) in
+    rw (le-ltb key 256 (m .before .if1 .left), e)
 
 returns-4 : tie.Need-returns-4
-unfolding testKey
 returns-4 c =
-    let key = c .before .before .before .before .before .before .args .key in
+    let m = else3→modulus-of c in
+    let key = modulus-of→start m .args .key in
     let i = c .before .irreducible in
-    let e = fails (i .result) (reducible key) (i .ensures) (c .if3 .left) in
-    rw (le-ltb key 256 (c .before .before .before .before .before .if1 .left), e)
+    let e = fails (i .result) (reducible key) (i .ensures ∙ ap (λ (q : ℕ). not (reducible q)) (whole m)) (c .if3 .left) in
+    accepted-is key (m .modulus-of .result) (m .modulus-of .ensures) (le-ltb key 256 (m .before .if1 .left)) e
 
 pub test-spec : {M : Type 1} → statement M
 test-spec =
     tie.close
     (tie.spec
     returns
-    degree-requires
+    modulus-of-requires
     stock-key-requires
     returns-2
     irreducible-requires

@@ -1,15 +1,128 @@
--- `feed_long` meets its contract: the runs are joined one after the other, and the rest is fed behind them.
+-- `feed_long` meets its contract: the lanes are joined one after the other, and the rest is fed behind them.
 use mathlib.Core.Path.{_≡_, sym, _∙_}
-use Prim.Native.Nat.{_*_, _/_}
+use mathlib.Core.List.{List}
+use Prim.Native.Nat.{ℕ, _*_, _/_, _^_, _<_}
 use native.Mathlib.Omega.{arith}
 use lib.ListN.{length, take}
 use lib.Pow.{pow-pos}
 use lib.Seq.{length-take-le}
+use Rattle.gf2.specs.Polynomials.{rem}
+use Rattle.gf2.specs.Moduli.{polynomial}
 use Rattle.gf2.proofs.Monics.{monic-pos}
-use Rattle.gf2.proofs.Steps.{residue-lt}
-use Rattle.lookups.proofs.Parts.{run-length, run-joined, run-rest, joined-lt}
+use Rattle.gf2.proofs.Steps.{residue-below}
+use Rattle.files.specs.Files.{bits, valueFrom}
+use Rattle.lookups.proofs.Parts.{lane-length, lane-joined, lane-rest}
 use Rattle.lookups.proofs.feed_long.Statement.{statement}
 use Rattle.lookups.proofs.feed_long.Tie as tie
+
+-- ---- the places: from each one to an earlier one
+
+abbrev feed-lanes-arg→start : tie.After-feed-lanes-arg → tie.Start
+feed-lanes-arg→start c = c .before .before .before
+
+abbrev feed-lanes-arg4→start : tie.After-feed-lanes-arg4 → tie.Start
+feed-lanes-arg4→start c = feed-lanes-arg→start (c .before .before .before)
+
+abbrev power-of-t→start : tie.After-power-of-t → tie.Start
+power-of-t→start c = feed-lanes-arg4→start (c .before .before)
+
+abbrev power-of-t→feed-lanes : tie.After-power-of-t → tie.After-feed-lanes
+power-of-t→feed-lanes c = c .before
+
+abbrev times-plus→start : tie.After-times-plus → tie.Start
+times-plus→start c = power-of-t→start (c .before)
+
+abbrev times-plus→feed-lanes : tie.After-times-plus → tie.After-feed-lanes
+times-plus→feed-lanes c = power-of-t→feed-lanes (c .before)
+
+abbrev times-plus→power-of-t : tie.After-times-plus → tie.After-power-of-t
+times-plus→power-of-t c = c .before
+
+abbrev times-plus2→start : tie.After-times-plus2 → tie.Start
+times-plus2→start c = times-plus→start (c .before)
+
+abbrev times-plus2→feed-lanes : tie.After-times-plus2 → tie.After-feed-lanes
+times-plus2→feed-lanes c = times-plus→feed-lanes (c .before)
+
+abbrev times-plus2→power-of-t : tie.After-times-plus2 → tie.After-power-of-t
+times-plus2→power-of-t c = times-plus→power-of-t (c .before)
+
+abbrev times-plus3→start : tie.After-times-plus3 → tie.Start
+times-plus3→start c = times-plus2→start (c .before)
+
+abbrev times-plus3→feed-lanes : tie.After-times-plus3 → tie.After-feed-lanes
+times-plus3→feed-lanes c = times-plus2→feed-lanes (c .before)
+
+abbrev times-plus3→power-of-t : tie.After-times-plus3 → tie.After-power-of-t
+times-plus3→power-of-t c = times-plus2→power-of-t (c .before)
+
+abbrev feed-lane-arg→start : tie.After-feed-lane-arg → tie.Start
+feed-lane-arg→start c = times-plus3→start (c .before)
+
+abbrev feed-lane-arg→times-plus3 : tie.After-feed-lane-arg → tie.After-times-plus3
+feed-lane-arg→times-plus3 c = c .before
+
+abbrev feed-lane→start : tie.After-feed-lane → tie.Start
+feed-lane→start c = feed-lane-arg→start (c .before)
+
+abbrev feed-lane→times-plus3 : tie.After-feed-lane → tie.After-times-plus3
+feed-lane→times-plus3 c = feed-lane-arg→times-plus3 (c .before)
+
+-- ---- what is known at the places
+
+-- the length of a lane
+abbrev one : List ℕ → ℕ
+one part = length part / 16 * 4
+
+power-below : (c : tie.After-power-of-t) → c .power-of-t .result < 2 ^ power-of-t→start c .args .p .degree
+power-below c = let s = power-of-t→start c in residue-below (s .args .p) (s .pre .0 .0) (c .power-of-t .result) _ (c .power-of-t .ensures)
+
+pos : (s : tie.Start) → 0 < polynomial (s .args .p)
+pos s = monic-pos (s .args .p .degree) (s .args .p .low) (s .pre .0 .0 .2)
+
+-- x is the residue of the bytes before place n behind f
+abbrev Joined : tie.Start → ℕ → ℕ → Type 0
+Joined s n x = x ≡ rem (polynomial (s .args .p)) (valueFrom (s .args .f) (bits (take n (s .args .part .now))))
+
+two-lanes : (c : tie.After-times-plus) → let s = times-plus→start c in Joined s (2 * one (s .args .part .now)) (c .times-plus .result)
+two-lanes c =
+    let s = times-plus→start c in
+    let n = one (s .args .part .now) in
+    let x = times-plus→feed-lanes c .feed-lanes in
+    let t = c .before .power-of-t in
+    lane-joined (pos s) (s .args .f) (s .args .part .now) n (2 * n) n (x .result .a) (x .result .b) (t .result) (c .times-plus .result) (omega arith) (omega arith)
+    (x .ensures .0)
+    (x .ensures .1)
+    (t .ensures)
+    (c .times-plus .ensures)
+
+three-lanes : (c : tie.After-times-plus2) → let s = times-plus2→start c in Joined s (3 * one (s .args .part .now)) (c .times-plus2 .result)
+three-lanes c =
+    let s = times-plus2→start c in
+    let n = one (s .args .part .now) in
+    let x = times-plus2→feed-lanes c .feed-lanes in
+    let t = times-plus2→power-of-t c .power-of-t in
+    let ab = c .before in
+    lane-joined (pos s) (s .args .f) (s .args .part .now) (2 * n) (3 * n) n (ab .times-plus .result) (x .result .c) (t .result) (c .times-plus2 .result) (omega arith) (omega arith)
+    (two-lanes ab)
+    (x .ensures .2)
+    (t .ensures)
+    (c .times-plus2 .ensures)
+
+four-lanes : (c : tie.After-times-plus3) → let s = times-plus3→start c in Joined s (4 * one (s .args .part .now)) (c .times-plus3 .result)
+four-lanes c =
+    let s = times-plus3→start c in
+    let n = one (s .args .part .now) in
+    let x = times-plus3→feed-lanes c .feed-lanes in
+    let t = times-plus3→power-of-t c .power-of-t in
+    let abc = c .before in
+    lane-joined (pos s) (s .args .f) (s .args .part .now) (3 * n) (4 * n) n (abc .times-plus2 .result) (x .result .d) (t .result) (c .times-plus3 .result) (omega arith) (omega arith)
+    (three-lanes abc)
+    (x .ensures .3)
+    (t .ensures)
+    (c .times-plus3 .ensures)
+
+-- ---- the needs
 
 mul-one : tie.Need-mul-one
 mul-one c = omega arith
@@ -23,44 +136,44 @@ mul-three c = omega arith
 mul-four : tie.Need-mul-four
 mul-four c = omega arith
 
-slice-aggregate-feed-runs : tie.Need-slice-aggregate-feed-runs
-slice-aggregate-feed-runs c =
-    let p = c .before .before .before .args .part .now in
+slice-aggregate-feed-lanes : tie.Need-slice-aggregate-feed-lanes
+slice-aggregate-feed-lanes c =
+    let p = feed-lanes-arg→start c .args .part .now in
     sym (length-take-le (length p / 16 * 4) p (omega arith))
 
-sub-feed-runs : tie.Need-sub-feed-runs
-sub-feed-runs c = omega arith
+sub-feed-lanes : tie.Need-sub-feed-lanes
+sub-feed-lanes c = omega arith
 
-part-feed-runs-start : tie.Need-part-feed-runs-start
-part-feed-runs-start c = omega arith
+part-feed-lanes-start : tie.Need-part-feed-lanes-start
+part-feed-lanes-start c = omega arith
 
-part-feed-runs-end : tie.Need-part-feed-runs-end
-part-feed-runs-end c = omega arith
+part-feed-lanes-end : tie.Need-part-feed-lanes-end
+part-feed-lanes-end c = omega arith
 
-sub-feed-runs-2 : tie.Need-sub-feed-runs-2
-sub-feed-runs-2 c = omega arith
+sub-feed-lanes-2 : tie.Need-sub-feed-lanes-2
+sub-feed-lanes-2 c = omega arith
 
-part-feed-runs-start-2 : tie.Need-part-feed-runs-start-2
-part-feed-runs-start-2 c = omega arith
+part-feed-lanes-start-2 : tie.Need-part-feed-lanes-start-2
+part-feed-lanes-start-2 c = omega arith
 
-part-feed-runs-end-2 : tie.Need-part-feed-runs-end-2
-part-feed-runs-end-2 c = omega arith
+part-feed-lanes-end-2 : tie.Need-part-feed-lanes-end-2
+part-feed-lanes-end-2 c = omega arith
 
-sub-feed-runs-3 : tie.Need-sub-feed-runs-3
-sub-feed-runs-3 c = omega arith
+sub-feed-lanes-3 : tie.Need-sub-feed-lanes-3
+sub-feed-lanes-3 c = omega arith
 
-part-feed-runs-start-3 : tie.Need-part-feed-runs-start-3
-part-feed-runs-start-3 c = omega arith
+part-feed-lanes-start-3 : tie.Need-part-feed-lanes-start-3
+part-feed-lanes-start-3 c = omega arith
 
-part-feed-runs-end-3 : tie.Need-part-feed-runs-end-3
-part-feed-runs-end-3 c = omega arith
+part-feed-lanes-end-3 : tie.Need-part-feed-lanes-end-3
+part-feed-lanes-end-3 c = omega arith
 
-feed-runs-requires : tie.Need-feed-runs-requires
-feed-runs-requires c κs =
-    let s = c .before .before .before .before .before .before in
+feed-lanes-requires : tie.Need-feed-lanes-requires
+feed-lanes-requires c κs =
+    let s = feed-lanes-arg4→start c in
     let p = s .args .part .now in
     let n = length p / 16 * 4 in
-    let z = pow-pos (s .args .k) in
+    let z = pow-pos (s .args .p .degree) in
     let one : length (take n p) ≡ n = length-take-le n p (omega arith) in (
       s .pre .0,
       s .pre .1,
@@ -68,9 +181,9 @@ feed-runs-requires c κs =
       z,
       z,
       rw one (omega arith),
-      run-length p n (2 * n) n (omega arith) (omega arith) ∙ sym one,
-      run-length p (2 * n) (3 * n) n (omega arith) (omega arith) ∙ sym one,
-      run-length p (3 * n) (4 * n) n (omega arith) (omega arith) ∙ sym one,
+      lane-length p n (2 * n) n (omega arith) (omega arith) ∙ sym one,
+      lane-length p (2 * n) (3 * n) n (omega arith) (omega arith) ∙ sym one,
+      lane-length p (3 * n) (4 * n) n (omega arith) (omega arith) ∙ sym one,
     )
 
 mul-power-of-t : tie.Need-mul-power-of-t
@@ -79,73 +192,43 @@ mul-power-of-t c = omega arith
 power-of-t-requires : tie.Need-power-of-t-requires
 power-of-t-requires c κs = omega arith
 
-joined-requires : tie.Need-joined-requires
-joined-requires c κs =
-    let s = c .before .before .before .before .before .before .before .before in
-    let a = s .args in
-    let m = s .pre .0 .0 .2 in
-    let t = c .power-of-t in
-    let x = c .before .feed-runs in
-    (s .pre .0 .0, rw (x .ensures .0) (residue-lt (a .k) (a .low) m _), rw (t .ensures) (residue-lt (a .k) (a .low) m _))
+times-plus-requires : tie.Need-times-plus-requires
+times-plus-requires c κs =
+    let s = power-of-t→start c in
+    let x = c .before .feed-lanes in
+    (s .pre .0 .0, residue-below (s .args .p) (s .pre .0 .0) (x .result .a) _ (x .ensures .0), power-below c)
 
-joined-requires-2 : tie.Need-joined-requires-2
-joined-requires-2 c κs =
-    let s = c .before .before .before .before .before .before .before .before .before in
-    let a = s .args in
-    let m = s .pre .0 .0 .2 in
-    let t = c .before .power-of-t in
-    let x = c .before .before .feed-runs in
-    let j = c .joined in
-    (s .pre .0 .0, joined-lt (a .k) (a .low) m (x .result .a) (t .result) (x .result .b) _ (j .result) (j .ensures) (x .ensures .1), rw (t .ensures) (residue-lt (a .k) (a .low) m _))
+times-plus-requires-2 : tie.Need-times-plus-requires-2
+times-plus-requires-2 c κs =
+    let s = times-plus→start c in
+    (s .pre .0 .0, residue-below (s .args .p) (s .pre .0 .0) (c .times-plus .result) _ (two-lanes c), power-below (c .before))
 
-joined-requires-3 : tie.Need-joined-requires-3
-joined-requires-3 c κs =
-    let s = c .before .before .before .before .before .before .before .before .before .before in
-    let a = s .args in
-    let m = s .pre .0 .0 .2 in
-    let t = c .before .before .power-of-t in
-    let x = c .before .before .before .feed-runs in
-    let i = c .before .joined in
-    let j = c .joined2 in
-    (s .pre .0 .0, joined-lt (a .k) (a .low) m (i .result) (t .result) (x .result .c) _ (j .result) (j .ensures) (x .ensures .2), rw (t .ensures) (residue-lt (a .k) (a .low) m _))
+times-plus-requires-3 : tie.Need-times-plus-requires-3
+times-plus-requires-3 c κs =
+    let s = times-plus2→start c in
+    (s .pre .0 .0, residue-below (s .args .p) (s .pre .0 .0) (c .times-plus2 .result) _ (three-lanes c), power-below (times-plus2→power-of-t c))
 
-sub-feed-run : tie.Need-sub-feed-run
-sub-feed-run c = omega arith
+sub-feed-lane : tie.Need-sub-feed-lane
+sub-feed-lane c = omega arith
 
-part-feed-run-start : tie.Need-part-feed-run-start
-part-feed-run-start c = omega arith
+part-feed-lane-start : tie.Need-part-feed-lane-start
+part-feed-lane-start c = omega arith
 
-part-feed-run-end : tie.Need-part-feed-run-end
-part-feed-run-end c = omega arith
+part-feed-lane-end : tie.Need-part-feed-lane-end
+part-feed-lane-end c = omega arith
 
-feed-run-requires : tie.Need-feed-run-requires
-feed-run-requires c κs =
-    let s = c .before .before .before .before .before .before .before .before .before .before .before .before in
-    let a = s .args in
-    let m = s .pre .0 .0 .2 in
-    let t = c .before .before .before .before .power-of-t in
-    let x = c .before .before .before .before .before .feed-runs in
-    let i = c .before .before .joined2 in
-    let j = c .before .joined3 in
-    (s .pre .0, joined-lt (a .k) (a .low) m (i .result) (t .result) (x .result .d) _ (j .result) (j .ensures) (x .ensures .3))
+feed-lane-requires : tie.Need-feed-lane-requires
+feed-lane-requires c κs =
+    let s = feed-lane-arg→start c in
+    (s .pre .0, residue-below (s .args .p) (s .pre .0 .0) (c .before .times-plus3 .result) _ (four-lanes (c .before)))
 
 returns : tie.Need-returns
 returns c =
-    let s = c .before .before .before .before .before .before .before .before .before .before .before .before .before in
+    let s = feed-lane→start c in
     let a = s .args in
-    let m = s .pre .0 .0 .2 in
-    let t = c .before .before .before .before .before .power-of-t in
-    let x = c .before .before .before .before .before .before .feed-runs in
-    let j1 = c .before .before .before .before .joined in
-    let j2 = c .before .before .before .joined2 in
-    let j3 = c .before .before .joined3 in
-    let p = a .part .now in
-    let n = length p / 16 * 4 in
-    let pos = monic-pos (a .k) (a .low) m in
-    let e1 = run-joined pos (a .f) p n (2 * n) n (x .result .a) (x .result .b) (t .result) (j1 .result) (omega arith) (omega arith) (x .ensures .0) (x .ensures .1) (t .ensures) (j1 .ensures) in
-    let e2 = run-joined pos (a .f) p (2 * n) (3 * n) n (j1 .result) (x .result .c) (t .result) (j2 .result) (omega arith) (omega arith) e1 (x .ensures .2) (t .ensures) (j2 .ensures) in
-    let e3 = run-joined pos (a .f) p (3 * n) (4 * n) n (j2 .result) (x .result .d) (t .result) (j3 .result) (omega arith) (omega arith) e2 (x .ensures .3) (t .ensures) (j3 .ensures) in
-    run-rest pos (a .f) p (4 * n) (j3 .result) (c .feed-run .result) e3 (c .feed-run .ensures)
+    lane-rest (pos s) (a .f) (a .part .now) (4 * one (a .part .now)) (feed-lane→times-plus3 c .times-plus3 .result) (c .feed-lane .result)
+    (four-lanes (feed-lane→times-plus3 c))
+    (c .feed-lane .ensures)
 
 pub feed-long-spec : {M : Type 1} → statement M
 feed-long-spec =
@@ -155,24 +238,24 @@ feed-long-spec =
     mul-two
     mul-three
     mul-four
-    slice-aggregate-feed-runs
-    sub-feed-runs
-    part-feed-runs-start
-    part-feed-runs-end
-    sub-feed-runs-2
-    part-feed-runs-start-2
-    part-feed-runs-end-2
-    sub-feed-runs-3
-    part-feed-runs-start-3
-    part-feed-runs-end-3
-    feed-runs-requires
+    slice-aggregate-feed-lanes
+    sub-feed-lanes
+    part-feed-lanes-start
+    part-feed-lanes-end
+    sub-feed-lanes-2
+    part-feed-lanes-start-2
+    part-feed-lanes-end-2
+    sub-feed-lanes-3
+    part-feed-lanes-start-3
+    part-feed-lanes-end-3
+    feed-lanes-requires
     mul-power-of-t
     power-of-t-requires
-    joined-requires
-    joined-requires-2
-    joined-requires-3
-    sub-feed-run
-    part-feed-run-start
-    part-feed-run-end
-    feed-run-requires
+    times-plus-requires
+    times-plus-requires-2
+    times-plus-requires-3
+    sub-feed-lane
+    part-feed-lane-start
+    part-feed-lane-end
+    feed-lane-requires
     returns)

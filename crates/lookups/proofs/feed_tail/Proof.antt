@@ -1,34 +1,50 @@
 -- `feed_tail` meets its contract: x stands for f and the bytes from `from` to i.
-use mathlib.Core.Path.{_≡_, refl, sym, _∙_}
-use Prim.Native.Nat.{_-_, _^_, _≤_, _<_}
+use mathlib.Core.Path.{refl}
+use Prim.Native.Nat.{_-_, _≤_}
 use native.Mathlib.Omega.{arith}
-use lib.ListN.{length, drop}
-use Rattle.gf2.specs.Polynomials.{monic, rem}
-use Rattle.gf2.proofs.Monics.{monic-pos, monic-degree}
-use Rattle.files.specs.Files.{bits, valueFrom}
-use Rattle.gf2.proofs.Steps.{residue-lt}
-use Rattle.lookups.proofs.Cut.{first-row}
-use Rattle.lookups.proofs.Parts.{fed-byte, fed-all}
+use lib.ListN.{length}
+use Rattle.lookups.proofs.Rule.{first-row}
+use Rattle.lookups.proofs.Parts.{Going, going-one, going-all}
 use Rattle.lookups.proofs.feed_tail.Statement.{statement}
 use Rattle.lookups.proofs.feed_tail.Tie as tie
 
 abbrev Inv-loop : tie.InvT-loop
-Inv-loop words k low f part from x₀ i₀ x i =
-    (i ≤ length part) × (x < 2 ^ k) × (rem (monic k low) (valueFrom x (bits (drop i part))) ≡ rem (monic k low) (valueFrom f (bits (drop from part))))
+Inv-loop words p f part from x₀ i₀ x i =
+    (i ≤ length part) × Going p f part from i x
 
 abbrev μ-loop : tie.MeasureT-loop
-μ-loop words k low f part from x₀ i₀ x i = length part - i
+μ-loop words p f part from x₀ i₀ x i = length part - i
+
+-- ---- the places: from each one to an earlier one
+
+abbrev shared-slice-known2→start : tie.After-shared-slice-known2 Inv-loop μ-loop → tie.Start Inv-loop μ-loop
+shared-slice-known2→start c = c .before .before
+
+abbrev loop→start : tie.After-loop Inv-loop μ-loop → tie.Start Inv-loop μ-loop
+loop→start c = shared-slice-known2→start (c .before .before)
+
+abbrev shared-slice-known3→start : tie.After-shared-slice-known3 Inv-loop μ-loop → tie.Start Inv-loop μ-loop
+shared-slice-known3→start c = shared-slice-known2→start (c .before .before .before)
+
+abbrev shared-slice-known3→at-loop : tie.After-shared-slice-known3 Inv-loop μ-loop → tie.At-loop Inv-loop μ-loop
+shared-slice-known3→at-loop c = c .before .before
+
+abbrev feed-one→start : tie.After-feed-one Inv-loop μ-loop → tie.Start Inv-loop μ-loop
+feed-one→start c = shared-slice-known3→start (c .before)
+
+abbrev feed-one→at-loop : tie.After-feed-one Inv-loop μ-loop → tie.At-loop Inv-loop μ-loop
+feed-one→at-loop c = shared-slice-known3→at-loop (c .before)
 
 loop-holds : tie.Need-loop-holds Inv-loop μ-loop
-loop-holds c = let p = c .before .before .pre in (p .2, p .1, refl)
+loop-holds c = let p = shared-slice-known2→start c .pre in (p .2, (p .1, refl))
 
 shared-slice-read-feed-one : tie.Need-shared-slice-read-feed-one Inv-loop μ-loop
 shared-slice-read-feed-one c = omega arith
 
 feed-one-requires : tie.Need-feed-one-requires Inv-loop μ-loop
 feed-one-requires c κs =
-    let s = c .before .before .before .before .before in
-    (first-row (s .args .k) (s .args .low) (s .args .words .now) (s .pre .0), c .before .before .loop .inv .1)
+    let s = shared-slice-known3→start c in
+    (first-row (s .args .p) (s .args .words .now) (s .pre .0), shared-slice-known3→at-loop c .loop .inv .1 .0)
 
 add-i : tie.Need-add-i Inv-loop μ-loop
 add-i c = omega arith
@@ -38,24 +54,18 @@ loop-less c = omega arith
 
 loop-again : tie.Need-loop-again Inv-loop μ-loop
 loop-again c =
-    let s = c .before .before .before .before .before .before in
+    let s = feed-one→start c in
     let a = s .args in
-    let l = c .before .before .before .loop in
-    let m = s .pre .0 .0 .2 in
-    let e = c .feed-one .ensures in
-    let b = c .before .shared-slice-known3 .given (l .i) .fits in (
-      omega arith,
-      rw e (residue-lt (a .k) (a .low) m _),
-      fed-byte (monic-pos (a .k) (a .low) m) (a .part .now) (l .i) (l .x) (c .feed-one .result) (omega arith) b e ∙ l .inv .2,
-    )
+    let l = feed-one→at-loop c .loop in
+    let b = c .before .shared-slice-known3 .given (l .i) .fits in
+    (omega arith, going-one (a .p) (s .pre .0 .0) (a .f) (a .part .now) (a .from) (l .i) (l .x) (l .inv .1) (c .feed-one .result) (omega arith) b (c .feed-one .ensures))
 
 returns : tie.Need-returns Inv-loop μ-loop
 returns c =
-    let s = c .before .before .before .before in
+    let s = loop→start c in
     let a = s .args in
     let l = c .before .loop in
-    let m = s .pre .0 .0 .2 in
-    sym (fed-all (monic-pos (a .k) (a .low) m) (a .part .now) (l .i) (l .x) (omega arith) (rw (monic-degree (a .k) (a .low) m) (l .inv .1))) ∙ l .inv .2
+    going-all (a .p) (s .pre .0 .0) (a .f) (a .part .now) (a .from) (l .i) (l .x) (l .inv .1) (omega arith)
 
 pub feed-tail-spec : {M : Type 1} → statement M
 feed-tail-spec =

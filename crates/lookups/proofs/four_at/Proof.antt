@@ -4,6 +4,38 @@ use Rattle.lookups.proofs.Parts.{value-four}
 use Rattle.lookups.proofs.four_at.Statement.{statement}
 use Rattle.lookups.proofs.four_at.Tie as tie
 
+-- ---- the places: from each one to an earlier one
+
+abbrev wide→start : tie.After-wide → tie.Start
+wide→start c = c .before .before .before
+
+abbrev wide2→start : tie.After-wide2 → tie.Start
+wide2→start c = wide→start (c .before .before)
+
+abbrev wide2→wide : tie.After-wide2 → tie.After-wide
+wide2→wide c = c .before .before
+
+abbrev wide3→start : tie.After-wide3 → tie.Start
+wide3→start c = wide2→start (c .before .before)
+
+abbrev wide3→wide : tie.After-wide3 → tie.After-wide
+wide3→wide c = wide2→wide (c .before .before)
+
+abbrev wide3→wide2 : tie.After-wide3 → tie.After-wide2
+wide3→wide2 c = c .before .before
+
+abbrev wide4→start : tie.After-wide4 → tie.Start
+wide4→start c = wide3→start (c .before .before)
+
+abbrev wide4→wide : tie.After-wide4 → tie.After-wide
+wide4→wide c = wide3→wide (c .before .before)
+
+abbrev wide4→wide2 : tie.After-wide4 → tie.After-wide2
+wide4→wide2 c = wide3→wide2 (c .before .before)
+
+abbrev wide4→wide3 : tie.After-wide4 → tie.After-wide3
+wide4→wide3 c = c .before .before
+
 shared-slice-read-wide : tie.Need-shared-slice-read-wide
 shared-slice-read-wide c = omega arith
 
@@ -57,14 +89,12 @@ add-result-3 c = omega arith
 
 returns : tie.Need-returns
 returns c =
-    let s = c .before .before .before .before .before .before .before .before .before in
-    let a = s .args in
-    let wa = c .before .before .before .before .before .before .wide .ensures in
-    let wb = c .before .before .before .before .wide2 .ensures in
-    let wc = c .before .before .wide3 .ensures in
-    let wd = c .wide4 .ensures in
-    rw (wa .0, wb .0, wc .0, wd .0)
-    (value-four (a .part .now) (a .i) (s .pre) (omega arith) (omega arith) (omega arith) (omega arith))
+    let s = wide4→start c in
+    value-four (s .args .part .now) (s .args .i) (wide4→wide c .wide .result) (wide4→wide2 c .wide2 .result) (wide4→wide3 c .wide3 .result) (c .wide4 .result) (s .pre)
+    (wide4→wide c .wide .ensures)
+    (wide4→wide2 c .wide2 .ensures)
+    (wide4→wide3 c .wide3 .ensures)
+    (c .wide4 .ensures)
 
 pub four-at-spec : {M : Type 1} → statement M
 four-at-spec =

@@ -5,6 +5,14 @@ use Rattle.lookups.proofs.Cut.{look-four}
 use Rattle.lookups.proofs.look_up.Statement.{statement}
 use Rattle.lookups.proofs.look_up.Tie as tie
 
+-- ---- the places: from each one to an earlier one
+
+abbrev shared-slice-known→start : tie.After-shared-slice-known → tie.Start
+shared-slice-known→start c = c .before
+
+abbrev shared-slice-known4→start : tie.After-shared-slice-known4 → tie.Start
+shared-slice-known4→start c = shared-slice-known→start (c .before .before .before)
+
 mul-result : tie.Need-mul-result
 mul-result c = omega arith
 
@@ -41,7 +49,7 @@ shared-slice-read-result-4 c = omega arith
 returns : tie.Need-returns
 unfolding _⊕_
 returns c =
-    let a = c .before .before .before .before .args in
+    let a = shared-slice-known4→start c .args in
     look-four (a .words .now) (a .below) (a .above)
 
 pub look-up-spec : {M : Type 1} → statement M

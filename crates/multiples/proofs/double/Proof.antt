@@ -16,6 +16,14 @@ Inv-loop words₀ at n y next i₀ words i =
 abbrev μ-loop : tie.MeasureT-loop
 μ-loop words₀ at n y next i₀ words i = n - i
 
+-- ---- the places: from each one to an earlier one
+
+abbrev slice-known→start : tie.After-slice-known Inv-loop μ-loop → tie.Start Inv-loop μ-loop
+slice-known→start c = c .before .before .before
+
+abbrev slice-known→at-loop : tie.After-slice-known Inv-loop μ-loop → tie.At-loop Inv-loop μ-loop
+slice-known→at-loop c = c .before .before
+
 add-next : tie.Need-add-next Inv-loop μ-loop
 add-next c = omega arith
 
@@ -49,8 +57,8 @@ loop-less c = omega arith
 loop-again : tie.Need-loop-again Inv-loop μ-loop
 unfolding _⊕_
 loop-again c =
-    let a = c .before .before .before .args in
-    let l = c .before .before .loop in
+    let a = slice-known→start c .args in
+    let l = slice-known→at-loop c .loop in
     let v = l .inv in
     let g : a .at + a .n + l .i < length (l .words) = omega arith in
     let h : a .at + l .i < a .at + a .n = omega arith in

@@ -2,7 +2,8 @@
 use mathlib.Core.Path.{_≡_, refl, ap, _∙_}
 use Prim.Native.Nat.{ℕ, _+_, _-_, _*_, _^_, _≤_, _<_}
 use native.Mathlib.Omega.{arith}
-use Rattle.gf2.specs.Polynomials.{_⊗_, monic, rem}
+use Rattle.gf2.specs.Polynomials.{_⊗_, rem}
+use Rattle.gf2.specs.Moduli.{polynomial}
 use Rattle.multiples.specs.Rows.{Multiples, SameBefore}
 use Rattle.multiples.proofs.Doubling.{row-more, row-one, row-before, row-kept, shifted-kept, double-le, multiple-one, multiple-next}
 use lib.ListN.{length, length-set}
@@ -10,16 +11,51 @@ use lib.Pow.{pow-pos}
 use native.Mathlib.Nat.{pow-suc}
 use native.Mathlib.Numerals.{add-one}
 use Rattle.gf2.proofs.Monics.{monic-pos, monic-degree}
-use Rattle.gf2.proofs.Steps.{residue-lt}
+use Rattle.gf2.proofs.Steps.{residue-below}
 use Rattle.multiples.proofs.fill_row.Statement.{statement}
 use Rattle.multiples.proofs.fill_row.Tie as tie
 
 abbrev Inv-loop : tie.InvT-loop
-Inv-loop words₀ at width k low x n₀ y₀ b₀ words n y b =
-    (b ≤ width) × (n ≡ 2 ^ b) × (y ≡ rem (monic k low) (n ⊗ x)) × (length words ≡ length words₀) × Multiples (monic k low) x at n words × SameBefore at words₀ words
+Inv-loop words₀ at width p x n₀ y₀ b₀ words n y b =
+    (b ≤ width) × (n ≡ 2 ^ b) × (y ≡ rem (polynomial p) (n ⊗ x)) × (length words ≡ length words₀) × Multiples (polynomial p) x at n words × SameBefore at words₀ words
 
 abbrev μ-loop : tie.MeasureT-loop
-μ-loop words₀ at width k low x n₀ y₀ b₀ words n y b = width - b
+μ-loop words₀ at width p x n₀ y₀ b₀ words n y b = width - b
+
+-- ---- the places: from each one to an earlier one
+
+abbrev at-loop→start : tie.At-loop Inv-loop μ-loop → tie.Start Inv-loop μ-loop
+at-loop→start c = c .before .before
+
+abbrev loop→start : tie.After-loop Inv-loop μ-loop → tie.Start Inv-loop μ-loop
+loop→start c = c .before .before .before
+
+abbrev double-arg→start : tie.After-double-arg Inv-loop μ-loop → tie.Start Inv-loop μ-loop
+double-arg→start c = at-loop→start (c .before .before)
+
+abbrev double-arg→at-loop : tie.After-double-arg Inv-loop μ-loop → tie.At-loop Inv-loop μ-loop
+double-arg→at-loop c = c .before .before
+
+abbrev double→in-loop : tie.After-double Inv-loop μ-loop → tie.In-loop Inv-loop μ-loop
+double→in-loop c = c .before .before
+
+abbrev slice-known2→start : tie.After-slice-known2 Inv-loop μ-loop → tie.Start Inv-loop μ-loop
+slice-known2→start c = double-arg→start (c .before .before .before)
+
+abbrev slice-known2→at-loop : tie.After-slice-known2 Inv-loop μ-loop → tie.At-loop Inv-loop μ-loop
+slice-known2→at-loop c = double-arg→at-loop (c .before .before .before)
+
+abbrev step→start : tie.After-step Inv-loop μ-loop → tie.Start Inv-loop μ-loop
+step→start c = slice-known2→start (c .before)
+
+abbrev step→at-loop : tie.After-step Inv-loop μ-loop → tie.At-loop Inv-loop μ-loop
+step→at-loop c = slice-known2→at-loop (c .before)
+
+abbrev step→in-loop : tie.After-step Inv-loop μ-loop → tie.In-loop Inv-loop μ-loop
+step→in-loop c = double→in-loop (c .before .before .before)
+
+abbrev step→double : tie.After-step Inv-loop μ-loop → tie.After-double Inv-loop μ-loop
+step→double c = c .before .before .before
 
 mul-words : tie.Need-mul-words Inv-loop μ-loop
 mul-words c = omega arith
@@ -32,11 +68,11 @@ loop-holds c =
     let a = c .before .args in
     let p = c .before .pre in
     let m = p .0 .2 in
-    let pos = monic-pos (a .k) (a .low) m in
+    let pos = monic-pos (a .p .degree) (a .p .low) m in
     let l : a .at < length (a .words .now) = omega (arith, pow-pos (a .width)) in (
       omega arith,
       refl,
-      multiple-one pos (a .x) (rw (monic-degree (a .k) (a .low) m) (p .1)),
+      multiple-one pos (a .x) (rw (monic-degree (a .p .degree) (a .p .low) m) (p .1)),
       refl,
       row-one pos (a .x) (a .at) (a .words .now) l,
       λ i h. refl,
@@ -44,22 +80,22 @@ loop-holds c =
 
 double-requires : tie.Need-double-requires Inv-loop μ-loop
 double-requires c κs =
-    let s = c .before .before .before .before in
-    let l = c .before .before .loop in
+    let s = double-arg→start c in
+    let l = double-arg→at-loop c .loop in
     let e = simp length-set at (l .inv .3) in
     omega (arith, double-le (c .before .loop-test .taken))
 
 step-requires : tie.Need-step-requires Inv-loop μ-loop
 step-requires c κs =
-    let s = c .before .before .before .before .before .before .before in
+    let s = slice-known2→start c in
     let a = s .args in
-    let l = c .before .before .before .before .before .loop in
-    (s .pre .0, rw (l .inv .2) (residue-lt (a .k) (a .low) (s .pre .0 .2) (l .n ⊗ a .x)), omega arith)
+    let l = slice-known2→at-loop c .loop in
+    (s .pre .0, residue-below (a .p) (s .pre .0) (l .y) (l .n ⊗ a .x) (l .inv .2), omega arith)
 
 mul-n : tie.Need-mul-n Inv-loop μ-loop
 mul-n c =
-    let s = c .before .before .before .before .before .before .before .before in
-    omega (arith, double-le (c .before .before .before .before .before .loop-test .taken))
+    let s = step→start c in
+    omega (arith, double-le (step→in-loop c .loop-test .taken))
 
 add-b : tie.Need-add-b Inv-loop μ-loop
 add-b c = omega arith
@@ -69,19 +105,19 @@ loop-less c = omega arith
 
 loop-again : tie.Need-loop-again Inv-loop μ-loop
 loop-again c =
-    let s = c .before .before .before .before .before .before .before .before in
+    let s = step→start c in
     let a = s .args in
-    let l = c .before .before .before .before .before .before .loop in
+    let l = step→at-loop c .loop in
     let v = l .inv in
-    let d = c .before .before .before .double in
+    let d = step→double c .double in
     let m = s .pre .0 .2 in
-    let pos = monic-pos (a .k) (a .low) m in
+    let pos = monic-pos (a .p .degree) (a .p .low) m in
     let same = d .ensures .1 in (
       omega arith,
       rw (add-one, pow-suc, v .1),
-      c .step .ensures ∙ ap (λ (y : ℕ). rem (monic (a .k) (a .low)) (y * 2 + 0)) (v .2) ∙ multiple-next pos (a .x) (l .n),
+      c .step .ensures ∙ ap (λ (y : ℕ). rem (polynomial (a .p)) (y * 2 + 0)) (v .2) ∙ multiple-next pos (a .x) (l .n),
       d .kept .0 ∙ v .3,
-      row-more pos (a .x) (a .at) (l .b) (l .n) (l .y) (d .last .0) (v .1) (v .2) (row-kept (monic (a .k) (a .low)) (a .x) (a .at) (l .n) (l .words) (d .last .0) same (v .4))
+      row-more pos (a .x) (a .at) (l .b) (l .n) (l .y) (d .last .0) (v .1) (v .2) (row-kept (polynomial (a .p)) (a .x) (a .at) (l .n) (l .words) (d .last .0) same (v .4))
           (shifted-kept (a .at) (l .n) (l .y) (l .words) (d .last .0) same (d .ensures .0)),
       λ i h. same i (omega arith) ∙ v .5 i h,
     )
@@ -91,7 +127,7 @@ same-length c = let l = c .before .loop in simp length-set at (l .inv .3)
 
 returns : tie.Need-returns Inv-loop μ-loop
 returns c =
-    let a = c .before .before .before .args in
+    let a = loop→start c .args in
     let l = c .before .loop in
     let e : l .b ≡ a .width = omega arith in
     (λ i h. l .inv .4 i (rw (l .inv .1, e) h), λ i h. l .inv .5 i h ∙ row-before (a .at) (a .words .now) i h)

@@ -7,55 +7,82 @@ use native.Mathlib.Nat.{pow-suc}
 use native.Mathlib.Numerals.{add-one}
 use mathlib.Core.Logic.{_↔_}
 use lib.Pow.{pow-pos}
-use Rattle.gf2.specs.Polynomials.{_⊗_, monic, rem}
+use Rattle.gf2.specs.Polynomials.{_⊗_, rem}
+use Rattle.gf2.specs.Moduli.{polynomial}
 use Rattle.gf2.proofs.Monics.{monic-pos, monic-degree}
 use Rattle.multiples.specs.Rows.{Multiples, Shifted}
 use Rattle.multiples.proofs.Doubling.{or-iff, iff-trans, row-iff-one, row-iff, double-le, multiple-one, multiple-next}
-use Rattle.gf2.proofs.Steps.{residue-lt}
+use Rattle.gf2.proofs.Steps.{residue-below}
 use Rattle.multiples.proofs.row_holds.Statement.{statement}
 use Rattle.multiples.proofs.row_holds.Tie as tie
 
 abbrev Inv-loop : tie.InvT-loop
-Inv-loop words at width k low x sum₀ n₀ y₀ b₀ sum n y b =
-    (b ≤ width) × (n ≡ 2 ^ b) × (y ≡ rem (monic k low) (n ⊗ x)) × ((sum ≡ 0) ↔ Multiples (monic k low) x at n words)
+Inv-loop words at width p x sum₀ n₀ y₀ b₀ sum n y b =
+    (b ≤ width) × (n ≡ 2 ^ b) × (y ≡ rem (polynomial p) (n ⊗ x)) × ((sum ≡ 0) ↔ Multiples (polynomial p) x at n words)
 
 abbrev μ-loop : tie.MeasureT-loop
-μ-loop words at width k low x sum₀ n₀ y₀ b₀ sum n y b = width - b
+μ-loop words at width p x sum₀ n₀ y₀ b₀ sum n y b = width - b
+
+-- ---- the places: from each one to an earlier one
+
+abbrev shared-slice-known2→start : tie.After-shared-slice-known2 Inv-loop μ-loop → tie.Start Inv-loop μ-loop
+shared-slice-known2→start c = c .before .before
+
+abbrev in-loop→start : tie.In-loop Inv-loop μ-loop → tie.Start Inv-loop μ-loop
+in-loop→start c = shared-slice-known2→start (c .before .before)
+
+abbrev loop→start : tie.After-loop Inv-loop μ-loop → tie.Start Inv-loop μ-loop
+loop→start c = shared-slice-known2→start (c .before .before)
+
+abbrev differences→start : tie.After-differences Inv-loop μ-loop → tie.Start Inv-loop μ-loop
+differences→start c = in-loop→start (c .before)
+
+abbrev differences→at-loop : tie.After-differences Inv-loop μ-loop → tie.At-loop Inv-loop μ-loop
+differences→at-loop c = c .before .before
+
+abbrev step→start : tie.After-step Inv-loop μ-loop → tie.Start Inv-loop μ-loop
+step→start c = differences→start (c .before)
+
+abbrev step→at-loop : tie.After-step Inv-loop μ-loop → tie.At-loop Inv-loop μ-loop
+step→at-loop c = differences→at-loop (c .before)
+
+abbrev step→in-loop : tie.After-step Inv-loop μ-loop → tie.In-loop Inv-loop μ-loop
+step→in-loop c = c .before .before
 
 mul-sum : tie.Need-mul-sum Inv-loop μ-loop
 mul-sum c = omega arith
 
 shared-slice-read-sum : tie.Need-shared-slice-read-sum Inv-loop μ-loop
-shared-slice-read-sum c = omega (arith, pow-pos (c .before .before .args .width))
+shared-slice-read-sum c = omega (arith, pow-pos (shared-slice-known2→start c .args .width))
 
 loop-holds : tie.Need-loop-holds Inv-loop μ-loop
 loop-holds c =
-    let a = c .before .before .args in
-    let p = c .before .before .pre in
-    let pos = monic-pos (a .k) (a .low) (p .0 .2) in (
+    let a = shared-slice-known2→start c .args in
+    let p = shared-slice-known2→start c .pre in
+    let pos = monic-pos (a .p .degree) (a .p .low) (p .0 .2) in (
       omega arith,
       refl,
-      multiple-one pos (a .x) (rw (monic-degree (a .k) (a .low) (p .0 .2)) (p .1)),
+      multiple-one pos (a .x) (rw (monic-degree (a .p .degree) (a .p .low) (p .0 .2)) (p .1)),
       row-iff-one pos (a .x) (a .at) (a .words .now),
     )
 
 differences-requires : tie.Need-differences-requires Inv-loop μ-loop
 differences-requires c κs =
-    let p = c .before .before .before .before .pre in
+    let p = in-loop→start c .pre in
     let l = c .before .loop .inv in
     omega (arith, double-le (c .loop-test .taken))
 
 step-requires : tie.Need-step-requires Inv-loop μ-loop
 step-requires c κs =
-    let s = c .before .before .before .before .before in
+    let s = differences→start c in
     let a = s .args in
-    let l = c .before .before .loop in
-    (s .pre .0, rw (l .inv .2) (residue-lt (a .k) (a .low) (s .pre .0 .2) (l .n ⊗ a .x)), omega arith)
+    let l = differences→at-loop c .loop in
+    (s .pre .0, residue-below (a .p) (s .pre .0) (l .y) (l .n ⊗ a .x) (l .inv .2), omega arith)
 
 mul-n : tie.Need-mul-n Inv-loop μ-loop
 mul-n c =
-    let p = c .before .before .before .before .before .before .pre in
-    omega (arith, double-le (c .before .before .loop-test .taken))
+    let p = step→start c .pre in
+    omega (arith, double-le (step→in-loop c .loop-test .taken))
 
 add-b : tie.Need-add-b Inv-loop μ-loop
 add-b c = omega arith
@@ -65,21 +92,21 @@ loop-less c = omega arith
 
 loop-again : tie.Need-loop-again Inv-loop μ-loop
 loop-again c =
-    let s = c .before .before .before .before .before .before in
+    let s = step→start c in
     let a = s .args in
-    let l = c .before .before .before .loop in
+    let l = step→at-loop c .loop in
     let v = l .inv in
     let d = c .before .differences in
-    let pos = monic-pos (a .k) (a .low) (s .pre .0 .2) in (
+    let pos = monic-pos (a .p .degree) (a .p .low) (s .pre .0 .2) in (
       omega arith,
       rw (add-one, pow-suc, v .1),
-      c .step .ensures ∙ ap (λ (y : ℕ). rem (monic (a .k) (a .low)) (y * 2 + 0)) (v .2) ∙ multiple-next pos (a .x) (l .n),
+      c .step .ensures ∙ ap (λ (y : ℕ). rem (polynomial (a .p)) (y * 2 + 0)) (v .2) ∙ multiple-next pos (a .x) (l .n),
       iff-trans (or-iff (l .sum) (d .result) {Q = Shifted (a .at) (a .at + l .n) (l .n) (l .y) (a .words .now) (a .words .now)} (v .3) (d .ensures)) (row-iff pos (a .x) (a .at) (a .words .now) (l .b) (l .n) (l .y) (v .1) (v .2)),
     )
 
 returns : tie.Need-returns Inv-loop μ-loop
 returns c =
-    let a = c .before .before .before .before .args in
+    let a = loop→start c .args in
     let l = c .before .loop in
     let e : 2 ^ l .b ≡ 2 ^ a .width = ap (λ (b : ℕ). 2 ^ b) (omega arith) in
     let n = l .inv .1 ∙ e in (

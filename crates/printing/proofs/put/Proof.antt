@@ -9,6 +9,16 @@ use Rattle.printing.proofs.Buffers.{put-mid}
 use Rattle.printing.proofs.put.Statement.{statement}
 use Rattle.printing.proofs.put.Tie as tie
 
+-- the start, and the place behind the copy
+abbrev known : tie.After-shared-slice-known → tie.Start
+known c = c .before .before
+
+abbrev start : tie.After-copy → tie.Start
+start c = known (c .before .before)
+
+abbrev copy-at : tie.After-slice-known2 → tie.After-copy
+copy-at c = c .before .before
+
 sub-copy : tie.Need-sub-copy
 sub-copy c = search needs
 
@@ -29,9 +39,10 @@ same-length c = search needs
 
 returns : tie.Need-returns
 returns c =
-    let a = c .before .before .before .before .before .before .args in
-    let e = c .before .before .copy .ensures in
-    (ap (λ (n : ℕ). a .at + n) (e .0), ap (putMid (a .at) (length (a .out .now) - a .at) (a .out .now)) (e .1) ∙ put-mid (a .out .now) (a .at) (a .text .now) (omega arith))
+    let a = start (copy-at c) .args in
+    let e = copy-at c .copy .ensures in
+    let mid = ap (putMid (a .at) (length (a .out .now) - a .at) (a .out .now)) (e .1) in
+    (ap (λ (n : ℕ). a .at + n) (e .0), mid ∙ put-mid (a .out .now) (a .at) (a .text .now) (omega arith))
 
 pub put-spec : {M : Type 1} → statement M
 put-spec =

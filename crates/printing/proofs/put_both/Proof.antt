@@ -1,14 +1,25 @@
--- `printing::put_both` meets its contract: `put-put`.
-use mathlib.Core.Path.{ap₂, _∙_}
-use mathlib.Core.List.{List}
-use Prim.Native.Nat.{ℕ}
+-- `printing::put_both` meets its contract: `put-next`.
 use native.Mathlib.Omega.{arith}
-use lib.ListN.{length-append}
-use Rattle.printing.specs.Printing.{putAt}
-use Rattle.printing.proofs.Buffers.{put-put}
 use borrow.Author.Needs.{needs}
+use Rattle.printing.proofs.Buffers.{Holds, put-next}
 use Rattle.printing.proofs.put_both.Statement.{statement}
 use Rattle.printing.proofs.put_both.Tie as tie
+
+-- the start, and the places behind the two calls
+abbrev known : tie.After-shared-slice-known2 → tie.Start
+known c = c .before .before .before
+
+abbrev start : tie.After-put → tie.Start
+start c = known (c .before .before)
+
+abbrev between : tie.After-slice-known2 → tie.After-put
+between c = c .before .before
+
+abbrev first-at : tie.After-put2 → tie.After-put
+first-at c = between (c .before .before)
+
+abbrev second-at : tie.After-slice-known3 → tie.After-put2
+second-at c = c .before .before
 
 put-requires : tie.Need-put-requires
 put-requires c κs = search needs
@@ -21,14 +32,12 @@ same-length c = search needs
 
 returns : tie.Need-returns
 returns c =
-    let a = c .before .before .before .before .before .before .before .before .before .before .before .args in
-    let one = c .before .before .before .before .before .before .put in
-    let two = c .before .before .put2 in (
-      two .ensures .0 ∙ omega (arith, one .ensures .0, length-append (a .first .now) (a .second .now)),
-      two .ensures .1
-          ∙ ap₂ (λ (x : List ℕ) (n : ℕ). putAt x n (a .second .now)) (one .ensures .1) (one .ensures .0)
-          ∙ put-put (a .out .now) (a .at) (a .first .now) (a .second .now) (omega arith),
-    )
+    let a = start (first-at (second-at c)) .args in
+    let one = first-at (second-at c) .put in
+    let two = second-at c .put2 in
+    let front : Holds (a .out .now) (a .at) (one .result) (one .last .0) (a .first .now) = record { behind = one .ensures .0; put = one .ensures .1 } in
+    let both = put-next (omega arith) front (a .second .now) (two .ensures .0) (two .ensures .1) in
+    (both .behind, both .put)
 
 pub put-both-spec : {M : Type 1} → statement M
 put-both-spec = tie.close (tie.spec put-requires put-requires-2 same-length returns)

@@ -1,12 +1,25 @@
 -- `printing::put_hex` meets its contract: the digits are the number's numeral.
-use mathlib.Core.Path.{_∙_}
+use Prim.Native.Nat.{_≤_}
 use native.Mathlib.Omega.{arith}
 use lib.Dec.{lit<}
-use lib.ListN.{take, length-append}
-use Rattle.printing.proofs.Numerals.{numeral-is, fewest-le}
 use borrow.Author.Needs.{needs}
+use Rattle.printing.proofs.Buffers.{few-digits, numeral-put}
 use Rattle.printing.proofs.put_hex.Statement.{statement}
 use Rattle.printing.proofs.put_hex.Tie as tie
+
+-- the start, and the places where the digits are written and the text is put
+abbrev start : tie.After-digits → tie.Start
+start c = c .before .before .before
+
+abbrev written : tie.After-digits2 → tie.After-hex
+written c = c .before .before
+
+abbrev both-at : tie.After-slice-known2 → tie.After-put-both
+both-at c = c .before .before
+
+-- no more digits than the buffer has places
+room : (c : tie.After-hex) → c .hex .result ≤ 16
+room c = few-digits 16 16 (start (c .before) .args .n) (lit< tt) (lit< tt) (omega arith) (c .hex .ensures .1 .0)
 
 hex-requires : tie.Need-hex-requires
 hex-requires c κs = search needs
@@ -18,21 +31,18 @@ slice-aggregate-put-both : tie.Need-slice-aggregate-put-both
 slice-aggregate-put-both c = search needs
 
 put-both-requires : tie.Need-put-both-requires
-put-both-requires c κs =
-    let d = c .before .before .hex in
-    omega (arith, d .ensures .0 .1, fewest-le 16 (lit< tt) 16 (c .before .before .before .before .before .before .args .n) (d .result) (lit< tt) (omega arith) (d .ensures .1 .0))
+put-both-requires c κs = omega (arith, room (written c), written c .hex .ensures .0 .1)
 
 same-length : tie.Need-same-length
 same-length c = search needs
 
 returns : tie.Need-returns
 returns c =
-    let a = c .before .before .before .before .before .before .before .before .before .args in
-    let d = c .before .before .before .before .before .hex in
-    let p = c .before .before .put-both in
-    let e = d .ensures .1 .1 ∙ numeral-is 16 (lit< tt) (a .n) (d .result) (d .ensures .1 .0) in
-    let few = fewest-le 16 (lit< tt) 16 (a .n) (d .result) (lit< tt) (omega arith) (d .ensures .1 .0) in
-    (rw e at (p .ensures .0), (omega (arith, p .ensures .0, d .ensures .0 .1, length-append (a .label .now) (take (d .result) (d .last .1 .1 .0))), rw e at (p .ensures .1)))
+    let p = both-at c .put-both in
+    let d = written (both-at c .before) .hex in
+    let a = start (written (both-at c .before) .before) .args in
+    numeral-put 16 16 (a .n) (lit< tt) (lit< tt) (omega arith) (d .ensures .1 .0) (a .out .now) (a .at) (a .label .now) _
+    (d .ensures .0 .1) (d .ensures .1 .1) (p .ensures .0) (p .ensures .1)
 
 pub put-hex-spec : {M : Type 1} → statement M
 put-hex-spec =

@@ -1,12 +1,20 @@
 -- `printing::refusal` meets its contract: the label with the number, and a newline behind it.
-use mathlib.Core.List.{_++_}
 use native.Mathlib.Omega.{arith}
 use borrow.Author.Needs.{needs}
-use Rattle.refusals.specs.Refusals.{number}
-use Rattle.printing.specs.Printing.{ascii, numeral, refused}
-use Rattle.printing.proofs.Buffers.{Holds, put-next, whole}
+use Rattle.printing.specs.Printing.{ascii, refused}
+use Rattle.printing.proofs.Buffers.{put-number, put-next, whole}
 use Rattle.printing.proofs.refusal.Statement.{statement}
 use Rattle.printing.proofs.refusal.Tie as tie
+
+-- the start, and the places behind the number and the line
+abbrev start : tie.After-number → tie.Start
+start c = c .before .before .before
+
+abbrev line-at : tie.After-put → tie.After-put-decimal
+line-at c = c .before .before .before
+
+abbrev number-at : tie.After-put → tie.After-number
+number-at c = line-at c .before
 
 slice-aggregate-put-decimal : tie.Need-slice-aggregate-put-decimal
 slice-aggregate-put-decimal c = search needs
@@ -29,15 +37,9 @@ put-requires c κs = search needs
 returns : tie.Need-returns
 unfolding refused ascii
 returns c =
-    let a = c .before .before .before .before .before .before .before .args in
-    let out = a .out .now in
-    let d = c .before .before .before .put-decimal in
-    let p = c .put in
-    let e = c .before .before .before .before .number .ensures in
-    let first : Holds out 0 (d .result) (d .last .0) (ascii "refused " ++ numeral 10 (number (a .r))) =
-    (rw e at (d .ensures .0), rw e at (d .ensures .1 .1)) in
-    let both = put-next out 0 (ascii "refused " ++ numeral 10 (number (a .r))) (ascii "\n") (d .last .0) (p .last .0) (d .result) (p .result) (omega arith) first (p .ensures .0) (p .ensures .1) in
-    whole out (refused (a .r)) (p .last .0) (p .result) (omega arith) both
+    let d = line-at c .put-decimal in
+    let line = put-number (start (number-at c) .args .out .now) 0 (ascii "refused ") 10 (number-at c .number .ensures) (d .ensures .0) (d .ensures .1 .1) in
+    whole (omega arith) (put-next (omega arith) line (ascii "\n") (c .put .ensures .0) (c .put .ensures .1))
 
 pub refusal-spec : {M : Type 1} → statement M
 refusal-spec =

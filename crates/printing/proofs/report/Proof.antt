@@ -1,13 +1,76 @@
 -- `printing::report` meets its contract: each text goes behind the one before it.
-use mathlib.Core.List.{_++_}
+use mathlib.Core.List.{List, _++_}
+use Prim.Native.Nat.{ℕ}
 use native.Mathlib.Omega.{arith}
 use borrow.Author.Needs.{needs}
-use lib.ListN.{length}
 use Rattle.gf2.specs.Polynomials.{degree}
+use Rattle.marks.specs.declared.Running.{Running}
 use Rattle.printing.specs.Printing.{ascii, numeral, report}
-use Rattle.printing.proofs.Buffers.{Holds, put-next, whole}
+use Rattle.printing.proofs.Buffers.{Holds, put-number, put-next, whole}
 use Rattle.printing.proofs.report.Statement.{statement}
 use Rattle.printing.proofs.report.Tie as tie
+
+-- the places behind each of the four texts, from the last to the first
+abbrev mark-at : tie.After-put → tie.After-put-hex2
+mark-at c = c .before .before .before
+
+abbrev bytes-at : tie.After-put-hex2 → tie.After-put-decimal2
+bytes-at c = c .before .before .before
+
+abbrev key-at : tie.After-put-decimal2 → tie.After-put-hex
+key-at c = c .before .before .before
+
+abbrev degree-at : tie.After-put-hex → tie.After-put-decimal
+degree-at c = c .before .before .before
+
+abbrev start : tie.After-degree → tie.Start
+start c = c .before .before .before
+
+-- the buffer as the call begins, and the mark
+abbrev buffer : tie.After-put-decimal → List ℕ
+buffer c = start (c .before) .args .out .now
+
+abbrev given : tie.After-put-decimal → Running
+given c = start (c .before) .args .m
+
+-- what is put by each place
+abbrev text-degree : Running → List ℕ
+text-degree m = ascii "key " ++ numeral 10 (degree (m .key))
+
+abbrev text-key : Running → List ℕ
+text-key m = text-degree m ++ (ascii " " ++ numeral 16 (m .key))
+
+abbrev text-bytes : Running → List ℕ
+text-bytes m = text-key m ++ (ascii "\nbytes " ++ numeral 10 (m .length))
+
+abbrev text-mark : Running → List ℕ
+text-mark m = text-bytes m ++ (ascii "\nmark " ++ numeral 16 (m .fingerprint))
+
+to-degree : (c : tie.After-put-decimal) → Holds (buffer c) 0 (c .put-decimal .result) (c .put-decimal .last .0) (text-degree (given c))
+unfolding ascii
+to-degree c = put-number (buffer c) 0 (ascii "key ") 10 (c .before .degree .ensures) (c .put-decimal .ensures .0) (c .put-decimal .ensures .1 .1)
+
+to-key : (c : tie.After-put-hex) → Holds (buffer (degree-at c)) 0 (c .put-hex .result) (c .put-hex .last .0) (text-key (given (degree-at c)))
+unfolding ascii
+to-key c =
+    let one = degree-at c .put-decimal in
+    put-next (omega arith) (to-degree (degree-at c)) (ascii " " ++ numeral 16 (given (degree-at c) .key)) (c .put-hex .ensures .0) (c .put-hex .ensures .1 .1)
+
+to-bytes : (c : tie.After-put-decimal2)
+    → Holds (buffer (degree-at (key-at c))) 0 (c .put-decimal2 .result) (c .put-decimal2 .last .0) (text-bytes (given (degree-at (key-at c))))
+unfolding ascii
+to-bytes c =
+    let m = given (degree-at (key-at c)) in
+    let p = c .put-decimal2 in
+    put-next (omega arith) (to-key (key-at c)) (ascii "\nbytes " ++ numeral 10 (m .length)) (p .ensures .0) (p .ensures .1 .1)
+
+to-mark : (c : tie.After-put-hex2)
+    → Holds (buffer (degree-at (key-at (bytes-at c)))) 0 (c .put-hex2 .result) (c .put-hex2 .last .0) (text-mark (given (degree-at (key-at (bytes-at c)))))
+unfolding ascii
+to-mark c =
+    let m = given (degree-at (key-at (bytes-at c))) in
+    let p = c .put-hex2 in
+    put-next (omega arith) (to-bytes (bytes-at c)) (ascii "\nmark " ++ numeral 16 (m .fingerprint)) (p .ensures .0) (p .ensures .1 .1)
 
 slice-aggregate-put-decimal : tie.Need-slice-aggregate-put-decimal
 slice-aggregate-put-decimal c = search needs
@@ -48,25 +111,7 @@ put-requires c κs = search needs
 returns : tie.Need-returns
 unfolding report ascii
 returns c =
-    let a = c .before .before .before .before .before .before .before .before .before .before .before .before .before .before .before .before .args in
-    let out = a .out .now in
-    let m = a .m in
-    let one = c .before .before .before .before .before .before .before .before .before .before .before .before .put-decimal in
-    let two = c .before .before .before .before .before .before .before .before .before .put-hex in
-    let three = c .before .before .before .before .before .before .put-decimal2 in
-    let four = c .before .before .before .put-hex2 in
-    let p = c .put in
-    let e = c .before .before .before .before .before .before .before .before .before .before .before .before .before .degree .ensures in
-    let s1 = ascii "key " ++ numeral 10 (degree (m .key)) in
-    let s2 = ascii " " ++ numeral 16 (m .key) in
-    let s3 = ascii "\nbytes " ++ numeral 10 (m .length) in
-    let s4 = ascii "\nmark " ++ numeral 16 (m .fingerprint) in
-    let h1 : Holds out 0 (one .result) (one .last .0) s1 = (rw e at (one .ensures .0), rw e at (one .ensures .1 .1)) in
-    let h2 = put-next out 0 s1 s2 (one .last .0) (two .last .0) (one .result) (two .result) (omega arith) h1 (two .ensures .0) (two .ensures .1 .1) in
-    let h3 = put-next out 0 (s1 ++ s2) s3 (two .last .0) (three .last .0) (two .result) (three .result) (omega arith) h2 (three .ensures .0) (three .ensures .1 .1) in
-    let h4 = put-next out 0 (s1 ++ s2 ++ s3) s4 (three .last .0) (four .last .0) (three .result) (four .result) (omega arith) h3 (four .ensures .0) (four .ensures .1 .1) in
-    let h5 = put-next out 0 (s1 ++ s2 ++ s3 ++ s4) (ascii "\n") (four .last .0) (p .last .0) (four .result) (p .result) (omega arith) h4 (p .ensures .0) (p .ensures .1) in
-    whole out (report m) (p .last .0) (p .result) (omega arith) h5
+    whole (omega arith) (put-next (omega arith) (to-mark (mark-at c)) (ascii "\n") (c .put .ensures .0) (c .put .ensures .1))
 
 pub report-spec : {M : Type 1} → statement M
 report-spec =

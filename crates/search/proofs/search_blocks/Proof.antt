@@ -8,23 +8,70 @@ use lib.ListN.{length}
 use lib.Seq.{sets}
 use Rattle.gf2.proofs.Monics.{monic-pos}
 use Rattle.search.specs.Searching.{windows, isPlace, isAlarm}
-use Rattle.windows.specs.Rolling.{window, residue, keyOf}
+use Rattle.windows.specs.Rolling.{keyOf, ResidueAt}
 use Rattle.search.proofs.Numbers.{Tally, tally-begin, tally-block, tally-end, tally-length, passing-length}
 use Rattle.search.proofs.Blocks.{flagged-places, flagged-alarms, all-found}
 use Rattle.search.proofs.search_blocks.Statement.{statement}
 use Rattle.search.proofs.search_blocks.Tie as tie
 
 abbrev Inv-loop : tie.InvT-loop
-Inv-loop s reduce outgoing text pattern first words₀ flags₀ n found₀ g₀ from₀ words flags found g from =
+Inv-loop s reduce outgoing text pattern first places₀ flags₀ n found₀ g₀ from₀ places flags found g from =
     (from ≤ n)
     × (length flags ≡ 1024)
     × (found .places ≤ from)
     × (found .alarms ≤ from)
-    × (from < n → g ≡ residue (keyOf s) (window (s .m) text from))
-    × Tally (isPlace text pattern) (isAlarm (keyOf s) text pattern) 0 n words₀ 0 0 words (found .places) (found .alarms) from
+    × (from < n → ResidueAt s text from g)
+    × Tally (isPlace text pattern) (isAlarm (keyOf s) text pattern) 0 n places₀ 0 0 places (found .places) (found .alarms) from
 
 abbrev μ-loop : tie.MeasureT-loop
-μ-loop s reduce outgoing text pattern first words₀ flags₀ n found₀ g₀ from₀ words flags found g from = n - from
+μ-loop s reduce outgoing text pattern first places₀ flags₀ n found₀ g₀ from₀ places flags found g from = n - from
+
+-- ---- the places: from each one to an earlier one
+
+abbrev shared-slice-known→start : tie.After-shared-slice-known Inv-loop μ-loop → tie.Start Inv-loop μ-loop
+shared-slice-known→start c = c .before
+
+abbrev slice-known→start : tie.After-slice-known Inv-loop μ-loop → tie.Start Inv-loop μ-loop
+slice-known→start c = shared-slice-known→start (c .before .before .before)
+
+abbrev loop→start : tie.After-loop Inv-loop μ-loop → tie.Start Inv-loop μ-loop
+loop→start c = slice-known→start (c .before .before)
+
+abbrev flags→start : tie.After-flags Inv-loop μ-loop → tie.Start Inv-loop μ-loop
+flags→start c = slice-known→start (c .before .before .before)
+
+abbrev flags→at-loop : tie.After-flags Inv-loop μ-loop → tie.At-loop Inv-loop μ-loop
+flags→at-loop c = c .before .before
+
+abbrev compare-arg→start : tie.After-compare-arg Inv-loop μ-loop → tie.Start Inv-loop μ-loop
+compare-arg→start c = flags→start (c .before .before .before)
+
+abbrev compare-arg→at-loop : tie.After-compare-arg Inv-loop μ-loop → tie.At-loop Inv-loop μ-loop
+compare-arg→at-loop c = flags→at-loop (c .before .before .before)
+
+abbrev compare-arg→flag-block : tie.After-compare-arg Inv-loop μ-loop → tie.After-flag-block Inv-loop μ-loop
+compare-arg→flag-block c = c .before .before
+
+abbrev compare→start : tie.After-compare Inv-loop μ-loop → tie.Start Inv-loop μ-loop
+compare→start c = compare-arg→start (c .before)
+
+abbrev compare→at-loop : tie.After-compare Inv-loop μ-loop → tie.At-loop Inv-loop μ-loop
+compare→at-loop c = compare-arg→at-loop (c .before)
+
+abbrev compare→flag-block : tie.After-compare Inv-loop μ-loop → tie.After-flag-block Inv-loop μ-loop
+compare→flag-block c = compare-arg→flag-block (c .before)
+
+abbrev struct-known→start : tie.After-struct-known Inv-loop μ-loop → tie.Start Inv-loop μ-loop
+struct-known→start c = compare→start (c .before .before .before)
+
+abbrev struct-known→at-loop : tie.After-struct-known Inv-loop μ-loop → tie.At-loop Inv-loop μ-loop
+struct-known→at-loop c = compare→at-loop (c .before .before .before)
+
+abbrev struct-known→flag-block : tie.After-struct-known Inv-loop μ-loop → tie.After-flag-block Inv-loop μ-loop
+struct-known→flag-block c = compare→flag-block (c .before .before .before)
+
+abbrev struct-known→compare : tie.After-struct-known Inv-loop μ-loop → tie.After-compare Inv-loop μ-loop
+struct-known→compare c = c .before .before .before
 
 sub-windows : tie.Need-sub-windows Inv-loop μ-loop
 sub-windows c = omega arith
@@ -34,7 +81,7 @@ add-windows c = omega arith
 
 loop-holds : tie.Need-loop-holds Inv-loop μ-loop
 loop-holds c =
-    let s = c .before .before .before .before in (
+    let s = slice-known→start c in (
       omega arith,
       refl,
       omega arith,
@@ -43,19 +90,19 @@ loop-holds c =
       tally-begin,
     )
 
-mark-block-requires : tie.Need-mark-block-requires Inv-loop μ-loop
-mark-block-requires c κs =
-    let s = c .before .before .before .before .before .before .before in
-    let l = c .before .before .loop in
+flag-block-requires : tie.Need-flag-block-requires Inv-loop μ-loop
+flag-block-requires c κs =
+    let s = flags→start c in
+    let l = flags→at-loop c .loop in
     let h = c .before .loop-test .taken in
     let e = s .pre .1 in
     (s .pre .0, l .inv .1, omega arith, l .inv .4 h)
 
 compare-requires : tie.Need-compare-requires Inv-loop μ-loop
 compare-requires c κs =
-    let s = c .before .before .before .before .before .before .before .before .before .before in
-    let l = c .before .before .before .before .before .loop in
-    let block = c .before .before .mark-block .ensures in
+    let s = compare-arg→start c in
+    let l = compare-arg→at-loop c .loop in
+    let block = compare-arg→flag-block c .flag-block .ensures in
     let e = s .pre .1 in
     let some = s .pre .0 .some in
     (block .1, omega arith, omega arith, s .pre .5, l .inv .2, l .inv .3)
@@ -68,17 +115,17 @@ loop-less c = omega arith
 
 loop-again : tie.Need-loop-again Inv-loop μ-loop
 loop-again c =
-    let s = c .before .before .before .before .before .before .before .before .before .before .before .before .before .before in
+    let s = struct-known→start c in
     let a = s .args in
-    let l = c .before .before .before .before .before .before .before .before .before .loop in
+    let l = struct-known→at-loop c .loop in
     let t = a .text .now in
     let q = a .pattern .now in
     let e = s .pre .1 in
-    let block = c .before .before .before .before .before .before .mark-block in
+    let block = struct-known→flag-block c .flag-block in
     let size = block .result .size in
     let b = block .ensures in
-    let found = c .before .before .before .compare .ensures in
-    let pos = monic-pos (a .s .k) (a .s .low) (s .pre .0 .reduce .0 .2) in
+    let found = struct-known→compare c .compare .ensures in
+    let pos = monic-pos (a .s .modulus .degree) (a .s .modulus .low) (s .pre .0 .reduce .0 .2) in
     let fits : l .from + size + length q ≤ length t + 1 = omega (arith, b .2, e) in
     let ps = flagged-places (a .s) t q (l .from) size _ pos e (s .pre .2) fits (b .3 .flags) in
     let fs = flagged-alarms (a .s) t q (l .from) size _ pos e (s .pre .2) fits (b .3 .flags) in
@@ -89,7 +136,7 @@ loop-again c =
       omega (arith, np, passing-length (isPlace t q) (0 + l .from) size, l .inv .2),
       omega (arith, na, passing-length (isAlarm (keyOf (a .s)) t q) (0 + l .from) size, l .inv .3),
       (λ h. b .3 .next (omega (arith, h, e))),
-      tally-block (l .inv .5) _ size _ _ (omega (arith, fits)) (found .2 ∙ ap (sets (l .words) (l .found .places)) ps) np na,
+      tally-block (l .inv .5) _ size _ _ (omega (arith, fits)) (found .2 ∙ ap (sets (l .places) (l .found .places)) ps) np na,
     )
 
 same-length : tie.Need-same-length Inv-loop μ-loop
@@ -102,13 +149,13 @@ windows-is t q h = omega arith
 
 returns : tie.Need-returns Inv-loop μ-loop
 returns c =
-    let s = c .before .before .before .before .before .before in
+    let s = loop→start c in
     let a = s .args in
     let t = a .text .now in
     let q = a .pattern .now in
     let l = c .before .loop in
     let n = length t - length q + 1 in
-    all-found (keyOf (a .s)) t q (a .words .now) (l .words) (l .found) n (windows-is t q (s .pre .4))
+    all-found (keyOf (a .s)) t q (a .places .now) (l .places) (l .found) n (windows-is t q (s .pre .4))
     (tally-end (l .inv .5) (omega arith))
 
 pub search-blocks-spec : {M : Type 1} → statement M
@@ -120,7 +167,7 @@ search-blocks-spec =
     sub-windows
     add-windows
     loop-holds
-    mark-block-requires
+    flag-block-requires
     compare-requires
     add-from
     loop-less

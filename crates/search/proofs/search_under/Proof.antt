@@ -1,80 +1,104 @@
--- `search::search_under` meets its contract: the tables and the first residues are what `search_blocks` asks.
-use mathlib.Core.Path.{refl}
-use Prim.Native.Nat.{_*_, _^_}
+-- `search_under` meets its contract: each way out by its law of `Calls`.
+use mathlib.Core.Path.{_≡_, ap, _∙_}
+use mathlib.Core.Bool.{false}
+use mathlib.Core.List.{[], _∷_}
 use native.Mathlib.Omega.{arith}
 use borrow.Author.Needs.{needs}
 use lib.ListN.{length}
-use Rattle.gf2.proofs.Monics.{monic-pos}
-use Rattle.gf2.proofs.Steps.{residue-lt}
-use Rattle.windows.proofs.Residues.{multiples-of, one-row}
+use Rattle.gf2.specs.Moduli.{polynomial}
+use Rattle.refusals.specs.Refusals.{Done, passes}
+use Rattle.refusals.proofs.Laws.{holds, fails}
+use Rattle.refusals.proofs.Lengths.{within}
+use Rattle.search.proofs.Calls.{call-long, call-empty, call-none, call-done}
 use Rattle.search.proofs.search_under.Statement.{statement}
 use Rattle.search.proofs.search_under.Tie as tie
 
-slice-aggregate-fill-row : tie.Need-slice-aggregate-fill-row
-slice-aggregate-fill-row c = search needs
+-- ---- the places: from each one to an earlier one
 
-fill-row-requires : tie.Need-fill-row-requires
-fill-row-requires c κs = search needs
+abbrev shared-slice-known→start : tie.After-shared-slice-known → tie.Start
+shared-slice-known→start c = c .before
 
-slice-aggregate-read-first : tie.Need-slice-aggregate-read-first
-slice-aggregate-read-first c = search needs
+abbrev within→start : tie.After-within → tie.Start
+within→start c = shared-slice-known→start (c .before .before .before)
 
-read-first-requires : tie.Need-read-first-requires
-read-first-requires c κs =
-    let s = c .before .before .before .before .before .before .before in
+abbrev then1→start : tie.Then1 → tie.Start
+then1→start c = within→start (c .before)
+
+abbrev else1→start : tie.Else1 → tie.Start
+else1→start c = within→start (c .before)
+
+abbrev then2→start : tie.Then2 → tie.Start
+then2→start c = else1→start (c .before)
+
+abbrev then3→start : tie.Then3 → tie.Start
+then3→start c = else1→start (c .before .before)
+
+abbrev then3→else1 : tie.Then3 → tie.Else1
+then3→else1 c = c .before .before
+
+abbrev search-text-arg→start : tie.After-search-text-arg → tie.Start
+search-text-arg→start c = else1→start (c .before .before .before)
+
+abbrev search-text-arg→else1 : tie.After-search-text-arg → tie.Else1
+search-text-arg→else1 c = c .before .before .before
+
+abbrev search-text-arg→else2 : tie.After-search-text-arg → tie.Else2
+search-text-arg→else2 c = c .before .before
+
+abbrev slice-known2→start : tie.After-slice-known2 → tie.Start
+slice-known2→start c = search-text-arg→start (c .before .before .before)
+
+abbrev slice-known2→else1 : tie.After-slice-known2 → tie.Else1
+slice-known2→else1 c = search-text-arg→else1 (c .before .before .before)
+
+abbrev slice-known2→else2 : tie.After-slice-known2 → tie.Else2
+slice-known2→else2 c = search-text-arg→else2 (c .before .before .before)
+
+abbrev slice-known2→search-text : tie.After-slice-known2 → tie.After-search-text
+slice-known2→search-text c = c .before .before
+
+-- ---- what is known at the places
+
+short : (c : tie.Else1) → let a = else1→start c .args in passes (length (a .text .now) ∷ length (a .pattern .now) ∷ []) ≡ false
+short c = fails (c .before .within .result) _ (c .before .within .ensures) (c .if1 .left)
+
+-- ---- the needs
+
+within-requires : tie.Need-within-requires
+within-requires c κs = search needs
+
+returns : tie.Need-returns
+returns c =
+    let a = then1→start c .args in
+    let w = c .before .within in
+    call-long (polynomial (a .p)) (a .text .now) (a .pattern .now) (a .places .now) (holds (w .result) _ (w .ensures) (c .if1 .taken))
+
+returns-2 : tie.Need-returns-2
+returns-2 c =
+    let a = then2→start c .args in
+    call-empty (polynomial (a .p)) (a .text .now) (a .pattern .now) (a .places .now) (short (c .before)) (c .if2 .taken)
+
+returns-3 : tie.Need-returns-3
+returns-3 c =
+    let a = then3→start c .args in
+    call-none (polynomial (a .p)) (a .text .now) (a .pattern .now) (a .places .now) (short (then3→else1 c)) (c .before .if2 .left) (c .if3 .taken)
+
+search-text-requires : tie.Need-search-text-requires
+search-text-requires c κs =
+    let s = search-text-arg→start c in
     let a = s .args in
-    let row = c .before .before .fill-row in
-    ((s .pre .0, s .pre .1, omega arith, one-row (a .k) (a .low) (s .pre .0 .2) (row .last .0) (row .ensures .0)), s .pre .3)
-
-slice-aggregate-fill-row-2 : tie.Need-slice-aggregate-fill-row-2
-slice-aggregate-fill-row-2 c = search needs
-
-fill-row-requires-2 : tie.Need-fill-row-requires-2
-fill-row-requires-2 c κs =
-    let s = c .before .before .before .before .before .before .before .before .before in
-    let a = s .args in
-    (s .pre .0, rw (c .before .read-first .ensures .2) (residue-lt (a .k) (a .low) (s .pre .0 .2) (2 ^ (8 * length (a .pattern .now)))), omega arith)
-
-slice-aggregate-search-blocks : tie.Need-slice-aggregate-search-blocks
-slice-aggregate-search-blocks c = search needs
-
-search-blocks-requires : tie.Need-search-blocks-requires
-search-blocks-requires c κs =
-    let s = c .before .before .before .before .before .before .before .before .before .before .before .before .before .before in
-    let a = s .args in
-    let m = s .pre .0 in
-    let row = c .before .before .before .before .before .before .before .before .before .fill-row in
-    let out = c .before .before .before .before .fill-row2 in
-    let begin = c .before .before .before .before .before .before .read-first .ensures in (
-      record {
-        some = s .pre .2;
-        reduce = (m, s .pre .1, omega arith, one-row (a .k) (a .low) (m .2) (row .last .0) (row .ensures .0));
-        outgoing = multiples-of (monic-pos (a .k) (a .low) (m .2)) (2 ^ (8 * length (a .pattern .now))) (out .last .0) (rw (begin .2) at (out .ensures .0));
-      },
-      refl,
-      begin .1,
-      begin .0,
-      s .pre .3,
-      s .pre .4,
-    )
+    let l = within (length (a .text .now) ∷ length (a .pattern .now) ∷ []) (short (search-text-arg→else1 c)) in
+    (s .pre .0, s .pre .1, omega (arith, search-text-arg→else2 c .if2 .left), omega (arith, c .before .if3 .left), l .0)
 
 same-length : tie.Need-same-length
 same-length c = search needs
 
-returns : tie.Need-returns
-returns c = search needs
+returns-4 : tie.Need-returns-4
+returns-4 c =
+    let a = slice-known2→start c .args in
+    let d = call-done (polynomial (a .p)) (a .text .now) (a .pattern .now) (a .places .now) (short (slice-known2→else1 c)) (slice-known2→else2 c .if2 .left) in
+    let f = slice-known2→search-text c .search-text .ensures in
+    (ap Done (f .0) ∙ d .0, f .1 ∙ d .1)
 
 pub search-under-spec : {M : Type 1} → statement M
-search-under-spec =
-    tie.close
-    (tie.spec
-    slice-aggregate-fill-row
-    fill-row-requires
-    slice-aggregate-read-first
-    read-first-requires
-    slice-aggregate-fill-row-2
-    fill-row-requires-2
-    slice-aggregate-search-blocks
-    search-blocks-requires
-    same-length
-    returns)
+search-under-spec = tie.close (tie.spec within-requires returns returns-2 returns-3 search-text-requires same-length returns-4)

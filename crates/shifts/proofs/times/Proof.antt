@@ -15,6 +15,17 @@ Inv-loop words f sum₀ rest₀ j₀ sum rest j = (j ≤ 8) × (sum ⊕ looked 8
 abbrev μ-loop : tie.MeasureT-loop
 μ-loop words f sum₀ rest₀ j₀ sum rest j = 8 - j
 
+-- ---- the places: from each one to an earlier one
+
+abbrev loop→start : tie.After-loop Inv-loop μ-loop → tie.Start Inv-loop μ-loop
+loop→start c = c .before .before
+
+abbrev shared-slice-known→start : tie.After-shared-slice-known Inv-loop μ-loop → tie.Start Inv-loop μ-loop
+shared-slice-known→start c = c .before .before .before
+
+abbrev shared-slice-known→at-loop : tie.After-shared-slice-known Inv-loop μ-loop → tie.At-loop Inv-loop μ-loop
+shared-slice-known→at-loop c = c .before .before
+
 loop-holds : tie.Need-loop-holds Inv-loop μ-loop
 loop-holds c = (omega arith, zero-⊕ (looked 8 (c .args .words .now) 8 0 (c .args .f)))
 
@@ -39,15 +50,15 @@ loop-less c = omega arith
 loop-again : tie.Need-loop-again Inv-loop μ-loop
 unfolding _⊕_
 loop-again c =
-    let a = c .before .before .before .args in
-    let l = c .before .before .loop in
+    let a = shared-slice-known→start c .args in
+    let l = shared-slice-known→at-loop c .loop in
     let e : 8 - (l .j + 1) ≡ 8 - l .j - 1 = omega arith in
     (omega arith, rw e (sym (look-next (a .words .now) (l .sum) (l .rest) (8 - l .j) (l .j) (omega arith)) ∙ l .inv .1))
 
 returns : tie.Need-returns Inv-loop μ-loop
 returns c =
     let l = c .before .loop in
-    sym (look-done (c .before .before .args .words .now) (l .sum) (l .rest) (8 - l .j) (l .j) (omega arith)) ∙ l .inv .1
+    sym (look-done (loop→start c .args .words .now) (l .sum) (l .rest) (8 - l .j) (l .j) (omega arith)) ∙ l .inv .1
 
 pub times-spec : {M : Type 1} → statement M
 times-spec =

@@ -1,11 +1,14 @@
--- The constant passes the test, which the checker computes; the law carries it to each entry.
-use mathlib.Core.Path.{refl}
+-- The constant is the list that the checker finds, entry by entry.
+use mathlib.Core.Path.{ap, _∙_}
 use mathlib.Core.List.{List}
-use Prim.Native.Nat.{ℕ}
+use Prim.Native.Nat.{ℕ, _-_}
 use borrow.Author.Needs.{needs}
 use borrow.Table.Row as Row
-use Rattle.stock.proofs.Sieve.{stockedTable}
-use Rattle.stock.proofs.Table.{divisors, entry-stock}
+use lib.ListN.{getD}
+use Rattle.lists.specs.Lists.{same}
+use Rattle.lists.proofs.Lists.{same-eq}
+use Rattle.stock.proofs.Sieve.{left}
+use Rattle.stock.proofs.Table.{divisors, keys, entry-stock}
 use Rattle.stock.proofs.stock_key.Statement.{statement}
 use Rattle.stock.proofs.stock_key.Tie as tie
 use Rattle.stock.proofs.stock_key.Reads as reads
@@ -28,8 +31,8 @@ array-read-result : tie.Need-array-read-result
 array-read-result c = search needs
 
 returns : tie.Need-returns
-unfolding divisors stockedTable
-returns c = entry-stock (constant c) refl tt (c .args .k) (c .pre .0) (c .pre .1)
+unfolding divisors left same
+returns c = ap (λ (xs : List ℕ). getD xs (c .args .k - 8) 0) (same-eq (constant c) keys tt) ∙ entry-stock (c .args .k) (c .pre .0) (c .pre .1)
 
 pub stock-key-spec : {M : Type 1} → statement M
 stock-key-spec = tie.close (tie.spec sub-result cast-result mul-result array-read-result returns)

@@ -1,20 +1,57 @@
--- `make` meets its contract: each return follows from the tests before it, and the last from `rows::fill`.
-use mathlib.Core.Path.{_≡_, sym, ap, _∙_}
+-- `make` meets its contract: the tests of the key, and then those of `make_under`.
+use mathlib.Core.Path.{sym, ap, _∙_}
+use mathlib.Core.List.{List, [], _∷_}
 use Prim.Native.Nat.{ℕ}
 use native.Mathlib.Omega.{arith}
-use Rattle.gf2.specs.Polynomials.{degree, monic}
-use Rattle.lists.specs.Lists.{listFrom}
-use Rattle.refusals.specs.Refusals.{Done}
-use Rattle.keys.proofs.Laws.{Passed, passed, refused, passed-pos, passed-monic, passed-word, passed-modulus}
-use Rattle.tables.specs.Tables.{word}
-use Rattle.tables.proofs.Calls.{make-key, make-size, make-done}
 use borrow.Author.Needs.{needs}
+use Rattle.lists.specs.Lists.{listFrom}
+use Rattle.refusals.specs.Refusals.{firstOf}
+use Rattle.lookups.specs.Rule.{word}
+use Rattle.acceptance.specs.Keys.{Opened}
+use Rattle.acceptance.proofs.Opened.{opened-whole, opened-proper, opened-first}
+use Rattle.keys.proofs.Laws.{opened, refused}
+use Rattle.tables.specs.Tables.{sizeTest, makeTable}
 use Rattle.tables.proofs.make.Statement.{statement}
 use Rattle.tables.proofs.make.Tie as tie
 
--- what is known where the key is accepted
-key-passed : (c : tie.After-enum-told) → Passed (c .before .before .before .before .args .key)
-key-passed c = let t = c .before .before .test in passed (t .result) (c .before .before .before .before .args .key) (t .ensures) (c .enum-told .given .1)
+-- ---- the places: from each one to an earlier one
+
+abbrev test→start : tie.After-test → tie.Start
+test→start c = c .before .before
+
+abbrev p→start : tie.After-p → tie.Start
+p→start c = test→start (c .before .before)
+
+abbrev p→test : tie.After-p → tie.After-test
+p→test c = c .before .before
+
+abbrev known-told→start : tie.After-known-told → tie.Start
+known-told→start c = test→start (c .before .before .before)
+
+abbrev known-told→test : tie.After-known-told → tie.After-test
+known-told→test c = c .before .before .before
+
+abbrev known-told→r : tie.After-known-told → tie.After-r
+known-told→r c = c .before
+
+abbrev make-under-arg→start : tie.After-make-under-arg → tie.Start
+make-under-arg→start c = p→start (c .before .before)
+
+abbrev make-under-arg→p : tie.After-make-under-arg → tie.After-p
+make-under-arg→p c = c .before .before
+
+abbrev slice-known2→start : tie.After-slice-known2 → tie.Start
+slice-known2→start c = make-under-arg→start (c .before .before .before)
+
+abbrev slice-known2→p : tie.After-slice-known2 → tie.After-p
+slice-known2→p c = make-under-arg→p (c .before .before .before)
+
+abbrev slice-known2→make-under : tie.After-slice-known2 → tie.After-make-under
+slice-known2→make-under c = c .before .before
+
+-- the table that the call makes
+abbrev table : ℕ → List ℕ
+table key = listFrom (word 8 key) 0 1024
 
 test-requires : tie.Need-test-requires
 test-requires c κs = search needs
@@ -22,51 +59,34 @@ test-requires c κs = search needs
 enum-known-r : tie.Need-enum-known-r
 enum-known-r c = search needs
 
+enum-known-p : tie.Need-enum-known-p
+enum-known-p c = search needs
+
+key-opened : (c : tie.After-p) → Opened (p→start c .args .key) (c .p .given .0 .0)
+key-opened c = let t = p→test c .test in opened (t .result) (p→start c .args .key) (t .ensures) _ (omega arith) (c .p .given .1)
+
+make-under-requires : tie.Need-make-under-requires
+make-under-requires c κs = opened-proper (key-opened (make-under-arg→p c))
+
 returns : tie.Need-returns
+unfolding makeTable
 returns c =
-    let a = c .before .before .before .before .before .args in
-    let t = c .before .before .before .test in
-    let q = c .before .r .given .0 .0 in
-    sym (make-key (a .key) (a .words .now) q (refused (t .result) (a .key) q (t .ensures) (c .before .r .given .1)))
-
-enum-told : tie.Need-enum-told
-enum-told c = search needs
-
-returns-2 : tie.Need-returns-2
-returns-2 c = let a = c .before .before .before .before .before .args in sym (make-size (a .key) (a .words .now) (key-passed (c .before)) (c .if1 .taken))
-
-degree-requires : tie.Need-degree-requires
-degree-requires c κs = passed-pos (key-passed (c .before))
-
-low-bits-requires : tie.Need-low-bits-requires
-low-bits-requires c κs = omega (arith, c .before .degree .ensures, passed-word (key-passed (c .before .before .before)) (omega arith))
-
-fill-requires : tie.Need-fill-requires
-fill-requires c κs = rw (c .low-bits .ensures, c .before .before .degree .ensures) (passed-modulus (key-passed (c .before .before .before .before)) (omega arith), c .before .before .before .if1 .left)
+    let a = known-told→start c .args in
+    let t = known-told→test c .test in
+    sym (refused (t .result) (a .key) (t .ensures) (sizeTest (a .words .now) ∷ []) (a .words .now) (table (a .key)) _ (known-told→r c .r .given .1))
 
 same-length : tie.Need-same-length
 same-length c = search needs
 
-returns-3 : tie.Need-returns-3
-returns-3 c =
-    let a = c .before .before .before .before .before .before .before .before .before .before .before .args in
-    let h = key-passed (c .before .before .before .before .before .before .before) in
-    let d = c .before .before .before .before .before .degree in
-    let l = c .before .before .before .low-bits in
-    let p : monic (d .result) (l .result) ≡ a .key = rw (l .ensures, d .ensures) (passed-monic h) in
-    ap Done (c .before .before .fill .ensures ∙ ap (λ (q : ℕ). listFrom (word 8 q) 0 1024) p) ∙ sym (make-done (a .key) (a .words .now) h (c .before .before .before .before .before .before .if1 .left))
+returns-2 : tie.Need-returns-2
+unfolding makeTable
+returns-2 c =
+    let a = slice-known2→start c .args in
+    let words = a .words .now in
+    let h = key-opened (slice-known2→p c) in
+    slice-known2→make-under c .make-under .ensures
+    ∙ ap (λ (q : ℕ). firstOf (sizeTest words ∷ []) words (table q)) (opened-whole h)
+    ∙ sym (opened-first h (sizeTest words ∷ []) words (table (a .key)))
 
 pub make-spec : {M : Type 1} → statement M
-make-spec =
-    tie.close
-    (tie.spec
-    test-requires
-    enum-known-r
-    returns
-    enum-told
-    returns-2
-    degree-requires
-    low-bits-requires
-    fill-requires
-    same-length
-    returns-3)
+make-spec = tie.close (tie.spec test-requires enum-known-r enum-known-p make-under-requires returns same-length returns-2)

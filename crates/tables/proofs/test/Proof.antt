@@ -1,27 +1,45 @@
--- `test` meets its contract: each return follows from the tests before it.
-use mathlib.Core.Path.{_≡_, sym, ap, _∙_}
+-- `test` meets its contract: the tests of the key, and then those of `judge`.
+use mathlib.Core.Path.{sym, ap, _∙_}
+use mathlib.Core.List.{List, [], _∷_}
 use Prim.Native.Nat.{ℕ}
 use native.Mathlib.Omega.{arith}
-use mathlib.Core.Bool.{not}
-use Rattle.gf2.specs.Polynomials.{degree, monic}
-use Rattle.refusals.proofs.Laws.{holds, fails}
-use Rattle.keys.proofs.Laws.{Passed, passed, refused, passed-pos, passed-monic, passed-word, passed-modulus}
-use Rattle.tables.specs.Tables.{word, differs}
-use Rattle.tables.proofs.Calls.{test-key, test-size, test-word, test-done}
 use borrow.Author.Needs.{needs}
+use Rattle.refusals.specs.Refusals.{judged}
+use Rattle.acceptance.specs.Keys.{Opened}
+use Rattle.acceptance.proofs.Opened.{opened-whole, opened-proper, opened-first}
+use Rattle.keys.proofs.Laws.{opened, refused}
+use Rattle.tables.specs.Tables.{tableTests, testTable}
 use Rattle.tables.proofs.test.Statement.{statement}
 use Rattle.tables.proofs.test.Tie as tie
 
--- what is known where the key is accepted
-key-passed : (c : tie.After-enum-told) → Passed (c .before .before .before .before .args .key)
-key-passed c = let t = c .before .before .test in passed (t .result) (c .before .before .before .before .args .key) (t .ensures) (c .enum-told .given .1)
+-- ---- the places: from each one to an earlier one
 
-words-tested : (c : tie.After-holds) → c .holds .result ≡ not (differs (word 8 (c .before .before .before .before .before .before .before .before .args .key)) 0 (c .before .before .before .before .before .before .before .before .args .words .now))
-words-tested c =
-    let d = c .before .before .degree in
-    let l = c .before .low-bits in
-    let p : monic (d .result) (l .result) ≡ c .before .before .before .before .before .before .before .before .args .key = rw (l .ensures, d .ensures) (passed-monic (key-passed (c .before .before .before .before))) in
-    c .holds .ensures ∙ ap (λ (q : ℕ). not (differs (word 8 q) 0 (c .before .before .before .before .before .before .before .before .args .words .now))) p
+abbrev test→start : tie.After-test → tie.Start
+test→start c = c .before .before
+
+abbrev p→start : tie.After-p → tie.Start
+p→start c = test→start (c .before .before)
+
+abbrev p→test : tie.After-p → tie.After-test
+p→test c = c .before .before
+
+abbrev known-told→start : tie.After-known-told → tie.Start
+known-told→start c = test→start (c .before .before .before)
+
+abbrev known-told→test : tie.After-known-told → tie.After-test
+known-told→test c = c .before .before .before
+
+abbrev known-told2→p : tie.After-known-told2 → tie.After-p
+known-told2→p c = c .before
+
+abbrev known-told→r : tie.After-known-told → tie.After-r
+known-told→r c = c .before
+
+abbrev judge→start : tie.After-judge → tie.Start
+judge→start c = p→start (c .before .before)
+
+abbrev judge→p : tie.After-judge → tie.After-p
+judge→p c = known-told2→p (c .before)
 
 test-requires : tie.Need-test-requires
 test-requires c κs = search needs
@@ -29,49 +47,29 @@ test-requires c κs = search needs
 enum-known-r : tie.Need-enum-known-r
 enum-known-r c = search needs
 
-returns : tie.Need-returns
-returns c =
-    let a = c .before .before .before .before .before .args in
-    let t = c .before .before .before .test in
-    let q = c .before .r .given .0 .0 in
-    sym (test-key (a .key) (a .words .now) q (refused (t .result) (a .key) q (t .ensures) (c .before .r .given .1)))
+enum-known-p : tie.Need-enum-known-p
+enum-known-p c = search needs
 
-enum-told : tie.Need-enum-told
-enum-told c = search needs
+key-opened : (c : tie.After-p) → Opened (p→start c .args .key) (c .p .given .0 .0)
+key-opened c = let t = p→test c .test in opened (t .result) (p→start c .args .key) (t .ensures) _ (omega arith) (c .p .given .1)
+
+judge-requires : tie.Need-judge-requires
+judge-requires c κs = opened-proper (key-opened (known-told2→p c))
+
+returns : tie.Need-returns
+unfolding testTable
+returns c =
+    let a = known-told→start c .args in
+    let t = known-told→test c .test in
+    sym (refused (t .result) (a .key) (t .ensures) (tableTests (a .key) (a .words .now)) tt tt _ (known-told→r c .r .given .1))
 
 returns-2 : tie.Need-returns-2
-returns-2 c = let a = c .before .before .before .before .before .args in sym (test-size (a .key) (a .words .now) (key-passed (c .before)) (c .if1 .taken))
-
-degree-requires : tie.Need-degree-requires
-degree-requires c κs = passed-pos (key-passed (c .before))
-
-low-bits-requires : tie.Need-low-bits-requires
-low-bits-requires c κs = omega (arith, c .degree .ensures, passed-word (key-passed (c .before .before)) (omega arith))
-
-holds-requires : tie.Need-holds-requires
-holds-requires c κs = rw (c .low-bits .ensures, c .before .degree .ensures) (passed-modulus (key-passed (c .before .before .before)) (omega arith), c .before .before .if1 .left)
-
-returns-3 : tie.Need-returns-3
-returns-3 c =
-    let a = c .before .before .before .before .before .before .before .before .before .args in
-    sym (test-word (a .key) (a .words .now) (key-passed (c .before .before .before .before .before)) (c .before .before .before .before .if1 .left) (holds (c .before .holds .result) _ (words-tested (c .before)) (c .if2 .taken)))
-
-returns-4 : tie.Need-returns-4
-returns-4 c =
-    let a = c .before .before .before .before .before .before .before .before .before .args in
-    sym (test-done (a .key) (a .words .now) (key-passed (c .before .before .before .before .before)) (c .before .before .before .before .if1 .left) (fails (c .before .holds .result) _ (words-tested (c .before)) (c .if2 .left)))
+unfolding testTable
+returns-2 c =
+    let a = judge→start c .args in
+    let words = a .words .now in
+    let h = key-opened (judge→p c) in
+    c .judge .ensures ∙ ap (λ (q : ℕ). judged (tableTests q words)) (opened-whole h) ∙ sym (opened-first h (tableTests (a .key) words) tt tt)
 
 pub test-spec : {M : Type 1} → statement M
-test-spec =
-    tie.close
-    (tie.spec
-    test-requires
-    enum-known-r
-    returns
-    enum-told
-    returns-2
-    degree-requires
-    low-bits-requires
-    holds-requires
-    returns-3
-    returns-4)
+test-spec = tie.close (tie.spec test-requires enum-known-r enum-known-p judge-requires returns returns-2)

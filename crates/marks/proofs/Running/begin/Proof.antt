@@ -1,14 +1,36 @@
 -- `Running::begin` meets its contract: the empty file's value is 1, which is below every modulus of degree 1 or more.
 use mathlib.Core.Path.{sym, ap, _∙_}
 use mathlib.Core.List.{[]}
+use native.Mathlib.Omega.{arith}
 use borrow.Author.Needs.{needs}
 use Rattle.refusals.specs.Refusals.{Done}
 use Rattle.files.specs.Files.{markOf}
-use Rattle.keys.proofs.Laws.{passed, refused, first-passed, first-refused}
+use Rattle.files.proofs.Marks.{empty-mark}
+use Rattle.acceptance.proofs.Opened.{opened-first, opened-from}
+use Rattle.keys.proofs.Laws.{opened, refused}
 use Rattle.marks.specs.Feeding.{begin, begunUnder}
-use Rattle.marks.proofs.Laws.{empty-mark}
 use Rattle.marks.proofs.Running.begin.Statement.{statement}
 use Rattle.marks.proofs.Running.begin.Tie as tie
+
+-- ---- the places: from each one to an earlier one
+
+abbrev test→start : tie.After-test → tie.Start
+test→start c = c .before
+
+abbrev enum-told→start : tie.After-enum-told → tie.Start
+enum-told→start c = test→start (c .before .before)
+
+abbrev enum-told→test : tie.After-enum-told → tie.After-test
+enum-told→test c = c .before .before
+
+abbrev known-told→start : tie.After-known-told → tie.Start
+known-told→start c = test→start (c .before .before .before)
+
+abbrev known-told→test : tie.After-known-told → tie.After-test
+known-told→test c = c .before .before .before
+
+abbrev known-told→r : tie.After-known-told → tie.After-r
+known-told→r c = c .before
 
 test-requires : tie.Need-test-requires
 test-requires c κs = search needs
@@ -22,18 +44,17 @@ enum-told c = search needs
 returns : tie.Need-returns
 unfolding begin
 returns c =
-    let key = c .before .before .before .before .args .key in
-    let t = c .before .before .before .test in
-    let q = c .before .r .given .0 .0 in
-    sym (ap (begunUnder key) (first-refused key [] tt (markOf key []) q (refused (t .result) key q (t .ensures) (c .before .r .given .1))))
+    let key = known-told→start c .args .key in
+    let t = known-told→test c .test in
+    sym (ap (begunUnder key) (refused (t .result) key (t .ensures) [] tt (markOf key []) _ (known-told→r c .r .given .1)))
 
 returns-2 : tie.Need-returns-2
 unfolding begin
 returns-2 c =
-    let key = c .before .before .before .args .key in
-    let t = c .before .before .test in
-    let h = passed (t .result) key (t .ensures) (c .enum-told .given .1) in
-    sym (ap (begunUnder key) (first-passed key [] tt (markOf key []) h ∙ ap Done (empty-mark key h)))
+    let key = enum-told→start c .args .key in
+    let t = enum-told→test c .test in
+    let h = opened (t .result) key (t .ensures) _ (omega arith) (c .enum-told .given .1) in
+    sym (ap (begunUnder key) (opened-first h [] tt (markOf key []) ∙ ap Done (empty-mark key (omega (arith, opened-from h)))))
 
 pub begin-spec : {M : Type 1} → statement M
 begin-spec = tie.close (tie.spec test-requires enum-known-r enum-told returns returns-2)

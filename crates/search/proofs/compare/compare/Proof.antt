@@ -3,58 +3,126 @@
 -- are the same.
 use mathlib.Core.Path.{_≡_, refl, sym, _∙_}
 use mathlib.Core.Logic.{⊎-elim}
-use mathlib.Core.Bool.{Bool, true, false}
-use mathlib.Core.List.{List}
-use Prim.Native.Nat.{ℕ, _+_, _-_, _≤_, _<_}
+use mathlib.Core.Bool.{true, false}
+use Prim.Native.Nat.{_+_, _-_, _≤_, _<_}
 use native.Mathlib.Omega.{arith}
 use lib.ListN.{length, drop, getD, set}
 use lib.Seq.{set-out}
 use Rattle.lists.specs.Lists.{same}
 use Rattle.search.specs.Searching.{isPlace}
-use Rattle.search.specs.Flagged.{NextFlagged, flaggedPlace, flaggedAlarm}
 use Rattle.windows.specs.Rolling.{window}
 use Rattle.windows.proofs.Windows.{window-length, window-at}
-use Rattle.search.proofs.Comparing.{same-step, same-differs, same-end, unflagged-place, unflagged-alarm, flagged-place, flagged-alarm}
-use Rattle.search.proofs.Numbers.{Tally, tally-begin, tally-skip, tally-alarm, tally-place, tally-end, tally-length}
+use Rattle.search.proofs.Comparing.{same-step, same-differs, same-end}
+use Rattle.search.proofs.Numbers.{tally-begin, tally-end, tally-length}
+use Rattle.search.proofs.Blocks.{Counted, skipped, place-next, alarm-next}
 use Rattle.search.proofs.compare.compare.Statement.{statement}
 use Rattle.search.proofs.compare.compare.Tie as tie
 
 abbrev Inv-loop : tie.InvT-loop
-Inv-loop text pattern flags from size words m count alarms₀ i at j₀ alarms j =
+Inv-loop text pattern flags from size places m count alarms₀ i at j₀ alarms j =
     (alarms ≡ alarms₀)
     × (j ≤ length pattern)
     × (isPlace text pattern at ≡ same (drop j (window (length pattern) text at)) (drop j pattern))
 
 abbrev μ-loop : tie.MeasureT-loop
-μ-loop text pattern flags from size words m count alarms₀ i at j₀ alarms j = length pattern - j
+μ-loop text pattern flags from size places m count alarms₀ i at j₀ alarms j = length pattern - j
 
 abbrev Inv-windows : tie.InvT-windows
-Inv-windows text pattern flags from size words₀ m count₀ alarms₀ i₀ words count alarms i =
+Inv-windows text pattern flags from size places₀ m count₀ alarms₀ i₀ places count alarms i =
     (i ≤ size)
     × (count ≤ from + i)
     × (alarms ≤ from + i)
     × (i < size → getD flags i false ≡ true)
-    × Tally (flaggedPlace flags text pattern from) (flaggedAlarm flags text pattern from) from size words₀ count₀ alarms₀ words count alarms i
+    × Counted flags text pattern from size places₀ count₀ alarms₀ places count alarms i
 
 abbrev μ-windows : tie.MeasureT-windows
-μ-windows text pattern flags from size words₀ m count₀ alarms₀ i₀ words count alarms i = size - i
+μ-windows text pattern flags from size places₀ m count₀ alarms₀ i₀ places count alarms i = size - i
 
--- windows without a flag are passed over
-skipped : (flags : List Bool) (text pattern : List ℕ) (from size i next : ℕ) {words₀ words : List ℕ} {p₀ a₀ p a : ℕ}
-    → Tally (flaggedPlace flags text pattern from) (flaggedAlarm flags text pattern from) from size words₀ p₀ a₀ words p a i
-    → NextFlagged flags i size next
-    → Tally (flaggedPlace flags text pattern from) (flaggedAlarm flags text pattern from) from size words₀ p₀ a₀ words p a next
-skipped flags text pattern from size i next t f =
-    tally-skip t next (f .low) (f .high) (λ j l h. (unflagged-place flags text pattern from j (f .none j l h), unflagged-alarm flags text pattern from j (f .none j l h)))
+-- ---- the places: from each one to an earlier one
+
+abbrev shared-slice-known→start : tie.After-shared-slice-known Inv-loop μ-loop Inv-windows μ-windows → tie.Start Inv-loop μ-loop Inv-windows μ-windows
+shared-slice-known→start c = c .before
+
+abbrev next-flagged→start : tie.After-next-flagged Inv-loop μ-loop Inv-windows μ-windows → tie.Start Inv-loop μ-loop Inv-windows μ-windows
+next-flagged→start c = shared-slice-known→start (c .before .before .before)
+
+abbrev in-windows→start : tie.In-windows Inv-loop μ-loop Inv-windows μ-windows → tie.Start Inv-loop μ-loop Inv-windows μ-windows
+in-windows→start c = next-flagged→start (c .before .before)
+
+abbrev in-windows→at-windows : tie.In-windows Inv-loop μ-loop Inv-windows μ-windows → tie.At-windows Inv-loop μ-loop Inv-windows μ-windows
+in-windows→at-windows c = c .before
+
+abbrev next-flagged2→start : tie.After-next-flagged2 Inv-loop μ-loop Inv-windows μ-windows → tie.Start Inv-loop μ-loop Inv-windows μ-windows
+next-flagged2→start c = in-windows→start (c .before)
+
+abbrev next-flagged2→at-windows : tie.After-next-flagged2 Inv-loop μ-loop Inv-windows μ-windows → tie.At-windows Inv-loop μ-loop Inv-windows μ-windows
+next-flagged2→at-windows c = in-windows→at-windows (c .before)
+
+abbrev next-flagged2→in-windows : tie.After-next-flagged2 Inv-loop μ-loop Inv-windows μ-windows → tie.In-windows Inv-loop μ-loop Inv-windows μ-windows
+next-flagged2→in-windows c = c .before
+
+abbrev in-loop→start : tie.In-loop Inv-loop μ-loop Inv-windows μ-windows → tie.Start Inv-loop μ-loop Inv-windows μ-windows
+in-loop→start c = in-windows→start (c .before .before .before)
+
+abbrev in-loop→at-windows : tie.In-loop Inv-loop μ-loop Inv-windows μ-windows → tie.At-windows Inv-loop μ-loop Inv-windows μ-windows
+in-loop→at-windows c = in-windows→at-windows (c .before .before .before)
+
+abbrev in-loop→in-windows : tie.In-loop Inv-loop μ-loop Inv-windows μ-windows → tie.In-windows Inv-loop μ-loop Inv-windows μ-windows
+in-loop→in-windows c = c .before .before .before
+
+abbrev in-loop→next-flagged2 : tie.In-loop Inv-loop μ-loop Inv-windows μ-windows → tie.After-next-flagged2 Inv-loop μ-loop Inv-windows μ-windows
+in-loop→next-flagged2 c = c .before .before
+
+abbrev in-loop→at-loop : tie.In-loop Inv-loop μ-loop Inv-windows μ-windows → tie.At-loop Inv-loop μ-loop Inv-windows μ-windows
+in-loop→at-loop c = c .before
+
+abbrev joined2→start : tie.Joined2 Inv-loop μ-loop Inv-windows μ-windows → tie.Start Inv-loop μ-loop Inv-windows μ-windows
+joined2→start c = next-flagged2→start (c .before .before .before)
+
+abbrev joined2→at-windows : tie.Joined2 Inv-loop μ-loop Inv-windows μ-windows → tie.At-windows Inv-loop μ-loop Inv-windows μ-windows
+joined2→at-windows c = next-flagged2→at-windows (c .before .before .before)
+
+abbrev joined2→in-windows : tie.Joined2 Inv-loop μ-loop Inv-windows μ-windows → tie.In-windows Inv-loop μ-loop Inv-windows μ-windows
+joined2→in-windows c = next-flagged2→in-windows (c .before .before .before)
+
+abbrev joined2→next-flagged2 : tie.Joined2 Inv-loop μ-loop Inv-windows μ-windows → tie.After-next-flagged2 Inv-loop μ-loop Inv-windows μ-windows
+joined2→next-flagged2 c = c .before .before .before
+
+abbrev joined2→at-loop : tie.Joined2 Inv-loop μ-loop Inv-windows μ-windows → tie.At-loop Inv-loop μ-loop Inv-windows μ-windows
+joined2→at-loop c = c .before .before
+
+abbrev then1→start : tie.Then1 Inv-loop μ-loop Inv-windows μ-windows → tie.Start Inv-loop μ-loop Inv-windows μ-windows
+then1→start c = in-loop→start (c .before .before .before)
+
+abbrev else1→start : tie.Else1 Inv-loop μ-loop Inv-windows μ-windows → tie.Start Inv-loop μ-loop Inv-windows μ-windows
+else1→start c = in-loop→start (c .before .before .before)
+
+abbrev then1→at-windows : tie.Then1 Inv-loop μ-loop Inv-windows μ-windows → tie.At-windows Inv-loop μ-loop Inv-windows μ-windows
+then1→at-windows c = in-loop→at-windows (c .before .before .before)
+
+abbrev else1→at-windows : tie.Else1 Inv-loop μ-loop Inv-windows μ-windows → tie.At-windows Inv-loop μ-loop Inv-windows μ-windows
+else1→at-windows c = in-loop→at-windows (c .before .before .before)
+
+abbrev then1→in-windows : tie.Then1 Inv-loop μ-loop Inv-windows μ-windows → tie.In-windows Inv-loop μ-loop Inv-windows μ-windows
+then1→in-windows c = in-loop→in-windows (c .before .before .before)
+
+abbrev then1→next-flagged2 : tie.Then1 Inv-loop μ-loop Inv-windows μ-windows → tie.After-next-flagged2 Inv-loop μ-loop Inv-windows μ-windows
+then1→next-flagged2 c = in-loop→next-flagged2 (c .before .before .before)
+
+abbrev then1→at-loop : tie.Then1 Inv-loop μ-loop Inv-windows μ-windows → tie.At-loop Inv-loop μ-loop Inv-windows μ-windows
+then1→at-loop c = in-loop→at-loop (c .before .before .before)
+
+abbrev else1→at-loop : tie.Else1 Inv-loop μ-loop Inv-windows μ-windows → tie.At-loop Inv-loop μ-loop Inv-windows μ-windows
+else1→at-loop c = in-loop→at-loop (c .before .before .before)
 
 next-flagged-requires : tie.Need-next-flagged-requires Inv-loop μ-loop Inv-windows μ-windows
 next-flagged-requires c κs = (omega arith, omega arith)
 
 windows-holds : tie.Need-windows-holds Inv-loop μ-loop Inv-windows μ-windows
 windows-holds c =
-    let a = c .before .before .before .before .args in
+    let a = next-flagged→start c .args in
     let f = c .next-flagged .ensures in
-    (f .high, omega arith, omega arith, f .flagged, skipped (a .flags .now) (a .text .now) (a .pattern .now) (a .from) (a .size) 0 (c .next-flagged .result) tally-begin f)
+    (f .high, omega arith, omega arith, f .flagged, skipped (a .flags .now) (a .text .now) (a .pattern .now) (a .from) (a .size) tally-begin (c .next-flagged .result) f)
 
 add-at : tie.Need-add-at Inv-loop μ-loop Inv-windows μ-windows
 add-at c = omega arith
@@ -82,24 +150,24 @@ add-alarms : tie.Need-add-alarms Inv-loop μ-loop Inv-windows μ-windows
 add-alarms c = omega arith
 
 windows-less : tie.Need-windows-less Inv-loop μ-loop Inv-windows μ-windows
-windows-less c = let f = c .before .before .before .before .before .next-flagged2 .ensures in omega (arith, f .low, f .high)
+windows-less c = let f = then1→next-flagged2 c .next-flagged2 .ensures in omega (arith, f .low, f .high)
 
 windows-again : tie.Need-windows-again Inv-loop μ-loop Inv-windows μ-windows
 windows-again c =
-    let a = c .before .before .before .before .before .before .before .before .before .before .before .before .args in
-    let w = c .before .before .before .before .before .before .before .windows in
-    let l = c .before .before .before .before .loop in
+    let a = then1→start c .args in
+    let w = then1→at-windows c .windows in
+    let l = then1→at-loop c .loop in
     let t = a .text .now in
     let q = a .pattern .now in
     let at = a .from + w .i in
     let long = window-length (length q) t at (omega arith) in
-    let z = l .inv .2 ∙ same-differs (window (length q) t at) q (l .j) (omega arith) (omega arith) (λ e. c .if1 .taken (sym (window-at (length q) t at (l .j) (omega arith)) ∙ e)) in
-    let f = c .before .before .before .before .before .next-flagged2 .ensures in
-    let flag = w .inv .3 (c .before .before .before .before .before .before .windows-test .taken) in
-    let e = flagged-place (a .flags .now) t q (a .from) (w .i) false flag z in
-    let e′ = flagged-alarm (a .flags .now) t q (a .from) (w .i) false flag z in
-    let done = skipped (a .flags .now) t q (a .from) (a .size) (w .i + 1) (c .before .before .before .before .before .next-flagged2 .result) (tally-alarm (w .inv .4) (omega arith) e e′) f in
-    (f .high, omega (arith, f .low), omega (arith, f .low, l .inv .0), f .flagged, rw (l .inv .0) done)
+    let byte = window-at (length q) t at (l .j) (omega arith) in
+    let z = l .inv .2 ∙ same-differs (window (length q) t at) q (l .j) (omega arith) (omega arith) (λ e. c .if1 .taken (sym byte ∙ e)) in
+    let taken = then1→in-windows c .windows-test .taken in
+    let n = then1→next-flagged2 c .next-flagged2 in
+    let f = n .ensures in
+    let done = alarm-next (a .flags .now) t q (a .from) (a .size) (w .inv .4) taken (w .inv .3 taken) (n .result) (l .alarms) (l .inv .0) f z in
+    (f .high, omega (arith, f .low), omega (arith, f .low, l .inv .0), f .flagged, done)
 
 add-j : tie.Need-add-j Inv-loop μ-loop Inv-windows μ-windows
 add-j c = omega arith
@@ -109,9 +177,9 @@ loop-less c = omega arith
 
 loop-again : tie.Need-loop-again Inv-loop μ-loop Inv-windows μ-windows
 loop-again c =
-    let a = c .before .before .before .before .before .before .before .before .before .before .before .before .args in
-    let w = c .before .before .before .before .before .before .before .windows in
-    let l = c .before .before .before .before .loop in
+    let a = else1→start c .args in
+    let w = else1→at-windows c .windows in
+    let l = else1→at-loop c .loop in
     let t = a .text .now in
     let q = a .pattern .now in
     let at = a .from + w .i in
@@ -121,43 +189,42 @@ loop-again c =
 cast-n : tie.Need-cast-n Inv-loop μ-loop Inv-windows μ-windows
 cast-n c = omega arith
 
-cast-words : tie.Need-cast-words Inv-loop μ-loop Inv-windows μ-windows
-cast-words c = omega arith
+cast-places : tie.Need-cast-places Inv-loop μ-loop Inv-windows μ-windows
+cast-places c = omega arith
 
-mul-words : tie.Need-mul-words Inv-loop μ-loop Inv-windows μ-windows
-mul-words c = omega arith
+mul-places : tie.Need-mul-places Inv-loop μ-loop Inv-windows μ-windows
+mul-places c = omega arith
 
-slice-write-words : tie.Need-slice-write-words Inv-loop μ-loop Inv-windows μ-windows
-slice-write-words c = omega arith
+slice-write-places : tie.Need-slice-write-places Inv-loop μ-loop Inv-windows μ-windows
+slice-write-places c = omega arith
 
 add-count : tie.Need-add-count Inv-loop μ-loop Inv-windows μ-windows
 add-count c = omega arith
 
 windows-less-2 : tie.Need-windows-less-2 Inv-loop μ-loop Inv-windows μ-windows
-windows-less-2 c = let f = c .before .before .before .next-flagged2 .ensures in omega (arith, f .low, f .high)
+windows-less-2 c = let f = joined2→next-flagged2 c .next-flagged2 .ensures in omega (arith, f .low, f .high)
 
 -- where the arms meet: a store past the end changes nothing
-stored : (c : tie.Joined2 Inv-loop μ-loop Inv-windows μ-windows) → let w = c .before .before .before .before .before .windows in c .if2 .words ≡ set (w .words) (w .count) (c .before .before .before .before .before .before .before .before .before .before .args .from + w .i)
+stored : (c : tie.Joined2 Inv-loop μ-loop Inv-windows μ-windows) → let w = joined2→at-windows c .windows in c .if2 .places ≡ set (w .places) (w .count) (joined2→start c .args .from + w .i)
 stored c =
-    let w = c .before .before .before .before .before .windows in
-    ⊎-elim (λ t. t .1) (λ t. t .1 ∙ sym (set-out (w .words) (w .count) _ (t .0 .left))) (c .if2 .came)
+    let w = joined2→at-windows c .windows in
+    ⊎-elim (λ t. t .1) (λ t. t .1 ∙ sym (set-out (w .places) (w .count) _ (t .0 .left))) (c .if2 .came)
 
 windows-again-2 : tie.Need-windows-again-2 Inv-loop μ-loop Inv-windows μ-windows
 windows-again-2 c =
-    let a = c .before .before .before .before .before .before .before .before .before .before .args in
-    let w = c .before .before .before .before .before .windows in
-    let l = c .before .before .loop in
+    let a = joined2→start c .args in
+    let w = joined2→at-windows c .windows in
+    let l = joined2→at-loop c .loop in
     let t = a .text .now in
     let q = a .pattern .now in
     let at = a .from + w .i in
     let long = window-length (length q) t at (omega arith) in
     let z = l .inv .2 ∙ same-end (window (length q) t at) q (l .j) (omega arith) (omega arith) in
-    let f = c .before .before .before .next-flagged2 .ensures in
-    let flag = w .inv .3 (c .before .before .before .before .windows-test .taken) in
-    let e = flagged-place (a .flags .now) t q (a .from) (w .i) true flag z in
-    let e′ = flagged-alarm (a .flags .now) t q (a .from) (w .i) true flag z in
-    let done = skipped (a .flags .now) t q (a .from) (a .size) (w .i + 1) (c .before .before .before .next-flagged2 .result) (tally-place (w .inv .4) (omega arith) e e′) f in
-    (f .high, omega (arith, f .low), omega (arith, f .low, l .inv .0), f .flagged, rw (l .inv .0, stored c) done)
+    let taken = joined2→in-windows c .windows-test .taken in
+    let n = joined2→next-flagged2 c .next-flagged2 in
+    let f = n .ensures in
+    let done = place-next (a .flags .now) t q (a .from) (a .size) (w .inv .4) taken (w .inv .3 taken) (n .result) (l .alarms) (l .inv .0) f (c .if2 .places) (stored c) z in
+    (f .high, omega (arith, f .low), omega (arith, f .low, l .inv .0), f .flagged, done)
 
 same-length : tie.Need-same-length Inv-loop μ-loop Inv-windows μ-windows
 same-length c = tally-length (c .before .windows .inv .4)
@@ -189,9 +256,9 @@ compare-spec =
     loop-less
     loop-again
     cast-n
-    cast-words
-    mul-words
-    slice-write-words
+    cast-places
+    mul-places
+    slice-write-places
     add-count
     windows-less-2
     windows-again-2

@@ -12,6 +12,35 @@ Inv-loop flags first size i₀ i = (first ≤ i) × (i ≤ size) × NoneFlagged 
 abbrev μ-loop : tie.MeasureT-loop
 μ-loop flags first size i₀ i = size - i
 
+-- ---- the places: from each one to an earlier one
+
+abbrev at-loop→start : tie.At-loop Inv-loop μ-loop → tie.Start Inv-loop μ-loop
+at-loop→start c = c .before
+
+abbrev flagged-from2→start : tie.After-flagged-from2 Inv-loop μ-loop → tie.Start Inv-loop μ-loop
+flagged-from2→start c = at-loop→start (c .before .before)
+
+abbrev one-of-eight→start : tie.After-one-of-eight Inv-loop μ-loop → tie.Start Inv-loop μ-loop
+one-of-eight→start c = at-loop→start (c .before .before)
+
+abbrev flagged-from2→at-loop : tie.After-flagged-from2 Inv-loop μ-loop → tie.At-loop Inv-loop μ-loop
+flagged-from2→at-loop c = c .before .before
+
+abbrev one-of-eight→at-loop : tie.After-one-of-eight Inv-loop μ-loop → tie.At-loop Inv-loop μ-loop
+one-of-eight→at-loop c = c .before .before
+
+abbrev else1→start : tie.Else1 Inv-loop μ-loop → tie.Start Inv-loop μ-loop
+else1→start c = at-loop→start (c .before .before .before)
+
+abbrev else1→at-loop : tie.Else1 Inv-loop μ-loop → tie.At-loop Inv-loop μ-loop
+else1→at-loop c = c .before .before .before
+
+abbrev flagged-from→start : tie.After-flagged-from Inv-loop μ-loop → tie.Start Inv-loop μ-loop
+flagged-from→start c = one-of-eight→start (c .before .before)
+
+abbrev flagged-from→at-loop : tie.After-flagged-from Inv-loop μ-loop → tie.At-loop Inv-loop μ-loop
+flagged-from→at-loop c = one-of-eight→at-loop (c .before .before)
+
 loop-holds : tie.Need-loop-holds Inv-loop μ-loop
 loop-holds c = (omega arith, omega arith, λ j a b. absurd (omega arith))
 
@@ -26,8 +55,8 @@ flagged-from-requires c κs = (omega arith, omega arith)
 
 returns : tie.Need-returns Inv-loop μ-loop
 returns c =
-    let a = c .before .before .before .before .before .args in
-    let l = c .before .before .before .before .loop in
+    let a = flagged-from→start c .args in
+    let l = flagged-from→at-loop c .loop in
     next-further (a .flags .now) (a .first) (l .i) (a .size) (c .flagged-from .result) (l .inv .0) (l .inv .2) (c .flagged-from .ensures)
 
 add-i : tie.Need-add-i Inv-loop μ-loop
@@ -38,8 +67,8 @@ loop-less c = omega arith
 
 loop-again : tie.Need-loop-again Inv-loop μ-loop
 loop-again c =
-    let a = c .before .before .before .before .args in
-    let l = c .before .before .before .loop in
+    let a = else1→start c .args in
+    let l = else1→at-loop c .loop in
     (omega arith, omega arith, none-join (a .flags .now) (a .first) (l .i) (l .i + 8) (l .inv .2) (c .before .one-of-eight .ensures (c .if1 .left)))
 
 flagged-from-requires-2 : tie.Need-flagged-from-requires-2 Inv-loop μ-loop
@@ -47,8 +76,8 @@ flagged-from-requires-2 c κs = (omega arith, omega arith)
 
 returns-2 : tie.Need-returns-2 Inv-loop μ-loop
 returns-2 c =
-    let a = c .before .before .before .args in
-    let l = c .before .before .loop in
+    let a = flagged-from2→start c .args in
+    let l = flagged-from2→at-loop c .loop in
     next-further (a .flags .now) (a .first) (l .i) (a .size) (c .flagged-from2 .result) (l .inv .0) (l .inv .2) (c .flagged-from2 .ensures)
 
 pub next-flagged-spec : {M : Type 1} → statement M

@@ -4,6 +4,17 @@ use Rattle.search.proofs.Comparing.{none-eight}
 use Rattle.search.proofs.compare.one_of_eight.Statement.{statement}
 use Rattle.search.proofs.compare.one_of_eight.Tie as tie
 
+-- ---- the places: from each one to an earlier one
+
+abbrev low2→start : tie.After-low2 → tie.Start
+low2→start c = c .before .before
+
+abbrev high→start : tie.After-high → tie.Start
+high→start c = low2→start (c .before .before .before)
+
+abbrev high4→start : tie.After-high4 → tie.Start
+high4→start c = high→start (c .before .before .before)
+
 element-copy-out-low : tie.Need-element-copy-out-low
 element-copy-out-low c = search needs
 
@@ -50,7 +61,7 @@ element-copy-out-high-4 : tie.Need-element-copy-out-high-4
 element-copy-out-high-4 c = search needs
 
 returns : tie.Need-returns
-returns c = let a = c .before .before .before .before .before .before .before .before .args in none-eight (a .flags .now) (a .i)
+returns c = let a = high4→start c .args in none-eight (a .flags .now) (a .i)
 
 pub one-of-eight-spec : {M : Type 1} → statement M
 one-of-eight-spec =

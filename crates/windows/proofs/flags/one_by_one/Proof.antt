@@ -5,8 +5,8 @@ use mathlib.Core.Bool.{false}
 use Prim.Native.Nat.{_+_, _-_, _≤_}
 use native.Mathlib.Omega.{arith}
 use lib.ListN.{length, length-set}
-use Rattle.windows.specs.Rolling.{window, residue, keyOf, Filled, hit}
-use Rattle.windows.proofs.Residues.{same-place, hit-is}
+use Rattle.windows.specs.Rolling.{ResidueAt, Filled, hit}
+use Rattle.windows.proofs.Residues.{same-place, hit-is, flagged-all}
 use Rattle.windows.proofs.Filling.{filled-none, filled-more}
 use Rattle.windows.proofs.flags.one_by_one.Statement.{statement}
 use Rattle.windows.proofs.flags.one_by_one.Tie as tie
@@ -15,21 +15,43 @@ abbrev Inv-loop : tie.InvT-loop
 Inv-loop s reduce outgoing text from size g flags₀ a₀ j₀ flags a j =
     (j ≤ size)
     × (length flags ≡ 1024)
-    × (from + j + s .m ≤ length text → a ≡ residue (keyOf s) (window (s .m) text (from + j)))
+    × (from + j + s .m ≤ length text → ResidueAt s text (from + j) a)
     × Filled false (hit s text from) 0 j flags
 
 abbrev μ-loop : tie.MeasureT-loop
 μ-loop s reduce outgoing text from size g flags₀ a₀ j₀ flags a j = size - j
 
+-- ---- the places: from each one to an earlier one
+
+abbrev shared-slice-known2→start : tie.After-shared-slice-known2 Inv-loop μ-loop → tie.Start Inv-loop μ-loop
+shared-slice-known2→start c = c .before .before
+
+abbrev in-loop→start : tie.In-loop Inv-loop μ-loop → tie.Start Inv-loop μ-loop
+in-loop→start c = shared-slice-known2→start (c .before .before)
+
+abbrev loop→start : tie.After-loop Inv-loop μ-loop → tie.Start Inv-loop μ-loop
+loop→start c = shared-slice-known2→start (c .before .before)
+
+abbrev in-loop→at-loop : tie.In-loop Inv-loop μ-loop → tie.At-loop Inv-loop μ-loop
+in-loop→at-loop c = c .before
+
+abbrev then1→start : tie.Then1 Inv-loop μ-loop → tie.Start Inv-loop μ-loop
+then1→start c = in-loop→start (c .before .before .before)
+
+abbrev joined1→start : tie.Joined1 Inv-loop μ-loop → tie.Start Inv-loop μ-loop
+joined1→start c = in-loop→start (c .before .before .before)
+
+abbrev then1→at-loop : tie.Then1 Inv-loop μ-loop → tie.At-loop Inv-loop μ-loop
+then1→at-loop c = in-loop→at-loop (c .before .before .before)
+
+abbrev joined1→at-loop : tie.Joined1 Inv-loop μ-loop → tie.At-loop Inv-loop μ-loop
+joined1→at-loop c = in-loop→at-loop (c .before .before .before)
+
 loop-holds : tie.Need-loop-holds Inv-loop μ-loop
 loop-holds c =
-    let s = c .before .before in
-    let a = s .args in (
-      omega arith,
-      s .pre .1,
-      (λ h. s .pre .4 ∙ same-place (keyOf (a .s)) (a .s .m) (a .text .now) (a .from) (a .from + 0) (omega arith)),
-      filled-none 0 (a .flags .now),
-    )
+    let s = shared-slice-known2→start c in
+    let a = s .args in
+    (omega arith, s .pre .1, (λ h. same-place (a .s) (a .text .now) (a .from) (a .from + 0) (a .g) (omega arith) (s .pre .4)), filled-none 0 (a .flags .now))
 
 element-write-flags : tie.Need-element-write-flags Inv-loop μ-loop
 element-write-flags c = omega arith
@@ -42,8 +64,8 @@ add-if1 c = omega arith
 
 roll-requires : tie.Need-roll-requires Inv-loop μ-loop
 roll-requires c κs =
-    let s = c .before .before .before .before .before .before .before in
-    let l = c .before .before .before .before .loop in
+    let s = then1→start c in
+    let l = then1→at-loop c .loop in
     (s .pre .0, c .if1 .taken, l .inv .2 (omega arith))
 
 add-j : tie.Need-add-j Inv-loop μ-loop
@@ -54,13 +76,13 @@ loop-less c = omega arith
 
 loop-again : tie.Need-loop-again Inv-loop μ-loop
 loop-again c =
-    let s = c .before .before .before .before .before .before .before in
+    let s = joined1→start c in
     let a = s .args in
-    let l = c .before .before .before .before .loop in
+    let l = joined1→at-loop c .loop in
     let t = a .text .now in (
       omega arith,
       simp length-set (l .inv .1),
-      (λ h. ⊎-elim (λ w. w .2 ∙ w .1 .ensures ∙ same-place (keyOf (a .s)) (a .s .m) t (a .from + l .j + 1) (a .from + (l .j + 1)) (omega arith))
+      (λ h. ⊎-elim (λ w. same-place (a .s) t (a .from + l .j + 1) (a .from + (l .j + 1)) _ (omega arith) (w .2 ∙ w .1 .ensures))
           (λ w. absurd (omega (arith, w .0 .left)))
           (c .if1 .came)),
       filled-more 0 (l .j) (l .flags) _ (l .inv .3) (omega arith) (hit-is (a .s) t (a .from) (l .j) (l .a) (l .inv .2 (omega arith))),
@@ -68,10 +90,9 @@ loop-again c =
 
 returns : tie.Need-returns Inv-loop μ-loop
 returns c =
-    let a = c .before .before .before .before .args in
+    let a = loop→start c .args in
     let l = c .before .loop in
-    let e : l .j ≡ a .size = omega arith in
-    (record { flags = rw e at (l .inv .3); next = rw e at (l .inv .2) }, l .inv .1)
+    (flagged-all (a .s) (a .text .now) (a .from) (l .j) (a .size) (l .a) (l .flags) (omega arith) (l .inv .2) (l .inv .3), l .inv .1)
 
 pub one-by-one-spec : {M : Type 1} → statement M
 one-by-one-spec =

@@ -1,0 +1,70 @@
+// The readings of document 01 about drawing; and of the 2,048 numbers of degree 11, how many are drawn by 11 of the 2,046 elements each, and
+// how many by none.
+ghost use mathlib.Core.Path.{_≡_};
+ghost use Rattle.refusals.specs.Refusals.{valueOr};
+ghost use Rattle.draw.specs.Drawing.{draw};
+use draw::Drawn;
+
+fn show(degree: u64, element: u64) {
+    match draw::draw(degree, element) {
+        Drawn::Key(p) => {
+            vectors::hex(b"", p);
+        }
+        Drawn::Refused(r) => {
+            vectors::refused(refusals::number(r));
+        }
+    }
+    vectors::text(b"\n");
+}
+
+// The key of degree 11 that an element draws, 0 where it is refused.
+fn key_of(element: u64) -> u64
+    ensures { λ r. ⌜ r ≡ valueOr 0 (draw 11 element) ⌝ }
+{
+    match draw::draw(11, element) {
+        Drawn::Key(p) => p,
+        Drawn::Refused(r) => 0,
+    }
+}
+
+// One more at a place.
+fn count_at(counts: &mut [u64], i: usize) {
+    if i < counts.len() {
+        counts[i] = vectors::counted(counts[i], true);
+    }
+}
+
+// Counts each key of degree 11 at the place of its coefficients below t^11.
+fn count_keys(counts: &mut [u64]) {
+    for e in 2..2048 {
+        count_at(counts, (key_of(e) % 2048) as usize);
+    }
+}
+
+// How many of the counts are n.
+fn places_with(counts: &[u64], n: u64) -> u64 {
+    let mut places: u64 = 0;
+    for i in 0..counts.len() {
+        places = vectors::counted(places, counts[i] == n);
+    }
+    places
+}
+
+fn show_counts(counts: &[u64]) {
+    vectors::decimal(b"", places_with(counts, 11));
+    vectors::decimal(b" drawn by 11 elements each, ", places_with(counts, 0));
+    vectors::text(b" by none\n");
+}
+
+fn main() {
+    show(11, 2);
+    show(11, 3);
+    show(11, 4);
+    show(11, 1);
+    show(11, 2048);
+    show(12, 2);
+    show(12, 0);
+    let mut counts: [u64; 2048] = [0; 2048];
+    count_keys(&mut counts);
+    show_counts(&counts);
+}

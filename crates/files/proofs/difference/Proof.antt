@@ -1,0 +1,110 @@
+-- `files::difference` meets its contract: what is left of both pages, the old one behind x, gives what the whole pages give.
+use mathlib.Core.Path.{_≡_, sym, ap, _∙_}
+use Prim.Native.Nat.{_-_, _^_, _≤_, _<_}
+use native.Mathlib.Omega.{arith}
+use lib.ListN.{length, drop, drop-of-length-le}
+use lib.Pow.{pow-pos}
+use Rattle.gf2.specs.Polynomials.{_⊕_, rem}
+use Rattle.gf2.specs.Moduli.{polynomial}
+use Rattle.gf2.proofs.Sums.{⊕-zero}
+use Rattle.gf2.proofs.Monics.{monic-pos}
+use Rattle.gf2.proofs.Steps.{residue-lt, residue-small}
+use Rattle.files.specs.Files.{bits, valueFrom, fingerprint}
+use Rattle.files.proofs.Computing.{pages-begin, pages-next}
+use Rattle.files.proofs.difference.Statement.{statement}
+use Rattle.files.proofs.difference.Tie as tie
+
+abbrev Inv-loop : tie.InvT-loop
+Inv-loop p old new x₀ i₀ x i =
+    (i ≤ length old) × (x < 2 ^ p .degree)
+    × (rem (polynomial p) (valueFrom x (bits (drop i old)) ⊕ valueFrom 0 (bits (drop i new))) ≡ fingerprint (polynomial p) old ⊕ fingerprint (polynomial p) new)
+
+abbrev μ-loop : tie.MeasureT-loop
+μ-loop p old new x₀ i₀ x i = length old - i
+
+-- ---- the places: from each one to an earlier one
+
+abbrev shared-slice-known2→start : tie.After-shared-slice-known2 Inv-loop μ-loop → tie.Start Inv-loop μ-loop
+shared-slice-known2→start c = c .before .before
+
+abbrev at-loop→start : tie.At-loop Inv-loop μ-loop → tie.Start Inv-loop μ-loop
+at-loop→start c = shared-slice-known2→start (c .before)
+
+abbrev loop→start : tie.After-loop Inv-loop μ-loop → tie.Start Inv-loop μ-loop
+loop→start c = at-loop→start (c .before)
+
+abbrev shared-slice-known4→start : tie.After-shared-slice-known4 Inv-loop μ-loop → tie.Start Inv-loop μ-loop
+shared-slice-known4→start c = at-loop→start (c .before .before .before)
+
+abbrev shared-slice-known4→at-loop : tie.After-shared-slice-known4 Inv-loop μ-loop → tie.At-loop Inv-loop μ-loop
+shared-slice-known4→at-loop c = c .before .before .before
+
+abbrev feed-byte→start : tie.After-feed-byte Inv-loop μ-loop → tie.Start Inv-loop μ-loop
+feed-byte→start c = shared-slice-known4→start (c .before)
+
+abbrev feed-byte→at-loop : tie.After-feed-byte Inv-loop μ-loop → tie.At-loop Inv-loop μ-loop
+feed-byte→at-loop c = shared-slice-known4→at-loop (c .before)
+
+abbrev feed-byte→shared-slice-known3 : tie.After-feed-byte Inv-loop μ-loop → tie.After-shared-slice-known3 Inv-loop μ-loop
+feed-byte→shared-slice-known3 c = c .before .before
+
+loop-holds : tie.Need-loop-holds Inv-loop μ-loop
+loop-holds c =
+    let s = shared-slice-known2→start c in
+    let a = s .args in
+    (omega arith, pow-pos (a .p .degree), pages-begin (monic-pos (a .p .degree) (a .p .low) (s .pre .0 .2)) (a .old .now) (a .new .now) (s .pre .1))
+
+shared-slice-read-feed-byte : tie.Need-shared-slice-read-feed-byte Inv-loop μ-loop
+shared-slice-read-feed-byte c = omega arith
+
+shared-slice-read-feed-byte-2 : tie.Need-shared-slice-read-feed-byte-2 Inv-loop μ-loop
+shared-slice-read-feed-byte-2 c = omega arith
+
+feed-byte-requires : tie.Need-feed-byte-requires Inv-loop μ-loop
+feed-byte-requires c κs = (shared-slice-known4→start c .pre .0, shared-slice-known4→at-loop c .loop .inv .1)
+
+add-i : tie.Need-add-i Inv-loop μ-loop
+add-i c = omega arith
+
+loop-less : tie.Need-loop-less Inv-loop μ-loop
+loop-less c = omega arith
+
+loop-again : tie.Need-loop-again Inv-loop μ-loop
+unfolding _⊕_
+loop-again c =
+    let l = feed-byte→at-loop c .loop in
+    let s = feed-byte→start c in
+    let a = s .args in
+    let m = s .pre .0 in
+    let next = pages-next (monic-pos (a .p .degree) (a .p .low) (m .2)) (a .old .now) (a .new .now) (s .pre .1) (l .x) (l .i) (omega arith) (omega (arith, feed-byte→shared-slice-known3 c .shared-slice-known3 .given (l .i))) (omega (arith, c .before .shared-slice-known4 .given (l .i))) in (
+      omega arith,
+      rw (c .feed-byte .ensures) (residue-lt (a .p .degree) (a .p .low) (m .2) _),
+      rw (c .feed-byte .ensures) (next ∙ l .inv .2),
+    )
+
+returns : tie.Need-returns Inv-loop μ-loop
+unfolding valueFrom bits
+returns c =
+    let s = loop→start c in
+    let a = s .args in
+    let m = s .pre .0 in
+    let l = c .before .loop in
+    let p = polynomial (a .p) in
+    let old-end = drop-of-length-le (a .old .now) {i = l .i} (omega arith) in
+    let new-end = drop-of-length-le (a .new .now) {i = l .i} (omega (arith, s .pre .1)) in
+    sym (residue-small (a .p .degree) (a .p .low) (m .2) (l .x) (l .inv .1)) ∙ sym (ap (rem p) (⊕-zero (l .x))) ∙ (rw (old-end, new-end) at (l .inv .2))
+
+pub difference-spec : {M : Type 1} → statement M
+difference-spec =
+    tie.close
+    (tie.spec
+    Inv-loop
+    μ-loop
+    loop-holds
+    shared-slice-read-feed-byte
+    shared-slice-read-feed-byte-2
+    feed-byte-requires
+    add-i
+    loop-less
+    loop-again
+    returns)

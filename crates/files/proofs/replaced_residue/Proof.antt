@@ -1,0 +1,59 @@
+-- `files::replaced_residue` meets its contract: `replaced-is`.
+use mathlib.Core.Path.{sym, ap, ap₂, _∙_}
+use Prim.Native.Nat.{ℕ, _*_}
+use borrow.Author.Needs.{needs}
+use Rattle.gf2.specs.Polynomials.{_⊕_, _⊗_, rem}
+use Rattle.gf2.specs.Moduli.{polynomial}
+use Rattle.gf2.proofs.Sums.{⊕-lt}
+use Rattle.gf2.proofs.Steps.{residue-lt}
+use Rattle.files.specs.Files.{fingerprint}
+use Rattle.files.proofs.Computing.{replaced-is}
+use Rattle.files.proofs.replaced_residue.Statement.{statement}
+use Rattle.files.proofs.replaced_residue.Tie as tie
+
+-- ---- the places: from each one to an earlier one
+
+abbrev shared-slice-known2→start : tie.After-shared-slice-known2 → tie.Start
+shared-slice-known2→start c = c .before .before
+
+abbrev power-of-t→start : tie.After-power-of-t → tie.Start
+power-of-t→start c = shared-slice-known2→start (c .before .before)
+
+abbrev product→start : tie.After-product → tie.Start
+product→start c = power-of-t→start (c .before)
+
+abbrev product→difference : tie.After-product → tie.After-difference
+product→difference c = c .before .before
+
+difference-requires : tie.Need-difference-requires
+difference-requires c κs = let s = shared-slice-known2→start c in (s .pre .0, s .pre .2)
+
+mul-power-of-t : tie.Need-mul-power-of-t
+mul-power-of-t c = search needs
+
+power-of-t-requires : tie.Need-power-of-t-requires
+power-of-t-requires c κs = search needs
+
+product-requires : tie.Need-product-requires
+unfolding fingerprint
+product-requires c κs =
+    let s = power-of-t→start c in
+    let a = s .args in
+    let lt = residue-lt (a .p .degree) (a .p .low) (s .pre .0 .2) in (
+      s .pre .0,
+      rw (c .before .difference .ensures) (⊕-lt (a .p .degree) _ _ (lt _) (lt _)),
+      rw (c .power-of-t .ensures) (lt _),
+    )
+
+returns : tie.Need-returns
+unfolding _⊕_
+returns c =
+    let s = product→start c in
+    let a = s .args in
+    let p = polynomial (a .p) in
+    ap (λ (x : ℕ). a .f ⊕ x)
+    (c .product .ensures ∙ ap₂ (λ (d t : ℕ). rem p (d ⊗ t)) (product→difference c .difference .ensures) (c .before .power-of-t .ensures))
+    ∙ sym (replaced-is (a .p .degree) (a .p .low) (s .pre .0 .2) (a .f) (fingerprint p (a .old .now) ⊕ fingerprint p (a .new .now)) (8 * a .after) (s .pre .1))
+
+pub replaced-residue-spec : {M : Type 1} → statement M
+replaced-residue-spec = tie.close (tie.spec difference-requires mul-power-of-t power-of-t-requires product-requires returns)

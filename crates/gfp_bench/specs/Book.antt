@@ -1,0 +1,45 @@
+-- The plain book (document 01, "The plain book of demand 3") at the Bench level: its calls, what the book does beside them, and the
+-- routes to a file's fingerprint.
+use mathlib.Core.Path.{_≡_}
+use mathlib.Core.List.{List, [], _∷_, _++_}
+use Prim.Native.Nat.{ℕ}
+use lib.ListN.{length}
+use Rattle.refusals.specs.Refusals.{Answer, Done, Test}
+use Rattle.acceptance.specs.Keys.{keyTests}
+use Rattle.files.specs.declared.Mark.{Mark}
+use Rattle.tables.specs.Tables.{tableTests}
+use Rattle.marks.specs.Feeding.{sumTest, begin, feedBits, feedTable}
+use Rattle.book.specs.Runs.{Level, Leaves}
+
+-- feeding, by bits or by tables. Feeding under the house key is feeding by its constant words (`feedHouse`).
+pub data Call : Type 0 where
+  ByBits : (part : List ℕ) → Call
+  ByTable : (words part : List ℕ) → Call
+
+unfoldable pub step : ℕ → Mark → Call → Answer Mark Mark
+step key m (ByBits part) = feedBits key m part
+step key m (ByTable words part) = feedTable key m words part
+
+-- The numbers that can apply, n being the length of the book's file. Number 8 is not among them: the mark carried along is true of
+-- the file, so its fingerprint is below 2^k.
+unfoldable pub bookTests : ℕ → ℕ → Call → List Test
+bookTests key n (ByBits part) = keyTests key ++ sumTest n (length part) ∷ []
+bookTests key n (ByTable words part) = keyTests key ++ tableTests key words ++ sumTest n (length part) ∷ []
+
+-- "Feeding, by bits or by tables: the part goes behind the file."
+unfoldable pub written : List ℕ → Call → List ℕ
+written file (ByBits part) = file ++ part
+written file (ByTable words part) = file ++ part
+
+-- "The table words lent may be anything at each call."
+abbrev pub Brings : ℕ → List ℕ → Call → Type 0
+Brings key file c = Unit {0}
+
+abbrev pub bench : Level
+bench = record { Call = Call; step = step; tests = bookTests; written = written; Brings = Brings }
+
+-- The routes: a list of calls, and "any other call of ours that gives a file's fingerprint", as the beginning of a mark does with
+-- the empty file's.
+pub data Route (key : ℕ) (file : List ℕ) (f : ℕ) : Type 0 where
+  ByCalls : Leaves bench key file f → Route key file f
+  Beginning : file ≡ [] → begin key ≡ Done (record { fingerprint = f; length = 0 }) → Route key file f

@@ -1,0 +1,41 @@
+-- Feeding a file in parts (document 01, "Marks"): "Feeding file parts one after another gives the mark of the parts joined."
+use mathlib.Core.Path.{_≡_}
+use mathlib.Core.Bool.{true}
+use mathlib.Core.List.{List, [], _∷_, _++_}
+use Prim.Native.Nat.{ℕ, _+_, _≤_}
+use lib.ListN.{length}
+use Rattle.refusals.specs.Refusals.{longest}
+use Rattle.acceptance.specs.Keys.{accepted}
+use Rattle.files.specs.declared.Mark.{Mark}
+use Rattle.files.specs.Files.{markOf, True}
+use Rattle.lookups.specs.Rule.{Table}
+use Rattle.book.specs.Runs.{run}
+use Rattle.gfp_bench.specs.Book.{Call, ByBits, ByTable, step}
+
+abbrev pub partOf : Call → List ℕ
+partOf (ByBits part) = part
+partOf (ByTable words part) = part
+
+-- the lent words are the key's table
+abbrev pub Usable : ℕ → Call → Type 0
+Usable key (ByBits part) = Unit {0}
+Usable key (ByTable words part) = Table key words
+
+abbrev pub AllUsable : ℕ → List Call → Type 0
+AllUsable key [] = Unit {0}
+AllUsable key (c ∷ cs) = Usable key c × AllUsable key cs
+
+abbrev pub partsJoined : List Call → List ℕ
+partsJoined [] = []
+partsJoined (c ∷ cs) = partOf c ++ partsJoined cs
+
+-- no call is refused
+abbrev pub zeros : List Call → List ℕ
+zeros [] = []
+zeros (c ∷ cs) = 0 ∷ zeros cs
+
+-- from any true mark, in any parts and by any mixture of bits and tables, where the length fits
+abbrev pub PartsJoined : Type 0
+PartsJoined =
+    (key : ℕ) (file : List ℕ) (m : Mark) (calls : List Call) → accepted key ≡ true → True key file m → AllUsable key calls
+    → length file + length (partsJoined calls) ≤ longest → run (step key) m calls ≡ (markOf key (file ++ partsJoined calls), zeros calls)

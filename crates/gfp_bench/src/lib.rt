@@ -1,0 +1,137 @@
+// The Bench level: the functions that it sells, for C. Each answers 0 or the refusal's number; on refusal every lent place and buffer
+// keeps what it held. The guarantee over lists of these calls stands in specs/ and proofs/.
+ghost use mathlib.Core.Path.{_≡_};
+ghost use Rattle.refusals.specs.Refusals.{numberOf, stateOf, valueOr};
+ghost use Rattle.keys.specs.Testing.{testKey};
+ghost use Rattle.tables.specs.Tables.{makeTable, testTable};
+ghost use Rattle.marks.specs.Feeding.{begin, feedBits, feedTable, feedHouse, fed, markIn};
+ghost use Rattle.gfp_bench.specs.Places.{markAt};
+use keys::Tested;
+use marks::Begun;
+use marks::Fed;
+use marks::Running;
+
+// The mark of an answer to the two places, and its number. On refusal the mark is the one that was handed in.
+pub fn store(answer: Fed, fingerprint: &mut u64, length: &mut u64) -> u32
+    ensures { λ r. ⌜ (r ≡ numberOf (fed answer)) × (markAt (now (fingerprint .exit)) (now (length .exit)) ≡ markIn (stateOf (fed answer))) ⌝ }
+{
+    match answer {
+        Fed::Next(m) => {
+            *fingerprint = m.fingerprint;
+            *length = m.length;
+            0
+        }
+        Fed::Refused(r, m) => {
+            *fingerprint = m.fingerprint;
+            *length = m.length;
+            refusals::number(r)
+        }
+    }
+}
+
+// Is the key accepted? Numbers 1, 2.
+#[no_mangle]
+pub extern "C" fn gfp_test_key(key: u64) -> u32
+    ensures { λ r. ⌜ r ≡ numberOf (testKey key) ⌝ }
+{
+    match keys::test(key) {
+        Tested::Accepted(_) => 0,
+        Tested::Refused(r) => refusals::number(r),
+    }
+}
+
+// The mark of the empty file. Numbers 1, 2.
+#[no_mangle]
+pub extern "C" fn gfp_begin(key: u64, fingerprint: &mut u64, length: &mut u64) -> u32
+    ensures { λ r. ⌜
+        (r ≡ numberOf (begin key))
+        × (markAt (now (fingerprint .exit)) (now (length .exit)) ≡ valueOr (markAt (now (fingerprint .entry)) (now (length .entry))) (begin key))
+        ⌝ }
+{
+    match Running::begin(key) {
+        Begun::Started(m) => {
+            *fingerprint = m.fingerprint;
+            *length = m.length;
+            0
+        }
+        Begun::Refused(r) => refusals::number(r),
+    }
+}
+
+// The next part of a file, bit by bit. Numbers 1, 2, 7, 8.
+#[no_mangle]
+pub extern "C" fn gfp_feed(key: u64, fingerprint: &mut u64, length: &mut u64, part: &[u8]) -> u32
+    ensures { λ r. ⌜
+        (r ≡ numberOf (feedBits key (markAt (now (fingerprint .entry)) (now (length .entry))) (now (part .entry))))
+        × (markAt (now (fingerprint .exit)) (now (length .exit)) ≡ stateOf (feedBits key (markAt (now (fingerprint .entry)) (now (length .entry))) (now (part .entry))))
+        ⌝ }
+{
+    let m = Running {
+        key: key,
+        fingerprint: *fingerprint,
+        length: *length,
+    };
+    store(m.feed(part), fingerprint, length)
+}
+
+// The key's table into the lent words. Numbers 1, 2, 5.
+#[no_mangle]
+pub extern "C" fn gfp_make_table(key: u64, words: &mut [u64]) -> u32
+    ensures { λ r. ⌜
+        (r ≡ numberOf (makeTable key (now (words .entry))))
+        × (now (words .exit) ≡ stateOf (makeTable key (now (words .entry))))
+        ⌝ }
+{
+    refusals::number_of(tables::make(key, words))
+}
+
+// Are the words the key's table? Numbers 1, 2, 5, 6.
+#[no_mangle]
+pub extern "C" fn gfp_test_table(key: u64, words: &[u64]) -> u32
+    ensures { λ r. ⌜ r ≡ numberOf (testTable key (now (words .entry))) ⌝ }
+{
+    refusals::number_of(tables::test(key, words))
+}
+
+// The next part by a table. Numbers 1, 2, 5, 6, 7, 8.
+#[no_mangle]
+pub extern "C" fn gfp_feed_table(
+    key: u64,
+    fingerprint: &mut u64,
+    length: &mut u64,
+    words: &[u64],
+    part: &[u8],
+) -> u32
+    ensures { λ r. ⌜
+        (r ≡ numberOf (feedTable key (markAt (now (fingerprint .entry)) (now (length .entry))) (now (words .entry)) (now (part .entry))))
+        × (markAt (now (fingerprint .exit)) (now (length .exit)) ≡ stateOf (feedTable key (markAt (now (fingerprint .entry)) (now (length .entry))) (now (words .entry)) (now (part .entry))))
+        ⌝ }
+{
+    let m = Running {
+        key: key,
+        fingerprint: *fingerprint,
+        length: *length,
+    };
+    store(m.feed_table(words, part), fingerprint, length)
+}
+
+// The next part by the house key's table, which the library holds. Numbers 1, 2, 6, 7, 8.
+#[no_mangle]
+pub extern "C" fn gfp_feed_house(
+    key: u64,
+    fingerprint: &mut u64,
+    length: &mut u64,
+    part: &[u8],
+) -> u32
+    ensures { λ r. ⌜
+        (r ≡ numberOf (feedHouse key (markAt (now (fingerprint .entry)) (now (length .entry))) (now (part .entry))))
+        × (markAt (now (fingerprint .exit)) (now (length .exit)) ≡ stateOf (feedHouse key (markAt (now (fingerprint .entry)) (now (length .entry))) (now (part .entry))))
+        ⌝ }
+{
+    let m = Running {
+        key: key,
+        fingerprint: *fingerprint,
+        length: *length,
+    };
+    store(m.feed_house(part), fingerprint, length)
+}

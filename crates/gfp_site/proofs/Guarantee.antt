@@ -1,0 +1,59 @@
+-- Demand 3 at the Site level: the claims of crate book (specs/Claims.antt), proved.
+use mathlib.Core.Path.{_≡_, refl, sym, _∙_}
+use mathlib.Core.List.{List, map}
+use Prim.Native.Nat.{ℕ}
+use lib.Dec.{T}
+use Rattle.lists.proofs.Lists.{rising}
+use Rattle.refusals.specs.Refusals.{numbers}
+use Rattle.acceptance.proofs.Laws.{accepted-small}
+use Rattle.files.specs.declared.Mark.{Mark}
+use Rattle.book.specs.Runs.{run}
+use Rattle.book.specs.Claims.{Lists, Lowest, Confusions, Counted, Bursts}
+use Rattle.book.proofs.Guarantee as any-level
+use Rattle.book.proofs.RunLaws.{run-map}
+use Rattle.sheets.proofs.Guarantee.{written-fingerprint}
+use Rattle.gfp_bench.specs.Book as bench-book
+use Rattle.gfp_bench.proofs.Guarantee as bench-level
+use Rattle.gfp_site.specs.Book.{Call, Feeding, Behind, InFront, Page, step, bookTests, site, Route, OfBench, ByCalls, InSheet}
+use Rattle.gfp_site.proofs.StepLaws.{keeps}
+
+-- the book's tests stand in the order of their numbers
+pub in-order : (key n : ℕ) (c : Call) → T (rising 0 (numbers (bookTests key n c)))
+unfolding bookTests rising
+in-order key n (Feeding c) = bench-level.in-order key n c
+in-order key n (Behind other its) = tt
+in-order key n (InFront other its) = tt
+in-order key n (Page place old new) = tt
+
+-- After the list, fingerprint and length are the residue and the length of the book's file, and exactly those calls were refused
+-- that the book names,
+pub lists : Lists site
+lists = any-level.lists site keeps
+
+-- each with the lowest number that applies.
+pub lowest : Lowest site
+lowest = any-level.lowest-first site in-order
+
+-- the Bench level's lists are lists of this level, so that its `parts` holds here too
+pub bench-lists : (key : ℕ) (m : Mark) (calls : List bench-book.Call) → run (step key) m (map Feeding calls) ≡ run (bench-book.step key) m calls
+unfolding step
+bench-lists key m calls = run-map (bench-book.step key) (step key) Feeding (λ s c. refl) m calls
+
+-- ---- two different files
+
+pub sound : any-level.Sound Route
+sound key file f a (OfBench r) = bench-level.sound key file f a r
+sound key file f a (ByCalls l) = any-level.list-sound site lists key file f a l
+sound key file f a (InSheet s buffer after done e) = sym e ∙ written-fingerprint key s file buffer after (accepted-small key a) done
+
+pub reaches : any-level.Reaches Route
+reaches key file = OfBench (bench-level.reaches key file)
+
+pub confusions : Confusions Route
+confusions = any-level.confusions Route sound
+
+pub counted : Counted Route
+counted = any-level.counted Route sound reaches
+
+pub bursts : Bursts Route
+bursts = any-level.bursts Route sound

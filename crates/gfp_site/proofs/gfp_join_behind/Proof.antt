@@ -1,0 +1,32 @@
+-- The answer, stored.
+use borrow.Author.Needs.{needs}
+use Rattle.compose.specs.Composing.{joinBehind}
+use Rattle.gfp_bench.specs.Places.{markAt}
+use Rattle.gfp_bench.proofs.Answers.{stored}
+use Rattle.gfp_site.proofs.gfp_join_behind.Statement.{statement}
+use Rattle.gfp_site.proofs.gfp_join_behind.Tie as tie
+
+-- ---- the places: from each one to an earlier one
+
+abbrev join-behind→start : tie.After-join-behind → tie.Start
+join-behind→start c = c .before .before .before
+
+abbrev store→start : tie.After-store → tie.Start
+store→start c = join-behind→start (c .before .before .before)
+
+abbrev store→join-behind : tie.After-store → tie.After-join-behind
+store→join-behind c = c .before .before .before
+
+join-behind-requires : tie.Need-join-behind-requires
+join-behind-requires c κs = search needs
+
+store-requires : tie.Need-store-requires
+store-requires c κs = search needs
+
+returns : tie.Need-returns
+returns c =
+    let s = store→start c .args in
+    stored (s .key) (joinBehind (s .key) (markAt (s .fingerprint .now) (s .length .now)) (markAt (s .other) (s .size))) _ _ _ (store→join-behind c .join-behind .ensures) (c .store .ensures)
+
+pub gfp-join-behind-spec : {M : Type 1} → statement M
+gfp-join-behind-spec = tie.close (tie.spec join-behind-requires store-requires returns)

@@ -1,0 +1,32 @@
+-- The answer, stored.
+use borrow.Author.Needs.{needs}
+use Rattle.compose.specs.Composing.{joinInFront}
+use Rattle.gfp_bench.specs.Places.{markAt}
+use Rattle.gfp_bench.proofs.Answers.{stored}
+use Rattle.gfp_site.proofs.gfp_join_in_front.Statement.{statement}
+use Rattle.gfp_site.proofs.gfp_join_in_front.Tie as tie
+
+-- ---- the places: from each one to an earlier one
+
+abbrev join-in-front→start : tie.After-join-in-front → tie.Start
+join-in-front→start c = c .before .before .before
+
+abbrev store→start : tie.After-store → tie.Start
+store→start c = join-in-front→start (c .before .before .before)
+
+abbrev store→join-in-front : tie.After-store → tie.After-join-in-front
+store→join-in-front c = c .before .before .before
+
+join-in-front-requires : tie.Need-join-in-front-requires
+join-in-front-requires c κs = search needs
+
+store-requires : tie.Need-store-requires
+store-requires c κs = search needs
+
+returns : tie.Need-returns
+returns c =
+    let s = store→start c .args in
+    stored (s .key) (joinInFront (s .key) (markAt (s .fingerprint .now) (s .length .now)) (markAt (s .other) (s .size))) _ _ _ (store→join-in-front c .join-in-front .ensures) (c .store .ensures)
+
+pub gfp-join-in-front-spec : {M : Type 1} → statement M
+gfp-join-in-front-spec = tie.close (tie.spec join-in-front-requires store-requires returns)

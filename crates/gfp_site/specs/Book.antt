@@ -1,0 +1,75 @@
+-- The plain book (document 01, "The plain book of demand 3") at the Site level: the Bench level's feeding, joining and page change,
+-- and the routes to a file's fingerprint.
+use mathlib.Core.Path.{_≡_}
+use mathlib.Core.Bool.{not}
+use mathlib.Core.List.{List, [], _∷_, _++_}
+use Prim.Native.Nat.{ℕ, _+_}
+use lib.Dec.{ltb, eqb}
+use lib.ListN.{length, take, drop}
+use Rattle.refusals.specs.declared.Refusal.the-variants.{TooLong, MarkNotReduced, PageLengthsDiffer, PagePastEnd}
+use Rattle.refusals.specs.Refusals.{Answer, Done, Test, _⇒_, passes}
+use Rattle.acceptance.specs.Keys.{keyTests}
+use Rattle.files.specs.declared.Mark.{Mark}
+use Rattle.files.specs.Files.{True}
+use Rattle.marks.specs.Feeding.{unreduced, sumTest}
+use Rattle.compose.specs.Composing.{joinBehind, joinInFront, replacePage}
+use Rattle.sheets.specs.Layout.{version1, pagePlace, sheetLength, pageCount, numberAt}
+use Rattle.sheets.specs.Sheets.{writeSheet}
+use Rattle.book.specs.Runs.{Level, Leaves}
+use Rattle.gfp_bench.specs.Book as bench-level
+
+-- "A joined mark, in a call not refused, comes with a file of which it is true."
+pub data Call : Type 0 where
+  Feeding : bench-level.Call → Call
+  Behind InFront : (other : Mark) (its : List ℕ) → Call
+  Page : (place : ℕ) (old new : List ℕ) → Call
+
+unfoldable pub step : ℕ → Mark → Call → Answer Mark Mark
+step key m (Feeding c) = bench-level.step key m c
+step key m (Behind other its) = joinBehind key m other
+step key m (InFront other its) = joinInFront key m other
+step key m (Page place old new) = replacePage key m place old new
+
+-- The numbers that can apply, n being the length of the book's file. The mark carried along is true of the file, so that number 8
+-- is judged of a joined mark alone.
+unfoldable pub bookTests : ℕ → ℕ → Call → List Test
+bookTests key n (Feeding c) = bench-level.bookTests key n c
+bookTests key n (Behind other its) = keyTests key ++ sumTest n (other .length) ∷ unreduced key other ⇒ MarkNotReduced ∷ []
+bookTests key n (InFront other its) = keyTests key ++ sumTest n (other .length) ∷ unreduced key other ⇒ MarkNotReduced ∷ []
+bookTests key n (Page place old new) =
+    keyTests key
+    ++ passes (n ∷ length old ∷ length new ∷ []) ⇒ TooLong
+    ∷ not (eqb (length old) (length new)) ⇒ PageLengthsDiffer
+    ∷ ltb n (place + length old) ⇒ PagePastEnd
+    ∷ []
+
+-- "Joining: the other mark's file goes behind, or in front where the other mark comes first."
+-- "Page change: the new page stands where the old one stood."
+unfoldable pub written : List ℕ → Call → List ℕ
+written file (Feeding c) = bench-level.written file c
+written file (Behind other its) = file ++ its
+written file (InFront other its) = its ++ file
+written file (Page place old new) = take place file ++ new ++ drop (place + length old) file
+
+-- "Old bytes are true when the book's file has them at the given place."
+abbrev pub Brings : ℕ → List ℕ → Call → Type 0
+Brings key file (Feeding c) = bench-level.Brings key file c
+Brings key file (Behind other its) = True key its other
+Brings key file (InFront other its) = True key its other
+Brings key file (Page place old new) = take (length old) (drop place file) ≡ old
+
+abbrev pub site : Level
+site = record { Call = Call; step = step; tests = bookTests; written = written; Brings = Brings }
+
+-- the 8 bytes behind the page fingerprints of a written sheet
+abbrev pub lastField : ℕ → List ℕ → List ℕ → ℕ
+lastField s file after =
+    numberAt (pagePlace version1 (pageCount s (length file))) 8 (take (sheetLength version1 (pageCount s (length file))) after)
+
+-- The routes: the Bench level's, a list of this level's calls, and "any other call of ours that gives a file's fingerprint [..] from
+-- its contents or from true marks and old bytes [..], as the writing of a sheet does with its last field".
+pub data Route (key : ℕ) (file : List ℕ) (f : ℕ) : Type 0 where
+  OfBench : bench-level.Route key file f → Route key file f
+  ByCalls : Leaves site key file f → Route key file f
+  -- the last field of a written sheet
+  InSheet : (s : ℕ) (buffer after : List ℕ) → writeSheet key s file buffer ≡ Done after → lastField s file after ≡ f → Route key file f

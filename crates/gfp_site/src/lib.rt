@@ -1,0 +1,211 @@
+// The Site level: the functions that it sells beside the Bench level's, for C. Each answers 0 or the refusal's number; on refusal every
+// lent place and buffer keeps what it held. The guarantee over lists of these calls stands in specs/ and proofs/.
+ghost use mathlib.Core.Path.{_≡_};
+ghost use Rattle.refusals.specs.Refusals.{numberOf, stateOf, valueOr};
+ghost use Rattle.gfp_bench.specs.Places.{markAt};
+ghost use Rattle.compose.specs.Composing.{joinBehind, joinInFront, replacePage};
+ghost use Rattle.search.specs.Searching.{search, wordsAfter};
+ghost use Rattle.sheets.specs.Sheets.{writeSheet, readSheet, sheetRead, readPages, checkSheet};
+ghost use Rattle.gfp_site.specs.Places.{countsAt, sheetAt, toldAt, toldOr};
+use files::Mark;
+use marks::Running;
+use search::Searched;
+use sheets::Checked;
+use sheets::Reading;
+use sheets::Written;
+
+// The file of the mark (other, size) goes behind the file of the mark in the two places. Numbers 1, 2, 7, 8.
+#[no_mangle]
+pub extern "C" fn gfp_join_behind(
+    key: u64,
+    fingerprint: &mut u64,
+    length: &mut u64,
+    other: u64,
+    size: u64,
+) -> u32
+    ensures { λ r. ⌜
+        (r ≡ numberOf (joinBehind key (markAt (now (fingerprint .entry)) (now (length .entry))) (markAt other size)))
+        × (markAt (now (fingerprint .exit)) (now (length .exit)) ≡ stateOf (joinBehind key (markAt (now (fingerprint .entry)) (now (length .entry))) (markAt other size)))
+        ⌝ }
+{
+    let m = Running {
+        key: key,
+        fingerprint: *fingerprint,
+        length: *length,
+    };
+    let behind = Mark {
+        fingerprint: other,
+        length: size,
+    };
+    gfp_bench::store(compose::join_behind(m, behind), fingerprint, length)
+}
+
+// The file of the mark (other, size) goes in front. Numbers 1, 2, 7, 8.
+#[no_mangle]
+pub extern "C" fn gfp_join_in_front(
+    key: u64,
+    fingerprint: &mut u64,
+    length: &mut u64,
+    other: u64,
+    size: u64,
+) -> u32
+    ensures { λ r. ⌜
+        (r ≡ numberOf (joinInFront key (markAt (now (fingerprint .entry)) (now (length .entry))) (markAt other size)))
+        × (markAt (now (fingerprint .exit)) (now (length .exit)) ≡ stateOf (joinInFront key (markAt (now (fingerprint .entry)) (now (length .entry))) (markAt other size)))
+        ⌝ }
+{
+    let m = Running {
+        key: key,
+        fingerprint: *fingerprint,
+        length: *length,
+    };
+    let front = Mark {
+        fingerprint: other,
+        length: size,
+    };
+    gfp_bench::store(compose::join_in_front(m, front), fingerprint, length)
+}
+
+// The new page stands where the old one stood, from the byte at the given place on. Numbers 1, 2, 7, 8, 9, 10.
+#[no_mangle]
+pub extern "C" fn gfp_replace_page(
+    key: u64,
+    fingerprint: &mut u64,
+    length: &mut u64,
+    place: u64,
+    old: &[u8],
+    new: &[u8],
+) -> u32
+    ensures { λ r. ⌜
+        (r ≡ numberOf (replacePage key (markAt (now (fingerprint .entry)) (now (length .entry))) place (now (old .entry)) (now (new .entry))))
+        × (markAt (now (fingerprint .exit)) (now (length .exit)) ≡ stateOf (replacePage key (markAt (now (fingerprint .entry)) (now (length .entry))) place (now (old .entry)) (now (new .entry))))
+        ⌝ }
+{
+    let m = Running {
+        key: key,
+        fingerprint: *fingerprint,
+        length: *length,
+    };
+    gfp_bench::store(
+        compose::replace_page(m, place, old, new),
+        fingerprint,
+        length,
+    )
+}
+
+// All places of the pattern in the text, the first ones into the lent words; the numbers of places and of false alarms into two places.
+// Numbers 1, 2, 7, 11.
+#[no_mangle]
+pub extern "C" fn gfp_search(
+    key: u64,
+    text: &[u8],
+    pattern: &[u8],
+    words: &mut [u32],
+    places: &mut u32,
+    alarms: &mut u32,
+) -> u32
+    ensures { λ r. ⌜
+        (r ≡ numberOf (search key (now (text .entry)) (now (pattern .entry))))
+        × (now (words .exit) ≡ wordsAfter key (now (text .entry)) (now (pattern .entry)) (now (words .entry)))
+        × (countsAt (now (places .exit)) (now (alarms .exit)) ≡ valueOr (countsAt (now (places .entry)) (now (alarms .entry))) (search key (now (text .entry)) (now (pattern .entry))))
+        ⌝ }
+{
+    match search::search(key, text, pattern, words) {
+        Searched::Found(c) => {
+            *places = c.places;
+            *alarms = c.alarms;
+            0
+        }
+        Searched::Refused(r) => refusals::number(r),
+    }
+}
+
+// The sheet of a file, with pages of the given size, into the lent bytes; further bytes keep their value. Numbers 1, 2, 7, 12, 13.
+#[no_mangle]
+pub extern "C" fn gfp_write_sheet(key: u64, size: u64, file: &[u8], sheet: &mut [u8]) -> u32
+    ensures { λ r. ⌜
+        (r ≡ numberOf (writeSheet key size (now (file .entry)) (now (sheet .entry))))
+        × (now (sheet .exit) ≡ stateOf (writeSheet key size (now (file .entry)) (now (sheet .entry))))
+        ⌝ }
+{
+    match sheet_writing::write(key, size, file, sheet) {
+        Written::Done => 0,
+        Written::Refused(r) => refusals::number(r),
+    }
+}
+
+// The numbers of a sheet into five places. Numbers 14 (size, letters, version), 1, 2, 12, 14 (total, fingerprints, joining), in this order.
+#[no_mangle]
+pub extern "C" fn gfp_read_sheet(
+    sheet: &[u8],
+    key: &mut u64,
+    length: &mut u64,
+    size: &mut u64,
+    pages: &mut u64,
+    fingerprint: &mut u64,
+) -> u32
+    ensures { λ r. ⌜
+        (r ≡ numberOf (sheetRead (readSheet (now (sheet .entry)))))
+        × (sheetAt (now (key .exit)) (now (length .exit)) (now (size .exit)) (now (pages .exit)) (now (fingerprint .exit))
+        ≡ valueOr (sheetAt (now (key .entry)) (now (length .entry)) (now (size .entry)) (now (pages .entry)) (now (fingerprint .entry))) (sheetRead (readSheet (now (sheet .entry)))))
+        ⌝ }
+{
+    match sheet_reading::read(sheet) {
+        Reading::Sheet(x) => {
+            *key = x.key;
+            *length = x.length;
+            *size = x.size;
+            *pages = x.pages;
+            *fingerprint = x.fingerprint;
+            0
+        }
+        Reading::Refused(r) => refusals::number(r),
+    }
+}
+
+// The page fingerprints of a sheet into the lent words, the first ones as far as they reach; further words keep their value. Numbers as above.
+#[no_mangle]
+pub extern "C" fn gfp_read_pages(sheet: &[u8], words: &mut [u64]) -> u32
+    ensures { λ r. ⌜
+        (r ≡ numberOf (readPages (now (sheet .entry)) (now (words .entry))))
+        × (now (words .exit) ≡ stateOf (readPages (now (sheet .entry)) (now (words .entry))))
+        ⌝ }
+{
+    match sheet_reading::read_pages(sheet, words) {
+        Written::Done => 0,
+        Written::Refused(r) => refusals::number(r),
+    }
+}
+
+// A file checked against a sheet: 0 for same, 1 for a page with its place, 2 for another length. All of reading's numbers, then 7.
+#[no_mangle]
+pub extern "C" fn gfp_check_file(
+    sheet: &[u8],
+    file: &[u8],
+    outcome: &mut u32,
+    page: &mut u32,
+) -> u32
+    ensures { λ r. ⌜
+        (r ≡ numberOf (checkSheet (now (sheet .entry)) (now (file .entry))))
+        × (toldAt (now (outcome .exit)) (now (page .exit)) ≡ toldOr (toldAt (now (outcome .entry)) (now (page .entry))) (checkSheet (now (sheet .entry)) (now (file .entry))))
+        ⌝ }
+{
+    match sheet_checking::check(sheet, file) {
+        Checked::Same => {
+            *outcome = 0;
+            *page = 0;
+            0
+        }
+        Checked::Page(i) => {
+            *outcome = 1;
+            *page = i;
+            0
+        }
+        Checked::OtherLength => {
+            *outcome = 2;
+            *page = 0;
+            0
+        }
+        Checked::Refused(r) => refusals::number(r),
+    }
+}

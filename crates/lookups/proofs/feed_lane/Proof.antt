@@ -1,0 +1,96 @@
+-- `feed_lane` meets its contract: x stands for f and the bytes before i.
+use mathlib.Core.Path.{refl, _∙_}
+use Prim.Native.Nat.{_-_, _≤_}
+use native.Mathlib.Omega.{arith}
+use lib.ListN.{length}
+use Rattle.lookups.proofs.Parts.{four-lt, Going, going-four}
+use Rattle.lookups.proofs.feed_lane.Statement.{statement}
+use Rattle.lookups.proofs.feed_lane.Tie as tie
+
+abbrev Inv-loop : tie.InvT-loop
+Inv-loop words p f part x₀ i₀ x i =
+    (i ≤ length part) × Going p f part 0 i x
+
+abbrev μ-loop : tie.MeasureT-loop
+μ-loop words p f part x₀ i₀ x i = length part - i
+
+-- ---- the places: from each one to an earlier one
+
+abbrev shared-slice-known2→start : tie.After-shared-slice-known2 Inv-loop μ-loop → tie.Start Inv-loop μ-loop
+shared-slice-known2→start c = c .before .before
+
+abbrev loop→start : tie.After-loop Inv-loop μ-loop → tie.Start Inv-loop μ-loop
+loop→start c = shared-slice-known2→start (c .before .before)
+
+abbrev loop→at-loop : tie.After-loop Inv-loop μ-loop → tie.At-loop Inv-loop μ-loop
+loop→at-loop c = c .before
+
+abbrev four-at→start : tie.After-four-at Inv-loop μ-loop → tie.Start Inv-loop μ-loop
+four-at→start c = shared-slice-known2→start (c .before .before .before)
+
+abbrev four-at→at-loop : tie.After-four-at Inv-loop μ-loop → tie.At-loop Inv-loop μ-loop
+four-at→at-loop c = c .before .before
+
+abbrev feed-tail→at-loop : tie.After-feed-tail Inv-loop μ-loop → tie.At-loop Inv-loop μ-loop
+feed-tail→at-loop c = loop→at-loop (c .before)
+
+abbrev feed-four→start : tie.After-feed-four Inv-loop μ-loop → tie.Start Inv-loop μ-loop
+feed-four→start c = four-at→start (c .before)
+
+abbrev feed-four→at-loop : tie.After-feed-four Inv-loop μ-loop → tie.At-loop Inv-loop μ-loop
+feed-four→at-loop c = four-at→at-loop (c .before)
+
+loop-holds : tie.Need-loop-holds Inv-loop μ-loop
+loop-holds c = (omega arith, (shared-slice-known2→start c .pre .1, refl))
+
+sub-loop : tie.Need-sub-loop Inv-loop μ-loop
+sub-loop c = omega arith
+
+four-at-requires : tie.Need-four-at-requires Inv-loop μ-loop
+four-at-requires c κs = omega arith
+
+feed-four-requires : tie.Need-feed-four-requires Inv-loop μ-loop
+feed-four-requires c κs =
+    let s = four-at→start c in
+    let l = four-at→at-loop c .loop in
+    (s .pre .0, l .inv .1 .0, four-lt (s .args .part .now) (l .i) (c .four-at .result) (omega arith) (c .four-at .ensures))
+
+add-i : tie.Need-add-i Inv-loop μ-loop
+add-i c = omega arith
+
+loop-less : tie.Need-loop-less Inv-loop μ-loop
+loop-less c = omega arith
+
+loop-again : tie.Need-loop-again Inv-loop μ-loop
+loop-again c =
+    let s = feed-four→start c in
+    let a = s .args in
+    let l = feed-four→at-loop c .loop in
+    let v = c .before .four-at in (
+      omega arith,
+      going-four (a .p) (s .pre .0 .0) (a .f) (a .part .now) 0 (l .i) (l .x) (l .inv .1) (v .result) (c .feed-four .result) (omega arith) (v .ensures) (c .feed-four .ensures),
+    )
+
+feed-tail-requires : tie.Need-feed-tail-requires Inv-loop μ-loop
+feed-tail-requires c κs =
+    let l = c .before .loop in
+    (loop→start c .pre .0, l .inv .1 .0, l .inv .0)
+
+returns : tie.Need-returns Inv-loop μ-loop
+returns c = c .feed-tail .ensures ∙ feed-tail→at-loop c .loop .inv .1 .1
+
+pub feed-lane-spec : {M : Type 1} → statement M
+feed-lane-spec =
+    tie.close
+    (tie.spec
+    Inv-loop
+    μ-loop
+    loop-holds
+    sub-loop
+    four-at-requires
+    feed-four-requires
+    add-i
+    loop-less
+    loop-again
+    feed-tail-requires
+    returns)

@@ -1,0 +1,204 @@
+-- `feed_lanes` meets its contract: each chain stands for its start and its bytes before i.
+use mathlib.Core.Path.{_≡_, refl}
+use Prim.Native.Nat.{_+_, _-_, _%_, _≤_}
+use native.Mathlib.Omega.{arith}
+use lib.ListN.{length}
+use Rattle.lookups.proofs.Parts.{four-lt, Going, going-four, going-all}
+use Rattle.lookups.proofs.feed_lanes.Statement.{statement}
+use Rattle.lookups.proofs.feed_lanes.Tie as tie
+
+abbrev Inv-loop : tie.InvT-loop
+Inv-loop words p q r s t a₀ b₀ c₀ d₀ i₀ a b c d i =
+    (i ≤ length q) × (i % 4 ≡ 0) × Going p a₀ q 0 i a × Going p b₀ r 0 i b × Going p c₀ s 0 i c × Going p d₀ t 0 i d
+
+abbrev μ-loop : tie.MeasureT-loop
+μ-loop words p q r s t a₀ b₀ c₀ d₀ i₀ a b c d i = length q - i
+
+-- ---- the places: from each one to an earlier one
+
+abbrev shared-slice-known2→start : tie.After-shared-slice-known2 Inv-loop μ-loop → tie.Start Inv-loop μ-loop
+shared-slice-known2→start c = c .before .before
+
+abbrev shared-slice-known5→start : tie.After-shared-slice-known5 Inv-loop μ-loop → tie.Start Inv-loop μ-loop
+shared-slice-known5→start c = shared-slice-known2→start (c .before .before .before)
+
+abbrev loop→start : tie.After-loop Inv-loop μ-loop → tie.Start Inv-loop μ-loop
+loop→start c = shared-slice-known5→start (c .before .before)
+
+abbrev four-at→start : tie.After-four-at Inv-loop μ-loop → tie.Start Inv-loop μ-loop
+four-at→start c = shared-slice-known5→start (c .before .before .before)
+
+abbrev four-at→at-loop : tie.After-four-at Inv-loop μ-loop → tie.At-loop Inv-loop μ-loop
+four-at→at-loop c = c .before .before
+
+abbrev feed-four→in-loop : tie.After-feed-four Inv-loop μ-loop → tie.In-loop Inv-loop μ-loop
+feed-four→in-loop c = c .before .before
+
+abbrev feed-four→four-at : tie.After-feed-four Inv-loop μ-loop → tie.After-four-at Inv-loop μ-loop
+feed-four→four-at c = c .before
+
+abbrev four-at2→start : tie.After-four-at2 Inv-loop μ-loop → tie.Start Inv-loop μ-loop
+four-at2→start c = four-at→start (c .before .before)
+
+abbrev four-at2→at-loop : tie.After-four-at2 Inv-loop μ-loop → tie.At-loop Inv-loop μ-loop
+four-at2→at-loop c = four-at→at-loop (c .before .before)
+
+abbrev four-at3→start : tie.After-four-at3 Inv-loop μ-loop → tie.Start Inv-loop μ-loop
+four-at3→start c = four-at2→start (c .before .before)
+
+abbrev four-at3→at-loop : tie.After-four-at3 Inv-loop μ-loop → tie.At-loop Inv-loop μ-loop
+four-at3→at-loop c = four-at2→at-loop (c .before .before)
+
+abbrev four-at3→in-loop : tie.After-four-at3 Inv-loop μ-loop → tie.In-loop Inv-loop μ-loop
+four-at3→in-loop c = feed-four→in-loop (c .before .before .before)
+
+abbrev four-at3→four-at : tie.After-four-at3 Inv-loop μ-loop → tie.After-four-at Inv-loop μ-loop
+four-at3→four-at c = feed-four→four-at (c .before .before .before)
+
+abbrev four-at3→feed-four : tie.After-four-at3 Inv-loop μ-loop → tie.After-feed-four Inv-loop μ-loop
+four-at3→feed-four c = c .before .before .before
+
+abbrev four-at3→four-at2 : tie.After-four-at3 Inv-loop μ-loop → tie.After-four-at2 Inv-loop μ-loop
+four-at3→four-at2 c = c .before .before
+
+abbrev four-at3→feed-four2 : tie.After-four-at3 Inv-loop μ-loop → tie.After-feed-four2 Inv-loop μ-loop
+four-at3→feed-four2 c = c .before
+
+abbrev four-at4→start : tie.After-four-at4 Inv-loop μ-loop → tie.Start Inv-loop μ-loop
+four-at4→start c = four-at3→start (c .before .before)
+
+abbrev four-at4→at-loop : tie.After-four-at4 Inv-loop μ-loop → tie.At-loop Inv-loop μ-loop
+four-at4→at-loop c = four-at3→at-loop (c .before .before)
+
+abbrev feed-four4→start : tie.After-feed-four4 Inv-loop μ-loop → tie.Start Inv-loop μ-loop
+feed-four4→start c = four-at4→start (c .before)
+
+abbrev feed-four4→at-loop : tie.After-feed-four4 Inv-loop μ-loop → tie.At-loop Inv-loop μ-loop
+feed-four4→at-loop c = four-at4→at-loop (c .before)
+
+abbrev feed-four4→in-loop : tie.After-feed-four4 Inv-loop μ-loop → tie.In-loop Inv-loop μ-loop
+feed-four4→in-loop c = four-at3→in-loop (c .before .before .before)
+
+abbrev feed-four4→four-at : tie.After-feed-four4 Inv-loop μ-loop → tie.After-four-at Inv-loop μ-loop
+feed-four4→four-at c = four-at3→four-at (c .before .before .before)
+
+abbrev feed-four4→feed-four : tie.After-feed-four4 Inv-loop μ-loop → tie.After-feed-four Inv-loop μ-loop
+feed-four4→feed-four c = four-at3→feed-four (c .before .before .before)
+
+abbrev feed-four4→four-at2 : tie.After-feed-four4 Inv-loop μ-loop → tie.After-four-at2 Inv-loop μ-loop
+feed-four4→four-at2 c = four-at3→four-at2 (c .before .before .before)
+
+abbrev feed-four4→feed-four2 : tie.After-feed-four4 Inv-loop μ-loop → tie.After-feed-four2 Inv-loop μ-loop
+feed-four4→feed-four2 c = four-at3→feed-four2 (c .before .before .before)
+
+abbrev feed-four4→four-at3 : tie.After-feed-four4 Inv-loop μ-loop → tie.After-four-at3 Inv-loop μ-loop
+feed-four4→four-at3 c = c .before .before .before
+
+abbrev feed-four4→feed-four3 : tie.After-feed-four4 Inv-loop μ-loop → tie.After-feed-four3 Inv-loop μ-loop
+feed-four4→feed-four3 c = c .before .before
+
+loop-holds : tie.Need-loop-holds Inv-loop μ-loop
+loop-holds c =
+    let s = shared-slice-known5→start c in
+    (omega arith, refl, (s .pre .1, refl), (s .pre .2, refl), (s .pre .3, refl), (s .pre .4, refl))
+
+four-at-requires : tie.Need-four-at-requires Inv-loop μ-loop
+four-at-requires c κs = omega arith
+
+feed-four-requires : tie.Need-feed-four-requires Inv-loop μ-loop
+feed-four-requires c κs =
+    let s = four-at→start c in
+    let l = four-at→at-loop c .loop in
+    (s .pre .0, l .inv .2 .0, four-lt (s .args .q .now) (l .i) (c .four-at .result) (omega arith) (c .four-at .ensures))
+
+four-at-requires-2 : tie.Need-four-at-requires-2 Inv-loop μ-loop
+four-at-requires-2 c κs = omega arith
+
+feed-four-requires-2 : tie.Need-feed-four-requires-2 Inv-loop μ-loop
+feed-four-requires-2 c κs =
+    let s = four-at2→start c in
+    let l = four-at2→at-loop c .loop in
+    (s .pre .0, l .inv .3 .0, four-lt (s .args .r .now) (l .i) (c .four-at2 .result) (omega arith) (c .four-at2 .ensures))
+
+four-at-requires-3 : tie.Need-four-at-requires-3 Inv-loop μ-loop
+four-at-requires-3 c κs = omega arith
+
+feed-four-requires-3 : tie.Need-feed-four-requires-3 Inv-loop μ-loop
+feed-four-requires-3 c κs =
+    let s = four-at3→start c in
+    let l = four-at3→at-loop c .loop in
+    (s .pre .0, l .inv .4 .0, four-lt (s .args .s .now) (l .i) (c .four-at3 .result) (omega arith) (c .four-at3 .ensures))
+
+four-at-requires-4 : tie.Need-four-at-requires-4 Inv-loop μ-loop
+four-at-requires-4 c κs = omega arith
+
+feed-four-requires-4 : tie.Need-feed-four-requires-4 Inv-loop μ-loop
+feed-four-requires-4 c κs =
+    let s = four-at4→start c in
+    let l = four-at4→at-loop c .loop in
+    (s .pre .0, l .inv .5 .0, four-lt (s .args .t .now) (l .i) (c .four-at4 .result) (omega arith) (c .four-at4 .ensures))
+
+add-i : tie.Need-add-i Inv-loop μ-loop
+add-i c =
+    let s = feed-four4→start c in
+    let l = feed-four4→at-loop c .loop in
+    omega (arith, l .inv .0, l .inv .1, s .pre .5)
+
+loop-less : tie.Need-loop-less Inv-loop μ-loop
+loop-less c = omega arith
+
+loop-again : tie.Need-loop-again Inv-loop μ-loop
+loop-again c =
+    let s = feed-four4→start c in
+    let a = s .args in
+    let m = s .pre .0 .0 in
+    let l = feed-four4→at-loop c .loop in
+    let p = s .pre in
+    let g : l .i + 4 ≤ length (a .q .now) = omega (arith, feed-four4→in-loop c .loop-test .taken, l .inv .1, p .5) in
+    let v1 = feed-four4→four-at c .four-at in
+    let x1 = feed-four4→feed-four c .feed-four in
+    let v2 = feed-four4→four-at2 c .four-at2 in
+    let x2 = feed-four4→feed-four2 c .feed-four2 in
+    let v3 = feed-four4→four-at3 c .four-at3 in
+    let x3 = feed-four4→feed-four3 c .feed-four3 in
+    let v4 = c .before .four-at4 in
+    let x4 = c .feed-four4 in (
+      g,
+      omega (arith, l .inv .1),
+      going-four (a .p) m (a .f .a) (a .q .now) 0 (l .i) (l .a) (l .inv .2) (v1 .result) (x1 .result) g (v1 .ensures) (x1 .ensures),
+      going-four (a .p) m (a .f .b) (a .r .now) 0 (l .i) (l .b) (l .inv .3) (v2 .result) (x2 .result) (omega (arith, g, p .6)) (v2 .ensures) (x2 .ensures),
+      going-four (a .p) m (a .f .c) (a .s .now) 0 (l .i) (l .c) (l .inv .4) (v3 .result) (x3 .result) (omega (arith, g, p .7)) (v3 .ensures) (x3 .ensures),
+      going-four (a .p) m (a .f .d) (a .t .now) 0 (l .i) (l .d) (l .inv .5) (v4 .result) (x4 .result) (omega (arith, g, p .8)) (v4 .ensures) (x4 .ensures),
+    )
+
+returns : tie.Need-returns Inv-loop μ-loop
+returns c =
+    let s = loop→start c in
+    let a = s .args in
+    let m = s .pre .0 .0 in
+    let l = c .before .loop in (
+      going-all (a .p) m (a .f .a) (a .q .now) 0 (l .i) (l .a) (l .inv .2) (omega arith),
+      going-all (a .p) m (a .f .b) (a .r .now) 0 (l .i) (l .b) (l .inv .3) (omega arith),
+      going-all (a .p) m (a .f .c) (a .s .now) 0 (l .i) (l .c) (l .inv .4) (omega arith),
+      going-all (a .p) m (a .f .d) (a .t .now) 0 (l .i) (l .d) (l .inv .5) (omega arith),
+    )
+
+pub feed-lanes-spec : {M : Type 1} → statement M
+feed-lanes-spec =
+    tie.close
+    (tie.spec
+    Inv-loop
+    μ-loop
+    loop-holds
+    four-at-requires
+    feed-four-requires
+    four-at-requires-2
+    feed-four-requires-2
+    four-at-requires-3
+    feed-four-requires-3
+    four-at-requires-4
+    feed-four-requires-4
+    add-i
+    loop-less
+    loop-again
+    returns)

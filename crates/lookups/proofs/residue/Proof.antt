@@ -1,0 +1,98 @@
+-- `residue` meets its contract.
+use mathlib.Core.Path.{_≡_, sym, ap, _∙_}
+use Prim.Native.Nat.{ℕ, _+_, _*_, _/_, _%_, _^_, _<_}
+use native.Mathlib.Nat.{lt-of-lt-of-le}
+use native.Mathlib.Omega.{arith}
+use lib.Pow.{pow-pos, pow-mono}
+use Rattle.gf2.specs.Polynomials.{_⊕_, rem}
+use Rattle.gf2.specs.Moduli.{polynomial}
+use Rattle.gf2.proofs.Residues.{rem-append}
+use Rattle.gf2.proofs.Powers.{rem-rem}
+use Rattle.gf2.proofs.Monics.{monic-pos}
+use Rattle.gf2.proofs.Steps.{residue-lt}
+use Rattle.lookups.proofs.Rule.{first-row}
+use Rattle.lookups.proofs.residue.Statement.{statement}
+use Rattle.lookups.proofs.residue.Tie as tie
+
+-- ---- the places: from each one to an earlier one
+
+abbrev then1→start : tie.Then1 → tie.Start
+then1→start c = c .before .before
+
+abbrev then2→start : tie.Then2 → tie.Start
+then2→start c = c .before .before .before
+
+abbrev else2→start : tie.Else2 → tie.Start
+else2→start c = c .before .before .before
+
+abbrev feed-one→start : tie.After-feed-one → tie.Start
+feed-one→start c = then1→start (c .before)
+
+abbrev feed-four2→start : tie.After-feed-four2 → tie.Start
+feed-four2→start c = else2→start (c .before)
+
+abbrev feed-four→start : tie.After-feed-four → tie.Start
+feed-four→start c = then2→start (c .before)
+
+abbrev feed-four3→start : tie.After-feed-four3 → tie.Start
+feed-four3→start c = feed-four2→start (c .before)
+
+-- the residue of the high half may stand for it
+halves : {key : ℕ} (pos : 0 < key) (x : ℕ) → rem key (rem key (0 * 2 ^ 32 + x / 4294967296) * 2 ^ 32 + x % 4294967296) ≡ rem key x
+halves {key} pos x =
+    let h = x / 4294967296 in
+    let v = x % 4294967296 in
+    let z : 0 * 2 ^ 32 + h ≡ h = omega arith in
+    let e : h * 2 ^ 32 + v ≡ x = omega arith in
+    ap (λ (y : ℕ). rem key (rem key y * 2 ^ 32 + v)) z
+    ∙ rem-append pos (rem key h) 32 v (omega arith)
+    ∙ ap (λ (y : ℕ). rem key (y * 2 ^ 32 ⊕ v)) (rem-rem pos h)
+    ∙ sym (rem-append pos h 32 v (omega arith))
+    ∙ ap (rem key) e
+
+cast-feed-one : tie.Need-cast-feed-one
+cast-feed-one c = omega arith
+
+feed-one-requires : tie.Need-feed-one-requires
+feed-one-requires c κs =
+    let s = then1→start c in
+    let h : s .args .x / 256 < 2 ^ 56 = omega arith in
+    (first-row (s .args .p) (s .args .words .now) (s .pre), lt-of-lt-of-le h (pow-mono {i = 56} {j = s .args .p .degree} (c .if1 .taken)))
+
+returns : tie.Need-returns
+returns c =
+    let a = feed-one→start c .args in
+    let e : a .x / 256 * 2 ^ 8 + a .x % 256 ≡ a .x = omega arith in
+    c .feed-one .ensures ∙ ap (rem (polynomial (a .p))) e
+
+feed-four-requires : tie.Need-feed-four-requires
+feed-four-requires c κs =
+    let s = then2→start c in
+    let h : s .args .x / 4294967296 < 2 ^ 32 = omega arith in
+    (s .pre, lt-of-lt-of-le h (pow-mono {i = 32} {j = s .args .p .degree} (c .if2 .taken)), omega arith)
+
+returns-2 : tie.Need-returns-2
+returns-2 c =
+    let a = feed-four→start c .args in
+    let e : a .x / 4294967296 * 2 ^ 32 + a .x % 4294967296 ≡ a .x = omega arith in
+    c .feed-four .ensures ∙ ap (rem (polynomial (a .p))) e
+
+feed-four-requires-2 : tie.Need-feed-four-requires-2
+feed-four-requires-2 c κs = let s = else2→start c in (s .pre, pow-pos (s .args .p .degree), omega arith)
+
+feed-four-requires-3 : tie.Need-feed-four-requires-3
+feed-four-requires-3 c κs =
+    let s = feed-four2→start c in
+    (s .pre, rw (c .feed-four2 .ensures) (residue-lt (s .args .p .degree) (s .args .p .low) (s .pre .0 .2) _), omega arith)
+
+returns-3 : tie.Need-returns-3
+returns-3 c =
+    let s = feed-four3→start c in
+    let a = s .args in
+    let key = polynomial (a .p) in
+    c .feed-four3 .ensures
+    ∙ ap (λ (f : ℕ). rem key (f * 2 ^ 32 + a .x % 4294967296)) (c .before .feed-four2 .ensures)
+    ∙ halves (monic-pos (a .p .degree) (a .p .low) (s .pre .0 .2)) (a .x)
+
+pub residue-spec : {M : Type 1} → statement M
+residue-spec = tie.close (tie.spec cast-feed-one feed-one-requires returns feed-four-requires returns-2 feed-four-requires-2 feed-four-requires-3 returns-3)

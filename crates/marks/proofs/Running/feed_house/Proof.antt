@@ -1,0 +1,120 @@
+-- `Running::feed_house` meets its contract: under the house key no test of key and words holds; under another key it is `feed_table`.
+use mathlib.Core.Path.{_≡_, sym, ap, _∙_}
+use mathlib.Core.List.{List}
+use Prim.Native.Nat.{ℕ}
+use native.Mathlib.Omega.{arith}
+use borrow.Author.Needs.{needs}
+use lib.ListN.{length}
+use Rattle.lists.specs.Lists.{listFrom}
+use Rattle.refusals.specs.Refusals.{firstOf}
+use Rattle.acceptance.specs.Keys.{accepted, Opened}
+use Rattle.files.specs.declared.Mark.{Mark}
+use Rattle.files.specs.Files.{fedMark}
+use Rattle.lookups.specs.Rule.{word}
+use Rattle.house.specs.House.{houseKey}
+use Rattle.house.proofs.House.{house-accepted}
+use Rattle.marks.specs.Feeding.{feedTests, feedTable, feedHouse, markIn, fedUnder}
+use Rattle.marks.proofs.Laws.{house-first}
+use Rattle.marks.proofs.Running.feed_house.Statement.{statement}
+use Rattle.marks.proofs.Running.feed_house.Tie as tie
+
+-- ---- the places: from each one to an earlier one
+
+abbrev words→start : tie.After-words → tie.Start
+words→start c = c .before .before
+
+abbrev struct-known→start : tie.After-struct-known → tie.Start
+struct-known→start c = words→start (c .before)
+
+abbrev struct-known→words : tie.After-struct-known → tie.After-words
+struct-known→words c = c .before
+
+abbrev then1→words : tie.Then1 → tie.After-words
+then1→words c = c .before .before
+
+abbrev modulus-of→start : tie.After-modulus-of → tie.Start
+modulus-of→start c = words→start (c .before .before .before)
+
+abbrev modulus-of→then1 : tie.After-modulus-of → tie.Then1
+modulus-of→then1 c = c .before
+
+abbrev words2→start : tie.After-words2 → tie.Start
+words2→start c = modulus-of→start (c .before)
+
+abbrev feed-table→start : tie.After-feed-table → tie.Start
+feed-table→start c = struct-known→start (c .before .before .before)
+
+abbrev words2→words : tie.After-words2 → tie.After-words
+words2→words c = then1→words (c .before .before)
+
+abbrev feed-table→words : tie.After-feed-table → tie.After-words
+feed-table→words c = struct-known→words (c .before .before .before)
+
+abbrev words2→then1 : tie.After-words2 → tie.Then1
+words2→then1 c = modulus-of→then1 (c .before)
+
+abbrev words2→modulus-of : tie.After-words2 → tie.After-modulus-of
+words2→modulus-of c = c .before
+
+abbrev feed-looked→start : tie.After-feed-looked → tie.Start
+feed-looked→start c = words2→start (c .before)
+
+abbrev feed-looked→then1 : tie.After-feed-looked → tie.Then1
+feed-looked→then1 c = words2→then1 (c .before)
+
+at-house : (key : ℕ) (m : Mark) (part : List ℕ) → key ≡ houseKey → firstOf (feedTests key m (length part)) m (fedMark key m part) ≡ feedHouse key m part
+at-house key m part e = rw e (sym (house-first m part))
+
+words-requires : tie.Need-words-requires
+words-requires c κs = search needs
+
+modulus-of-requires : tie.Need-modulus-of-requires
+modulus-of-requires c κs = omega arith
+
+-- the key is the house key, and it is accepted
+key-opened : (c : tie.After-modulus-of) → Opened (modulus-of→start c .args .self .key) (c .modulus-of .result)
+key-opened c =
+    record { is-accepted = ap accepted (modulus-of→then1 c .if1 .taken) ∙ house-accepted; parts = c .modulus-of .ensures }
+
+slice-aggregate-feed-looked : tie.Need-slice-aggregate-feed-looked
+slice-aggregate-feed-looked c = search needs
+
+feed-looked-requires : tie.Need-feed-looked-requires
+feed-looked-requires c κs =
+    let is : words2→start c .args .self .key ≡ houseKey = words2→then1 c .if1 .taken in
+    (key-opened (words2→modulus-of c), words2→words c .words .ensures ∙ ap (λ (q : ℕ). listFrom (word 8 q) 0 1024) (sym is))
+
+returns : tie.Need-returns
+returns c =
+    let s = feed-looked→start c in
+    let key = s .args .self .key in
+    let m = markIn (s .args .self) in
+    let part = s .args .part .now in
+    let is : key ≡ houseKey = feed-looked→then1 c .if1 .taken in
+    c .feed-looked .ensures ∙ ap (fedUnder key) (at-house key m part is)
+
+slice-aggregate-feed-table : tie.Need-slice-aggregate-feed-table
+slice-aggregate-feed-table c = search needs
+
+feed-table-requires : tie.Need-feed-table-requires
+feed-table-requires c κs = search needs
+
+returns-2 : tie.Need-returns-2
+unfolding feedHouse
+returns-2 c =
+    let a = feed-table→start c .args in
+    c .feed-table .ensures
+    ∙ ap (λ (ws : List ℕ). fedUnder (a .self .key) (feedTable (a .self .key) (markIn (a .self)) ws (a .part .now))) (feed-table→words c .words .ensures)
+
+pub feed-house-spec : {M : Type 1} → statement M
+feed-house-spec =
+    tie.close
+    (tie.spec
+    words-requires
+    modulus-of-requires
+    slice-aggregate-feed-looked
+    feed-looked-requires
+    returns
+    slice-aggregate-feed-table
+    feed-table-requires
+    returns-2)

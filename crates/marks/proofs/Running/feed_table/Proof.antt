@@ -1,0 +1,87 @@
+-- `Running::feed_table` meets its contract: the tests of the key, and then those of `feed_under`.
+use mathlib.Core.Path.{sym, ap, _∙_}
+use mathlib.Core.List.{List, _++_}
+use native.Mathlib.Omega.{arith}
+use borrow.Author.Needs.{needs}
+use lib.ListN.{length}
+use Rattle.refusals.specs.Refusals.{Test}
+use Rattle.acceptance.specs.Keys.{Opened}
+use Rattle.acceptance.proofs.Opened.{opened-first}
+use Rattle.files.specs.declared.Mark.{Mark}
+use Rattle.files.specs.Files.{fedMark}
+use Rattle.tables.specs.Tables.{tableTests}
+use Rattle.keys.proofs.Laws.{opened, refused}
+use Rattle.marks.specs.Feeding.{feedTests, feedTable, markIn, fedUnder}
+use Rattle.marks.proofs.Running.feed_table.Statement.{statement}
+use Rattle.marks.proofs.Running.feed_table.Tie as tie
+
+-- ---- the places: from each one to an earlier one
+
+abbrev test→start : tie.After-test → tie.Start
+test→start c = c .before .before .before
+
+abbrev p→start : tie.After-p → tie.Start
+p→start c = test→start (c .before .before)
+
+abbrev p→test : tie.After-p → tie.After-test
+p→test c = c .before .before
+
+abbrev known-told→start : tie.After-known-told → tie.Start
+known-told→start c = test→start (c .before .before .before)
+
+abbrev known-told→test : tie.After-known-told → tie.After-test
+known-told→test c = c .before .before .before
+
+abbrev known-told2→p : tie.After-known-told2 → tie.After-p
+known-told2→p c = c .before
+
+abbrev known-told→r : tie.After-known-told → tie.After-r
+known-told→r c = c .before
+
+abbrev feed-under→start : tie.After-feed-under → tie.Start
+feed-under→start c = p→start (c .before .before)
+
+abbrev feed-under→p : tie.After-feed-under → tie.After-p
+feed-under→p c = known-told2→p (c .before)
+
+test-requires : tie.Need-test-requires
+test-requires c κs = search needs
+
+enum-known-r : tie.Need-enum-known-r
+enum-known-r c = search needs
+
+-- the tests behind those of the key, and the value
+abbrev tests : tie.Start → List Test
+tests s = tableTests (s .args .self .key) (s .args .words .now) ++ feedTests (s .args .self .key) (markIn (s .args .self)) (length (s .args .part .now))
+
+abbrev value : tie.Start → Mark
+value s = fedMark (s .args .self .key) (markIn (s .args .self)) (s .args .part .now)
+
+returns : tie.Need-returns
+unfolding feedTable
+returns c =
+    let s = known-told→start c in
+    let key = s .args .self .key in
+    let t = known-told→test c .test in
+    sym (ap (fedUnder key) (refused (t .result) key (t .ensures) (tests s) (markIn (s .args .self)) (value s) _ (known-told→r c .r .given .1)))
+
+enum-known-p : tie.Need-enum-known-p
+enum-known-p c = search needs
+
+-- the accepted key
+key-opened : (c : tie.After-p) → Opened (p→start c .args .self .key) (c .p .given .0 .0)
+key-opened c =
+    let t = p→test c .test in
+    opened (t .result) (p→start c .args .self .key) (t .ensures) _ (omega arith) (c .p .given .1)
+
+feed-under-requires : tie.Need-feed-under-requires
+feed-under-requires c κs = key-opened (known-told2→p c)
+
+returns-2 : tie.Need-returns-2
+unfolding feedTable
+returns-2 c =
+    let s = feed-under→start c in
+    c .feed-under .ensures ∙ sym (ap (fedUnder (s .args .self .key)) (opened-first (key-opened (feed-under→p c)) (tests s) (markIn (s .args .self)) (value s)))
+
+pub feed-table-spec : {M : Type 1} → statement M
+feed-table-spec = tie.close (tie.spec test-requires enum-known-r enum-known-p feed-under-requires returns returns-2)

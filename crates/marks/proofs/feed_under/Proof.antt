@@ -1,0 +1,96 @@
+-- `feed_under` meets its contract: numbers 5 and 6, and then those of `feed_looked`.
+use mathlib.Core.Path.{_≡_, sym, ap, _∙_}
+use mathlib.Core.List.{List}
+use Prim.Native.Nat.{ℕ}
+use borrow.Author.Needs.{needs}
+use lib.ListN.{length}
+use Rattle.refusals.specs.declared.Reply.{Reply}
+use Rattle.refusals.specs.Refusals.{Test, told, judged}
+use Rattle.refusals.proofs.Laws.{Clear, more-clear}
+use Rattle.refusals.proofs.Replies.{judged-refused, judged-clear}
+use Rattle.acceptance.proofs.Opened.{opened-whole, opened-proper}
+use Rattle.files.specs.declared.Mark.{Mark}
+use Rattle.files.specs.Files.{fedMark}
+use Rattle.tables.specs.Tables.{tableTests}
+use Rattle.tables.proofs.Laws.{table-clear}
+use Rattle.marks.specs.Feeding.{feedTests, markIn, fedUnder}
+use Rattle.marks.proofs.feed_under.Statement.{statement}
+use Rattle.marks.proofs.feed_under.Tie as tie
+
+-- ---- the places: from each one to an earlier one
+
+abbrev shared-slice-known2→start : tie.After-shared-slice-known2 → tie.Start
+shared-slice-known2→start c = c .before .before
+
+abbrev judge→start : tie.After-judge → tie.Start
+judge→start c = shared-slice-known2→start (c .before)
+
+abbrev enum-told→start : tie.After-enum-told → tie.Start
+enum-told→start c = judge→start (c .before .before)
+
+abbrev enum-told→judge : tie.After-enum-told → tie.After-judge
+enum-told→judge c = c .before .before
+
+abbrev known-told→start : tie.After-known-told → tie.Start
+known-told→start c = judge→start (c .before .before .before)
+
+abbrev feed-looked→start : tie.After-feed-looked → tie.Start
+feed-looked→start c = enum-told→start (c .before)
+
+abbrev known-told→judge : tie.After-known-told → tie.After-judge
+known-told→judge c = c .before .before .before
+
+abbrev known-told→r : tie.After-known-told → tie.After-r
+known-told→r c = c .before
+
+abbrev feed-looked→enum-told : tie.After-feed-looked → tie.After-enum-told
+feed-looked→enum-told c = c .before
+
+-- the tests behind those of the words, and the value
+abbrev tests : tie.Start → List Test
+tests s = feedTests (s .args .m .key) (markIn (s .args .m)) (length (s .args .part .now))
+
+abbrev value : tie.Start → Mark
+value s = fedMark (s .args .m .key) (markIn (s .args .m)) (s .args .part .now)
+
+judge-requires : tie.Need-judge-requires
+judge-requires c κs = opened-proper (shared-slice-known2→start c .pre)
+
+-- what `judge` found, under the key itself
+found : (c : tie.After-judge) → let a = judge→start c .args in told (c .judge .result) ≡ judged (tableTests (a .m .key) (a .words .now))
+found c =
+    let s = judge→start c in
+    c .judge .ensures ∙ ap (λ (q : ℕ). judged (tableTests q (s .args .words .now))) (opened-whole (s .pre))
+
+enum-known-r : tie.Need-enum-known-r
+enum-known-r c = search needs
+
+returns : tie.Need-returns
+returns c =
+    let s = known-told→start c in
+    let a = s .args in
+    let j = known-told→judge c in
+    let refused = judged-refused (tableTests (a .m .key) (a .words .now)) (j .judge .result) (found j) (tests s) (markIn (a .m)) (value s) _ (known-told→r c .r .given .1) in
+    sym (ap (fedUnder (a .m .key)) refused)
+
+enum-told : tie.Need-enum-told
+enum-told c = search needs
+
+clear : (c : tie.After-enum-told) → let a = enum-told→start c .args in Clear (tableTests (a .m .key) (a .words .now))
+clear c =
+    let a = enum-told→start c .args in
+    let j = enum-told→judge c in
+    judged-clear (tableTests (a .m .key) (a .words .now)) (j .judge .result) (found j) (c .enum-told .given .1)
+
+feed-looked-requires : tie.Need-feed-looked-requires
+feed-looked-requires c κs = let s = enum-told→start c in (s .pre, table-clear (s .args .words .now) (s .args .m .key) (clear c))
+
+returns-2 : tie.Need-returns-2
+returns-2 c =
+    let s = feed-looked→start c in
+    let a = s .args in
+    c .feed-looked .ensures
+    ∙ sym (ap (fedUnder (a .m .key)) (more-clear (tableTests (a .m .key) (a .words .now)) (tests s) (markIn (a .m)) (value s) (clear (feed-looked→enum-told c))))
+
+pub feed-under-spec : {M : Type 1} → statement M
+feed-under-spec = tie.close (tie.spec judge-requires enum-known-r enum-told feed-looked-requires returns returns-2)

@@ -1,0 +1,130 @@
+// Making, testing and feeding by tables, printed and compared with their figures: the words of document 01, the refusals' numbers with the
+// mark that went back, and a part of 10,000 bytes against feeding by bits. Under key 0x11B where nothing else is said.
+use marks::Running;
+use refusals::Reply;
+
+fn show(reply: Reply, done: &[u8]) {
+    match reply {
+        Reply::Done => {
+            vectors::text(done);
+        }
+        Reply::Refused(r) => {
+            vectors::refused(refusals::number(r));
+            vectors::text(b"\n");
+        }
+    }
+}
+
+fn show_word(n: u64, word: u64) {
+    vectors::decimal(b"word ", n);
+    vectors::hex(b": ", word);
+    vectors::text(b"\n");
+}
+
+fn running(key: u64, fingerprint: u64, length: u64) -> Running {
+    Running {
+        key: key,
+        fingerprint: fingerprint,
+        length: length,
+    }
+}
+
+fn make(key: u64, words: &mut [u64]) {
+    show(tables::make(key, words), b"made\n");
+}
+
+fn test(key: u64, words: &[u64]) {
+    show(tables::test(key, words), b"right\n");
+}
+
+fn feed(key: u64, fingerprint: u64, length: u64, words: &[u64], part: &[u8]) {
+    vectors::fed_or_refused(running(key, fingerprint, length).feed_table(words, part));
+}
+
+// The words of document 01's readings.
+fn some_words(words: &[u64]) {
+    if words.len() == 1024 {
+        show_word(1, words[1]);
+        show_word(2, words[2]);
+        show_word(128, words[128]);
+        show_word(257, words[257]);
+    }
+}
+
+// What is answered of the table of 0x11B.
+fn some_tests(words: &[u64]) {
+    test(0x11B, words);
+    test(0x11D, words);
+    test(0x101, words);
+}
+
+fn some_feeds(words: &[u64]) {
+    feed(0x11B, 1, 0, words, b"AB");
+    feed(0x11B, 1, 0, words, b"");
+    feed(0x11B, 0x5A, 4294967295, words, b"");
+}
+
+fn some_refusals(words: &[u64]) {
+    feed(0x11B, 0x5A, 4294967295, words, b"A");
+    feed(0x11B, 0x100, 0, words, b"A");
+    feed(0x11D, 1, 0, words, b"");
+    feed(0xFF, 1, 0, words, b"A");
+}
+
+// One bit of the last word is another.
+fn with_a_wrong_word(words: &mut [u64]) {
+    if words.len() == 1024 {
+        words[1023] = words[1023] ^ 1;
+        test(0x11B, words);
+        feed(0x11B, 0x100, 4294967296, words, b"A");
+    }
+}
+
+fn with_a_wrong_size() {
+    let mut words: [u64; 1023] = [0; 1023];
+    make(0x101, &mut words);
+    make(0x11B, &mut words);
+    test(0x11B, &words);
+    feed(0x11B, 0x100, 4294967296, &words, b"A");
+}
+
+fn some_tables() {
+    let mut words: [u64; 1024] = [0; 1024];
+    make(0x11B, &mut words);
+    make(0xFF, &mut words);
+    some_words(&words);
+    some_tests(&words);
+    some_feeds(&words);
+    some_refusals(&words);
+    with_a_wrong_word(&mut words);
+}
+
+// Some bytes that do not repeat soon.
+fn fill(part: &mut [u8]) {
+    for i in 0..part.len() {
+        part[i] = (i % 251) as u8;
+    }
+}
+
+// A part by bits, and by the table of the key.
+fn both_ways(key: u64, words: &mut [u64], part: &[u8]) {
+    make(key, words);
+    vectors::fed_or_refused(running(key, 1, 0).feed(part));
+    feed(key, 1, 0, words, part);
+}
+
+fn long_part() {
+    let mut words: [u64; 1024] = [0; 1024];
+    let mut part: [u8; 10001] = [0; 10001];
+    fill(&mut part);
+    both_ways(0x11B, &mut words, &part);
+    both_ways(0x80000009, &mut words, &part);
+    both_ways(0x2000000000000027, &mut words, &part);
+    both_ways(0x8000000000000003, &mut words, &part);
+}
+
+fn main() {
+    some_tables();
+    with_a_wrong_size();
+    long_part();
+}
