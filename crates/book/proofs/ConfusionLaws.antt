@@ -1,10 +1,10 @@
 -- Keys under which two different files have equal fingerprints: such a key divides the difference of the files' polynomials.
-use mathlib.Core.Path.{_≡_, ap, _∙_}
+use mathlib.Core.Path.{_≡_}
 use mathlib.Core.Logic.{_≢_, _↔_, _⊎_, inl, inr}
 use mathlib.Core.Bool.{true, _&&_}
 use mathlib.Core.List.{List}
 use Prim.Native.Nat.{ℕ, suc, _+_, _*_, _^_, _≤_, _<_, suc-le-suc}
-use native.Mathlib.Nat.{eq-zero-or-pos, lt-of-lt-of-le, zero-mul}
+use native.Mathlib.Nat.{eq-zero-or-pos, lt-of-lt-of-le}
 use native.Mathlib.Omega.{arith}
 use lib.Dec.{eqb}
 use lib.ListN.{length}
@@ -22,10 +22,11 @@ use Rattle.lists.proofs.Truth.{and-both}
 use Rattle.acceptance.proofs.Laws.{accepted-pos, accepted-iff}
 use Rattle.files.specs.Files.{value, fingerprint, Bytes}
 use Rattle.files.proofs.Values.{value-degree, value-inj}
-use Rattle.book.specs.Confusions.{confused, Burst}
+use Rattle.files.specs.Bursts.{Burst}
+use Rattle.files.proofs.Bursts.{burst-equal}
+use Rattle.book.specs.Confusions.{confused}
 use Rattle.book.specs.Claims.{ConfusionsCount, BurstsCount}
 use Rattle.lists.proofs.Counts.{length-passing, count-none}
-use Rattle.book.proofs.BurstLaws.{no-burst, burst-shifted}
 
 -- an accepted key of degree k under which the fingerprints are equal
 pub record Equal (k : ℕ) (a b : List ℕ) (key : ℕ) : Type 0 where
@@ -85,10 +86,8 @@ module _ (k : ℕ) (a b : List ℕ) (ha : Bytes a) (hb : Bytes b) (ne : a ≢ b)
   pub no-equal-key : Burst k a b → (key : ℕ) → Equal k a b key → ⊥
   no-equal-key s key e =
       let f = factor k a b key e in
-      let x = burst-shifted k a b s in
       let eight = accepted-iff key .0 (e .is-accepted) .0 in
-      let zero-part = no-burst key k (x .part) (x .shift) (f .irreducible) (f .of-degree) (omega (arith, eight, e .of-degree)) (x .small) (rw (x .is) at (f .divides)) in
-      different (x .is ∙ ap (λ (y : ℕ). y * 2 ^ x .shift) zero-part ∙ zero-mul (2 ^ x .shift))
+      ne (burst-equal key k a b (f .irreducible) (f .of-degree) (omega (arith, eight, e .of-degree)) ha hb s (e .prints))
 
 -- ---- the keys that the test counts, as a list
 

@@ -1,4 +1,3 @@
 pub mod RunLaws
-pub mod BurstLaws
 pub mod ConfusionLaws
 pub mod Guarantee

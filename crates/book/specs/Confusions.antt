@@ -1,14 +1,12 @@
--- Two files under one key (document 01, "The plain book of demand 3"): which keys confuse them, how many they are, and bursts.
+-- Two files under one key (document 01, "The plain book of demand 3"): which keys confuse them, and how many they are.
 use mathlib.Core.Path.{_≡_}
-use mathlib.Core.Logic.{_≢_}
-use mathlib.Core.Bool.{Bool, true, false, _&&_}
+use mathlib.Core.Bool.{Bool, true, _&&_}
 use mathlib.Core.List.{List}
-use Prim.Native.Nat.{ℕ, zero, suc, _+_, _≤_, _<_}
+use Prim.Native.Nat.{ℕ}
 use lib.Dec.{eqb}
-use lib.ListN.{length, getD}
 use Rattle.gf2.specs.Polynomials.{degree}
 use Rattle.acceptance.specs.Keys.{accepted}
-use Rattle.files.specs.Files.{bits, fingerprint}
+use Rattle.files.specs.Files.{fingerprint}
 
 -- The ways in which our calls give a file's fingerprint under a key: `Route key file f`. Each level has its own; a list of calls
 -- (`Leaves`) is one.
@@ -26,12 +24,3 @@ pub record Confuses (Route : Routes) (k : ℕ) (a b : List ℕ) (key : ℕ) : Ty
 -- the same as a test (`Counted`)
 unfoldable pub confused : List ℕ → List ℕ → ℕ → Bool
 confused a b key = accepted key && eqb (fingerprint key a) (fingerprint key b)
-
--- "the lengths are equal and the first and last differing bits are at most k - 1 places apart": every bit that differs stands from
--- the place `first` to the place `last`
-pub record Burst (k : ℕ) (a b : List ℕ) : Type 0 where
-  pub same-length : length a ≡ length b
-  pub first : ℕ
-  pub last : ℕ
-  pub near : last < first + k
-  pub between : (i : ℕ) → getD (bits a) i 0 ≢ getD (bits b) i 0 → (first ≤ i) × (i ≤ last)

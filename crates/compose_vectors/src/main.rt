@@ -42,8 +42,22 @@ fn change(what: &[u8], f: u64, a: u64, place: u64, old: &[u8], new: &[u8]) {
 fn joins() {
     join(b"41 and 42", 0x11B, 0x5A, 1, 0x59, 1);
     join(b"41 and the empty file", 0x11B, 0x5A, 1, 1, 0);
-    join(b"4294967295 bytes and none", 0x11B, 0x5A, refusals::LONGEST, 1, 0);
-    join(b"4294967295 bytes and one", 0x11B, 0x5A, refusals::LONGEST, 0x59, 1);
+    join(
+        b"4294967295 bytes and none",
+        0x11B,
+        0x5A,
+        refusals::LONGEST,
+        1,
+        0,
+    );
+    join(
+        b"4294967295 bytes and one",
+        0x11B,
+        0x5A,
+        refusals::LONGEST,
+        0x59,
+        1,
+    );
 }
 
 fn joins_refused() {

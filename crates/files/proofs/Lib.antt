@@ -1,3 +1,4 @@
 pub mod Values
 pub mod Marks
 pub mod Computing
+pub mod Bursts

@@ -14,7 +14,8 @@ use Rattle.acceptance.specs.Keys.{accepted}
 use Rattle.files.specs.Files.{Bytes}
 use Rattle.lists.specs.Lists.{among}
 use Rattle.lists.specs.Counts.{countFrom}
-use Rattle.book.specs.Confusions.{Routes, Confuses, confused, Burst}
+use Rattle.book.specs.Confusions.{Routes, Confuses, confused}
+use Rattle.files.specs.Bursts.{Burst}
 use Rattle.stock.specs.Stock.{stockKey}
 use Rattle.draw.specs.Drawing.{degrees, keyOf, elements, draw, Draws}
 

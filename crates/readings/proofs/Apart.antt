@@ -6,7 +6,7 @@ use native.Mathlib.Decide.{decLt, decLe}
 use native.Mathlib.Omega.{arith}
 use lib.ListN.{getD, List·getD-eq-default}
 use Rattle.files.specs.Files.{lowBits, bits}
-use Rattle.book.specs.Confusions.{Burst}
+use Rattle.files.specs.Bursts.{Burst}
 use Rattle.readings.specs.Readings.{zeroFile, keyFile}
 
 before : (i : ℕ) → i < 7 → getD (bits zeroFile) i 0 ≡ getD (bits keyFile) i 0

@@ -10,7 +10,7 @@ use Rattle.keys.specs.Testing.{testKey}
 use Rattle.compose.specs.Composing.{joinBehind}
 use Rattle.search.specs.Searching.{search}
 use Rattle.draw.specs.Drawing.{draw}
-use Rattle.book.specs.Confusions.{Burst}
+use Rattle.files.specs.Bursts.{Burst}
 
 abbrev pub mark : ℕ → ℕ → Mark
 mark f n = record { fingerprint = f; length = n }

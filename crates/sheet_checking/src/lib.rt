@@ -1,4 +1,5 @@
 // Checking a file against a page sheet.
+use gf2::Modulus;
 use refusals::Refusal;
 use sheets::Changed;
 use sheets::Checked;
@@ -8,7 +9,7 @@ use sheets::layout;
 ghost use mathlib.Core.Path.{_≡_};
 ghost use Prim.Native.Nat.{_+_, _*_, _≤_, _<_, _^_};
 ghost use lib.ListN.{length};
-ghost use Rattle.gf2.specs.Polynomials.{monic};
+ghost use Rattle.gf2.specs.Moduli.{polynomial};
 ghost use Rattle.refusals.specs.Refusals.{Answer};
 ghost use Rattle.files.specs.Files.{fingerprint};
 ghost use Rattle.sheets.specs.Layout.{version1, numbersAt, pageCount, contentsIn};
@@ -38,22 +39,21 @@ fn first_change(
     fields: &[u8],
     words: &[u64],
     eights: &[u64],
-    k: u32,
-    low: u64,
+    p: Modulus,
     size: usize,
     last: u64,
     file: &[u8],
 ) -> Checked
-    requires { ⌜ PageTables k low (now words) (now eights) × (16 ≤ size) × (size ≤ 4096) × (length (now file) < 2 ^ 32)
-        × (last ≡ fingerprint (monic k low) (filled size (lastPage size (now file)))) × (8 * pageCount size (length (now file)) ≤ length (now fields)) ⌝ }
+    requires { ⌜ PageTables p (now words) (now eights) × (16 ≤ size) × (size ≤ 4096) × (length (now file) < 2 ^ 32)
+        × (last ≡ fingerprint (polynomial p) (filled size (lastPage size (now file)))) × (8 * pageCount size (length (now file)) ≤ length (now fields)) ⌝ }
     ensures { λ r. ⌜ checked r ≡ Answer.Done (firstChange 0 (numbersAt 0 8 (pageCount size (length (now (file .entry)))) (now (fields .entry)))
-        (pageFingerprints (monic k low) size (pageCount size (length (now (file .entry)))) (now (file .entry)))) ⌝ }
+        (pageFingerprints (polynomial p) size (pageCount size (length (now (file .entry)))) (now (file .entry)))) ⌝ }
 {
     let mut marks = [0u64; 64];
     let mut i: usize = 0;
     while i * size < file.len() {
         let at = i * size;
-        let n = sheet_pages::next_pages(&mut marks, words, eights, k, low, size, last, &file[at..]);
+        let n = sheet_pages::next_pages(&mut marks, words, eights, p, size, last, &file[at..]);
         let same = agreeing(fields, 8 * i, &marks[..n]);
         if same < n {
             let page = (i + same) as u32;
@@ -73,24 +73,22 @@ fn compare(sheet: &[u8], x: Sheet, file: &[u8]) -> Checked
     let length = x.length;
     let key = x.key;
     let size = x.size as usize;
-    if 4294967295 < n {
+    if refusals::LONGEST < n {
         return Checked::Refused(Refusal::TooLong);
     }
     if n != length {
         return Checked::OtherLength;
     }
-    let k = gf2::degree(key);
-    let low = gf2::low_bits(key, k);
+    let p = gf2::modulus_of(key);
     let mut words = [0u64; 1024];
     let mut eights = [0u64; 2048];
-    sheet_pages::fill_tables(&mut words, &mut eights, k, low);
-    let last = sheet_pages::last_page(&words, k, low, size, file).filled;
+    sheet_pages::fill_tables(&mut words, &mut eights, p);
+    let last = sheet_pages::last_page(&words, p, size, file).filled;
     first_change(
         layout::page_fields(sheet),
         &words,
         &eights,
-        k,
-        low,
+        p,
         size,
         last,
         file,

@@ -10,17 +10,18 @@ use lib.Dec.{leb}
 use lib.ListN.{length, getD}
 use lib.Pow.{pow-pos, pow-mono, pow-lt, pow-add}
 use borrow.Author.Tests.{lt-leb, leb-false}
-use Rattle.gf2.specs.Polynomials.{_⊕_, _⊗_, rem, monic, degree, Modulus}
+use Rattle.gf2.specs.Polynomials.{_⊕_, _⊗_, rem, degree}
+use Rattle.gf2.specs.Moduli.{polynomial, Proper}
+use Rattle.gf2.specs.declared.Modulus.{Modulus}
 use Rattle.gf2.proofs.Sums.{zero-⊕, ⊕-zero, ⊕-assoc, ⊕-shl}
 use Rattle.gf2.proofs.Residues.{rem-lt, rem-small, rem-⊕}
 use Rattle.gf2.proofs.Powers.{rem-shl, rem-⊗-pow}
-use Rattle.gf2.proofs.Monics.{monic-pos, monic-degree}
+use Rattle.gf2.proofs.Monics.{monic-pos, monic-degree, of-degree-one}
 use Rattle.gf2.proofs.Steps.{or-leb}
-use Rattle.lists.proofs.Truth.{or-neither}
+use Rattle.lists.proofs.Truth.{or-neither, or-left-comm}
 use Rattle.files.specs.declared.Mark.{Mark}
-use Rattle.files.specs.Files.{bits, valueFrom, value, fingerprint, markOf}
-use Rattle.compose.specs.Composing.{joined}
-use Rattle.compose.proofs.Laws.{or-left-comm}
+use Rattle.files.specs.Files.{markOf, joined}
+use Rattle.files.proofs.Marks.{empty-mark}
 use Rattle.lookups.specs.Groups.{looked}
 use Rattle.shifts.specs.Shifts.{Shifts}
 use Rattle.shifts.proofs.Products.{joined-by-table}
@@ -188,38 +189,37 @@ unfolding joinedPages joined chained
 joined-chained key s m [] = refl
 joined-chained key s m (f ∷ fs) = joined-chained key s (joined key m (record { fingerprint = f; length = s })) fs
 
-pub empty-print : (k low : ℕ) → 0 < k → low < 2 ^ k → markOf (monic k low) [] .fingerprint ≡ 1
-unfolding markOf fingerprint value valueFrom bits
-empty-print k low p h = rem-small (monic-pos k low h) 1 (rw (monic-degree k low h) (pow-lt {i = 0} {j = k} p))
+pub empty-print : (p : Modulus) → Proper p → markOf (polynomial p) [] .fingerprint ≡ 1
+empty-print p md = ap (λ (m : Mark). m .fingerprint) (empty-mark (polynomial p) (of-degree-one (p .degree) (p .low) (md .0) (md .2)))
 
 -- ---- lanes
 
 -- a lane of q fields, each for itself behind 0, joined behind what has the residue x
-module _ (k low : ℕ) (md : Modulus k low) (e : ℕ) where
-  chain-lt : (x : ℕ) (u : List ℕ) → x ≡ chained (monic k low) e 1 u → x < 2 ^ k
+module _ (p : Modulus) (md : Proper p) (e : ℕ) where
+  chain-lt : (x : ℕ) (u : List ℕ) → x ≡ chained (polynomial p) e 1 u → x < 2 ^ p .degree
   chain-lt x u ex =
-      let deg = monic-degree k low (md .2) in
-      rw ex (rw deg at (chained-lt (monic-pos k low (md .2)) e 1 u (rw deg (pow-lt {i = 0} {j = k} (md .0)))))
+      let deg = monic-degree (p .degree) (p .low) (md .2) in
+      rw ex (rw deg at (chained-lt (monic-pos (p .degree) (p .low) (md .2)) e 1 u (rw deg (pow-lt {i = 0} {j = p .degree} (md .0)))))
 
-  pub lane-behind : (q : ℕ) (u v : List ℕ) (x y t r : ℕ) → length v ≡ q → x ≡ chained (monic k low) e 1 u → y ≡ chained (monic k low) e 0 v → t ≡ rem (monic k low) (2 ^ (e * q))
-      → r ≡ rem (monic k low) (x % 2 ^ k ⊗ t) ⊕ y → r ≡ chained (monic k low) e 1 (u ++ v)
+  pub lane-behind : (q : ℕ) (u v : List ℕ) (x y t r : ℕ) → length v ≡ q → x ≡ chained (polynomial p) e 1 u → y ≡ chained (polynomial p) e 0 v → t ≡ rem (polynomial p) (2 ^ (e * q))
+      → r ≡ rem (polynomial p) (x % 2 ^ p .degree ⊗ t) ⊕ y → r ≡ chained (polynomial p) e 1 (u ++ v)
   lane-behind q u v x y t r l ex ey et er =
-      let pos = monic-pos k low (md .2) in
-      let small : chained (monic k low) e 1 u < 2 ^ degree (monic k low) = rw (monic-degree k low (md .2), ← ex) (chain-lt x u ex) in
+      let pos = monic-pos (p .degree) (p .low) (md .2) in
+      let small : chained (polynomial p) e 1 u < 2 ^ degree (polynomial p) = rw (monic-degree (p .degree) (p .low) (md .2), ← ex) (chain-lt x u ex) in
       er
-      ∙ ap₂ (λ (a b : ℕ). a ⊕ b) (ap₂ (λ (a b : ℕ). rem (monic k low) (a ⊗ b)) (mod-eq-of-lt (chain-lt x u ex) ∙ ex) et ∙ rem-⊗-pow pos (chained (monic k low) e 1 u) (e * q)) ey
-      ∙ ap (λ (n : ℕ). rem (monic k low) (chained (monic k low) e 1 u * 2 ^ (e * n)) ⊕ chained (monic k low) e 0 v) (sym l)
-      ∙ sym (chained-start pos e (chained (monic k low) e 1 u) v small)
+      ∙ ap₂ (λ (a b : ℕ). a ⊕ b) (ap₂ (λ (a b : ℕ). rem (polynomial p) (a ⊗ b)) (mod-eq-of-lt (chain-lt x u ex) ∙ ex) et ∙ rem-⊗-pow pos (chained (polynomial p) e 1 u) (e * q)) ey
+      ∙ ap (λ (n : ℕ). rem (polynomial p) (chained (polynomial p) e 1 u * 2 ^ (e * n)) ⊕ chained (polynomial p) e 0 v) (sym l)
+      ∙ sym (chained-start pos e (chained (polynomial p) e 1 u) v small)
       ∙ sym (chained-append pos e 1 u v)
 
--- the low k bits of a number, times a power of t
-pub times-low : (k low a la t b r : ℕ) → la ≡ a % 2 ^ k → r ≡ rem (monic k low) (la ⊗ t) ⊕ b → r ≡ rem (monic k low) (a % 2 ^ k ⊗ t) ⊕ b
-times-low k low a la t b r e d = d ∙ ap (λ (z : ℕ). rem (monic k low) (z ⊗ t) ⊕ b) e
+-- the low bits of a number, times a power of t
+pub times-low : (p : Modulus) (a la t b r : ℕ) → la ≡ a % 2 ^ p .degree → r ≡ rem (polynomial p) (la ⊗ t) ⊕ b → r ≡ rem (polynomial p) (a % 2 ^ p .degree ⊗ t) ⊕ b
+times-low p a la t b r e d = d ∙ ap (λ (z : ℕ). rem (polynomial p) (z ⊗ t) ⊕ b) e
 
 -- four lanes of q fields and the rest, n fields in all
-module _ (k low : ℕ) (md : Modulus k low) (s place n q from : ℕ) (fits : 4 * q ≤ n) (behind : from ≡ place + 32 * q) (l words : List ℕ)
-    (sh : Shifts (monic k low) (8 * s) words) (r : someUnreduced k (numbersAt place 8 n l) ≡ false) (x : Lanes) (four : LanesJoined words place q l x) (t : ℕ)
-    (et : t ≡ rem (monic k low) (2 ^ (8 * s * q))) where
+module _ (p : Modulus) (md : Proper p) (s place n q from : ℕ) (fits : 4 * q ≤ n) (behind : from ≡ place + 32 * q) (l words : List ℕ)
+    (sh : Shifts (polynomial p) (8 * s) words) (r : someUnreduced (p .degree) (numbersAt place 8 n l) ≡ false) (x : Lanes) (four : LanesJoined words place q l x) (t : ℕ)
+    (et : t ≡ rem (polynomial p) (2 ^ (8 * s * q))) where
   laneA : List ℕ
   laneA = numbersAt place 8 q l
 
@@ -239,66 +239,66 @@ module _ (k low : ℕ) (md : Modulus k low) (s place n q from : ℕ) (fits : 4 *
   unfolding laneA laneB laneC laneD rest
   all-fields = rest-behind place n q from l fits behind ∙ ap (λ (m : List ℕ). m ++ rest) (four-lanes place q l)
 
-  pos : 0 < monic k low
-  pos = monic-pos k low (md .2)
+  pos : 0 < polynomial p
+  pos = monic-pos (p .degree) (p .low) (md .2)
 
-  deg : degree (monic k low) ≡ k
-  deg = monic-degree k low (md .2)
+  deg : degree (polynomial p) ≡ p .degree
+  deg = monic-degree (p .degree) (p .low) (md .2)
 
   -- by the table is as by the residues, where the fields are reduced
-  by-table : (f : ℕ) (gs : List ℕ) → f < 2 ^ k → someUnreduced k gs ≡ false → looping words f gs ≡ chained (monic k low) (8 * s) f gs
+  by-table : (f : ℕ) (gs : List ℕ) → f < 2 ^ p .degree → someUnreduced (p .degree) gs ≡ false → looping words f gs ≡ chained (polynomial p) (8 * s) f gs
   by-table f gs h u = looping-chained pos (8 * s) words sh (rw deg (md .1)) f gs (rw deg h) (rw deg u)
 
-  reduced : (someUnreduced k laneA ≡ false) × (someUnreduced k laneB ≡ false) × (someUnreduced k laneC ≡ false) × (someUnreduced k laneD ≡ false) × (someUnreduced k rest ≡ false)
+  reduced : (someUnreduced (p .degree) laneA ≡ false) × (someUnreduced (p .degree) laneB ≡ false) × (someUnreduced (p .degree) laneC ≡ false) × (someUnreduced (p .degree) laneD ≡ false) × (someUnreduced (p .degree) rest ≡ false)
   reduced =
-      let d = reduced-split k (laneA ++ laneB ++ laneC ++ laneD) rest (rw all-fields at r) in
-      let c = reduced-split k (laneA ++ laneB ++ laneC) laneD (d .0) in
-      let b = reduced-split k (laneA ++ laneB) laneC (c .0) in
-      let a = reduced-split k laneA laneB (b .0) in
+      let d = reduced-split (p .degree) (laneA ++ laneB ++ laneC ++ laneD) rest (rw all-fields at r) in
+      let c = reduced-split (p .degree) (laneA ++ laneB ++ laneC) laneD (d .0) in
+      let b = reduced-split (p .degree) (laneA ++ laneB) laneC (c .0) in
+      let a = reduced-split (p .degree) laneA laneB (b .0) in
       (a .0, a .1, b .1, c .1, d .1)
 
-  is-a : x .a ≡ chained (monic k low) (8 * s) 1 laneA
+  is-a : x .a ≡ chained (polynomial p) (8 * s) 1 laneA
   unfolding laneA
-  is-a = four .a ∙ by-table 1 laneA (pow-lt {i = 0} {j = k} (md .0)) (reduced .0)
+  is-a = four .a ∙ by-table 1 laneA (pow-lt {i = 0} {j = p .degree} (md .0)) (reduced .0)
 
-  is-ab : (ab : ℕ) → ab ≡ rem (monic k low) (x .a % 2 ^ k ⊗ t) ⊕ x .b → ab ≡ chained (monic k low) (8 * s) 1 (laneA ++ laneB)
+  is-ab : (ab : ℕ) → ab ≡ rem (polynomial p) (x .a % 2 ^ p .degree ⊗ t) ⊕ x .b → ab ≡ chained (polynomial p) (8 * s) 1 (laneA ++ laneB)
   unfolding laneB
   is-ab ab e =
-      lane-behind k low md (8 * s) q laneA laneB (x .a) (x .b) t ab (length-numbersAt (place + 8 * q) 8 q l) is-a (four .b ∙ by-table 0 laneB (pow-pos k) (reduced .1)) et e
+      lane-behind p md (8 * s) q laneA laneB (x .a) (x .b) t ab (length-numbersAt (place + 8 * q) 8 q l) is-a (four .b ∙ by-table 0 laneB (pow-pos (p .degree)) (reduced .1)) et e
 
-  is-abc : (ab abc : ℕ) → ab ≡ rem (monic k low) (x .a % 2 ^ k ⊗ t) ⊕ x .b → abc ≡ rem (monic k low) (ab % 2 ^ k ⊗ t) ⊕ x .c → abc ≡ chained (monic k low) (8 * s) 1 (laneA ++ laneB ++ laneC)
+  is-abc : (ab abc : ℕ) → ab ≡ rem (polynomial p) (x .a % 2 ^ p .degree ⊗ t) ⊕ x .b → abc ≡ rem (polynomial p) (ab % 2 ^ p .degree ⊗ t) ⊕ x .c → abc ≡ chained (polynomial p) (8 * s) 1 (laneA ++ laneB ++ laneC)
   unfolding laneC
   is-abc ab abc e f =
-      lane-behind k low md (8 * s) q (laneA ++ laneB) laneC ab (x .c) t abc (length-numbersAt (place + 8 * q + 8 * q) 8 q l) (is-ab ab e)
-      (four .c ∙ by-table 0 laneC (pow-pos k) (reduced .2)) et f
+      lane-behind p md (8 * s) q (laneA ++ laneB) laneC ab (x .c) t abc (length-numbersAt (place + 8 * q + 8 * q) 8 q l) (is-ab ab e)
+      (four .c ∙ by-table 0 laneC (pow-pos (p .degree)) (reduced .2)) et f
 
-  is-abcd : (ab abc abcd : ℕ) → ab ≡ rem (monic k low) (x .a % 2 ^ k ⊗ t) ⊕ x .b → abc ≡ rem (monic k low) (ab % 2 ^ k ⊗ t) ⊕ x .c
-      → abcd ≡ rem (monic k low) (abc % 2 ^ k ⊗ t) ⊕ x .d → abcd ≡ chained (monic k low) (8 * s) 1 (laneA ++ laneB ++ laneC ++ laneD)
+  is-abcd : (ab abc abcd : ℕ) → ab ≡ rem (polynomial p) (x .a % 2 ^ p .degree ⊗ t) ⊕ x .b → abc ≡ rem (polynomial p) (ab % 2 ^ p .degree ⊗ t) ⊕ x .c
+      → abcd ≡ rem (polynomial p) (abc % 2 ^ p .degree ⊗ t) ⊕ x .d → abcd ≡ chained (polynomial p) (8 * s) 1 (laneA ++ laneB ++ laneC ++ laneD)
   unfolding laneD
   is-abcd ab abc abcd e f g =
-      lane-behind k low md (8 * s) q (laneA ++ laneB ++ laneC) laneD abc (x .d) t abcd (length-numbersAt (place + 8 * q + 8 * q + 8 * q) 8 q l) (is-abc ab abc e f)
-      (four .d ∙ by-table 0 laneD (pow-pos k) (reduced .3)) et g
+      lane-behind p md (8 * s) q (laneA ++ laneB ++ laneC) laneD abc (x .d) t abcd (length-numbersAt (place + 8 * q + 8 * q + 8 * q) 8 q l) (is-abc ab abc e f)
+      (four .d ∙ by-table 0 laneD (pow-pos (p .degree)) (reduced .3)) et g
 
-  pub all-joined : (ab abc abcd y : ℕ) → ab ≡ rem (monic k low) (x .a % 2 ^ k ⊗ t) ⊕ x .b → abc ≡ rem (monic k low) (ab % 2 ^ k ⊗ t) ⊕ x .c
-      → abcd ≡ rem (monic k low) (abc % 2 ^ k ⊗ t) ⊕ x .d
+  pub all-joined : (ab abc abcd y : ℕ) → ab ≡ rem (polynomial p) (x .a % 2 ^ p .degree ⊗ t) ⊕ x .b → abc ≡ rem (polynomial p) (ab % 2 ^ p .degree ⊗ t) ⊕ x .c
+      → abcd ≡ rem (polynomial p) (abc % 2 ^ p .degree ⊗ t) ⊕ x .d
       → y ≡ looping words abcd (numbersAt from 8 (n - 4 * q) l)
-      → y ≡ joinedPages (monic k low) s (markOf (monic k low) []) (numbersAt place 8 n l) .fingerprint
+      → y ≡ joinedPages (polynomial p) s (markOf (polynomial p) []) (numbersAt place 8 n l) .fingerprint
   unfolding rest
   all-joined ab abc abcd y e f g h =
       let d = is-abcd ab abc abcd e f g in
       h
-      ∙ by-table abcd rest (chain-lt k low md (8 * s) abcd (laneA ++ laneB ++ laneC ++ laneD) d) (reduced .4)
-      ∙ ap (λ (z : ℕ). chained (monic k low) (8 * s) z rest) d
+      ∙ by-table abcd rest (chain-lt p md (8 * s) abcd (laneA ++ laneB ++ laneC ++ laneD) d) (reduced .4)
+      ∙ ap (λ (z : ℕ). chained (polynomial p) (8 * s) z rest) d
       ∙ sym (chained-append pos (8 * s) 1 (laneA ++ laneB ++ laneC ++ laneD) rest)
-      ∙ ap (chained (monic k low) (8 * s) 1) (sym all-fields)
-      ∙ ap (λ (z : ℕ). chained (monic k low) (8 * s) z (numbersAt place 8 n l)) (sym (empty-print k low (md .0) (md .2)))
-      ∙ sym (joined-chained (monic k low) s (markOf (monic k low) []) (numbersAt place 8 n l))
+      ∙ ap (chained (polynomial p) (8 * s) 1) (sym all-fields)
+      ∙ ap (λ (z : ℕ). chained (polynomial p) (8 * s) z (numbersAt place 8 n l)) (sym (empty-print p md))
+      ∙ sym (joined-chained (polynomial p) s (markOf (polynomial p) []) (numbersAt place 8 n l))
 
 -- few fields: one lane
-pub few-joined : (k low : ℕ) → Modulus k low → (s place n : ℕ) (l words : List ℕ) → Shifts (monic k low) (8 * s) words → someUnreduced k (numbersAt place 8 n l) ≡ false
-    → looping words 1 (numbersAt place 8 n l) ≡ joinedPages (monic k low) s (markOf (monic k low) []) (numbersAt place 8 n l) .fingerprint
-few-joined k low md s place n l words sh r =
-    let deg = monic-degree k low (md .2) in
-    looping-chained (monic-pos k low (md .2)) (8 * s) words sh (rw deg (md .1)) 1 (numbersAt place 8 n l) (rw deg (pow-lt {i = 0} {j = k} (md .0))) (rw deg r)
-    ∙ ap (λ (z : ℕ). chained (monic k low) (8 * s) z (numbersAt place 8 n l)) (sym (empty-print k low (md .0) (md .2)))
-    ∙ sym (joined-chained (monic k low) s (markOf (monic k low) []) (numbersAt place 8 n l))
+pub few-joined : (p : Modulus) → Proper p → (s place n : ℕ) (l words : List ℕ) → Shifts (polynomial p) (8 * s) words → someUnreduced (p .degree) (numbersAt place 8 n l) ≡ false
+    → looping words 1 (numbersAt place 8 n l) ≡ joinedPages (polynomial p) s (markOf (polynomial p) []) (numbersAt place 8 n l) .fingerprint
+few-joined p md s place n l words sh r =
+    let deg = monic-degree (p .degree) (p .low) (md .2) in
+    looping-chained (monic-pos (p .degree) (p .low) (md .2)) (8 * s) words sh (rw deg (md .1)) 1 (numbersAt place 8 n l) (rw deg (pow-lt {i = 0} {j = p .degree} (md .0))) (rw deg r)
+    ∙ ap (λ (z : ℕ). chained (polynomial p) (8 * s) z (numbersAt place 8 n l)) (sym (empty-print p md))
+    ∙ sym (joined-chained (polynomial p) s (markOf (polynomial p) []) (numbersAt place 8 n l))

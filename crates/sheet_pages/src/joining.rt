@@ -1,10 +1,11 @@
 // Page marks joined, from the fields of a sheet. These functions are for the project's own crates: what they require, every caller proves.
+use gf2::Modulus;
 ghost use mathlib.Core.Path.{_≡_};
 ghost use mathlib.Core.Bool.{false};
 ghost use mathlib.Core.List.{[], _∷_};
 ghost use Prim.Native.Nat.{_+_, _*_, _≤_, _<_, _^_};
 ghost use lib.ListN.{length};
-ghost use Rattle.gf2.specs.Polynomials.{monic, Modulus};
+ghost use Rattle.gf2.specs.Moduli.{polynomial, Proper};
 ghost use Rattle.files.specs.Files.{markOf};
 ghost use Rattle.sheets.specs.Layout.{numbersAt};
 ghost use Rattle.sheets.specs.Sheets.{someUnreduced, joinedPages};
@@ -76,23 +77,24 @@ fn join_lanes(shift: &[u64], fields: &[u8], q: u64) -> Lanes
 
 // The first n page marks of a sheet joined. Many of them in four lanes, which cost a power of t and three products. A field that is not
 // below 2^k shows in the bits. The mark then means nothing: a lane may reach 2^k too, and the products take its low bits.
-pub fn pages_joined(fields: &[u8], k: u32, low: u64, size: u64, n: u64) -> Joined
-    requires { ⌜ Modulus k low × (k < 64) × (size ≤ 4096) × (n < 2 ^ 29) × (8 * n ≤ length (now fields)) ⌝ }
-    ensures { λ r. ⌜ (someUnreduced k (numbersAt 0 8 n (now (fields .entry))) ≡ false
-        → r .mark ≡ joinedPages (monic k low) size (markOf (monic k low) []) (numbersAt 0 8 n (now (fields .entry))) .fingerprint)
+pub fn pages_joined(fields: &[u8], p: Modulus, size: u64, n: u64) -> Joined
+    requires { ⌜ Proper p × (p .degree < 64) × (size ≤ 4096) × (n < 2 ^ 29) × (8 * n ≤ length (now fields)) ⌝ }
+    ensures { λ r. ⌜ (someUnreduced (p .degree) (numbersAt 0 8 n (now (fields .entry))) ≡ false
+        → r .mark ≡ joinedPages (polynomial p) size (markOf (polynomial p) []) (numbersAt 0 8 n (now (fields .entry))) .fingerprint)
         × BitsOf (numbersAt 0 8 n (now (fields .entry))) (r .bits) ⌝ }
 {
     let mut shift = [0u64; 2048];
-    shifts::fill(&mut shift, k, low, size);
+    shifts::fill(&mut shift, p, size);
     if n < 64 {
         return join_lane(&shift, fields, 0, n, 1, 0);
     }
     let q = n / 4;
     let x = join_lanes(&shift, fields, q);
-    let t = gf2::power_of_t(k, low, 8 * size * q);
-    let ab = lookups::joined(k, low, gf2::low_bits(x.a, k), t, x.b);
-    let abc = lookups::joined(k, low, gf2::low_bits(ab, k), t, x.c);
-    let abcd = lookups::joined(k, low, gf2::low_bits(abc, k), t, x.d);
+    let t = gf2::power_of_t(p, 8 * size * q);
+    let k = p.degree;
+    let ab = lookups::times_plus(p, gf2::low_bits(x.a, k), t, x.b);
+    let abc = lookups::times_plus(p, gf2::low_bits(ab, k), t, x.c);
+    let abcd = lookups::times_plus(p, gf2::low_bits(abc, k), t, x.d);
     let from = (32 * q) as usize;
     join_lane(&shift, fields, from, n - 4 * q, abcd, x.bits)
 }

@@ -9,17 +9,21 @@ use lib.Dec.{ltb, eqb}
 use lib.ListN.{length}
 use borrow.Author.Tests.{lt-ltb, le-ltb, le-leb, lt-leb, eqb-true, not-false}
 use Rattle.gf2.specs.Polynomials.{degree}
+use Rattle.gf2.specs.declared.Modulus.{Modulus}
 use Rattle.refusals.specs.declared.Refusal.{Refusal}
 use Rattle.refusals.specs.declared.Refusal.the-variants.{PageSize, SheetMalformed}
 use Rattle.refusals.specs.Refusals.{Done, Refused, Test, _⇒_, firstOf}
-use Rattle.acceptance.specs.Keys.{keyTests}
-use Rattle.keys.specs.Testing.{testKey}
-use Rattle.keys.proofs.Laws.{Passed, first-passed, first-refused}
+use Rattle.acceptance.specs.Keys.{keyTests, Opened}
+use Rattle.acceptance.proofs.Opened.{opened-first}
+use Rattle.keys.specs.declared.Tested.{Tested}
+use Rattle.keys.specs.declared.Tested.the-variants as tested-cases
+use Rattle.keys.specs.Testing.{testKey, tested}
+use Rattle.keys.proofs.Laws.{refused}
 use Rattle.sheets.specs.declared.Sheet.{Sheet}
 use Rattle.sheets.specs.declared.layout.Head.{Head}
-use Rattle.sheets.specs.Layout.{Key, PageSize, version1, numberAt, pagePlace, sheetLength, pageCount, fieldIn, pagesIn, contentsIn}
-use Rattle.sheets.specs.Sheets.{someUnreduced, pagesJoined, fileFilled, headWrong, bodyWrong, readSheet, numbersOf, pageAt}
-use Rattle.sheets.specs.Parts.{HeadOf}
+use Rattle.sheets.specs.Layout.{Key, PageSize, version1, numberAt, pagePlace, sheetLength, pageCount, Contents, fieldIn, pagesIn, contentsIn}
+use Rattle.sheets.specs.Sheets.{someUnreduced, pagesJoined, fileFilled, sizeTest, headWrong, bodyWrong, readSheet, numbersOf, pageAt}
+use Rattle.sheets.specs.Parts.{HeadOf, readBody}
 use Rattle.sheets.proofs.Numbers.{length-numbersAt}
 use Rattle.refusals.proofs.Laws.{first-true, first-false}
 use Rattle.sheets.proofs.Sound.{neither}
@@ -43,49 +47,41 @@ body-total sheet e =
     ∙ ap (sheetLength version1) (length-numbersAt (pagePlace version1 0) 8 (pagesIn version1 sheet) sheet)
 
 module _ (sheet : List ℕ) where
-  size-wrong : Bool
-  size-wrong = ltb (fieldIn version1 PageSize sheet) 16 || ltb 4096 (fieldIn version1 PageSize sheet)
+  abbrev x : Contents
+  x = contentsIn version1 sheet
 
-  body-wrong : Bool
-  body-wrong = bodyWrong version1 (length sheet) (contentsIn version1 sheet)
-
-  last : List Test
-  last = body-wrong ⇒ SheetMalformed ∷ []
-
-  by-steps : readSheet sheet ≡ firstOf (headWrong version1 sheet ⇒ SheetMalformed ∷ (keyTests (fieldIn version1 Key sheet) ++ (size-wrong ⇒ PageSize ∷ last))) tt (contentsIn version1 sheet)
-  unfolding readSheet contentsIn size-wrong body-wrong last
-  by-steps = refl
+  abbrev rest : List Test
+  rest = sizeTest (x .pageSize) ∷ bodyWrong version1 (length sheet) x ⇒ SheetMalformed ∷ []
 
   pub read-head : headWrong version1 sheet ≡ true → readSheet sheet ≡ Refused SheetMalformed tt
-  read-head e = by-steps ∙ first-true (headWrong version1 sheet) SheetMalformed (keyTests (fieldIn version1 Key sheet) ++ (size-wrong ⇒ PageSize ∷ last)) tt (contentsIn version1 sheet) e
+  unfolding readSheet
+  read-head e = first-true (headWrong version1 sheet) SheetMalformed (keyTests (x .key) ++ rest) tt x e
 
   module _ (head : headWrong version1 sheet ≡ false) where
-    after-head : readSheet sheet ≡ firstOf (keyTests (fieldIn version1 Key sheet) ++ (size-wrong ⇒ PageSize ∷ last)) tt (contentsIn version1 sheet)
-    after-head = by-steps ∙ first-false (headWrong version1 sheet) SheetMalformed (keyTests (fieldIn version1 Key sheet) ++ (size-wrong ⇒ PageSize ∷ last)) tt (contentsIn version1 sheet) head
+    after-head : readSheet sheet ≡ firstOf (keyTests (fieldIn version1 Key sheet) ++ rest) tt x
+    unfolding readSheet contentsIn
+    after-head = first-false (headWrong version1 sheet) SheetMalformed (keyTests (fieldIn version1 Key sheet) ++ rest) tt x head
 
-    pub read-key : (q : Refusal) → testKey (fieldIn version1 Key sheet) ≡ Refused q tt → readSheet sheet ≡ Refused q tt
-    read-key q e = after-head ∙ first-refused (fieldIn version1 Key sheet) (size-wrong ⇒ PageSize ∷ last) tt (contentsIn version1 sheet) q e
+    pub read-refused : (t : Tested) (q : Refusal) → tested t ≡ testKey (fieldIn version1 Key sheet) → t ≡ tested-cases.Refused q → readSheet sheet ≡ Refused q tt
+    read-refused t q e a = after-head ∙ refused t (fieldIn version1 Key sheet) e rest tt x q a
 
-    module _ (passed : Passed (fieldIn version1 Key sheet)) where
-      after-key : readSheet sheet ≡ firstOf (size-wrong ⇒ PageSize ∷ last) tt (contentsIn version1 sheet)
-      after-key = after-head ∙ first-passed (fieldIn version1 Key sheet) (size-wrong ⇒ PageSize ∷ last) tt (contentsIn version1 sheet) passed
+    pub read-opened : (p : Modulus) → Opened (fieldIn version1 Key sheet) p → readSheet sheet ≡ readBody sheet
+    read-opened p o = after-head ∙ opened-first o rest tt x
 
-      pub read-size : (ltb (fieldIn version1 PageSize sheet) 16 || ltb 4096 (fieldIn version1 PageSize sheet)) ≡ true → readSheet sheet ≡ Refused PageSize tt
-      unfolding size-wrong
-      read-size e = after-key ∙ first-true size-wrong PageSize last tt (contentsIn version1 sheet) e
+  pub body-size : (ltb (fieldIn version1 PageSize sheet) 16 || ltb 4096 (fieldIn version1 PageSize sheet)) ≡ true → readBody sheet ≡ Refused PageSize tt
+  unfolding contentsIn
+  body-size e = first-true (ltb (x .pageSize) 16 || ltb 4096 (x .pageSize)) PageSize (bodyWrong version1 (length sheet) x ⇒ SheetMalformed ∷ []) tt x e
 
-      module _ (size : (ltb (fieldIn version1 PageSize sheet) 16 || ltb 4096 (fieldIn version1 PageSize sheet)) ≡ false) where
-        after-size : readSheet sheet ≡ firstOf last tt (contentsIn version1 sheet)
-        unfolding size-wrong
-        after-size = after-key ∙ first-false size-wrong PageSize last tt (contentsIn version1 sheet) size
+  module _ (size : (ltb (fieldIn version1 PageSize sheet) 16 || ltb 4096 (fieldIn version1 PageSize sheet)) ≡ false) where
+    after-size : readBody sheet ≡ firstOf (bodyWrong version1 (length sheet) x ⇒ SheetMalformed ∷ []) tt x
+    unfolding contentsIn
+    after-size = first-false (ltb (x .pageSize) 16 || ltb 4096 (x .pageSize)) PageSize (bodyWrong version1 (length sheet) x ⇒ SheetMalformed ∷ []) tt x size
 
-        pub read-body : bodyWrong version1 (length sheet) (contentsIn version1 sheet) ≡ true → readSheet sheet ≡ Refused SheetMalformed tt
-        unfolding last body-wrong
-        read-body e = after-size ∙ first-true body-wrong SheetMalformed [] tt (contentsIn version1 sheet) e
+    pub body-wrong : bodyWrong version1 (length sheet) (contentsIn version1 sheet) ≡ true → readBody sheet ≡ Refused SheetMalformed tt
+    body-wrong e = after-size ∙ first-true (bodyWrong version1 (length sheet) x) SheetMalformed [] tt x e
 
-        pub read-done : bodyWrong version1 (length sheet) (contentsIn version1 sheet) ≡ false → readSheet sheet ≡ Done (contentsIn version1 sheet)
-        unfolding last body-wrong
-        read-done e = after-size ∙ first-false body-wrong SheetMalformed [] tt (contentsIn version1 sheet) e
+    pub body-done : bodyWrong version1 (length sheet) (contentsIn version1 sheet) ≡ false → readBody sheet ≡ Done (contentsIn version1 sheet)
+    body-done e = after-size ∙ first-false (bodyWrong version1 (length sheet) x) SheetMalformed [] tt x e
 
 -- ---- a page's fingerprint
 

@@ -1,20 +1,46 @@
 // Reading a page sheet.
+use gf2::Modulus;
 use keys::Tested;
 use refusals::Refusal;
+use refusals::Reply;
 use sheets::PageField;
 use sheets::Reading;
 use sheets::Sheet;
-use sheets::Written;
 use sheets::fields;
 use sheets::layout;
+use sheets::layout::Head;
 ghost use mathlib.Core.Path.{_≡_};
 ghost use mathlib.Core.List.{_++_};
 ghost use Prim.Native.Nat.{_+_, _*_, _≤_, min};
 ghost use lib.ListN.{length, drop};
-ghost use Rattle.sheets.specs.Layout.{numbersAt};
-ghost use Rattle.sheets.specs.Sheets.{readSheet, sheetRead, reading, pageAt, pageField, readPages, written};
+ghost use Rattle.refusals.specs.Refusals.{reply};
+ghost use Rattle.acceptance.specs.Keys.{Opened};
+ghost use Rattle.sheets.specs.Layout.{version1, numbersAt, sheetLength};
+ghost use Rattle.sheets.specs.Sheets.{readSheet, sheetRead, reading, pageAt, pageField, readPages};
+ghost use Rattle.sheets.specs.Parts.{HeadOf, readBody};
 
 pub mod wellformed;
+
+// What stands behind a head that is right, under its opened key. Numbers 12, 14 (total, fingerprints, joining).
+fn read_under(p: Modulus, sheet: &[u8], head: Head) -> Reading
+    requires { ⌜ (sheetLength version1 0 ≤ length (now sheet)) × HeadOf (now sheet) head × Opened (head .key) p ⌝ }
+    ensures { λ r. ⌜ reading r ≡ sheetRead (readBody (now (sheet .entry))) ⌝ }
+{
+    if !fields::size_right(head.size) {
+        return Reading::Refused(Refusal::PageSize);
+    }
+    if !wellformed::body_right(sheet, head, p) {
+        return Reading::Refused(Refusal::SheetMalformed);
+    }
+    let count = fields::page_count(head.size, head.length);
+    Reading::Sheet(Sheet {
+        key: head.key,
+        length: head.length,
+        size: head.size,
+        pages: count,
+        fingerprint: layout::fingerprint_at(sheet, count),
+    })
+}
 
 // Reads a sheet. Numbers 14 (size, letters, version), 1, 2, 12, 14 (total, fingerprints, joining).
 pub fn read(sheet: &[u8]) -> Reading
@@ -24,29 +50,10 @@ pub fn read(sheet: &[u8]) -> Reading
         return Reading::Refused(Refusal::SheetMalformed);
     }
     let head = layout::read_head(sheet);
-    let key = head.key;
-    match keys::test(key) {
-        Tested::Refused(r) => {
-            return Reading::Refused(r);
-        }
-        Tested::Accepted => {}
+    match keys::test(head.key) {
+        Tested::Refused(r) => Reading::Refused(r),
+        Tested::Accepted(p) => read_under(p, sheet, head),
     }
-    if !fields::size_right(head.size) {
-        return Reading::Refused(Refusal::PageSize);
-    }
-    let k = gf2::degree(key);
-    let low = gf2::low_bits(key, k);
-    if !wellformed::body_right(sheet, head, k, low) {
-        return Reading::Refused(Refusal::SheetMalformed);
-    }
-    let count = fields::page_count(head.size, head.length);
-    Reading::Sheet(Sheet {
-        key: key,
-        length: head.length,
-        size: head.size,
-        pages: count,
-        fingerprint: layout::fingerprint_at(sheet, count),
-    })
 }
 
 // The fingerprint of page i of a sheet that was read as x.
@@ -84,15 +91,15 @@ fn copy_fields(lent: &mut [u64], fields: &[u8], n: usize)
 }
 
 // The page fingerprints of a sheet into lent places: the first ones, as far as the places reach. Reading's numbers.
-pub fn read_pages(sheet: &[u8], lent: &mut [u64]) -> Written
-    ensures { λ r. ⌜ written r (now (lent .exit)) ≡ readPages (now (sheet .entry)) (now (lent .entry)) ⌝ }
+pub fn read_pages(sheet: &[u8], lent: &mut [u64]) -> Reply
+    ensures { λ r. ⌜ reply (now (lent .exit)) r ≡ readPages (now (sheet .entry)) (now (lent .entry)) ⌝ }
 {
     match read(sheet) {
-        Reading::Refused(r) => Written::Refused(r),
+        Reading::Refused(r) => Reply::Refused(r),
         Reading::Sheet(x) => {
             let n = least(x.pages, lent.len());
             copy_fields(lent, layout::page_fields(sheet), n);
-            Written::Done
+            Reply::Done
         }
     }
 }

@@ -6,12 +6,16 @@ use Prim.Native.Nat.{ℕ, _+_, _≤_, _<_}
 use lib.Dec.{ltb}
 use lib.ListN.{length, drop}
 use borrow.Author.Tests.{lt-ltb, le-ltb}
+use Rattle.gf2.specs.declared.Modulus.{Modulus}
 use Rattle.refusals.specs.declared.Refusal.{Refusal}
 use Rattle.refusals.specs.declared.Refusal.the-variants.{TooLong, PageSize, BufferShort}
 use Rattle.refusals.specs.Refusals.{Done, Refused, Test, _⇒_, firstOf, passes, longest}
-use Rattle.acceptance.specs.Keys.{keyTests}
-use Rattle.keys.specs.Testing.{testKey}
-use Rattle.keys.proofs.Laws.{Passed, first-passed, first-refused}
+use Rattle.acceptance.specs.Keys.{keyTests, Opened}
+use Rattle.acceptance.proofs.Opened.{opened-first}
+use Rattle.keys.specs.declared.Tested.{Tested}
+use Rattle.keys.specs.declared.Tested.the-variants as tested-cases
+use Rattle.keys.specs.Testing.{testKey, tested}
+use Rattle.keys.proofs.Laws.{refused}
 use Rattle.sheets.specs.Layout.{version1, sheetLength, pageCount, sheetBytes}
 use Rattle.sheets.specs.Sheets.{contentsOf, writeSheet}
 
@@ -32,12 +36,12 @@ module _ (key s : ℕ) (file buffer : List ℕ) where
   unfolding writeSheet rest last after long
   by-steps = refl
 
-  pub write-key : (q : Refusal) → testKey key ≡ Refused q tt → writeSheet key s file buffer ≡ Refused q buffer
-  write-key q e = by-steps ∙ first-refused key rest buffer after q e
+  pub write-refused : (t : Tested) (q : Refusal) → tested t ≡ testKey key → t ≡ tested-cases.Refused q → writeSheet key s file buffer ≡ Refused q buffer
+  write-refused t q e a = by-steps ∙ refused t key e rest buffer after q a
 
-  module _ (passed : Passed key) where
+  module _ {p : Modulus} (o : Opened key p) where
     after-key : writeSheet key s file buffer ≡ firstOf rest buffer after
-    after-key = by-steps ∙ first-passed key rest buffer after passed
+    after-key = by-steps ∙ opened-first o rest buffer after
 
     pub write-long : longest < length file → writeSheet key s file buffer ≡ Refused TooLong buffer
     unfolding rest

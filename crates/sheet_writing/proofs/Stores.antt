@@ -7,7 +7,9 @@ use native.Mathlib.Omega.{arith}
 use lib.ListN.{length, take, drop, length-append, length-drop}
 use lib.Pow.{pow-mono}
 use lib.Seq.{sets, take-at, drop-at, drop-drop}
-use Rattle.gf2.specs.Polynomials.{degree, monic, Modulus}
+use Rattle.gf2.specs.Polynomials.{degree}
+use Rattle.gf2.specs.Moduli.{polynomial, Proper}
+use Rattle.gf2.specs.declared.Modulus.{Modulus}
 use Rattle.lists.proofs.Lists.{all-map}
 use Rattle.gf2.proofs.Monics.{monic-pos, monic-degree}
 use Rattle.sheets.specs.Layout.{version1, bytesOf, fieldsOf, numbersAt, pagePlace, pageCount, sheetLength, Contents, valueOf, bytesIn, sheetBytes}
@@ -42,18 +44,18 @@ sheet-stores x c b b' part ec h e ep =
     ∙ ap₂ (λ (u : List ℕ) (n : ℕ). u ++ drop n b) (sym (append-assoc head pages last)) all
 
 -- the fields of the whole pages read back, after all pages' were stored
-pub whole-stored : (k low : ℕ) → Modulus k low → (s : ℕ) (file b : List ℕ) → 0 < s → 8 * pageCount s (length file) ≤ length b
-    → numbersAt 0 8 (length file / s) (sets b 0 (fieldsOf 8 (pageFingerprints (monic k low) s (pageCount s (length file)) file)))
-    ≡ pageFingerprints (monic k low) s (length file / s) file
-whole-stored k low m s file b pos h =
-    let key = monic k low in
+pub whole-stored : (p : Modulus) → Proper p → (s : ℕ) (file b : List ℕ) → 0 < s → 8 * pageCount s (length file) ≤ length b
+    → numbersAt 0 8 (length file / s) (sets b 0 (fieldsOf 8 (pageFingerprints (polynomial p) s (pageCount s (length file)) file)))
+    ≡ pageFingerprints (polynomial p) s (length file / s) file
+whole-stored p m s file b pos h =
+    let key = polynomial p in
     let w = length file / s in
     let n = pageCount s (length file) in
     let e : w + (n - w) ≡ n = omega (arith, count-whole s (length file) pos) in
     let us = pageFingerprints key s w file in
     let vs = pageFingerprints key s (n - w) (drop (w * s) file) in
     let all : pageFingerprints key s n file ≡ us ++ vs = ap (λ (c : ℕ). pageFingerprints key s c file) (sym e) ∙ pages-split key s w (n - w) file in
-    let word : 2 ^ degree key ≤ 2 ^ 64 = rw (monic-degree k low (m .2)) (pow-mono {i = k} {j = 64} (m .1)) in
-    let small = all-map (λ f (l : f < 2 ^ degree key). lt-of-lt-of-le l word) us (fingerprints-lt (monic-pos k low (m .2)) w s file) in
+    let word : 2 ^ degree key ≤ 2 ^ 64 = rw (monic-degree (p .degree) (p .low) (m .2)) (pow-mono {i = p .degree} {j = 64} (m .1)) in
+    let small = all-map (λ f (l : f < 2 ^ degree key). lt-of-lt-of-le l word) us (fingerprints-lt (monic-pos (p .degree) (p .low) (m .2)) w s file) in
     ap₂ (λ (c : ℕ) (fs : List ℕ). numbersAt 0 8 c (sets b 0 (fieldsOf 8 fs))) (sym (length-pages key w s file)) all
     ∙ numbers-stored us vs b 0 8 (rw (← all, length-pages key n s file, zero-add) h) small

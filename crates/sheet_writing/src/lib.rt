@@ -1,7 +1,8 @@
 // Writing a page sheet.
+use gf2::Modulus;
 use keys::Tested;
 use refusals::Refusal;
-use sheets::Written;
+use refusals::Reply;
 use sheets::fields;
 use sheets::layout;
 use sheets::layout::Head;
@@ -10,10 +11,12 @@ ghost use mathlib.Core.List.{_++_};
 ghost use Prim.Native.Nat.{_+_, _*_, _/_, _≤_, _<_, _^_};
 ghost use lib.ListN.{length, drop};
 ghost use lib.Seq.{sets};
-ghost use Rattle.gf2.specs.Polynomials.{monic, Modulus};
+ghost use Rattle.gf2.specs.Moduli.{polynomial, Proper};
+ghost use Rattle.refusals.specs.Refusals.{reply};
+ghost use Rattle.acceptance.specs.Keys.{Opened};
 ghost use Rattle.files.specs.Files.{fingerprint};
 ghost use Rattle.sheets.specs.Layout.{version1, bytesOf, fieldsOf, numbersAt, sheetLength, pageCount, sheetBytes};
-ghost use Rattle.sheets.specs.Sheets.{filled, pageFingerprints, contentsOf, writeSheet, written};
+ghost use Rattle.sheets.specs.Sheets.{filled, pageFingerprints, contentsOf, writeSheet};
 ghost use Rattle.sheets.specs.Parts.{lastPage};
 ghost use Rattle.sheet_pages.specs.Blocks.{PageTables};
 
@@ -36,70 +39,60 @@ fn put_pages(
     fields: &mut [u8],
     words: &[u64],
     eights: &[u64],
-    k: u32,
-    low: u64,
+    p: Modulus,
     size: usize,
     last: u64,
     file: &[u8],
 )
-    requires { ⌜ PageTables k low (now words) (now eights) × (16 ≤ size) × (size ≤ 4096) × (length (now file) < 2 ^ 32)
-        × (last ≡ fingerprint (monic k low) (filled size (lastPage size (now file)))) × (8 * pageCount size (length (now file)) ≤ length (now fields)) ⌝ }
+    requires { ⌜ PageTables p (now words) (now eights) × (16 ≤ size) × (size ≤ 4096) × (length (now file) < 2 ^ 32)
+        × (last ≡ fingerprint (polynomial p) (filled size (lastPage size (now file)))) × (8 * pageCount size (length (now file)) ≤ length (now fields)) ⌝ }
     ensures { λ r. ⌜ now (fields .exit) ≡ sets (now (fields .entry)) 0
-        (fieldsOf 8 (pageFingerprints (monic k low) size (pageCount size (length (now (file .entry)))) (now (file .entry)))) ⌝ }
+        (fieldsOf 8 (pageFingerprints (polynomial p) size (pageCount size (length (now (file .entry)))) (now (file .entry)))) ⌝ }
 {
     let mut marks = [0u64; 64];
     let mut i: usize = 0;
     while i * size < file.len() {
         let at = i * size;
-        let n = sheet_pages::next_pages(&mut marks, words, eights, k, low, size, last, &file[at..]);
+        let n = sheet_pages::next_pages(&mut marks, words, eights, p, size, last, &file[at..]);
         put_fields(fields, 8 * i, &marks[..n]);
         i += n;
     }
 }
 
 // The file's fingerprint: those of its whole pages, which stand in the fields, joined, and that of what is behind them.
-fn file_mark(fields: &[u8], k: u32, low: u64, size: u64, own: u64, file: &[u8]) -> u64
-    requires { ⌜ Modulus k low × (k < 64) × (16 ≤ size) × (size ≤ 4096) × (length (now file) < 2 ^ 32)
-        × (own ≡ fingerprint (monic k low) (lastPage size (now file))) × (8 * (length (now file) / size) ≤ length (now fields))
-        × (numbersAt 0 8 (length (now file) / size) (now fields) ≡ pageFingerprints (monic k low) size (length (now file) / size) (now file)) ⌝ }
-    ensures { λ r. ⌜ r ≡ fingerprint (monic k low) (now (file .entry)) ⌝ }
+fn file_mark(fields: &[u8], p: Modulus, size: u64, own: u64, file: &[u8]) -> u64
+    requires { ⌜ Proper p × (p .degree < 64) × (16 ≤ size) × (size ≤ 4096) × (length (now file) < 2 ^ 32)
+        × (own ≡ fingerprint (polynomial p) (lastPage size (now file))) × (8 * (length (now file) / size) ≤ length (now fields))
+        × (numbersAt 0 8 (length (now file) / size) (now fields) ≡ pageFingerprints (polynomial p) size (length (now file) / size) (now file)) ⌝ }
+    ensures { λ r. ⌜ r ≡ fingerprint (polynomial p) (now (file .entry)) ⌝ }
 {
     let n = file.len() as u64;
     let whole = n / size;
-    let joined = sheet_pages::joining::pages_joined(fields, k, low, size, whole).mark;
-    compose::joined_residue(k, low, joined, own, n - whole * size)
+    let joined = sheet_pages::joining::pages_joined(fields, p, size, whole).mark;
+    files::joined_residue(p, joined, own, n - whole * size)
 }
 
 // Writes all fingerprints: the pages', and the file's behind them.
-fn put_fingerprints(fields: &mut [u8], k: u32, low: u64, size: u64, file: &[u8])
-    requires { ⌜ Modulus k low × (8 ≤ k) × (k < 64) × (16 ≤ size) × (size ≤ 4096) × (length (now file) < 2 ^ 32)
+fn put_fingerprints(fields: &mut [u8], p: Modulus, size: u64, file: &[u8])
+    requires { ⌜ Proper p × (8 ≤ p .degree) × (p .degree < 64) × (16 ≤ size) × (size ≤ 4096) × (length (now file) < 2 ^ 32)
         × (8 * pageCount size (length (now file)) + 8 ≤ length (now fields)) ⌝ }
     ensures { λ r. ⌜ now (fields .exit) ≡ sets (now (fields .entry)) 0
-        (fieldsOf 8 (pageFingerprints (monic k low) size (pageCount size (length (now (file .entry)))) (now (file .entry)))
-        ++ bytesOf 8 (fingerprint (monic k low) (now (file .entry)))) ⌝ }
+        (fieldsOf 8 (pageFingerprints (polynomial p) size (pageCount size (length (now (file .entry)))) (now (file .entry)))
+        ++ bytesOf 8 (fingerprint (polynomial p) (now (file .entry)))) ⌝ }
 {
     let mut words = [0u64; 1024];
     let mut eights = [0u64; 2048];
-    sheet_pages::fill_tables(&mut words, &mut eights, k, low);
-    let last = sheet_pages::last_page(&words, k, low, size as usize, file);
-    put_pages(
-        fields,
-        &words,
-        &eights,
-        k,
-        low,
-        size as usize,
-        last.filled,
-        file,
-    );
-    let f = file_mark(fields, k, low, size, last.own, file);
+    sheet_pages::fill_tables(&mut words, &mut eights, p);
+    let last = sheet_pages::last_page(&words, p, size as usize, file);
+    put_pages(fields, &words, &eights, p, size as usize, last.filled, file);
+    let f = file_mark(fields, p, size, last.own, file);
     let count = fields::page_count(size, file.len() as u64);
     fields::put(fields, (8 * count) as usize, 8, f);
 }
 
 // Writes the sheet; the buffer's further bytes keep their value.
-fn put_sheet(buffer: &mut [u8], key: u64, k: u32, low: u64, size: u64, file: &[u8])
-    requires { ⌜ Modulus k low × (8 ≤ k) × (k < 64) × (monic k low ≡ key) × (16 ≤ size) × (size ≤ 4096) × (length (now file) < 2 ^ 32)
+fn put_sheet(buffer: &mut [u8], key: u64, p: Modulus, size: u64, file: &[u8])
+    requires { ⌜ Opened key p × (16 ≤ size) × (size ≤ 4096) × (length (now file) < 2 ^ 32)
         × (sheetLength version1 (pageCount size (length (now file))) ≤ length (now buffer)) ⌝ }
     ensures { λ r. ⌜ now (buffer .exit) ≡ sheetBytes version1 (contentsOf key size (now (file .entry)))
         ++ drop (sheetLength version1 (pageCount size (length (now (file .entry))))) (now (buffer .entry)) ⌝ }
@@ -111,31 +104,34 @@ fn put_sheet(buffer: &mut [u8], key: u64, k: u32, low: u64, size: u64, file: &[u
     };
     layout::put_head(buffer, head);
     let from = layout::PAGES;
-    put_fingerprints(&mut buffer[from..], k, low, size, file);
+    put_fingerprints(&mut buffer[from..], p, size, file);
+}
+
+// Writes the sheet of a file under an opened key. Numbers 7, 12, 13.
+fn write_under(key: u64, p: Modulus, size: u64, file: &[u8], buffer: &mut [u8]) -> Reply
+    requires { ⌜ Opened key p ⌝ }
+    ensures { λ r. ⌜ reply (now (buffer .exit)) r ≡ writeSheet key size (now (file .entry)) (now (buffer .entry)) ⌝ }
+{
+    let n = file.len() as u64;
+    if refusals::LONGEST < n {
+        return Reply::Refused(Refusal::TooLong);
+    }
+    if !fields::size_right(size) {
+        return Reply::Refused(Refusal::PageSize);
+    }
+    if (buffer.len() as u64) < layout::sheet_length(fields::page_count(size, n)) {
+        return Reply::Refused(Refusal::BufferShort);
+    }
+    put_sheet(buffer, key, p, size, file);
+    Reply::Done
 }
 
 // Writes the sheet of a file. Numbers 1, 2, 7, 12, 13.
-pub fn write(key: u64, size: u64, file: &[u8], buffer: &mut [u8]) -> Written
-    ensures { λ r. ⌜ written r (now (buffer .exit)) ≡ writeSheet key size (now (file .entry)) (now (buffer .entry)) ⌝ }
+pub fn write(key: u64, size: u64, file: &[u8], buffer: &mut [u8]) -> Reply
+    ensures { λ r. ⌜ reply (now (buffer .exit)) r ≡ writeSheet key size (now (file .entry)) (now (buffer .entry)) ⌝ }
 {
     match keys::test(key) {
-        Tested::Refused(r) => {
-            return Written::Refused(r);
-        }
-        Tested::Accepted => {}
+        Tested::Refused(r) => Reply::Refused(r),
+        Tested::Accepted(p) => write_under(key, p, size, file, buffer),
     }
-    let n = file.len() as u64;
-    if 4294967295 < n {
-        return Written::Refused(Refusal::TooLong);
-    }
-    if !fields::size_right(size) {
-        return Written::Refused(Refusal::PageSize);
-    }
-    if (buffer.len() as u64) < layout::sheet_length(fields::page_count(size, n)) {
-        return Written::Refused(Refusal::BufferShort);
-    }
-    let k = gf2::degree(key);
-    let low = gf2::low_bits(key, k);
-    put_sheet(buffer, key, k, low, size, file);
-    Written::Done
 }

@@ -13,13 +13,13 @@ use Rattle.gf2.proofs.Sums.{⊕-eq, ⊕-lt, ⊕-shl}
 use Rattle.gf2.proofs.Degrees.{degree-is}
 use Rattle.gf2.proofs.Divisors.{dvd-by}
 use Rattle.gf2.proofs.Residues.{dvd-of-rem}
+use Rattle.gf2.proofs.Irreducibles.{no-burst}
 use Rattle.refusals.specs.Refusals.{Done, longest}
 use Rattle.acceptance.specs.Keys.{accepted}
 use Rattle.acceptance.proofs.Laws.{accepted-iff, accepted-pos}
 use Rattle.files.specs.Files.{Bytes, fingerprint, markOf}
-use Rattle.book.specs.Confusions.{Burst}
-use Rattle.book.proofs.BurstLaws.{no-burst}
-use Rattle.book.proofs.ConfusionLaws.{no-equal-key}
+use Rattle.files.specs.Bursts.{Burst}
+use Rattle.files.proofs.Bursts.{burst-equal}
 use Rattle.sheets.specs.Layout.{version1, pageCount, Contents, sheetBytes}
 use Rattle.sheets.specs.Sheets.{contentsOf, joinedPages, WellFormed, Same, pagesNow, compared, checkSheet}
 use Rattle.sheets.proofs.Pages.{fingerprint-lt, pages-joined}
@@ -75,5 +75,6 @@ pub no-burst-same : (key s : ℕ) (a b : List ℕ) → accepted key ≡ true →
 unfolding contentsOf
 no-burst-same key s a b acc n lo hi ha hb ne burst same =
     let w : WellFormed (sheetBytes version1 (contentsOf key s a)) = record { contents = contentsOf key s a; sound = file-sound key s a acc n lo hi; bytes = refl } in
-    no-equal-key (degree key) a b ha hb ne burst key
-    (record { is-accepted = acc; of-degree = refl; prints = sym (same-fingerprint (sheetBytes version1 (contentsOf key s a)) w b (omega (arith, burst .same-length)) same) })
+    let i = accepted-iff key .0 acc in
+    ne (burst-equal key (degree key) a b (i .2) (degree-is key (accepted-pos key acc)) (omega arith) ha hb burst
+    (sym (same-fingerprint (sheetBytes version1 (contentsOf key s a)) w b (omega (arith, burst .same-length)) same)))

@@ -11,11 +11,9 @@ use Rattle.gf2.specs.Polynomials.{_⊕_, rem, degree}
 use Rattle.lists.specs.Lists.{All}
 use Rattle.gf2.proofs.Residues.{rem-lt}
 use Rattle.files.specs.declared.Mark.{Mark}
-use Rattle.files.specs.Files.{bits, valueFrom, value, fingerprint, markOf}
+use Rattle.files.specs.Files.{bits, valueFrom, value, fingerprint, markOf, joined}
 use Rattle.files.proofs.Values.{value-byte}
-use Rattle.files.proofs.Marks.{fed}
-use Rattle.compose.specs.Composing.{joined}
-use Rattle.compose.proofs.Laws.{joined-true}
+use Rattle.files.proofs.Marks.{fed, joined-true}
 use Rattle.sheets.specs.Layout.{pageCount}
 use Rattle.sheets.proofs.Numbers.{pow-next}
 use Rattle.sheets.specs.Sheets.{filled, pageFingerprints, joinedPages}

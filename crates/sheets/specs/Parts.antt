@@ -5,12 +5,12 @@ use mathlib.Core.List.{List, [], _∷_}
 use Prim.Native.Nat.{ℕ, suc, _*_, _/_, _^_, _<_}
 use lib.Dec.{eqb}
 use lib.ListN.{length, drop}
-use Rattle.refusals.specs.declared.Refusal.the-variants.{TooLong}
+use Rattle.refusals.specs.declared.Refusal.the-variants.{TooLong, SheetMalformed}
 use Rattle.refusals.specs.Refusals.{Answer, Done, _⇒_, firstOf, passes}
 use Rattle.sheets.specs.declared.Sheet.{Sheet}
 use Rattle.sheets.specs.declared.layout.Head.{Head}
 use Rattle.sheets.specs.Layout.{Key, Length, PageSize, version1, pagePlace, Contents, fieldIn, contentsIn}
-use Rattle.sheets.specs.Sheets.{readSheet, numbersOf, Outcome, compared}
+use Rattle.sheets.specs.Sheets.{sizeTest, bodyWrong, readSheet, numbersOf, Outcome, compared}
 
 -- what a file has behind its whole pages, of s bytes each
 abbrev pub lastPage : ℕ → List ℕ → List ℕ
@@ -21,6 +21,12 @@ unfoldable pub agreeing : List ℕ → List ℕ → ℕ
 agreeing [] gs = 0
 agreeing (f ∷ fs) [] = 0
 agreeing (f ∷ fs) (g ∷ gs) = cond (eqb f g) (suc (agreeing fs gs)) 0
+
+-- the rest of reading, where the head is right and the key accepted
+abbrev pub readBody : List ℕ → Answer Unit Contents
+readBody sheet =
+    let x = contentsIn version1 sheet in
+    firstOf (sizeTest (x .pageSize) ∷ bodyWrong version1 (length sheet) x ⇒ SheetMalformed ∷ []) tt x
 
 -- the sheet was read, as the numbers x
 pub record ReadAs (sheet : List ℕ) (x : Sheet) : Type 0 where

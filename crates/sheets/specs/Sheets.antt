@@ -12,11 +12,8 @@ use Rattle.refusals.specs.declared.Refusal.the-variants.{TooLong, PageSize, Buf
 use Rattle.refusals.specs.Refusals.{Answer, Done, Refused, Test, _⇒_, firstOf, passes, longest}
 use Rattle.acceptance.specs.Keys.{accepted, keyTests}
 use Rattle.files.specs.declared.Mark.{Mark}
-use Rattle.files.specs.Files.{fingerprint, markOf}
-use Rattle.compose.specs.Composing.{joined}
+use Rattle.files.specs.Files.{fingerprint, markOf, joined}
 use Rattle.sheets.specs.Layout.{Letters, Version, Layout, version1, pagePlace, sheetLength, pageCount, numberAt, Contents, letters, sheetBytes, fieldIn, contentsIn}
-use Rattle.sheets.specs.declared.Written.{Written}
-use Rattle.sheets.specs.declared.Written.the-variants as written-cases
 use Rattle.sheets.specs.declared.Sheet.{Sheet}
 use Rattle.sheets.specs.declared.Reading.{Reading}
 use Rattle.sheets.specs.declared.Reading.the-variants as reading-cases
@@ -173,10 +170,6 @@ rangeOf x (Done o) = pageRange x o
 rangeOf x (Refused r s) = NoRange
 
 -- ---- the answers in code: their numbers and values
-
-abbrev pub written : Written → List ℕ → Answer (List ℕ) (List ℕ)
-written written-cases.Done buffer = Done buffer
-written (written-cases.Refused r) buffer = Refused r buffer
 
 -- the numbers that a reader is given at once; each page's fingerprint is asked for by its place
 abbrev pub numbersOf : Contents → Sheet

@@ -5,12 +5,6 @@ use refusals::Refusal;
 pub mod fields;
 pub mod layout;
 
-// The answer to writing a sheet.
-pub enum Written {
-    Done,
-    Refused(Refusal),
-}
-
 // The numbers of a sheet: its key, the file's length, the page size, the number of pages and the file's fingerprint.
 pub struct Sheet {
     pub key: u64,

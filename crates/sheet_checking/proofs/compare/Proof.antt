@@ -4,15 +4,13 @@ use mathlib.Core.List.{List}
 use Prim.Native.Nat.{ℕ, _≤_, _<_}
 use native.Mathlib.Omega.{arith}
 use lib.ListN.{length, length-drop}
-use Rattle.gf2.proofs.Monics.{word-degree}
+use Rattle.gf2.specs.Moduli.{modulusOf}
 use Rattle.refusals.specs.Refusals.{Done}
-use Rattle.acceptance.proofs.Laws.{accepted-pos, accepted-small}
-use Rattle.sheets.specs.Layout.{version1, numbersAt, pagePlace, sheetLength, pageCount}
+use Rattle.acceptance.specs.Keys.{Opened}
+use Rattle.acceptance.proofs.Opened.{open-accepted, opened-from, opened-proper, opened-eight, opened-whole}
+use Rattle.sheets.specs.Layout.{version1, numbersAt, pagePlace, sheetLength, pageCount, contentsIn}
 use Rattle.sheets.specs.Sheets.{Sound, pageFingerprints, firstChange}
-use Rattle.sheets.specs.Parts.{ReadAs}
-use Rattle.sheets.specs.Layout.{contentsIn}
 use Rattle.sheets.proofs.Known.{sound}
-use Rattle.sheets.proofs.Moduli.{Held, accepted-held}
 use Rattle.sheet_checking.proofs.Laws.{compare-long, compare-other, compare-pages, size-is, key-is, length-is, pages-there}
 use borrow.Author.Needs.{needs}
 use Rattle.sheet_checking.proofs.compare.Statement.{statement}
@@ -22,10 +20,10 @@ use Rattle.sheet_checking.proofs.compare.Tie as tie
 abbrev start : tie.Else2 → tie.Start
 start c = c .before .before .before .before
 
-abbrev equal : tie.After-low-bits → tie.Else2
-equal c = c .before .before
+abbrev equal : tie.After-modulus-of → tie.Else2
+equal c = c .before
 
-abbrev opened : tie.After-fill-tables → tie.After-low-bits
+abbrev opened : tie.After-fill-tables → tie.After-modulus-of
 opened c = c .before .before .before
 
 abbrev tables : tie.After-last-page → tie.After-fill-tables
@@ -53,10 +51,12 @@ size s = rw (size-is (sheet s) (s .pre)) (fields s .pageSize)
 total : (c : tie.Else2) → sheetLength version1 (pageCount (start c .args .x .size) (length (file (start c)))) ≡ length (sheet (start c))
 total c = let s = start c in pages-there (sheet s) (s .pre) (file s) (c .if2 .left)
 
-key-held : (c : tie.After-low-bits) → Held (start (equal c) .args .x .key) (c .before .degree .result) (c .low-bits .result)
-key-held c =
-    let s = start (equal c) in
-    accepted-held (s .args .x .key) (c .before .degree .result) (c .low-bits .result) (rw (key-is (sheet s) (s .pre)) (fields s .key)) (c .before .degree .ensures) (c .low-bits .ensures)
+-- the key of a sheet that was read is accepted
+key-opened : (c : tie.Else2) → Opened (start c .args .x .key) (modulusOf (start c .args .x .key))
+key-opened c = let s = start c in open-accepted (s .args .x .key) (rw (key-is (sheet s) (s .pre)) (fields s .key))
+
+key-held : (c : tie.After-modulus-of) → Opened (start (c .before) .args .x .key) (c .modulus-of .result)
+key-held c = rw (c .modulus-of .ensures) (key-opened (c .before))
 
 returns : tie.Need-returns
 returns c = let s = c .before .before .before in sym (compare-long (sheet s) (file s) (omega arith))
@@ -66,16 +66,8 @@ returns-2 c =
     let s = c .before .before .before .before in
     sym (compare-other (sheet s) (file s) (omega arith) (λ e. c .if2 .taken (e ∙ sym (length-is (sheet s) (s .pre)))))
 
-degree-requires : tie.Need-degree-requires
-degree-requires c κs = let s = start c in rw (key-is (sheet s) (s .pre)) (accepted-pos _ (fields s .key))
-
-low-bits-requires : tie.Need-low-bits-requires
-low-bits-requires c κs =
-    let s = start (c .before) in
-    by (c .degree .ensures) (rw (key-is (sheet s) (s .pre)) (word-degree _ (accepted-pos _ (fields s .key)) (accepted-small _ (fields s .key))))
-  where
-    by : {x y b : ℕ} → x ≡ y → y < b → x < b
-    by e h = rw e h
+modulus-of-requires : tie.Need-modulus-of-requires
+modulus-of-requires c κs = omega (arith, opened-from (key-opened c))
 
 slice-aggregate-fill-tables : tie.Need-slice-aggregate-fill-tables
 slice-aggregate-fill-tables c = search needs
@@ -84,7 +76,7 @@ slice-aggregate-fill-tables-2 : tie.Need-slice-aggregate-fill-tables-2
 slice-aggregate-fill-tables-2 c = search needs
 
 fill-tables-requires : tie.Need-fill-tables-requires
-fill-tables-requires c κs = let h = key-held (c .before .before) in (h .modulus, h .eight, refl, refl)
+fill-tables-requires c κs = let h = key-held (c .before .before) in (opened-proper h, opened-eight h, refl, refl)
 
 slice-aggregate-last-page : tie.Need-slice-aggregate-last-page
 slice-aggregate-last-page c = search needs
@@ -93,7 +85,7 @@ last-page-requires : tie.Need-last-page-requires
 last-page-requires c κs =
     let t = c .before .before .before in
     let z = size (start (equal (opened t))) in
-    (t .fill-tables .ensures .reduces, omega (arith, z .0), z .1)
+    (t .fill-tables .ensures .table, omega (arith, z .0), z .1)
 
 page-fields-requires : tie.Need-page-fields-requires
 page-fields-requires c κs = omega (arith, total (equal (opened (tables c))))
@@ -123,7 +115,7 @@ returns-3 c =
     let h = key-held (opened (tables (last b))) in
     let count = pageCount (x .size) (length (file s)) in
     c .first-change .ensures
-    ∙ ap (λ (m : ℕ). Done (firstChange 0 (numbersAt 0 8 count (part .result .now)) (pageFingerprints m (x .size) count (file s)))) (h .whole)
+    ∙ ap (λ (m : ℕ). Done (firstChange 0 (numbersAt 0 8 count (part .result .now)) (pageFingerprints m (x .size) count (file s)))) (opened-whole h)
     ∙ sym (compare-pages (sheet s) (file s) (omega arith) (x .key) (x .size) (key-is (sheet s) (s .pre)) (size-is (sheet s) (s .pre))
     (e .if2 .left ∙ length-is (sheet s) (s .pre)) (part .result .now) (part .ensures))
 
@@ -133,8 +125,7 @@ compare-spec =
     (tie.spec
     returns
     returns-2
-    degree-requires
-    low-bits-requires
+    modulus-of-requires
     slice-aggregate-fill-tables
     slice-aggregate-fill-tables-2
     fill-tables-requires

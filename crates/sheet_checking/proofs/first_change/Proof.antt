@@ -6,7 +6,7 @@ use native.Mathlib.Nat.{sub-zero, zero-mul}
 use native.Mathlib.Omega.{arith}
 use lib.ListN.{length, take, drop}
 use lib.Seq.{length-take-le}
-use Rattle.gf2.specs.Polynomials.{monic}
+use Rattle.gf2.specs.Moduli.{polynomial}
 use Rattle.refusals.specs.Refusals.{Done}
 use Rattle.sheets.specs.Layout.{numbersAt, pageCount}
 use Rattle.sheets.specs.Sheets.{pageFingerprints, firstChange}
@@ -17,14 +17,14 @@ use Rattle.sheet_checking.proofs.first_change.Statement.{statement}
 use Rattle.sheet_checking.proofs.first_change.Tie as tie
 
 abbrev Inv-loop : tie.InvT-loop
-Inv-loop fields words eights k low size last file marks₀ i₀ marks i =
+Inv-loop fields words eights p size last file marks₀ i₀ marks i =
     (i ≤ pageCount size (length file)) × (length marks ≡ 64)
     × (firstChange i (numbersAt (8 * i) 8 (pageCount size (length file) - i) fields)
-    (pageFingerprints (monic k low) size (pageCount size (length file) - i) (drop (i * size) file))
-    ≡ firstChange 0 (numbersAt 0 8 (pageCount size (length file)) fields) (pageFingerprints (monic k low) size (pageCount size (length file)) file))
+    (pageFingerprints (polynomial p) size (pageCount size (length file) - i) (drop (i * size) file))
+    ≡ firstChange 0 (numbersAt 0 8 (pageCount size (length file)) fields) (pageFingerprints (polynomial p) size (pageCount size (length file)) file))
 
 abbrev μ-loop : tie.MeasureT-loop
-μ-loop fields words eights k low size last file marks₀ i₀ marks i = pageCount size (length file) - i
+μ-loop fields words eights p size last file marks₀ i₀ marks i = pageCount size (length file) - i
 
 -- the start, the loop, the next pages and those that agree
 abbrev start : tie.At-loop Inv-loop μ-loop → tie.Start Inv-loop μ-loop
@@ -40,7 +40,7 @@ abbrev next : tie.After-agreeing Inv-loop μ-loop → tie.After-next-pages Inv-l
 next c = c .before .before .before
 
 abbrev key : tie.Start Inv-loop μ-loop → ℕ
-key s = monic (s .args .k) (s .args .low)
+key s = polynomial (s .args .p)
 
 abbrev file : tie.Start Inv-loop μ-loop → List ℕ
 file s = s .args .file .now

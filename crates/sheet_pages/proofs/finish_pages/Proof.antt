@@ -4,7 +4,8 @@ use Prim.Native.Nat.{ℕ, _+_, _-_, _*_, _≤_}
 use native.Mathlib.Omega.{arith}
 use lib.ListN.{length, getD, length-set}
 use lib.Seq.{getD-set-other}
-use Rattle.gf2.specs.Polynomials.{monic, rem}
+use Rattle.gf2.specs.Polynomials.{rem}
+use Rattle.gf2.specs.Moduli.{polynomial}
 use Rattle.gf2.proofs.Monics.{monic-pos}
 use Rattle.sheet_pages.specs.Blocks.{Finished}
 use Rattle.sheet_pages.proofs.Blocks.{finished-more, place-fits, page-finished}
@@ -12,11 +13,11 @@ use Rattle.sheet_pages.proofs.finish_pages.Statement.{statement}
 use Rattle.sheet_pages.proofs.finish_pages.Tie as tie
 
 abbrev Inv-loop : tie.InvT-loop
-Inv-loop marks₀ words k low size whole n pages i₀ marks i =
-    (i ≤ n) × (length marks ≡ length marks₀) × Finished (monic k low) size i pages marks × ((j : ℕ) → i ≤ j → getD marks j 0 ≡ getD marks₀ j 0)
+Inv-loop marks₀ words p size whole n pages i₀ marks i =
+    (i ≤ n) × (length marks ≡ length marks₀) × Finished (polynomial p) size i pages marks × ((j : ℕ) → i ≤ j → getD marks j 0 ≡ getD marks₀ j 0)
 
 abbrev μ-loop : tie.MeasureT-loop
-μ-loop marks₀ words k low size whole n pages i₀ marks i = n - i
+μ-loop marks₀ words p size whole n pages i₀ marks i = n - i
 
 -- the loop and the start
 abbrev start : tie.At-loop Inv-loop μ-loop → tie.Start Inv-loop μ-loop
@@ -29,7 +30,7 @@ abbrev read : tie.After-finished Inv-loop μ-loop → tie.After-slice-known2 Inv
 read c = c .before .before
 
 abbrev key : tie.Start Inv-loop μ-loop → ℕ
-key s = monic (s .args .k) (s .args .low)
+key s = polynomial (s .args .p)
 
 loop-holds : tie.Need-loop-holds Inv-loop μ-loop
 loop-holds c = (omega arith, refl, λ i l. absurd (omega arith), λ i l. refl)
@@ -87,7 +88,7 @@ loop-again c =
       omega arith,
       simp length-set (l .inv .1),
       finished-more (key s) (a .size) (a .whole) (a .pages .now) (l .marks) (l .i) (x .result) (omega arith) (l .inv .2)
-          (page-finished (monic-pos (a .k) (a .low) (s .pre .0 .0 .2)) (a .size) (a .whole) (l .i) (a .pages .now) _ (x .result) (s .pre .1) begun (x .ensures)),
+          (page-finished (monic-pos (a .p .degree) (a .p .low) (s .pre .0 .0 .2)) (a .size) (a .whole) (l .i) (a .pages .now) _ (x .result) (s .pre .1) begun (x .ensures)),
       λ j b. getD-set-other (l .marks) (l .i) j (x .result) 0 (λ e. omega (arith, e, b)) ∙ l .inv .3 j (omega (arith, b)),
     )
 

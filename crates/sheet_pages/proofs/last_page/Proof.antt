@@ -5,7 +5,8 @@ use Prim.Native.Nat.{ℕ, _+_, _-_, _*_, _/_, _^_, _≤_, _<_}
 use native.Mathlib.Omega.{arith}
 use lib.ListN.{length, length-drop}
 use lib.Pow.{pow-lt}
-use Rattle.gf2.specs.Polynomials.{_⊗_, monic, rem}
+use Rattle.gf2.specs.Polynomials.{_⊗_, rem}
+use Rattle.gf2.specs.Moduli.{polynomial}
 use Rattle.gf2.proofs.Powers.{rem-⊗-pow}
 use Rattle.gf2.proofs.Monics.{monic-pos}
 use Rattle.gf2.proofs.Steps.{residue-lt}
@@ -21,7 +22,7 @@ abbrev start : tie.After-fed-arg → tie.Start
 start c = c .before .before .before
 
 abbrev key : tie.Start → ℕ
-key s = monic (s .args .k) (s .args .low)
+key s = polynomial (s .args .p)
 
 abbrev file : tie.Start → List ℕ
 file s = s .args .file .now
@@ -55,7 +56,7 @@ part-fed-end : tie.Need-part-fed-end
 part-fed-end c = search needs
 
 fed-requires : tie.Need-fed-requires
-fed-requires c κs = let s = start c in (s .pre .0, pow-lt {i = 0} {j = s .args .k} (s .pre .0 .0 .0))
+fed-requires c κs = let s = start c in (s .pre .0, pow-lt {i = 0} {j = s .args .p .degree} (s .pre .0 .0 .0))
 
 sub-zeros : tie.Need-sub-zeros
 sub-zeros c = omega (arith, ends (start (c .before)))
@@ -70,8 +71,8 @@ power-of-t-requires : tie.Need-power-of-t-requires
 power-of-t-requires c κs = start (c .before) .pre .0 .0
 
 -- a residue is below 2^k
-below : (s : tie.Start) (x y : ℕ) → x ≡ rem (key s) y → x < 2 ^ s .args .k
-below s x y e = rw e (residue-lt (s .args .k) (s .args .low) (s .pre .0 .0 .2) y)
+below : (s : tie.Start) (x y : ℕ) → x ≡ rem (key s) y → x < 2 ^ s .args .p .degree
+below s x y e = rw e (residue-lt (s .args .p .degree) (s .args .p .low) (s .pre .0 .0 .2) y)
 
 product-requires : tie.Need-product-requires
 product-requires c κs =
@@ -85,7 +86,7 @@ returns c =
     let s = start (f .before) in
     let a = s .args in
     let last = lastPage (a .size) (file s) in
-    let pos = monic-pos (a .k) (a .low) (s .pre .0 .0 .2) in
+    let pos = monic-pos (a .p .degree) (a .p .low) (s .pre .0 .0 .2) in
     let left = length-drop (length (file s) / a .size * a .size) (file s) in (
       own f,
       c .product .ensures

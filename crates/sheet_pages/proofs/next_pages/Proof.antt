@@ -5,7 +5,7 @@ use Prim.Native.Nat.{ℕ, zero, suc, _+_, _*_, _/_, _≤_, _<_}
 use native.Mathlib.Nat.{zero-mul, add-mul, mul-le-mul-right}
 use native.Mathlib.Omega.{arith}
 use lib.ListN.{length, length-set}
-use Rattle.gf2.specs.Polynomials.{monic}
+use Rattle.gf2.specs.Moduli.{polynomial}
 use Rattle.sheets.specs.Layout.{pageCount}
 use Rattle.sheets.proofs.Pages.{count-le, whole-fits}
 use Rattle.sheet_pages.proofs.Blocks.{block-last}
@@ -104,7 +104,7 @@ returns-3 c =
       few = omega arith;
       within = one-more (a .size) (length (rest s)) n (omega arith) (omega (arith, c .if2 .left));
       some = λ l. omega arith;
-      prints = block-last (monic (a .k) (a .low)) (a .size) n (a .last) (rest s) _ (omega arith) all (omega (arith, s .pre .3, w .kept .0)) (s .pre .4) (w .ensures);
+      prints = block-last (polynomial (a .p)) (a .size) n (a .last) (rest s) _ (omega arith) all (omega (arith, s .pre .3, w .kept .0)) (s .pre .4) (w .ensures);
     }
 
 pub next-pages-spec : {M : Type 1} → statement M

@@ -5,7 +5,7 @@ use Prim.Native.Nat.{ℕ, _+_, _*_, _/_, _^_, _≤_, _<_}
 use native.Mathlib.Nat.{mul-le-mul-left}
 use native.Mathlib.Omega.{arith}
 use lib.ListN.{length, take}
-use Rattle.gf2.specs.Polynomials.{monic}
+use Rattle.gf2.specs.Moduli.{polynomial}
 use Rattle.gf2.proofs.Monics.{monic-pos, monic-degree}
 use Rattle.files.specs.Files.{fingerprint, markOf}
 use Rattle.sheets.specs.Sheets.{pageFingerprints, joinedPages}
@@ -20,7 +20,7 @@ abbrev start : tie.After-pages-joined → tie.Start
 start c = c .before .before .before
 
 abbrev key : tie.Start → ℕ
-key s = monic (s .args .k) (s .args .low)
+key s = polynomial (s .args .p)
 
 abbrev file : tie.Start → List ℕ
 file s = s .args .file .now
@@ -36,11 +36,11 @@ short : (s : tie.Start) → length (file s) < end s + s .args .size
 short s = last-short (s .args .size) (length (file s)) (omega (arith, s .pre .2))
 
 pos : (s : tie.Start) → 0 < key s
-pos s = monic-pos (s .args .k) (s .args .low) (s .pre .0 .2)
+pos s = monic-pos (s .args .p .degree) (s .args .p .low) (s .pre .0 .2)
 
 -- a fingerprint is below 2^k
-below : (s : tie.Start) (f : ℕ) (part : List ℕ) → f ≡ fingerprint (key s) part → f < 2 ^ s .args .k
-below s f part e = rw e (rw (monic-degree (s .args .k) (s .args .low) (s .pre .0 .2)) at (fingerprint-lt (pos s) part))
+below : (s : tie.Start) (f : ℕ) (part : List ℕ) → f ≡ fingerprint (key s) part → f < 2 ^ s .args .p .degree
+below s f part e = rw e (rw (monic-degree (s .args .p .degree) (s .args .p .low) (s .pre .0 .2)) at (fingerprint-lt (pos s) part))
 
 -- the whole pages' marks joined, which are reduced
 joined : (c : tie.After-pages-joined) → c .pages-joined .result .mark ≡ fingerprint (key (start c)) (take (end (start c)) (file (start c)))
@@ -48,8 +48,8 @@ joined c =
     let s = start c in
     let a = s .args in
     let w = length (file s) / a .size in
-    let small = rw (monic-degree (a .k) (a .low) (s .pre .0 .2)) at (fingerprints-lt (pos s) w (a .size) (file s)) in
-    c .pages-joined .ensures .0 (rw (s .pre .7) (list-reduced (a .k) (pageFingerprints (key s) (a .size) w (file s)) small))
+    let small = rw (monic-degree (a .p .degree) (a .p .low) (s .pre .0 .2)) at (fingerprints-lt (pos s) w (a .size) (file s)) in
+    c .pages-joined .ensures .0 (rw (s .pre .7) (list-reduced (a .p .degree) (pageFingerprints (key s) (a .size) w (file s)) small))
     ∙ ap (λ (fs : List ℕ). joinedPages (key s) (a .size) (markOf (key s) []) fs .fingerprint) (s .pre .7)
     ∙ whole-joined (pos s) (a .size) w (file s) (ends s)
 

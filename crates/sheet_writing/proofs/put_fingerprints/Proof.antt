@@ -6,7 +6,7 @@ use native.Mathlib.Nat.{zero-add}
 use native.Mathlib.Omega.{arith}
 use lib.ListN.{length}
 use lib.Seq.{sets}
-use Rattle.gf2.specs.Polynomials.{monic}
+use Rattle.gf2.specs.Moduli.{polynomial}
 use Rattle.files.specs.Files.{fingerprint}
 use Rattle.sheets.specs.Layout.{bytesOf, fieldsOf, numbersAt, pageCount}
 use Rattle.sheets.specs.Sheets.{pageFingerprints}
@@ -37,7 +37,7 @@ abbrev begin : tie.After-put-pages → tie.Start
 begin c = start (tables (last c) .before)
 
 abbrev key : tie.Start → ℕ
-key s = monic (s .args .k) (s .args .low)
+key s = polynomial (s .args .p)
 
 abbrev file : tie.Start → List ℕ
 file s = s .args .file .now
@@ -65,7 +65,7 @@ last-page-requires : tie.Need-last-page-requires
 last-page-requires c κs =
     let t = c .before .before .before in
     let s = start (t .before) in
-    (t .fill-tables .ensures .reduces, omega (arith, s .pre .3), s .pre .4)
+    (t .fill-tables .ensures .table, omega (arith, s .pre .3), s .pre .4)
 
 slice-aggregate-put-pages : tie.Need-slice-aggregate-put-pages
 slice-aggregate-put-pages c = search needs
@@ -94,7 +94,7 @@ file-mark-requires c κs =
       s .pre .5,
       last p .last-page .ensures .0,
       omega (arith, p .put-pages .kept .0, whole, s .pre .6),
-      ap (numbersAt 0 8 (length (file s) / a .size)) (prints p) ∙ whole-stored (a .k) (a .low) (s .pre .0) (a .size) (file s) (a .fields .now) pos (omega (arith, s .pre .6)),
+      ap (numbersAt 0 8 (length (file s) / a .size)) (prints p) ∙ whole-stored (a .p) (s .pre .0) (a .size) (file s) (a .fields .now) pos (omega (arith, s .pre .6)),
     )
 
 page-count-requires : tie.Need-page-count-requires

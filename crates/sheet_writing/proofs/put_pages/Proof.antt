@@ -6,7 +6,7 @@ use native.Mathlib.Nat.{sub-zero, zero-mul}
 use native.Mathlib.Omega.{arith}
 use lib.ListN.{length, take, drop}
 use lib.Seq.{sets, length-take-le}
-use Rattle.gf2.specs.Polynomials.{monic}
+use Rattle.gf2.specs.Moduli.{polynomial}
 use Rattle.sheets.specs.Layout.{fieldsOf, pageCount}
 use Rattle.sheets.specs.Sheets.{pageFingerprints}
 use Rattle.sheets.proofs.Numbers.{fields-block}
@@ -16,13 +16,13 @@ use Rattle.sheet_writing.proofs.put_pages.Statement.{statement}
 use Rattle.sheet_writing.proofs.put_pages.Tie as tie
 
 abbrev Inv-loop : tie.InvT-loop
-Inv-loop fields₀ words eights k low size last file marks₀ i₀ fields marks i =
+Inv-loop fields₀ words eights p size last file marks₀ i₀ fields marks i =
     (i ≤ pageCount size (length file)) × (length marks ≡ 64) × (length fields ≡ length fields₀)
-    × (sets fields (8 * i) (fieldsOf 8 (pageFingerprints (monic k low) size (pageCount size (length file) - i) (drop (i * size) file)))
-    ≡ sets fields₀ 0 (fieldsOf 8 (pageFingerprints (monic k low) size (pageCount size (length file)) file)))
+    × (sets fields (8 * i) (fieldsOf 8 (pageFingerprints (polynomial p) size (pageCount size (length file) - i) (drop (i * size) file)))
+    ≡ sets fields₀ 0 (fieldsOf 8 (pageFingerprints (polynomial p) size (pageCount size (length file)) file)))
 
 abbrev μ-loop : tie.MeasureT-loop
-μ-loop fields₀ words eights k low size last file marks₀ i₀ fields marks i = pageCount size (length file) - i
+μ-loop fields₀ words eights p size last file marks₀ i₀ fields marks i = pageCount size (length file) - i
 
 -- the start, the loop, the next pages and their fields
 abbrev start : tie.At-loop Inv-loop μ-loop → tie.Start Inv-loop μ-loop
@@ -44,7 +44,7 @@ abbrev given : tie.After-put-fields Inv-loop μ-loop → tie.After-next-pages In
 given c = next (c .before .before)
 
 abbrev key : tie.Start Inv-loop μ-loop → ℕ
-key s = monic (s .args .k) (s .args .low)
+key s = polynomial (s .args .p)
 
 abbrev file : tie.Start Inv-loop μ-loop → List ℕ
 file s = s .args .file .now

@@ -6,6 +6,7 @@ use native.Mathlib.Nat.{le-refl}
 use native.Mathlib.Omega.{arith}
 use lib.ListN.{length, take, drop, length-drop, drop-of-length-le}
 use lib.Seq.{sets}
+use Rattle.acceptance.proofs.Opened.{opened-proper, opened-eight, opened-word, opened-whole}
 use Rattle.files.specs.Files.{fingerprint}
 use Rattle.sheets.specs.Layout.{version1, bytesOf, fieldsOf, pagePlace, pageCount, bytesIn}
 use Rattle.sheets.specs.Sheets.{pageFingerprints, contentsOf}
@@ -22,13 +23,13 @@ abbrev head : tie.After-put-fingerprints-arg → tie.After-put-head
 head c = c .before .before .before
 
 put-head-requires : tie.Need-put-head-requires
-put-head-requires c κs = omega (arith, c .before .before .before .pre .7)
+put-head-requires c κs = omega (arith, c .before .before .before .pre .4)
 
 sub-put-fingerprints : tie.Need-sub-put-fingerprints
-sub-put-fingerprints c = let h = c .before .before in omega (arith, h .put-head .kept .0, start h .pre .7)
+sub-put-fingerprints c = let h = c .before .before in omega (arith, h .put-head .kept .0, start h .pre .4)
 
 part-put-fingerprints-start : tie.Need-part-put-fingerprints-start
-part-put-fingerprints-start c = let h = c .before .before in omega (arith, h .put-head .kept .0, start h .pre .7)
+part-put-fingerprints-start c = let h = c .before .before in omega (arith, h .put-head .kept .0, start h .pre .4)
 
 part-put-fingerprints-end : tie.Need-part-put-fingerprints-end
 part-put-fingerprints-end c = search needs
@@ -39,7 +40,7 @@ put-fingerprints-requires c κs =
     let s = start h in
     let p = s .pre in
     let part = ap length (all-left (h .put-head .last .0) (pagePlace version1 0)) ∙ length-drop (pagePlace version1 0) (h .put-head .last .0) in
-    (p .0, p .1, p .2, p .4, p .5, p .6, omega (arith, part, h .put-head .kept .0, p .7))
+    (opened-proper (p .0), opened-eight (p .0), opened-word (p .0), p .1, p .2, p .3, omega (arith, part, h .put-head .kept .0, p .4))
 
 same-length : tie.Need-same-length
 same-length c = search needs
@@ -59,10 +60,10 @@ returns c =
     let none : drop (length b - place) (drop place b) ≡ [] = drop-of-length-le (drop place b) {i = length b - place} (rw (length-drop place b) (le-refl (length b - place))) in
     let stored : part ≡ sets (drop place b) 0 (fieldsOf 8 (pageFingerprints (a .key) (a .size) count file) ++ bytesOf 8 (fingerprint (a .key) file)) =
     f .put-fingerprints .ensures
-    ∙ ap₂ (λ (l : List ℕ) (m : ℕ). sets l 0 (fieldsOf 8 (pageFingerprints m (a .size) count file) ++ bytesOf 8 (fingerprint m file))) (all-left b place) (s .pre .3) in
+    ∙ ap₂ (λ (l : List ℕ) (m : ℕ). sets l 0 (fieldsOf 8 (pageFingerprints m (a .size) count file) ++ bytesOf 8 (fingerprint m file))) (all-left b place) (opened-whole (s .pre .0)) in
     ap (λ (l : List ℕ). take place b ++ (part ++ l)) none
     ∙ ap (λ (l : List ℕ). take place b ++ l) (append-nil part)
-    ∙ sheet-stores (contentsOf (a .key) (a .size) file) count (a .buffer .now) b part (length-pages (a .key) count (a .size) file) (s .pre .7) (h .put-head .ensures) stored
+    ∙ sheet-stores (contentsOf (a .key) (a .size) file) count (a .buffer .now) b part (length-pages (a .key) count (a .size) file) (s .pre .4) (h .put-head .ensures) stored
 
 pub put-sheet-spec : {M : Type 1} → statement M
 put-sheet-spec =

@@ -36,8 +36,8 @@ second c = c .before .before
 small-by : {x y b : ℕ} → x ≡ y → y < b → x < b
 small-by e h = rw e h
 
-power-lt : (c : tie.After-power-of-t) → c .power-of-t .result < 2 ^ start (filled (lanes c)) .args .k
-power-lt c = let s = start (filled (lanes c)) in small-by (c .power-of-t .ensures) (residue-lt (s .args .k) (s .args .low) (s .pre .0 .2) _)
+power-lt : (c : tie.After-power-of-t) → c .power-of-t .result < 2 ^ start (filled (lanes c)) .args .p .degree
+power-lt c = let s = start (filled (lanes c)) in small-by (c .power-of-t .ensures) (residue-lt (s .args .p .degree) (s .args .p .low) (s .pre .0 .2) _)
 
 slice-aggregate-fill : tie.Need-slice-aggregate-fill
 slice-aggregate-fill c = search needs
@@ -57,7 +57,7 @@ returns c =
     let s = start t in
     let a = s .args in
     let x = c .join-lane .ensures in
-    (λ r. x .0 ∙ few-joined (a .k) (a .low) (s .pre .0) (a .size) 0 (a .n) (a .fields .now) (t .fill .last .0) (t .fill .ensures) r, λ k. x .1 k ∙ bits-none k _)
+    (λ r. x .0 ∙ few-joined (a .p) (s .pre .0) (a .size) 0 (a .n) (a .fields .now) (t .fill .last .0) (t .fill .ensures) r, λ k. x .1 k ∙ bits-none k _)
 
 slice-aggregate-join-lanes : tie.Need-slice-aggregate-join-lanes
 slice-aggregate-join-lanes c = search needs
@@ -77,26 +77,26 @@ power-of-t-requires c κs = search needs
 low-bits-requires : tie.Need-low-bits-requires
 low-bits-requires c κs = search needs
 
-joined-requires : tie.Need-joined-requires
-joined-requires c κs = let s = start (filled (lanes (power c))) in (s .pre .0, small-by (c .low-bits .ensures) (mod-lt _ (pow-pos (s .args .k))), power-lt (power c))
+times-plus-requires : tie.Need-times-plus-requires
+times-plus-requires c κs = let s = start (filled (lanes (power c))) in (s .pre .0, small-by (c .low-bits .ensures) (mod-lt _ (pow-pos (s .args .p .degree))), power-lt (power c))
 
 low-bits-requires-2 : tie.Need-low-bits-requires-2
 low-bits-requires-2 c κs = search needs
 
-joined-requires-2 : tie.Need-joined-requires-2
-joined-requires-2 c κs =
+times-plus-requires-2 : tie.Need-times-plus-requires-2
+times-plus-requires-2 c κs =
     let p = power (first c) in
     let s = start (filled (lanes p)) in
-    (s .pre .0, small-by (c .low-bits2 .ensures) (mod-lt _ (pow-pos (s .args .k))), power-lt p)
+    (s .pre .0, small-by (c .low-bits2 .ensures) (mod-lt _ (pow-pos (s .args .p .degree))), power-lt p)
 
 low-bits-requires-3 : tie.Need-low-bits-requires-3
 low-bits-requires-3 c κs = search needs
 
-joined-requires-3 : tie.Need-joined-requires-3
-joined-requires-3 c κs =
+times-plus-requires-3 : tie.Need-times-plus-requires-3
+times-plus-requires-3 c κs =
     let p = power (first (second c)) in
     let s = start (filled (lanes p)) in
-    (s .pre .0, small-by (c .low-bits3 .ensures) (mod-lt _ (pow-pos (s .args .k))), power-lt p)
+    (s .pre .0, small-by (c .low-bits3 .ensures) (mod-lt _ (pow-pos (s .args .p .degree))), power-lt p)
 
 mul-from : tie.Need-mul-from
 mul-from c = search needs
@@ -125,9 +125,9 @@ returns-2 c =
     let s = start (filled (lanes p)) in
     let a = s .args in
     let q = a .n / 4 in (
-      λ r. all-joined (a .k) (a .low) (s .pre .0) (a .size) 0 (a .n) q (32 * q) (omega arith) (omega arith) (a .fields .now) (t .last .0) (t .ensures) r (x .result) (x .ensures)
-          (p .power-of-t .result) (p .power-of-t .ensures) (b₂ .before .joined .result) (b₃ .before .joined2 .result) (c₃ .joined3 .result) (c .join-lane2 .result .mark)
-          (times-low (a .k) (a .low) _ _ _ _ _ (b₁ .low-bits .ensures) (b₂ .before .joined .ensures)) (times-low (a .k) (a .low) _ _ _ _ _ (b₂ .low-bits2 .ensures) (b₃ .before .joined2 .ensures)) (times-low (a .k) (a .low) _ _ _ _ _ (b₃ .low-bits3 .ensures) (c₃ .joined3 .ensures))
+      λ r. all-joined (a .p) (s .pre .0) (a .size) 0 (a .n) q (32 * q) (omega arith) (omega arith) (a .fields .now) (t .last .0) (t .ensures) r (x .result) (x .ensures)
+          (p .power-of-t .result) (p .power-of-t .ensures) (b₂ .before .times-plus .result) (b₃ .before .times-plus2 .result) (c₃ .times-plus3 .result) (c .join-lane2 .result .mark)
+          (times-low (a .p) _ _ _ _ _ (b₁ .low-bits .ensures) (b₂ .before .times-plus .ensures)) (times-low (a .p) _ _ _ _ _ (b₂ .low-bits2 .ensures) (b₃ .before .times-plus2 .ensures)) (times-low (a .p) _ _ _ _ _ (b₃ .low-bits3 .ensures) (c₃ .times-plus3 .ensures))
           (c .join-lane2 .ensures .0),
       bits-all (t .last .0) (a .fields .now) 0 (a .n) q (32 * q) (x .result) (c .join-lane2 .result .bits) (omega arith) (omega arith) (x .ensures) (c .join-lane2 .ensures .1),
     )
@@ -147,11 +147,11 @@ pages-joined-spec =
     mul-power-of-t-2
     power-of-t-requires
     low-bits-requires
-    joined-requires
+    times-plus-requires
     low-bits-requires-2
-    joined-requires-2
+    times-plus-requires-2
     low-bits-requires-3
-    joined-requires-3
+    times-plus-requires-3
     mul-from
     slice-aggregate-join-lane-2
     mul-join-lane

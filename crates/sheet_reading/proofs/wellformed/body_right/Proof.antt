@@ -8,9 +8,10 @@ use lib.Bits.{bitOr}
 use lib.Dec.{leb}
 use lib.ListN.{length, length-drop}
 use borrow.Author.Tests.{eq-eqb, ne-eqb, leb-false}
-use Rattle.gf2.specs.Polynomials.{monic, degree, rem}
-use Rattle.gf2.proofs.Steps.{residue-lt, or-leb}
+use Rattle.gf2.specs.Polynomials.{degree}
+use Rattle.gf2.proofs.Steps.{residue-below, or-leb}
 use Rattle.refusals.proofs.Laws.{holds, fails}
+use Rattle.acceptance.proofs.Opened.{opened-proper, opened-word}
 use Rattle.lists.proofs.Truth.{or-neither}
 use Rattle.sheets.specs.Layout.{version1, numberAt, numbersAt, pagePlace, sheetLength, pageCount}
 use Rattle.sheets.specs.Sheets.{someUnreduced}
@@ -31,7 +32,7 @@ counted c = c .before .before
 abbrev long : tie.After-pages-joined → tie.Else1
 long c = c .before .before
 
-abbrev joined : tie.After-reduced → tie.After-pages-joined
+abbrev joined : tie.After-is-residue → tie.After-pages-joined
 joined c = c .before .before .before
 
 abbrev tested : tie.After-product → tie.Else2
@@ -70,24 +71,24 @@ total : (c : tie.Else1) → length (sheet (counted c)) ≡ sheetLength version1 
 total c = c .if1 .left ∙ c .before .sheet-length .ensures
 
 -- the bits of all fields are tested
-bits : (c : tie.After-reduced) → leb (2 ^ start (counted (long (joined c))) .args .k) (bitOr (joined c .pages-joined .result .bits) (c .before .before .fingerprint-at .result))
+bits : (c : tie.After-is-residue) → leb (2 ^ start (counted (long (joined c))) .args .p .degree) (bitOr (joined c .pages-joined .result .bits) (c .before .before .fingerprint-at .result))
     ≡ someUnreduced (degree (start (counted (long (joined c))) .args .head .key)) (all (counted (long (joined c))))
 bits c =
     let j = joined c in
     let n = counted (long j) in
     let s = start n in
-    bits-are (sheet n) (s .args .head) (s .pre .1) (count n) (n .page-count .ensures) (s .args .k) (s .args .low) (s .pre .4 .2) (s .pre .6) (j .pages-joined .result .bits) _
+    bits-are (sheet n) (s .args .head) (s .pre .1) (count n) (n .page-count .ensures) (s .args .p) (s .pre .4) (j .pages-joined .result .bits) _
     (j .before .page-fields .result .now) (j .before .page-fields .ensures) (c .before .before .fingerprint-at .ensures) (j .pages-joined .ensures .1)
 
 -- no bit stands too high: the pages' fields and the file's are reduced
-fields : (c : tie.Else2) → (someUnreduced (start (counted (long (joined (c .before)))) .args .k) (numbersAt 0 8 (count (counted (long (joined (c .before))))) (joined (c .before) .before .page-fields .result .now)) ≡ false)
-    × (c .before .before .before .fingerprint-at .result < 2 ^ start (counted (long (joined (c .before)))) .args .k)
+fields : (c : tie.Else2) → (someUnreduced (start (counted (long (joined (c .before)))) .args .p .degree) (numbersAt 0 8 (count (counted (long (joined (c .before))))) (joined (c .before) .before .page-fields .result .now)) ≡ false)
+    × (c .before .before .before .fingerprint-at .result < 2 ^ start (counted (long (joined (c .before)))) .args .p .degree)
 fields c =
     let j = joined (c .before) in
-    let k = start (counted (long j)) .args .k in
+    let k = start (counted (long j)) .args .p .degree in
     let b = j .pages-joined .result .bits in
     let f = c .before .before .before .fingerprint-at .result in
-    let o = or-neither (leb (2 ^ k) b) (leb (2 ^ k) f) (sym (or-leb k b f) ∙ fails _ _ (c .before .reduced .ensures) (c .if2 .left)) in
+    let o = or-neither (leb (2 ^ k) b) (leb (2 ^ k) f) (sym (or-leb k b f) ∙ fails _ _ (c .before .is-residue .ensures) (c .if2 .left)) in
     (sym (j .pages-joined .ensures .1 k) ∙ o .0, leb-false (2 ^ k) f (o .1))
 
 page-count-requires : tie.Need-page-count-requires
@@ -110,20 +111,20 @@ pages-joined-requires c κs =
     let n = counted (c .before) in
     let s = start n in
     let part = ap length (c .page-fields .ensures) ∙ length-drop (pagePlace version1 0) (sheet n) in
-    (s .pre .4, s .pre .5, s .pre .3, small n, omega (arith, part, total (c .before)))
+    (opened-proper (s .pre .4), opened-word (s .pre .4), s .pre .3, small n, omega (arith, part, total (c .before)))
 
 fingerprint-at-requires : tie.Need-fingerprint-at-requires
 fingerprint-at-requires c κs = omega (arith, total (long c))
 
-reduced-requires : tie.Need-reduced-requires
-reduced-requires c κs = start (counted (long (c .before .before))) .pre .5
+is-residue-requires : tie.Need-is-residue-requires
+is-residue-requires c κs = opened-proper (start (counted (long (c .before .before))) .pre .4)
 
 returns-2 : tie.Need-returns-2
 returns-2 c =
     let r = c .before in
     let n = counted (long (joined r)) in
     let s = start n in
-    let t : someUnreduced (degree (s .args .head .key)) (all n) ≡ true = sym (bits r) ∙ holds _ _ (r .reduced .ensures) (c .if2 .taken) in
+    let t : someUnreduced (degree (s .args .head .key)) (all n) ≡ true = sym (bits r) ∙ holds _ _ (r .is-residue .ensures) (c .if2 .taken) in
     rw (body-is (sheet n) (s .args .head) (s .pre .1) (count n) (n .page-count .ensures), eq-eqb (length (sheet n)) (sheetLength version1 (count n)) (total (long (joined r))), t)
 
 mul-power-of-t : tie.Need-mul-power-of-t
@@ -136,17 +137,13 @@ mul-power-of-t-2 : tie.Need-mul-power-of-t-2
 mul-power-of-t-2 c = let n = counted (long (joined (c .before))) in omega (arith, tight n, start n .pre .3)
 
 power-of-t-requires : tie.Need-power-of-t-requires
-power-of-t-requires c κs = start (counted (long (joined (c .before)))) .pre .4
-
--- a residue is below 2^k
-below : (s : tie.Start) (x y : ℕ) → x ≡ rem (monic (s .args .k) (s .args .low)) y → x < 2 ^ s .args .k
-below s x y e = rw e (residue-lt (s .args .k) (s .args .low) (s .pre .4 .2) y)
+power-of-t-requires c κs = opened-proper (start (counted (long (joined (c .before)))) .pre .4)
 
 product-requires : tie.Need-product-requires
 product-requires c κs =
     let e = c .before in
     let s = start (counted (long (joined (e .before)))) in
-    (s .pre .4, fields e .1, below s _ _ (c .power-of-t .ensures))
+    (opened-proper (s .pre .4), fields e .1, residue-below (s .args .p) (opened-proper (s .pre .4)) _ _ (c .power-of-t .ensures))
 
 returns-3 : tie.Need-returns-3
 returns-3 c =
@@ -158,10 +155,10 @@ returns-3 c =
     let s = start n in
     let a = s .args in
     let part = j .before .page-fields in
-    let t : someUnreduced (degree (a .head .key)) (all n) ≡ false = sym (bits r) ∙ fails _ _ (r .reduced .ensures) (e .if2 .left) in
-    let mark = joined-are (sheet n) (a .head) (s .pre .1) (count n) (n .page-count .ensures) (a .k) (a .low) (s .pre .4 .2) (s .pre .6) (j .pages-joined .result .mark)
+    let t : someUnreduced (degree (a .head .key)) (all n) ≡ false = sym (bits r) ∙ fails _ _ (r .is-residue .ensures) (e .if2 .left) in
+    let mark = joined-are (sheet n) (a .head) (s .pre .1) (count n) (n .page-count .ensures) (a .p) (s .pre .4) (j .pages-joined .result .mark)
     (part .result .now) (part .ensures) (j .pages-joined .ensures .0 (fields e .0)) in
-    let product = filled-is (sheet n) (a .head) (s .pre .1) (count n) (n .page-count .ensures) (a .k) (a .low) (s .pre .4 .2) (s .pre .6) _ _ (p .product .result)
+    let product = filled-is (sheet n) (a .head) (s .pre .1) (count n) (n .page-count .ensures) (a .p) (s .pre .4) _ _ (p .product .result)
     (count n * a .head .size - a .head .length) (r .before .before .fingerprint-at .ensures) (p .before .power-of-t .ensures) (p .product .ensures) in
     body-joined (sheet n) (a .head) (s .pre .1) (count n) (n .page-count .ensures) (j .pages-joined .result .mark) (p .product .result) (total (long j)) t mark product
 
@@ -175,7 +172,7 @@ body-right-spec =
     page-fields-requires
     pages-joined-requires
     fingerprint-at-requires
-    reduced-requires
+    is-residue-requires
     returns-2
     mul-power-of-t
     sub-power-of-t

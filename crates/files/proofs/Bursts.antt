@@ -1,41 +1,24 @@
--- Where all differing bits stand within k places, the difference of the values is t^s times a nonzero polynomial below t^k.
+-- Where all differing bits stand within k places, the difference of the values is t^s times a nonzero polynomial below t^k: under an irreducible
+-- polynomial of degree k such files have different fingerprints.
 use mathlib.Core.Path.{_≡_, sym, ap, ap₂, _∙_}
 use mathlib.Core.Logic.{_⊎_, inl, inr}
 use mathlib.Core.List.{List, _++_, append-assoc}
-use Prim.Native.Nat.{ℕ, zero, suc, _+_, _*_, _^_, _≤_, _<_, min}
-use native.Mathlib.Nat.{lt-of-lt-of-le, pow-succ'}
+use Prim.Native.Nat.{ℕ, _+_, _*_, _^_, _≤_, _<_, min}
+use native.Mathlib.Nat.{lt-of-lt-of-le, zero-mul}
 use native.Mathlib.Decide.{ℕ-discrete}
 use native.Mathlib.Omega.{arith}
 use lib.ListN.{length, getD, take, drop, length-take, length-drop, take-append-drop}
 use lib.Pow.{pow-mono}
 use lib.Seq.{ext-getD, getD-take, getD-drop}
 use Rattle.gf2.specs.Polynomials.{_⊕_, Degree, Divides, Irreducible}
-use Rattle.gf2.proofs.Sums.{⊕-lt}
-use Rattle.gf2.proofs.Products.{⊗-pow}
-use Rattle.gf2.proofs.Divisors.{dvd-by, dvd-small}
-use Rattle.gf2.proofs.Irreducibles.{euclid-lemma}
-use Rattle.files.specs.Files.{bits, valueFrom, value}
-use Rattle.files.proofs.Values.{value-lt, value-change, length-bits}
-use Rattle.book.specs.Confusions.{Burst}
+use Rattle.gf2.proofs.Sums.{⊕-eq, ⊕-lt}
+use Rattle.gf2.proofs.Residues.{dvd-of-rem}
+use Rattle.gf2.proofs.Irreducibles.{no-burst}
+use Rattle.files.specs.Files.{bits, valueFrom, value, fingerprint, Bytes}
+use Rattle.files.specs.Bursts.{Burst}
+use Rattle.files.proofs.Values.{value-lt, value-change, value-inj, length-bits}
 
--- a polynomial of degree 2 or more that is irreducible divides no power of t
-no-power : (p k s : ℕ) → Irreducible p → Degree p k → 2 ≤ k → Divides p (2 ^ s) → ⊥
-no-power p k zero i d l h = absurd (omega (arith, dvd-small k {a = 1} d h (lt-of-lt-of-le (omega arith) (pow-mono {i = 2} l))))
-no-power p k (suc s) i d l h = go (euclid-lemma p 2 (2 ^ s) i (dvd-by h (pow-succ' 2 s ∙ sym (⊗-pow s 2)))) (no-power p k s i d l)
-  where
-    go : Divides p 2 ⊎ Divides p (2 ^ s) → (Divides p (2 ^ s) → ⊥) → ⊥
-    go (inl g) n = omega (arith, dvd-small k {a = 2} d g (lt-of-lt-of-le (omega arith) (pow-mono {i = 2} l)))
-    go (inr g) n = n g
-
--- an irreducible polynomial of degree k divides no E·t^s, E not 0 and below t^k
-pub no-burst : (p k e s : ℕ) → Irreducible p → Degree p k → 2 ≤ k → e < 2 ^ k → Divides p (e * 2 ^ s) → e ≡ 0
-no-burst p k e s i d l lt h = go (euclid-lemma p e (2 ^ s) i (dvd-by h (sym (⊗-pow s e))))
-  where
-    go : Divides p e ⊎ Divides p (2 ^ s) → e ≡ 0
-    go (inl g) = dvd-small k d g lt
-    go (inr g) = absurd (no-power p k s i d l g)
-
-pub record Shifted (k D : ℕ) : Type 0 where
+record Shifted (k D : ℕ) : Type 0 where
   pub part : ℕ
   pub shift : ℕ
   pub small : part < 2 ^ k
@@ -73,7 +56,7 @@ module _ (k first : ℕ) (a b : List ℕ) (len : length a ≡ length b)
   b-three : b ≡ take first a ++ take k (drop first b) ++ drop k (drop first a)
   b-three = sym (ap₂ (λ (x y : List ℕ). x ++ take k (drop first b) ++ y) pre post ∙ three b)
 
-  pub shifted : Shifted k (valueFrom 1 a ⊕ valueFrom 1 b)
+  shifted : Shifted k (valueFrom 1 a ⊕ valueFrom 1 b)
   shifted =
       record {
         part = valueFrom 0 (take k (drop first a)) ⊕ valueFrom 0 (take k (drop first b));
@@ -84,7 +67,7 @@ module _ (k first : ℕ) (a b : List ℕ) (len : length a ≡ length b)
             ∙ value-change 1 0 (take first a) (take k (drop first a)) (take k (drop first b)) (drop k (drop first a)) mid-length;
       }
 
-pub burst-shifted : (k : ℕ) (a b : List ℕ) → Burst k a b → Shifted k (value a ⊕ value b)
+burst-shifted : (k : ℕ) (a b : List ℕ) → Burst k a b → Shifted k (value a ⊕ value b)
 unfolding value
 burst-shifted k a b s = shifted k (s .first) (bits a) (bits b) (length-bits a ∙ ap (λ (n : ℕ). 8 * n) (s .same-length) ∙ sym (length-bits b)) outside
   where
@@ -95,3 +78,12 @@ burst-shifted k a b s = shifted k (s .first) (bits a) (bits b) (length-bits a �
         go h′ (yes e) = e
         go (inl l) (no n) = absurd (omega (arith, s .between i n .0))
         go (inr l) (no n) = absurd (omega (arith, s .between i n .1, s .near))
+
+-- equal fingerprints, and all differing bits within k places: equal files
+pub burst-equal : (p k : ℕ) (a b : List ℕ) → Irreducible p → Degree p k → 2 ≤ k → Bytes a → Bytes b → Burst k a b → fingerprint p a ≡ fingerprint p b → a ≡ b
+unfolding fingerprint
+burst-equal p k a b i d l ha hb s e =
+    let x = burst-shifted k a b s in
+    let divides : Divides p (value a ⊕ value b) = dvd-of-rem (omega (arith, i .proper)) (value a) (value b) e in
+    let none = no-burst p k (x .part) (x .shift) i d l (x .small) (rw (x .is) at divides) in
+    value-inj a b ha hb (⊕-eq (value a) (value b) (x .is ∙ ap (λ (y : ℕ). y * 2 ^ x .shift) none ∙ zero-mul (2 ^ x .shift)))
