@@ -2,7 +2,7 @@
 
 PREFIX = /usr/local
 
-LIBRARIES = bench site keyholder
+LIBRARIES = gfp_bench gfp_site gfp_keyholder
 ROUNDS = 1
 
 # The main job on an embedded sample: the printing program reads a key and a file and prints the file's mark.

@@ -131,7 +131,7 @@ static void feeding(uint64_t key, int degree, size_t n) {
     gfp_make_table(key, words, 1024);
     uint64_t f, length;
     Call by_table = [&] { f = 1, length = 0, gfp_feed_table(key, &f, &length, words, 1024, file.data(), n), sink = f; };
-    Call by_house = [&] { f = 1, length = 0, gfp_feed_house(&f, &length, file.data(), n), sink = f; };
+    Call by_house = [&] { f = 1, length = 0, gfp_feed_house(HOUSE, &f, &length, file.data(), n), sink = f; };
     Call by_bits = [&] { f = 1, length = 0, gfp_feed(key, &f, &length, file.data(), n), sink = f; };
     Call slicing = [&] { sink = peer_slicing_by_4(key, 1, words, file.data(), n); };
     char what[80];

@@ -64,6 +64,32 @@ fn cuts(tally: &mut Tally, generator: &mut Generator) {
     }
 }
 
+/// A part fed by the house key's words under any key.
+fn house(tally: &mut Tally, key: u64, mark: reference::Mark, part: &[u8]) {
+    tally.same(
+        &format!("feed by the house key's words, key {key:#x}, mark {mark:?}, part of {} bytes", part.len()),
+        after(ours(mark), |m| m.feed_house(key, part)),
+        outcome(mark, reference::feed_house(key, mark, part)),
+    );
+}
+
+/// Keys that share all words of their tables: both are fed by either table. t^42 + t^5 + t^2 + t + 1 shares those of the house key.
+fn shared_words(tally: &mut Tally, generator: &mut Generator) {
+    for (one, other) in [(0x1000_0000_0000_0003, 0x8000_0000_0000_0003), (gfp::HOUSE_KEY, 0x400_0000_0027)] {
+        let words = reference::table(one);
+        tally.same(&format!("tables of {one:#x} and {other:#x}"), reference::table(other), words.clone());
+        for key in [one, other] {
+            let (mut made, part) = (vec![0; gfp::TABLE_WORDS], generator.bytes(5000));
+            tally.same(&format!("table of {key:#x}"), (gfp::make_table(key, &mut made), made), (Ok(()), words.clone()));
+            let whole = gfp::Mark { fingerprint: reference::fingerprint(key, &part), length: 5000 };
+            let empty = gfp::begin(key).expect("an accepted key");
+            tally.same(&format!("shared table, key {key:#x}"), after(empty, |m| m.feed_table(key, &words, &part)), (whole, 0));
+            let expected = if one == gfp::HOUSE_KEY { (whole, 0) } else { (empty, 6) };
+            tally.same(&format!("the house key's words, key {key:#x}"), after(empty, |m| m.feed_house(key, &part)), expected);
+        }
+    }
+}
+
 /// One call of each kind on random input, good and bad.
 fn calls(tally: &mut Tally, generator: &mut Generator) {
     let key = generator.key();
@@ -81,12 +107,8 @@ fn calls(tally: &mut Tally, generator: &mut Generator) {
         outcome(mark, reference::feed_table(key, mark, &words, &part)),
     );
     tally.same(&format!("test of table, key {key:#x}"), gfp::test_table(key, &words), reference::test_table(key, &words));
-    let house_mark = generator.mark(gfp::HOUSE_KEY);
-    tally.same(
-        &format!("feed under the house key, mark {house_mark:?}, part of {n} bytes"),
-        after(ours(house_mark), |m| m.feed_house(&part)),
-        outcome(house_mark, reference::feed_house(house_mark, &part)),
-    );
+    house(tally, gfp::HOUSE_KEY, generator.mark(gfp::HOUSE_KEY), &part);
+    house(tally, key, mark, &part);
     let mut made = words.clone();
     let number = gfp::make_table(key, &mut made).err().unwrap_or(0);
     let second = reference::make_table(key, &words);
@@ -110,7 +132,7 @@ fn long_parts(tally: &mut Tally, generator: &mut Generator) {
     let file = generator.bytes(1 << 20);
     let whole = gfp::Mark { fingerprint: reference::fingerprint(gfp::HOUSE_KEY, &file), length: 1 << 20 };
     let empty = gfp::begin(gfp::HOUSE_KEY).expect("an accepted key");
-    tally.same("1 MiB under the house key", after(empty, |m| m.feed_house(&file)), (whole, 0));
+    tally.same("1 MiB under the house key", after(empty, |m| m.feed_house(gfp::HOUSE_KEY, &file)), (whole, 0));
 }
 
 /// Each bit of each word of a table, changed: the table is refused.
@@ -132,6 +154,7 @@ pub fn run(tally: &mut Tally, rounds: u64) {
     readings(tally);
     damaged_tables(tally, &mut generator);
     long_parts(tally, &mut generator);
+    shared_words(tally, &mut generator);
     for _ in 0..rounds * 100 {
         cuts(tally, &mut generator);
     }

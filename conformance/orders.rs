@@ -37,8 +37,21 @@ fn marks(tally: &mut Tally, long: &[u8]) {
             tally.same(&what, after(ours(mark), |m| m.feed_table(key, &words, part)), outcome(mark, reference::feed_table(key, mark, &words, part)));
             tally.same(&what, gfp::test_table(key, &words), reference::test_table(key, &words));
             tally.same(&what, gfp::make_table(key, &mut words.clone()), reference::make_table(key, &words).map(drop));
-            let house = reference::Mark { fingerprint: if fault(5) { 1 << 61 } else { 0x5a }, length };
-            tally.same(&what, after(ours(house), |m| m.feed_house(part)), outcome(house, reference::feed_house(house, part)));
+        });
+    }
+    // An accepted key whose table differs from the house key's, the house key, one that shares its table, and the refused ones.
+    for (key, above) in [(GOOD, 8), (gfp::HOUSE_KEY, 61), (0x400_0000_0027, 42), (KEYS[1], 8), (KEYS[2], 8)] {
+        // faults: own length, part's length, sum, fingerprint
+        each(4, |fault| {
+            let length = if fault(0) { reference::LIMIT + 1 } else if fault(2) { reference::LIMIT } else { 5 };
+            let mark = reference::Mark { fingerprint: if fault(3) { 1 << above } else { 0x5a }, length };
+            let part = if fault(1) { long } else { b"AB" };
+            let what = format!("order, the house key's words, key {key:#x}, mark {mark:?}, part of {} bytes", part.len());
+            let answer = after(ours(mark), |m| m.feed_house(key, part));
+            tally.same(&what, answer, outcome(mark, reference::feed_house(key, mark, part)));
+            if key == GOOD {
+                tally.same(&what, answer, (ours(mark), 6));
+            }
         });
     }
 }

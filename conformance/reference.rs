@@ -166,8 +166,11 @@ pub fn feed_table(key: u64, mark: Mark, words: &[u64], part: &[u8]) -> Answer<Ma
     feed(key, mark, part)
 }
 
-pub fn feed_house(mark: Mark, part: &[u8]) -> Answer<Mark> {
-    feed(0x2000_0000_0000_0027, mark, part)
+pub const HOUSE_KEY: u64 = 0x2000_0000_0000_0027;
+
+/// Feeding by the house key's words, whatever the key is.
+pub fn feed_house(key: u64, mark: Mark, part: &[u8]) -> Answer<Mark> {
+    feed_table(key, mark, &table(HOUSE_KEY), part)
 }
 
 // ---- Site: joining, page change, search, page sheets

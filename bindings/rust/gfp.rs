@@ -9,7 +9,7 @@ mod raw {
         pub fn gfp_make_table(key: u64, words: *mut u64, words_length: usize) -> u32;
         pub fn gfp_test_table(key: u64, words: *const u64, words_length: usize) -> u32;
         pub fn gfp_feed_table(key: u64, fingerprint: *mut u64, length: *mut u64, words: *const u64, words_length: usize, part: *const u8, part_length: usize) -> u32;
-        pub fn gfp_feed_house(fingerprint: *mut u64, length: *mut u64, part: *const u8, part_length: usize) -> u32;
+        pub fn gfp_feed_house(key: u64, fingerprint: *mut u64, length: *mut u64, part: *const u8, part_length: usize) -> u32;
         pub fn gfp_join_behind(key: u64, fingerprint: *mut u64, length: *mut u64, other: u64, size: u64) -> u32;
         pub fn gfp_join_in_front(key: u64, fingerprint: *mut u64, length: *mut u64, other: u64, size: u64) -> u32;
         pub fn gfp_replace_page(key: u64, fingerprint: *mut u64, length: *mut u64, place: u64, old: *const u8, old_length: usize, new: *const u8, new_length: usize) -> u32;
@@ -64,9 +64,9 @@ impl Mark {
         answer(number, ())
     }
 
-    /// Feeds the next part under `HOUSE_KEY`.
-    pub fn feed_house(&mut self, part: &[u8]) -> Result<(), Refusal> {
-        answer(unsafe { raw::gfp_feed_house(&mut self.fingerprint, &mut self.length, part.as_ptr(), part.len()) }, ())
+    /// Feeds the next part by the table of `HOUSE_KEY`, which the library holds. Under another key its words are tested first.
+    pub fn feed_house(&mut self, key: u64, part: &[u8]) -> Result<(), Refusal> {
+        answer(unsafe { raw::gfp_feed_house(key, &mut self.fingerprint, &mut self.length, part.as_ptr(), part.len()) }, ())
     }
 
     /// The other mark's file goes behind this one's.

@@ -1,35 +1,21 @@
 -- `accepted` is document 01's sentence: degree 8 to 63, and irreducible.
-use mathlib.Core.Path.{_≡_, refl, sym, _∙_}
+use mathlib.Core.Path.{_≡_, sym, _∙_}
 use mathlib.Core.Logic.{_↔_}
-use mathlib.Core.Bool.{Bool, true, false, _&&_, not, true≢false}
+use mathlib.Core.Bool.{true, false, _&&_, not, true≢false}
 use Prim.Native.Nat.{ℕ, zero, suc, _^_, _≤_, _<_}
-use native.Mathlib.Nat.{le-refl, le-trans, zero-lt-suc, not-suc-le-zero, lt-of-lt-of-le, le-of-suc-le-suc}
-use native.Mathlib.Decide.{ℕ-discrete}
+use native.Mathlib.Nat.{le-trans, zero-lt-suc, not-suc-le-zero, lt-of-lt-of-le, le-of-suc-le-suc}
 use native.Mathlib.Omega.{arith}
 use lib.Dec.{leb, ltb, eqb}
 use lib.Pow.{pow-mono}
 use borrow.Author.Tests.{leb-true, eqb-true, le-leb, eq-eqb, not-true, le-ltb, ltb-false}
-use Rattle.lists.proofs.Truth.{and-both, or-neither, by-cases}
+use Rattle.lists.proofs.Truth.{and-both, by-cases}
+use Rattle.lists.proofs.Searches.{any-false, any-none}
 use Rattle.gf2.specs.Polynomials.{halvings, degree, rem, Divides, Irreducible}
 use Rattle.gf2.proofs.Degrees.{degree-is, degree-from, deg-lo, deg-hi, deg-le}
 use Rattle.gf2.proofs.Monics.{word-degree}
 use Rattle.gf2.proofs.Residues.{rem-of-dvd, dvd-of-rem-zero}
 use Rattle.gf2.proofs.Irreducibles.{irreducible, no-divisor}
-use Rattle.acceptance.specs.Keys.{anyBelow, reducible, accepted}
-
-any-false : (f : ℕ → Bool) (n d : ℕ) → anyBelow f n ≡ false → d < n → f d ≡ false
-unfolding anyBelow
-any-false f zero d e l = absurd (not-suc-le-zero l)
-any-false f (suc n) d e l = go (ℕ-discrete d n) (λ m. any-false f n d (or-neither (f n) (anyBelow f n) e .1) m)
-  where
-    go : Dec (d ≡ n) → (d < n → f d ≡ false) → f d ≡ false
-    go (yes q) h = rw q (or-neither (f n) (anyBelow f n) e .0)
-    go (no q) h = h (omega arith)
-
-any-none : (f : ℕ → Bool) (n : ℕ) → ((d : ℕ) → d < n → f d ≡ false) → anyBelow f n ≡ false
-unfolding anyBelow
-any-none f zero h = refl
-any-none f (suc n) h = rw (h n (le-refl (suc n))) (any-none f n (λ d l. h d (omega arith)))
+use Rattle.acceptance.specs.Keys.{reducible, accepted}
 
 big : (p : ℕ) → 1 ≤ degree p → 1 < p
 unfolding degree halvings

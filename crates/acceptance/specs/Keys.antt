@@ -1,19 +1,15 @@
 -- Accepted keys (document 01, "Polynomials and keys"), by trial division: plainly right, and run by nobody.
 use mathlib.Core.Path.{_≡_}
-use mathlib.Core.Bool.{Bool, true, false, _&&_, _||_, not}
+use mathlib.Core.Bool.{Bool, true, _&&_, not}
 use mathlib.Core.List.{List, [], _∷_}
-use Prim.Native.Nat.{ℕ, zero, suc, _^_}
+use Prim.Native.Nat.{ℕ, _^_}
 use lib.Dec.{leb, ltb, eqb}
+use Rattle.lists.specs.Lists.{anyBelow}
 use Rattle.gf2.specs.Polynomials.{degree, rem}
 use Rattle.gf2.specs.Moduli.{modulusOf}
 use Rattle.gf2.specs.declared.Modulus.{Modulus}
 use Rattle.refusals.specs.declared.Refusal.the-variants.{KeyBelow256, KeyReducible}
 use Rattle.refusals.specs.Refusals.{Test, _⇒_}
-
--- some number below n passes the test
-unfoldable pub anyBelow : (ℕ → Bool) → ℕ → Bool
-anyBelow f zero = false
-anyBelow f (suc n) = f n || anyBelow f n
 
 -- some polynomial of degree 1 to k - 1 divides p, k being its degree: these are the numbers from 2 to 2^k - 1
 unfoldable pub reducible : ℕ → Bool

@@ -1,32 +1,26 @@
--- Keys under which two different files have equal fingerprints: such a key divides the difference of the files' polynomials.
+-- Accepted keys under which two different files have equal fingerprints, listed and counted.
 use mathlib.Core.Path.{_≡_}
-use mathlib.Core.Logic.{_≢_, _↔_, _⊎_, inl, inr}
+use mathlib.Core.Logic.{_≢_, _↔_}
 use mathlib.Core.Bool.{true, _&&_}
 use mathlib.Core.List.{List}
-use Prim.Native.Nat.{ℕ, suc, _+_, _*_, _^_, _≤_, _<_, suc-le-suc}
-use native.Mathlib.Nat.{eq-zero-or-pos, lt-of-lt-of-le}
+use Prim.Native.Nat.{ℕ, _+_, _*_, _^_, _≤_, _<_}
 use native.Mathlib.Omega.{arith}
 use lib.Dec.{eqb}
 use lib.ListN.{length}
-use lib.Pow.{pow-mono}
 use borrow.Author.Tests.{eqb-true, eq-eqb}
-use Rattle.gf2.specs.Polynomials.{_⊕_, degree, Degree}
 use Rattle.lists.specs.Lists.{passing, All, Distinct}
-use Rattle.lists.proofs.Lists.{all-map, Passes, all-passing, distinct-passing}
-use Rattle.gf2.proofs.Sums.{⊕-eq, ⊕-lt}
-use Rattle.gf2.proofs.Degrees.{degree-is, degree-eq, deg-lo, deg-hi, deg-le, deg-intro}
-use Rattle.gf2.proofs.Residues.{dvd-of-rem}
-use Rattle.gf2.proofs.Irreducibles.{Factor, count}
-use Rattle.acceptance.specs.Keys.{accepted}
 use Rattle.lists.proofs.Truth.{and-both}
+use Rattle.lists.proofs.Lists.{all-map, Passes, all-passing, distinct-passing}
+use Rattle.lists.proofs.Counts.{length-passing, count-none}
+use Rattle.gf2.specs.Polynomials.{degree, Degree}
+use Rattle.gf2.proofs.Degrees.{degree-is, degree-eq, deg-lo, deg-hi, deg-intro}
+use Rattle.acceptance.specs.Keys.{accepted}
 use Rattle.acceptance.proofs.Laws.{accepted-pos, accepted-iff}
-use Rattle.files.specs.Files.{value, fingerprint, Bytes}
-use Rattle.files.proofs.Values.{value-degree, value-inj}
+use Rattle.files.specs.Files.{fingerprint, Bytes}
 use Rattle.files.specs.Bursts.{Burst}
-use Rattle.files.proofs.Bursts.{burst-equal}
+use Rattle.files.proofs.Confusions.{Confusing, confusing-count, burst-unconfused}
 use Rattle.book.specs.Confusions.{confused}
 use Rattle.book.specs.Claims.{ConfusionsCount, BurstsCount}
-use Rattle.lists.proofs.Counts.{length-passing, count-none}
 
 -- an accepted key of degree k under which the fingerprints are equal
 pub record Equal (k : ℕ) (a b : List ℕ) (key : ℕ) : Type 0 where
@@ -53,41 +47,21 @@ equal-iff k a b key = (there, back)
           prints = eqb-true (fingerprint key a) (fingerprint key b) (t .1);
         }
 
-factor : (k : ℕ) (a b : List ℕ) (key : ℕ) → Equal k a b key → Factor k (value a ⊕ value b) key
-unfolding fingerprint
-factor k a b key e =
-    let pos = accepted-pos key (e .is-accepted) in
+confusing : (k : ℕ) (a b : List ℕ) (key : ℕ) → Equal k a b key → Confusing k a b key
+confusing k a b key e =
     record {
       irreducible = accepted-iff key .0 (e .is-accepted) .2;
-      of-degree = rw (e .of-degree) at (degree-is key pos);
-      divides = dvd-of-rem pos (value a) (value b) (e .prints);
+      of-degree = rw (e .of-degree) at (degree-is key (accepted-pos key (e .is-accepted)));
+      prints = e .prints;
     }
 
-value-below : (n : ℕ) (a : List ℕ) → 8 * length a ≤ n → value a < 2 ^ suc n
-value-below n a l = lt-of-lt-of-le (deg-hi (value a) (8 * length a) (value-degree a)) (pow-mono (suc-le-suc l))
-
 module _ (k : ℕ) (a b : List ℕ) (ha : Bytes a) (hb : Bytes b) (ne : a ≢ b) where
-  different : value a ⊕ value b ≡ 0 → ⊥
-  different e = ne (value-inj a b ha hb (⊕-eq (value a) (value b) e))
-
   pub equal-keys : (n : ℕ) → 8 * length a ≤ n → 8 * length b ≤ n → (keys : List ℕ) → Distinct keys → All (Equal k a b) keys → length keys * k ≤ n
-  equal-keys n la lb keys d all = go (eq-zero-or-pos (value a ⊕ value b))
-    where
-      go : (value a ⊕ value b ≡ 0) ⊎ (0 < value a ⊕ value b) → length keys * k ≤ n
-      go (inl e) = absurd (different e)
-      go (inr pos) =
-          omega (
-            arith,
-            count k (value a ⊕ value b) keys pos d (all-map (factor k a b) keys all),
-            deg-le (value a ⊕ value b) (degree (value a ⊕ value b)) (suc n) (degree-is (value a ⊕ value b) pos)
-                (⊕-lt (suc n) (value a) (value b) (value-below n a la) (value-below n b lb)),
-          )
+  equal-keys n la lb keys d all = confusing-count k a b ha hb ne n la lb keys d (all-map (confusing k a b) keys all)
 
   pub no-equal-key : Burst k a b → (key : ℕ) → Equal k a b key → ⊥
   no-equal-key s key e =
-      let f = factor k a b key e in
-      let eight = accepted-iff key .0 (e .is-accepted) .0 in
-      ne (burst-equal key k a b (f .irreducible) (f .of-degree) (omega (arith, eight, e .of-degree)) ha hb s (e .prints))
+      burst-unconfused k a b ha hb ne (omega (arith, accepted-iff key .0 (e .is-accepted) .0, e .of-degree)) s key (confusing k a b key e)
 
 -- ---- the keys that the test counts, as a list
 

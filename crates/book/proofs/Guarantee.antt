@@ -39,7 +39,9 @@ Reaches Route = (key : ℕ) (file : List ℕ) → Route key file (fingerprint ke
 pub list-sound : (L : Level) → Lists L → Sound (Leaves L)
 unfolding markOf
 list-sound L claim key file f a l =
-    sym (l .leaves) ∙ ap (λ (m : Mark). m .fingerprint) (claim key (l .first) (l .mark) (l .calls) a (l .begins) (l .honest) .0) ∙ ap (fingerprint key) (l .ends)
+    sym (l .leaves)
+    ∙ ap (λ (m : Mark). m .fingerprint) (claim key (l .first) (l .mark) (l .calls) a (l .begins) (l .honest) .0)
+    ∙ ap (fingerprint key) (l .ends)
 
 -- the list of no call, from the file's true mark
 pub list-reaches : (L : Level) → Reaches (Leaves L)

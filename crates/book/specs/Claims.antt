@@ -11,10 +11,10 @@ use Rattle.refusals.specs.Refusals.{numberOf, applying, lowest}
 use Rattle.acceptance.specs.Keys.{accepted}
 use Rattle.files.specs.declared.Mark.{Mark}
 use Rattle.files.specs.Files.{True, Bytes}
+use Rattle.files.specs.Bursts.{Burst}
 use Rattle.book.specs.Runs.{Level, bookStep, run, Honest}
 use Rattle.lists.specs.Counts.{countFrom}
 use Rattle.book.specs.Confusions.{Routes, Confuses, confused}
-use Rattle.files.specs.Bursts.{Burst}
 
 -- "After the list, fingerprint and length are the residue and the length of the book's file, and exactly those calls were refused
 -- that the book's last rule names, each with the lowest number that applies." For every accepted key, every file, every mark true of

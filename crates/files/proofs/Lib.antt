@@ -1,4 +1,4 @@
 pub mod Values
 pub mod Marks
+pub mod Confusions
 pub mod Computing
-pub mod Bursts

@@ -41,7 +41,8 @@ module _ {p : ℕ} (pos : 0 < p) where
   unfolding fingerprint
   join a b = residue ∙ ap (rem p) (sym (value-joined a b))
     where
-      residue : rem p (rem p (value a) * 2 ^ (8 * length b) ⊕ rem p (value b) ⊕ 2 ^ (8 * length b)) ≡ rem p (value a * 2 ^ (8 * length b) ⊕ value b ⊕ 2 ^ (8 * length b))
+      residue : rem p (rem p (value a) * 2 ^ (8 * length b) ⊕ rem p (value b) ⊕ 2 ^ (8 * length b))
+          ≡ rem p (value a * 2 ^ (8 * length b) ⊕ value b ⊕ 2 ^ (8 * length b))
       residue = simp (rem-⊕ pos, rem-shl pos, rem-rem pos)
 
   -- the same file with another page
@@ -52,7 +53,8 @@ module _ {p : ℕ} (pos : 0 < p) where
       → value (pre ++ new ++ post) ≡ value (pre ++ old ++ post) ⊕ (value old ⊕ value new) * 2 ^ (8 * length post)
   unfolding value
   value-page pre old new post e =
-      ⊕-move (valueFrom 1 (bits (pre ++ old ++ post))) (valueFrom 1 (bits (pre ++ new ++ post))) ((valueFrom 1 (bits old) ⊕ valueFrom 1 (bits new)) * 2 ^ (8 * length post))
+      ⊕-move (valueFrom 1 (bits (pre ++ old ++ post))) (valueFrom 1 (bits (pre ++ new ++ post)))
+      ((valueFrom 1 (bits old) ⊕ valueFrom 1 (bits new)) * 2 ^ (8 * length post))
       (rw (bits-page pre old post, bits-page pre new post, ← (length-bits post))
       (value-change 1 1 (bits pre) (bits old) (bits new) (bits post) (length-bits old ∙ ap (λ (n : ℕ). 8 * n) e ∙ sym (length-bits new))))
 

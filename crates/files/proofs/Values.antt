@@ -112,10 +112,13 @@ value-change s u pre x y post e =
 
 -- ---- different files have different values
 
+-- of a string of bits behind a leading 1
+pub string-degree : (x : List ℕ) → Degree (valueFrom 1 x) (length x)
+string-degree x = ap (λ (v : ℕ). v / 2 ^ length x) (value-split 1 x) ∙ digits-div 1 (value-lt x)
+
 pub value-degree : (file : List ℕ) → Degree (value file) (8 * length file)
 unfolding value
-value-degree file =
-    rw (← (length-bits file)) (ap (λ (x : ℕ). x / 2 ^ length (bits file)) (value-split 1 (bits file)) ∙ digits-div 1 (value-lt (bits file)))
+value-degree file = rw (← (length-bits file)) (string-degree (bits file))
 
 byte-eq : (s t x y : ℕ) → x < 256 → y < 256 → s * 256 + x % 256 ≡ t * 256 + y % 256 → (s ≡ t) × (x ≡ y)
 byte-eq s t x y hx hy e = omega arith

@@ -1,4 +1,4 @@
--- Files that differ only inside k neighbouring bits (document 01, "The plain book of demand 3").
+-- Two files whose differing bits stand near each other (document 01, "The plain book of demand 3").
 use mathlib.Core.Path.{_≡_}
 use mathlib.Core.Logic.{_≢_}
 use mathlib.Core.List.{List}

@@ -2,7 +2,9 @@
 use mathlib.Core.Path.{_≡_, refl, sym, ap, _∙_}
 use mathlib.Core.Logic.{_⊎_, inl, inr}
 use Prim.Native.Nat.{ℕ, zero, suc, _+_, _*_, _/_, _%_, _^_, _≤_, _<_, zero-le, suc-le-suc}
-use native.Mathlib.Nat.{le-refl, le-suc, pow-suc, le-trans, le-of-eq, lt-of-lt-of-le, lt-of-le-of-lt, not-le-of-lt, zero-mul, one-mul, div-one, pow-succ', div-div-eq-div-mul, div-eq-of-lt, le-div-iff-mul-le, div-lt-iff-lt-mul, zero-add, suc-add, eq-zero-or-pos, le-antisymm, le-of-suc-le-suc, le-add-left}
+use native.Mathlib.Nat.{le-refl, le-suc, le-trans, le-of-eq, le-antisymm, le-of-suc-le-suc, le-add-left, lt-of-lt-of-le, lt-of-le-of-lt, not-le-of-lt}
+use native.Mathlib.Nat.{zero-add, suc-add, zero-mul, one-mul, pow-suc, pow-succ', div-one, eq-zero-or-pos}
+use native.Mathlib.Nat.{div-div-eq-div-mul, div-eq-of-lt, le-div-iff-mul-le, div-lt-iff-lt-mul}
 use native.Mathlib.Decide.{decLt}
 use native.Mathlib.Omega.{arith}
 use lib.Arith.{half-le}

@@ -1,10 +1,9 @@
--- Bezout's equation, Euclid's lemma, how many different irreducible polynomials of one degree can divide given polynomials, and that none of
--- degree 2 or more divides a power of t.
+-- Bezout's equation, Euclid's lemma, and how many different irreducible polynomials of one degree can divide given polynomials.
 use mathlib.Core.Path.{_≡_, sym, ap, _∙_}
 use mathlib.Core.Logic.{_≢_, _⊎_, inl, inr, ⊎-elim}
 use mathlib.Core.List.{List, [], _∷_}
 use Prim.Native.Nat.{ℕ, zero, suc, _+_, _*_, _^_, _≤_, _<_, zero-le}
-use native.Mathlib.Nat.{le-refl, le-trans, lt-of-lt-of-le, lt-of-le-of-lt, zero-lt-suc, eq-zero-or-pos, le-of-suc-le-suc, zero-mul, pow-succ'}
+use native.Mathlib.Nat.{le-refl, le-trans, lt-of-lt-of-le, lt-of-le-of-lt, zero-lt-suc, eq-zero-or-pos, le-of-suc-le-suc, zero-mul}
 use native.Mathlib.Decide.{ℕ-discrete, decLt}
 use native.Mathlib.Omega.{arith}
 use lib.ListN.{length}
@@ -13,9 +12,9 @@ use Rattle.lists.specs.Lists.{All, Distinct}
 use Rattle.gf2.specs.Polynomials.{_⊕_, _⊗_, degree, Degree, rem, Divides, Irreducible}
 use Rattle.lists.proofs.Lists.{all-zip}
 use Rattle.gf2.proofs.Sums.{xor}
-use Rattle.gf2.proofs.Products.{zero-⊗, one-⊗, ⊕-⊗, ⊗-assoc, ⊗-comm, ⊗-pow, ring}
+use Rattle.gf2.proofs.Products.{zero-⊗, one-⊗, ⊕-⊗, ⊗-assoc, ⊗-comm, ring}
 use Rattle.gf2.proofs.Degrees.{degree-is, degree-eq, degree-⊗, deg-lo, deg-hi, lt-of-pow-lt, deg-zero}
-use Rattle.gf2.proofs.Divisors.{dvd-by, dvd-small, dvd-left, dvd-refl, dvd-zero, dvd-⊕, dvd-⊗, dvd-trans}
+use Rattle.gf2.proofs.Divisors.{dvd-by, dvd-left, dvd-refl, dvd-zero, dvd-⊕, dvd-⊗, dvd-trans}
 use Rattle.gf2.proofs.Residues.{rem-lt, rem-dvd}
 
 -- ---- Bezout: a common divisor that is a combination
@@ -169,22 +168,3 @@ count k D (p ∷ ps) pos d f = omega (arith, count k q ps q-pos (d .1) rest, deg
 
     degree-D : degree D ≡ degree q + k
     degree-D = factor-degrees q p D is pos ∙ ap (λ (x : ℕ). degree q + x) (degree-eq p k (f .0 .of-degree))
-
--- ---- powers of t
-
--- a polynomial of degree 2 or more that is irreducible divides no power of t
-no-power : (p k s : ℕ) → Irreducible p → Degree p k → 2 ≤ k → Divides p (2 ^ s) → ⊥
-no-power p k zero i d l h = absurd (omega (arith, dvd-small k {a = 1} d h (lt-of-lt-of-le (omega arith) (pow-mono {i = 2} l))))
-no-power p k (suc s) i d l h = go (euclid-lemma p 2 (2 ^ s) i (dvd-by h (pow-succ' 2 s ∙ sym (⊗-pow s 2)))) (no-power p k s i d l)
-  where
-    go : Divides p 2 ⊎ Divides p (2 ^ s) → (Divides p (2 ^ s) → ⊥) → ⊥
-    go (inl g) n = omega (arith, dvd-small k {a = 2} d g (lt-of-lt-of-le (omega arith) (pow-mono {i = 2} l)))
-    go (inr g) n = n g
-
--- an irreducible polynomial of degree k divides no E·t^s, E not 0 and below t^k
-pub no-burst : (p k e s : ℕ) → Irreducible p → Degree p k → 2 ≤ k → e < 2 ^ k → Divides p (e * 2 ^ s) → e ≡ 0
-no-burst p k e s i d l lt h = go (euclid-lemma p e (2 ^ s) i (dvd-by h (sym (⊗-pow s e))))
-  where
-    go : Divides p e ⊎ Divides p (2 ^ s) → e ≡ 0
-    go (inl g) = dvd-small k d g lt
-    go (inr g) = absurd (no-power p k s i d l g)

@@ -5,6 +5,7 @@ pub mod Degrees
 pub mod Divisors
 pub mod Residues
 pub mod Irreducibles
+pub mod Congruences
 pub mod Criterion
 pub mod Powers
 pub mod Monics

@@ -75,7 +75,9 @@ agree f g (suc n) = eqb (f (2 ^ n)) (g (2 ^ n)) && agree f g n
 pub equal : {f g : ℕ → ℕ} → Additive f → Additive g → (n : ℕ) → T (agree f g n) → (x : ℕ) → x < 2 ^ n → f x ≡ g x
 equal {f} {g} h i zero t x l = ap f (lt-one l) ∙ at-zero h ∙ sym (at-zero i) ∙ ap g (sym (lt-one l))
 equal {f} {g} h i (suc n) t x l =
-    by-parts f h ∙ ap₂ (λ (x y : ℕ). x ⊕ y) (top (bit-cases (x / 2 ^ n) small)) (equal h i n (and-right (eqb (f (2 ^ n)) (g (2 ^ n))) (agree f g n) t) (x % 2 ^ n) (mod-lt x (pow-pos n)))
+    by-parts f h
+    ∙ ap₂ (λ (x y : ℕ). x ⊕ y) (top (bit-cases (x / 2 ^ n) small))
+    (equal h i n (and-right (eqb (f (2 ^ n)) (g (2 ^ n))) (agree f g n) t) (x % 2 ^ n) (mod-lt x (pow-pos n)))
     ∙ sym (by-parts g i)
   where
     small : x / 2 ^ n < 2

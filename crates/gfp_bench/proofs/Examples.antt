@@ -6,10 +6,10 @@ use Prim.Native.Nat.{ℕ}
 use native.Mathlib.Omega.{arith}
 use lib.ListN.{length}
 use Rattle.gf2.specs.Polynomials.{_⊕_, halvings, degree, reduce, longDivision, rem}
-use Rattle.lists.specs.Lists.{listFrom}
+use Rattle.lists.specs.Lists.{listFrom, anyBelow}
 use Rattle.refusals.specs.declared.Refusal.the-variants.{TableSize, TableWord, TooLong}
 use Rattle.refusals.specs.Refusals.{Done, Refused, longest}
-use Rattle.acceptance.specs.Keys.{anyBelow, reducible, accepted}
+use Rattle.acceptance.specs.Keys.{reducible, accepted}
 use Rattle.files.specs.declared.Mark.{Mark}
 use Rattle.files.specs.Files.{lowBits, bits, valueFrom, value, fingerprint, markOf}
 use Rattle.files.proofs.Marks.{empty-mark}

@@ -12,10 +12,10 @@ use Rattle.gf2.specs.Polynomials.{degree}
 use Rattle.refusals.specs.Refusals.{Done}
 use Rattle.acceptance.specs.Keys.{accepted}
 use Rattle.files.specs.Files.{Bytes}
+use Rattle.files.specs.Bursts.{Burst}
 use Rattle.lists.specs.Lists.{among}
 use Rattle.lists.specs.Counts.{countFrom}
 use Rattle.book.specs.Confusions.{Routes, Confuses, confused}
-use Rattle.files.specs.Bursts.{Burst}
 use Rattle.stock.specs.Stock.{stockKey}
 use Rattle.draw.specs.Drawing.{degrees, keyOf, elements, draw, Draws}
 

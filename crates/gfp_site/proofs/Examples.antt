@@ -5,12 +5,13 @@ use mathlib.Core.List.{List, [], _∷_}
 use Prim.Native.Nat.{ℕ}
 use native.Mathlib.Omega.{arith}
 use Rattle.gf2.specs.Polynomials.{_⊕_, halvings, degree, reduce, longDivision, rem}
-use Rattle.acceptance.specs.Keys.{anyBelow, reducible}
+use Rattle.lists.specs.Lists.{anyBelow}
+use Rattle.acceptance.specs.Keys.{reducible}
 use Rattle.files.specs.declared.Mark.{Mark}
-use Rattle.files.specs.Files.{lowBits, bits, valueFrom, value, fingerprint, markOf}
-use Rattle.marks.specs.Feeding.{fedMark, feedBits}
-use Rattle.tables.specs.Tables.{differs, feedTable}
-use Rattle.compose.specs.Composing.{joined, joinBehind, joinInFront, replaced, replacePage}
+use Rattle.files.specs.Files.{lowBits, bits, valueFrom, value, fingerprint, markOf, fedMark, joined, replaced}
+use Rattle.lookups.specs.Rule.{differs}
+use Rattle.marks.specs.Feeding.{feedBits, feedTable}
+use Rattle.compose.specs.Composing.{joinBehind, joinInFront, replacePage}
 use Rattle.book.specs.Runs.{bookStep, run, Honest}
 use Rattle.book.specs.Confusions.{Confuses}
 use Rattle.gfp_bench.specs.Book as bench-level

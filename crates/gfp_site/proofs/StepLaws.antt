@@ -14,12 +14,11 @@ use Rattle.refusals.specs.Refusals.{numberOf, Test, _⇒_, firstOf, passes}
 use Rattle.refusals.proofs.Laws.{passed}
 use Rattle.acceptance.specs.Keys.{keyTests}
 use Rattle.files.specs.declared.Mark.{Mark}
-use Rattle.files.specs.Files.{fingerprint, markOf, True}
-use Rattle.files.proofs.Marks.{mark-eq, page}
-use Rattle.marks.specs.Feeding.{unreduced, sumTest}
-use Rattle.marks.proofs.Laws.{true-reduced, leave-out-8}
-use Rattle.compose.proofs.Laws.{joined-true}
-use Rattle.compose.specs.Composing.{joined, joinTests, joinBehind, joinInFront, replaced, replacePage}
+use Rattle.files.specs.Files.{fingerprint, markOf, True, unreduced, joined, replaced}
+use Rattle.files.proofs.Marks.{mark-eq, page, true-reduced, joined-true}
+use Rattle.marks.specs.Feeding.{sumTest}
+use Rattle.marks.proofs.Laws.{leave-out-8}
+use Rattle.compose.specs.Composing.{joinTests, joinBehind, joinInFront, replacePage}
 use Rattle.book.specs.Runs.{bookStep}
 use Rattle.book.proofs.RunLaws.{Keeps}
 use Rattle.gfp_bench.specs.Book as bench-level
@@ -28,10 +27,9 @@ use Rattle.gfp_bench.proofs.StepLaws.{Agrees, agrees-by}
 use Rattle.gfp_site.specs.Book.{Call, Feeding, Behind, InFront, Page, step, bookTests, written, Brings, site}
 
 module _ (key : ℕ) (pos : 0 < key) (file : List ℕ) where
-  feeding-agrees : (c : bench-level.Call) → (numberOf (bookStep site key file (Feeding c)) ≡ 0 → bench-level.Brings key file c)
-      → Agrees key (step key (markOf key file) (Feeding c)) (bookStep site key file (Feeding c))
+  feeding-agrees : (c : bench-level.Call) → Agrees key (step key (markOf key file) (Feeding c)) (bookStep site key file (Feeding c))
   unfolding step bookStep bookTests written
-  feeding-agrees c h = bench-laws.each key pos file c h
+  feeding-agrees c = bench-laws.each key pos file c
 
   -- the tests of a joining, this mark being true
   join-tests : (other : Mark) (x y : Mark)
@@ -115,7 +113,7 @@ module _ (key : ℕ) (pos : 0 < key) (file : List ℕ) where
       inside e = ltb-false (length file) (place + length old) (passed (keyTests key ++ seven ∷ nine ∷ []) [] (ltb (length file) (place + length old)) PagePastEnd file to e)
 
   each : (c : Call) → (numberOf (bookStep site key file c) ≡ 0 → Brings key file c) → Agrees key (step key (markOf key file) c) (bookStep site key file c)
-  each (Feeding c) h = feeding-agrees c h
+  each (Feeding c) h = feeding-agrees c
   each (Behind other its) h = behind-agrees other its h
   each (InFront other its) h = front-agrees other its h
   each (Page place old new) h = page-agrees place old new h

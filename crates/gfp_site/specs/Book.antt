@@ -10,8 +10,8 @@ use Rattle.refusals.specs.declared.Refusal.the-variants.{TooLong, MarkNotReduce
 use Rattle.refusals.specs.Refusals.{Answer, Done, Test, _⇒_, passes}
 use Rattle.acceptance.specs.Keys.{keyTests}
 use Rattle.files.specs.declared.Mark.{Mark}
-use Rattle.files.specs.Files.{True}
-use Rattle.marks.specs.Feeding.{unreduced, sumTest}
+use Rattle.files.specs.Files.{True, unreduced}
+use Rattle.marks.specs.Feeding.{sumTest}
 use Rattle.compose.specs.Composing.{joinBehind, joinInFront, replacePage}
 use Rattle.sheets.specs.Layout.{version1, pagePlace, sheetLength, pageCount, numberAt}
 use Rattle.sheets.specs.Sheets.{writeSheet}

@@ -13,18 +13,18 @@ use search::Searched;
 use sheets::Checked;
 use sheets::Reading;
 
-// The file of the mark (other, size) goes behind the file of the mark in the two places. Numbers 1, 2, 7, 8.
+// The file of the mark (other, other_length) goes behind the file of the mark in the two places. Numbers 1, 2, 7, 8.
 #[no_mangle]
 pub extern "C" fn gfp_join_behind(
     key: u64,
     fingerprint: &mut u64,
     length: &mut u64,
     other: u64,
-    size: u64,
+    other_length: u64,
 ) -> u32
     ensures { λ r. ⌜
-        (r ≡ numberOf (joinBehind key (markAt (now (fingerprint .entry)) (now (length .entry))) (markAt other size)))
-        × (markAt (now (fingerprint .exit)) (now (length .exit)) ≡ stateOf (joinBehind key (markAt (now (fingerprint .entry)) (now (length .entry))) (markAt other size)))
+        (r ≡ numberOf (joinBehind key (markAt (now (fingerprint .entry)) (now (length .entry))) (markAt other other_length)))
+        × (markAt (now (fingerprint .exit)) (now (length .exit)) ≡ stateOf (joinBehind key (markAt (now (fingerprint .entry)) (now (length .entry))) (markAt other other_length)))
         ⌝ }
 {
     let m = Running {
@@ -34,23 +34,23 @@ pub extern "C" fn gfp_join_behind(
     };
     let behind = Mark {
         fingerprint: other,
-        length: size,
+        length: other_length,
     };
     gfp_bench::store(compose::join_behind(m, behind), fingerprint, length)
 }
 
-// The file of the mark (other, size) goes in front. Numbers 1, 2, 7, 8.
+// The file of the mark (other, other_length) goes in front. Numbers 1, 2, 7, 8.
 #[no_mangle]
 pub extern "C" fn gfp_join_in_front(
     key: u64,
     fingerprint: &mut u64,
     length: &mut u64,
     other: u64,
-    size: u64,
+    other_length: u64,
 ) -> u32
     ensures { λ r. ⌜
-        (r ≡ numberOf (joinInFront key (markAt (now (fingerprint .entry)) (now (length .entry))) (markAt other size)))
-        × (markAt (now (fingerprint .exit)) (now (length .exit)) ≡ stateOf (joinInFront key (markAt (now (fingerprint .entry)) (now (length .entry))) (markAt other size)))
+        (r ≡ numberOf (joinInFront key (markAt (now (fingerprint .entry)) (now (length .entry))) (markAt other other_length)))
+        × (markAt (now (fingerprint .exit)) (now (length .exit)) ≡ stateOf (joinInFront key (markAt (now (fingerprint .entry)) (now (length .entry))) (markAt other other_length)))
         ⌝ }
 {
     let m = Running {
@@ -60,7 +60,7 @@ pub extern "C" fn gfp_join_in_front(
     };
     let front = Mark {
         fingerprint: other,
-        length: size,
+        length: other_length,
     };
     gfp_bench::store(compose::join_in_front(m, front), fingerprint, length)
 }
@@ -92,26 +92,26 @@ pub extern "C" fn gfp_replace_page(
     )
 }
 
-// All places of the pattern in the text, the first ones into the lent words; the numbers of places and of false alarms into two places.
+// All places of the pattern in the text, the first ones into the lent places; the numbers of places and of false alarms into count and alarms.
 // Numbers 1, 2, 7, 11.
 #[no_mangle]
 pub extern "C" fn gfp_search(
     key: u64,
     text: &[u8],
     pattern: &[u8],
-    words: &mut [u32],
-    places: &mut u32,
+    places: &mut [u32],
+    count: &mut u32,
     alarms: &mut u32,
 ) -> u32
     ensures { λ r. ⌜
         (r ≡ numberOf (search key (now (text .entry)) (now (pattern .entry))))
-        × (now (words .exit) ≡ wordsAfter key (now (text .entry)) (now (pattern .entry)) (now (words .entry)))
-        × (countsAt (now (places .exit)) (now (alarms .exit)) ≡ valueOr (countsAt (now (places .entry)) (now (alarms .entry))) (search key (now (text .entry)) (now (pattern .entry))))
+        × (now (places .exit) ≡ wordsAfter key (now (text .entry)) (now (pattern .entry)) (now (places .entry)))
+        × (countsAt (now (count .exit)) (now (alarms .exit)) ≡ valueOr (countsAt (now (count .entry)) (now (alarms .entry))) (search key (now (text .entry)) (now (pattern .entry))))
         ⌝ }
 {
-    match search::search(key, text, pattern, words) {
+    match search::search(key, text, pattern, places) {
         Searched::Found(c) => {
-            *places = c.places;
+            *count = c.places;
             *alarms = c.alarms;
             0
         }
@@ -159,15 +159,15 @@ pub extern "C" fn gfp_read_sheet(
     }
 }
 
-// The page fingerprints of a sheet into the lent words, the first ones as far as they reach; further words keep their value. Numbers as above.
+// The page fingerprints of a sheet into lent places, the first ones as far as they reach; further places keep their value. Numbers as above.
 #[no_mangle]
-pub extern "C" fn gfp_read_pages(sheet: &[u8], words: &mut [u64]) -> u32
+pub extern "C" fn gfp_read_pages(sheet: &[u8], fingerprints: &mut [u64]) -> u32
     ensures { λ r. ⌜
-        (r ≡ numberOf (readPages (now (sheet .entry)) (now (words .entry))))
-        × (now (words .exit) ≡ stateOf (readPages (now (sheet .entry)) (now (words .entry))))
+        (r ≡ numberOf (readPages (now (sheet .entry)) (now (fingerprints .entry))))
+        × (now (fingerprints .exit) ≡ stateOf (readPages (now (sheet .entry)) (now (fingerprints .entry))))
         ⌝ }
 {
-    refusals::number_of(sheet_reading::read_pages(sheet, words))
+    refusals::number_of(sheet_reading::read_pages(sheet, fingerprints))
 }
 
 // A file checked against a sheet: 0 for same, 1 for a page with its place, 2 for another length. All of reading's numbers, then 7.

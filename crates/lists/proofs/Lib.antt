@@ -1,4 +1,5 @@
 pub mod Truth
 pub mod Lists
+pub mod Parts
 pub mod Counts
 pub mod Searches

@@ -1,16 +1,33 @@
--- Laws of the search for the first number that passes a test, and of the numbers that stand in a list.
+-- Laws of tests and lists: whether some number passes, the search for the first one, and the numbers that stand in a list.
 use mathlib.Core.Path.{_≡_, refl, sym, ap, _∙_}
 use mathlib.Core.Logic.{inl, inr}
 use mathlib.Core.Bool.{Bool, true, false, _||_, or-true, true≢false, cond}
 use mathlib.Core.List.{List, [], _∷_}
 use Prim.Native.Nat.{ℕ, zero, suc, _+_, _≤_, _<_}
-use native.Mathlib.Nat.{le-refl}
+use native.Mathlib.Nat.{le-refl, not-suc-le-zero}
 use native.Mathlib.Decide.{ℕ-discrete}
 use native.Mathlib.Omega.{arith}
 use lib.Dec.{eqb}
 use borrow.Author.Tests.{eqb-true, eq-eqb, ne-eqb}
 use types.Run.{OneOf}
-use Rattle.lists.specs.Lists.{All, firstFrom, among}
+use Rattle.lists.specs.Lists.{All, anyBelow, firstFrom, among}
+use Rattle.lists.proofs.Truth.{or-neither}
+
+-- ---- whether some number below n passes
+
+pub any-false : (f : ℕ → Bool) (n d : ℕ) → anyBelow f n ≡ false → d < n → f d ≡ false
+unfolding anyBelow
+any-false f zero d e l = absurd (not-suc-le-zero l)
+any-false f (suc n) d e l = go (ℕ-discrete d n) (λ m. any-false f n d (or-neither (f n) (anyBelow f n) e .1) m)
+  where
+    go : Dec (d ≡ n) → (d < n → f d ≡ false) → f d ≡ false
+    go (yes q) h = rw q (or-neither (f n) (anyBelow f n) e .0)
+    go (no q) h = h (omega arith)
+
+pub any-none : (f : ℕ → Bool) (n : ℕ) → ((d : ℕ) → d < n → f d ≡ false) → anyBelow f n ≡ false
+unfolding anyBelow
+any-none f zero h = refl
+any-none f (suc n) h = rw (h n (le-refl (suc n))) (any-none f n (λ d l. h d (omega arith)))
 
 -- ---- the first number that passes
 

@@ -1,5 +1,5 @@
--- Lists of numbers: the values of a function, the numbers that pass a test and the first of them, whether a number is listed, whether two
--- lists are the same, what holds of every entry, of at least one entry, and that no entry stands twice.
+-- Lists of numbers: the values of a function, the numbers that pass a test, whether there is one and which is the first, whether a number is
+-- listed, whether two lists are the same, what holds of every entry, of at least one entry, and that no entry stands twice.
 use mathlib.Core.Logic.{_≢_, _⊎_}
 use mathlib.Core.Bool.{Bool, true, false, _&&_, _||_, cond}
 use mathlib.Core.List.{List, [], _∷_}
@@ -15,6 +15,11 @@ listFrom f i (suc n) = f i ∷ listFrom f (suc i) n
 unfoldable pub passing : (ℕ → Bool) → ℕ → ℕ → List ℕ
 passing test n zero = []
 passing test n (suc c) = cond (test n) (n ∷ passing test (suc n) c) (passing test (suc n) c)
+
+-- some number below n passes the test
+unfoldable pub anyBelow : (ℕ → Bool) → ℕ → Bool
+anyBelow f zero = false
+anyBelow f (suc n) = f n || anyBelow f n
 
 -- the first number from n on that passes the test, c numbers being tried; n + c where none does
 unfoldable pub firstFrom : (ℕ → Bool) → ℕ → ℕ → ℕ

@@ -33,7 +33,8 @@ module _ (f v n j : ℕ) (h : v < 2 ^ n) where
 
 -- what stands below fits a word
 pub below-fits : (f v n j : ℕ) → v < 2 ^ n → j + n ≤ 64 → f % 2 ^ j * 2 ^ n + v < 2 ^ 64
-below-fits f v n j h l = lt-of-lt-of-le (rw (← (pow-add 2 j n)) at (digits-lt {q = f % 2 ^ j} {m = 2 ^ j} (mod-lt f (pow-pos j)) h)) (pow-mono {i = j + n} {j = 64} l)
+below-fits f v n j h l = lt-of-lt-of-le (rw (← (pow-add 2 j n)) at (digits-lt {q = f % 2 ^ j} {m = 2 ^ j} (mod-lt f (pow-pos j)) h))
+    (pow-mono {i = j + n} {j = 64} l)
 
 pub all-fits : (f v n k : ℕ) → f < 2 ^ k → v < 2 ^ n → k + n ≤ 64 → f * 2 ^ n + v < 2 ^ 64
 all-fits f v n k hf h l = lt-of-lt-of-le (rw (← (pow-add 2 k n)) at (digits-lt hf h)) (pow-mono {i = k + n} {j = 64} l)
@@ -100,7 +101,8 @@ module _ (w : ℕ) (p : Modulus) (proper : Proper p) (words : List ℕ) (c : ℕ
     cut-behind x e = ap (λ (y : ℕ). y ⊕ looked w words n 0 ((f * 2 ^ (w * n) + v) / 2 ^ k)) e ∙ cut n (f * 2 ^ (w * n) + v) l behind-lt
 
     -- where the degree is no less than the bits behind, from f alone: x is the rest of f
-    pub cut-high : (j x : ℕ) → p .degree ≡ w * n + j → x ≡ f % 2 ^ j → (x * 2 ^ (w * n) + v) ⊕ looked w words n 0 (f / 2 ^ j) ≡ rem (polynomial p) (f * 2 ^ (w * n) + v)
+    pub cut-high : (j x : ℕ) → p .degree ≡ w * n + j → x ≡ f % 2 ^ j
+        → (x * 2 ^ (w * n) + v) ⊕ looked w words n 0 (f / 2 ^ j) ≡ rem (polynomial p) (f * 2 ^ (w * n) + v)
     cut-high j x e ex =
         ap (λ (y : ℕ). (y * 2 ^ (w * n) + v) ⊕ looked w words n 0 (f / 2 ^ j)) ex
         ∙ ap₂ (λ (x y : ℕ). x ⊕ looked w words n 0 y)
@@ -116,11 +118,15 @@ top-lt f n k l h =
 
 -- ---- the sums as the code has them
 
-pub look-four : (words : List ℕ) (rest h : ℕ)
-    → rest ⊕ getD words (h % 256) 0 ⊕ getD words (256 + h / 256 % 256) 0 ⊕ getD words (512 + h / 65536 % 256) 0 ⊕ getD words (768 + h / 16777216 % 256) 0 ≡ rest ⊕ looked 8 words 4 0 h
+pub look-two : (words : List ℕ) (row h : ℕ) → getD words (row * 256 + h % 256) 0 ⊕ getD words (row * 256 + 256 + h / 256 % 256) 0 ≡ looked 8 words 2 row h
 unfolding looked
-look-four words rest h =
-    rw (zero-add (h % 256), ← (shr-shr h 8 8), ← (shr-shr h 16 8), ← (shr-shr h 8 8)) (simp (⊕-assoc, ⊕-zero))
+look-two words row h =
+    let e : row * 256 + 256 + h / 256 % 256 ≡ suc row * 256 + h / 256 % 256 = omega arith in
+    rw (e, ⊕-zero)
+
+pub look-four : (words : List ℕ) (rest h : ℕ) → rest ⊕ looked 8 words 2 0 h ⊕ looked 8 words 2 2 (h / 65536) ≡ rest ⊕ looked 8 words 4 0 h
+unfolding looked
+look-four words rest h = rw (← (shr-shr h 8 8)) (simp (⊕-assoc, ⊕-zero))
 
 pub look-one : (words : List ℕ) (rest h : ℕ) → h < 256 → rest ⊕ getD words h 0 ≡ rest ⊕ looked 8 words 1 0 h
 unfolding looked

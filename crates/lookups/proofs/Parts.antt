@@ -1,6 +1,6 @@
 -- Laws of feeding a part by pieces: some bytes at a time, and in lanes that are joined.
-use mathlib.Core.Path.{_≡_, refl, sym, ap, ap₂, _∙_}
-use mathlib.Core.List.{List, [], _∷_, _++_}
+use mathlib.Core.Path.{_≡_, sym, ap, ap₂, _∙_}
+use mathlib.Core.List.{List, [], _++_}
 use Prim.Native.Nat.{ℕ, _+_, _-_, _*_, _^_, _≤_, _<_}
 use native.Mathlib.Nat.{le-refl, mod-eq-of-lt}
 use native.Mathlib.Omega.{arith}
@@ -9,7 +9,6 @@ use lib.Seq.{drop-cons, drop-drop, length-take-le, take-add, take-all}
 use Rattle.gf2.specs.Polynomials.{_⊕_, _⊗_, degree, rem}
 use Rattle.gf2.specs.Moduli.{polynomial, Proper}
 use Rattle.gf2.specs.declared.Modulus.{Modulus}
-use Rattle.lists.proofs.Lists.{drop-next}
 use Rattle.gf2.proofs.Products.{⊗-pow}
 use Rattle.gf2.proofs.Residues.{rem-⊕, rem-small}
 use Rattle.gf2.proofs.Powers.{rem-shl, rem-⊗-right}
@@ -18,42 +17,12 @@ use Rattle.gf2.proofs.Steps.{residue-below}
 use Rattle.files.specs.Files.{bits, valueFrom}
 use Rattle.files.proofs.Values.{value-append, value-split, value-lt, value-⊕, length-bits, bits-append, value-byte, rem-from}
 
--- ---- four bytes as one number
-
-byte : (s b : ℕ) (file : List ℕ) → b < 256 → valueFrom s (bits (b ∷ file)) ≡ valueFrom (s * 256 + b) (bits file)
-byte s b file h = value-byte s b file ∙ ap (λ (x : ℕ). valueFrom (s * 256 + x) (bits file)) (mod-eq-of-lt h)
-
-four : (a b c d : ℕ) → a < 256 → b < 256 → c < 256 → d < 256 → valueFrom 0 (bits (a ∷ b ∷ c ∷ d ∷ [])) ≡ ((a * 256 + b) * 256 + c) * 256 + d
-four a b c d ha hb hc hd =
-    byte 0 a (b ∷ c ∷ d ∷ []) ha
-    ∙ byte (0 * 256 + a) b (c ∷ d ∷ []) hb
-    ∙ byte ((0 * 256 + a) * 256 + b) c (d ∷ []) hc
-    ∙ byte (((0 * 256 + a) * 256 + b) * 256 + c) d [] hd
-    ∙ unfold valueFrom bits in (omega arith)
-
-drop-to : (p : List ℕ) (i n : ℕ) → n ≡ i + 1 → i < length p → drop i p ≡ getD p i 0 ∷ drop n p
-drop-to p i n e l = rw e (drop-next p i 0 l)
-
-take-four : (p : List ℕ) (i : ℕ) → i + 4 ≤ length p → take 4 (drop i p) ≡ getD p i 0 ∷ getD p (i + 1) 0 ∷ getD p (i + 2) 0 ∷ getD p (i + 3) 0 ∷ []
-take-four p i l =
-    rw (
-      drop-to p i (i + 1) refl (omega arith),
-      drop-to p (i + 1) (i + 2) (omega arith) (omega arith),
-      drop-to p (i + 2) (i + 3) (omega arith) (omega arith),
-      drop-to p (i + 3) (i + 4) (omega arith) (omega arith),
-    )
-
--- v is the byte at place i
-abbrev Byte : List ℕ → ℕ → ℕ → Type 0
-Byte p i v = (v ≡ getD p i 0) × (v < 256)
-
-pub value-four : (p : List ℕ) (i a b c d : ℕ) → i + 4 ≤ length p → Byte p i a → Byte p (i + 1) b → Byte p (i + 2) c → Byte p (i + 3) d
-    → ((a * 256 + b) * 256 + c) * 256 + d ≡ valueFrom 0 (bits (take 4 (drop i p)))
-value-four p i a b c d l ha hb hc hd =
-    sym (ap (λ (q : List ℕ). valueFrom 0 (bits q)) (take-four p i l) ∙ rw (← (ha .0), ← (hb .0), ← (hc .0), ← (hd .0)) (four a b c d (ha .1) (hb .1) (hc .1) (hd .1)))
+-- ---- some bytes as one number
 
 pub value-one : (p : List ℕ) (i : ℕ) → i < length p → getD p i 0 < 256 → getD p i 0 ≡ valueFrom 0 (bits (take 1 (drop i p)))
-value-one p i l h = rw (drop-cons p i 0 l) (sym (byte 0 (getD p i 0) [] h ∙ unfold valueFrom bits in (omega arith)))
+value-one p i l h =
+    rw (drop-cons p i 0 l)
+    (sym (value-byte 0 (getD p i 0) [] ∙ ap (λ (x : ℕ). valueFrom (0 * 256 + x) (bits [])) (mod-eq-of-lt h) ∙ unfold valueFrom bits in (omega arith)))
 
 -- c bytes from place i on
 module _ (p : List ℕ) (i c : ℕ) (l : i + c ≤ length p) where
@@ -81,20 +50,40 @@ module _ (p : List ℕ) (i c : ℕ) (l : i + c ≤ length p) where
       ∙ rem-from pos (x * 2 ^ (8 * c) + valueFrom 0 (bits (take c (drop i p)))) (bits (drop (i + c) p))
       ∙ ap (rem key) (sym (value-piece x))
 
-pub four-lt : (p : List ℕ) (i v : ℕ) → i + 4 ≤ length p → v ≡ valueFrom 0 (bits (take 4 (drop i p))) → v < 2 ^ 32
-four-lt p i v l e = rw e (value-piece-lt p i 4 l)
+pub piece-lt : (p : List ℕ) (i c v : ℕ) → i + c ≤ length p → v ≡ valueFrom 0 (bits (take c (drop i p))) → v < 2 ^ (8 * c)
+piece-lt p i c v l e = rw e (value-piece-lt p i c l)
 
--- eight bytes as one number: four, and four behind them
-pub value-eight : (p : List ℕ) (i v w : ℕ) → i + 8 ≤ length p → v ≡ valueFrom 0 (bits (take 4 (drop i p))) → w ≡ valueFrom 0 (bits (take 4 (drop (i + 4) p)))
-    → v * 4294967296 + w ≡ valueFrom 0 (bits (take 8 (drop i p)))
-value-eight p i v w l ev ew =
-    ap₂ (λ (x y : ℕ). x * 4294967296 + y) ev ew
+-- c bytes as one number: a of them, and b behind them
+pub value-join : (p : List ℕ) (i a b v w : ℕ) → i + a + b ≤ length p → v ≡ valueFrom 0 (bits (take a (drop i p)))
+    → w ≡ valueFrom 0 (bits (take b (drop (i + a) p)))
+    → v * 2 ^ (8 * b) + w ≡ valueFrom 0 (bits (take (a + b) (drop i p)))
+value-join p i a b v w l ev ew =
+    let front = take a (drop i p) in
+    let back = take b (drop (i + a) p) in
+    ap₂ (λ (x y : ℕ). x * 2 ^ (8 * b) + y) ev ew
     ∙ sym
-    (ap (λ (q : List ℕ). valueFrom 0 (bits q)) (take-add 4 4 (drop i p) ∙ ap (λ (q : List ℕ). take 4 (drop i p) ++ take 4 q) (drop-drop 4 i p))
-    ∙ ap (valueFrom 0) (bits-append (take 4 (drop i p)) (take 4 (drop (i + 4) p)))
-    ∙ value-append 0 (bits (take 4 (drop i p))) (bits (take 4 (drop (i + 4) p)))
-    ∙ value-split (valueFrom 0 (bits (take 4 (drop i p)))) (bits (take 4 (drop (i + 4) p)))
-    ∙ ap (λ (n : ℕ). valueFrom 0 (bits (take 4 (drop i p))) * 2 ^ n + valueFrom 0 (bits (take 4 (drop (i + 4) p)))) (length-piece p (i + 4) 4 (omega arith)))
+    (ap (λ (q : List ℕ). valueFrom 0 (bits q)) (take-add a b (drop i p) ∙ ap (λ (q : List ℕ). front ++ take b q) (drop-drop a i p))
+    ∙ ap (valueFrom 0) (bits-append front back)
+    ∙ value-append 0 (bits front) (bits back)
+    ∙ value-split (valueFrom 0 (bits front)) (bits back)
+    ∙ ap (λ (n : ℕ). valueFrom 0 (bits front) * 2 ^ n + valueFrom 0 (bits back)) (length-piece p (i + a) b l))
+
+-- four bytes, one behind the other
+pub value-four : (p : List ℕ) (i a b c d : ℕ) → i + 4 ≤ length p
+    → a ≡ valueFrom 0 (bits (take 1 (drop i p)))
+    → b ≡ valueFrom 0 (bits (take 1 (drop (i + 1) p)))
+    → c ≡ valueFrom 0 (bits (take 1 (drop (i + 2) p)))
+    → d ≡ valueFrom 0 (bits (take 1 (drop (i + 3) p)))
+    → ((a * 256 + b) * 256 + c) * 256 + d ≡ valueFrom 0 (bits (take 4 (drop i p)))
+value-four p i a b c d l ea eb ec ed =
+    let two = value-join p i 1 1 a b (omega arith) ea eb in
+    let three = value-join p i 2 1 (a * 256 + b) c (omega arith) two ec in
+    value-join p i 3 1 ((a * 256 + b) * 256 + c) d (omega arith) three ed
+
+pub join-lt : (p : List ℕ) (i a b v w : ℕ) → i + a + b ≤ length p → v ≡ valueFrom 0 (bits (take a (drop i p)))
+    → w ≡ valueFrom 0 (bits (take b (drop (i + a) p)))
+    → v * 2 ^ (8 * b) + w < 2 ^ (8 * (a + b))
+join-lt p i a b v w l ev ew = piece-lt p i (a + b) (v * 2 ^ (8 * b) + w) (omega arith) (value-join p i a b v w l ev ew)
 
 -- nothing is left
 pub fed-all : {key : ℕ} (pos : 0 < key) (p : List ℕ) (i x : ℕ) → length p ≤ i → x < 2 ^ degree key → rem key (valueFrom x (bits (drop i p))) ≡ x
@@ -111,7 +100,8 @@ module _ (p : Modulus) (proper : Proper p) (f : ℕ) (part : List ℕ) (from i x
   pos = monic-pos (p .degree) (p .low) (proper .2)
 
   -- c bytes more
-  going : (c v y : ℕ) → i + c ≤ length part → v ≡ valueFrom 0 (bits (take c (drop i part))) → y ≡ rem (polynomial p) (x * 2 ^ (8 * c) + v) → Going p f part from (i + c) y
+  going : (c v y : ℕ) → i + c ≤ length part → v ≡ valueFrom 0 (bits (take c (drop i part))) → y ≡ rem (polynomial p) (x * 2 ^ (8 * c) + v)
+      → Going p f part from (i + c) y
   going c v y l ev ey = (
     residue-below p proper y (x * 2 ^ (8 * c) + v) ey,
     fed-piece part i c l pos x y (ey ∙ ap (λ (z : ℕ). rem (polynomial p) (x * 2 ^ (8 * c) + z)) ev) ∙ g .1,
@@ -120,7 +110,8 @@ module _ (p : Modulus) (proper : Proper p) (f : ℕ) (part : List ℕ) (from i x
   pub going-one : (y : ℕ) → i < length part → getD part i 0 < 256 → y ≡ rem (polynomial p) (x * 2 ^ 8 + getD part i 0) → Going p f part from (i + 1) y
   going-one y l h ey = going 1 (getD part i 0) y (omega arith) (value-one part i l h) ey
 
-  pub going-four : (v y : ℕ) → i + 4 ≤ length part → v ≡ valueFrom 0 (bits (take 4 (drop i part))) → y ≡ rem (polynomial p) (x * 2 ^ 32 + v) → Going p f part from (i + 4) y
+  pub going-four : (v y : ℕ) → i + 4 ≤ length part → v ≡ valueFrom 0 (bits (take 4 (drop i part))) → y ≡ rem (polynomial p) (x * 2 ^ 32 + v)
+      → Going p f part from (i + 4) y
   going-four v y l ev ey = going 4 v y l ev ey
 
   pub going-all : length part ≤ i → x ≡ rem (polynomial p) (valueFrom f (bits (drop from part)))

@@ -120,7 +120,8 @@ module _ (p : Modulus) (words : List ℕ) where
   table-rows t =
       let rule = word 8 (polynomial p) in
       let m = t .0 .2 in
-      rw (monic-degree (p .degree) (p .low) m) at (follows-rows 8 (monic-pos (p .degree) (p .low) m) words 4 (λ n l. table-rule rule 1024 words (t .2) n (rw (table-long t) l)))
+      rw (monic-degree (p .degree) (p .low) m) at
+      (follows-rows 8 (monic-pos (p .degree) (p .low) m) words 4 (λ n l. table-rule rule 1024 words (t .2) n (rw (table-long t) l)))
 
   -- the words for four bytes are words for one
   pub first-row : TableOf p words → ReducesByte p words

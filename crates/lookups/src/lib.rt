@@ -33,19 +33,27 @@ fn wide(x: u8) -> u64
     x as u64
 }
 
-// Four bytes as one number, the first highest.
+// One byte as a number.
+fn byte_at(part: &[u8], i: usize) -> u64
+    requires { ⌜ i < length (now part) ⌝ }
+    ensures { λ r. ⌜ r ≡ valueFrom 0 (bits (take 1 (drop i (now (part .entry))))) ⌝ }
+{
+    wide(part[i])
+}
+
+// Four bytes as one number, the first highest. In one expression, which the compiler knows as one load.
 fn four_at(part: &[u8], i: usize) -> u64
     requires { ⌜ i + 4 ≤ length (now part) ⌝ }
     ensures { λ r. ⌜ r ≡ valueFrom 0 (bits (take 4 (drop i (now (part .entry))))) ⌝ }
 {
-    let a = wide(part[i]);
-    let b = wide(part[i + 1]);
-    let c = wide(part[i + 2]);
-    let d = wide(part[i + 3]);
+    let a = byte_at(part, i);
+    let b = byte_at(part, i + 1);
+    let c = byte_at(part, i + 2);
+    let d = byte_at(part, i + 3);
     ((a * 256 + b) * 256 + c) * 256 + d
 }
 
-// Eight bytes as one number, the first highest.
+// Eight bytes, likewise.
 pub fn eight_at(part: &[u8], i: usize) -> u64
     requires { ⌜ i + 8 ≤ length (now part) ⌝ }
     ensures { λ r. ⌜ r ≡ valueFrom 0 (bits (take 8 (drop i (now (part .entry))))) ⌝ }
@@ -53,16 +61,23 @@ pub fn eight_at(part: &[u8], i: usize) -> u64
     four_at(part, i) * 4294967296 + four_at(part, i + 4)
 }
 
+// The words of two bytes of h, the low one looked up in the given row, added up.
+fn look_two(words: &[u64], row: usize, h: u64) -> u64
+    requires { ⌜ (row + 2 ≤ 4) × (length (now words) ≡ 1024) ⌝ }
+    ensures { λ r. ⌜ r ≡ looked 8 (now (words .entry)) 2 row h ⌝ }
+{
+    let at = row * 256;
+    let a = (h % 256) as usize;
+    let b = (h / 256 % 256) as usize;
+    words[at + a] ^ words[at + 256 + b]
+}
+
 // The words of the four bytes of `above`, added to `below`.
 fn look_up(words: &[u64], below: u64, above: u64) -> u64
     requires { ⌜ length (now words) ≡ 1024 ⌝ }
     ensures { λ r. ⌜ r ≡ below ⊕ looked 8 (now (words .entry)) 4 0 above ⌝ }
 {
-    let a = (above % 256) as usize;
-    let b = (above / 256 % 256) as usize;
-    let c = (above / 65536 % 256) as usize;
-    let d = (above / 16777216 % 256) as usize;
-    below ^ words[a] ^ words[256 + b] ^ words[512 + c] ^ words[768 + d]
+    below ^ look_two(words, 0, above) ^ look_two(words, 2, above / 65536)
 }
 
 // Four bytes behind a residue. The branch is on the degree alone, so the compiler takes it out of a loop.

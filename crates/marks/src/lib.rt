@@ -79,11 +79,11 @@ fn feed_looked(p: Modulus, m: Running, words: &[u64], part: &[u8]) -> Fed
     match judge(p, m, n) {
         Reply::Refused(r) => Fed::Refused(r, m),
         Reply::Done => {
-            let next = lookups::fed(words, p, m.fingerprint, part);
+            let looked = lookups::fed(words, p, m.fingerprint, part);
             let total = m.length + n;
             Fed::Next(Running {
                 key: m.key,
-                fingerprint: next,
+                fingerprint: looked,
                 length: total,
             })
         }

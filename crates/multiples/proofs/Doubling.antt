@@ -144,6 +144,7 @@ module _ {key : ℕ} (pos : 0 < key) (x a : ℕ) (words : List ℕ) where
       back : Multiples key x a 1 words → getD words a 0 ≡ 0
       back f = ap (λ (n : ℕ). getD words n 0) (sym (add-zero a)) ∙ f 0 (omega arith) ∙ multiple-zero pos x
 
-  pub row-iff : (b z y : ℕ) → z ≡ 2 ^ b → y ≡ rem key (z ⊗ x) → (Multiples key x a z words × Shifted a (a + z) z y words words) ↔ Multiples key x a (z * 2) words
+  pub row-iff : (b z y : ℕ) → z ≡ 2 ^ b → y ≡ rem key (z ⊗ x)
+      → (Multiples key x a z words × Shifted a (a + z) z y words words) ↔ Multiples key x a (z * 2) words
   row-iff b z y ez ey =
       (λ h. row-more pos x a b z y words ez ey (h .0) (h .1), λ f. (row-half pos x a b z y words ez ey f, row-shifted pos x a b z y words ez ey f))

@@ -1,12 +1,14 @@
 -- Laws of rows one behind the other, each with the multiples of t^w times the start of the row before it: one turn of the loops that fill
 -- and test them.
 use mathlib.Core.Path.{_≡_, sym, ap, _∙_}
+use mathlib.Core.Bool.{Bool, true, not, true≢false}
 use mathlib.Core.List.{List}
 use Prim.Native.Nat.{ℕ, zero, suc, _+_, _*_, _/_, _^_, _≤_, _<_}
 use native.Mathlib.Nat.{mul-zero, mul-one, mul-suc, mul-le-mul-right, pow-suc}
 use native.Mathlib.Numerals.{add-one}
 use native.Mathlib.Decide.{decLt}
 use native.Mathlib.Omega.{arith}
+use borrow.Author.Tests.{not-true}
 use lib.Arith.{digits-lt}
 use lib.ListN.{getD}
 use lib.Pow.{pow-add, pow-pos}
@@ -42,9 +44,10 @@ module _ (w j c size n : ℕ) (es : size ≡ 2 ^ w) (h : j < c) (l : c * 2 ^ w �
 
 -- ---- one turn
 
-pub row-of : (p : Modulus) (w x size j y : ℕ) (words : List ℕ) → size ≡ 2 ^ w → y ≡ rem (polynomial p) (x * 2 ^ (w * j))
-    → Multiples (polynomial p) (rem (polynomial p) (x * 2 ^ (w * j))) (j * 2 ^ w) (2 ^ w) words → Multiples (polynomial p) y (j * size) (2 ^ w) words
-row-of p w x size j y words es ey f = rw (es, ey) f
+-- a row that is not right
+pub rows-refused : (p : Modulus) (w x size j c y : ℕ) (words : List ℕ) → size ≡ 2 ^ w → y ≡ rem (polynomial p) (x * 2 ^ (w * j)) → j < c → (b : Bool)
+    → (Multiples (polynomial p) y (j * size) (2 ^ w) words → b ≡ true) → not b ≡ true → Rows w (polynomial p) x c words → ⊥
+rows-refused p w x size j c y words es ey l b h n f = true≢false (sym (h (rw (es, ey) (f j l))) ∙ not-true b n)
 
 -- row j: its size, its start and its words
 pub record Row (p : Modulus) (w x size j y : ℕ) (words : List ℕ) : Type 0 where

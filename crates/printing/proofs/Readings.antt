@@ -2,7 +2,8 @@
 use mathlib.Core.Path.{_≡_, refl}
 use Rattle.bytes.specs.Bytes.{indexOf, indexAfter}
 use Rattle.gf2.specs.Polynomials.{_⊕_, degree, halvings, rem, longDivision, reduce}
-use Rattle.acceptance.specs.Keys.{reducible, anyBelow}
+use Rattle.lists.specs.Lists.{anyBelow}
+use Rattle.acceptance.specs.Keys.{reducible}
 use Rattle.files.specs.Files.{bits, lowBits, value, valueFrom, fingerprint, markOf}
 use Rattle.printing.specs.Printing.{ascii, printed, keyLine, keyBefore, allDigits, digit, hexFrom, digitsOf, numeral, report, markFile}
 

@@ -1,7 +1,8 @@
 -- The bench readings of document 01 that are marked P hold: computed, in one result.
 use mathlib.Core.Path.{refl}
 use Rattle.gf2.specs.Polynomials.{_⊕_, halvings, degree, reduce, longDivision, rem}
-use Rattle.acceptance.specs.Keys.{anyBelow, reducible}
+use Rattle.lists.specs.Lists.{anyBelow}
+use Rattle.acceptance.specs.Keys.{reducible}
 use Rattle.keys.specs.Testing.{testKey}
 use Rattle.files.specs.Files.{lowBits, bits, valueFrom, value, fingerprint, joined}
 use Rattle.compose.specs.Composing.{joinBehind}

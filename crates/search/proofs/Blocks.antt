@@ -70,7 +70,8 @@ module _ (flags : List Bool) (text pattern : List ℕ) (from size : ℕ) where
         tally-skip t next (f .low) (f .high)
         (λ j l h. (unflagged-place flags text pattern from j (f .none j l h), unflagged-alarm flags text pattern from j (f .none j l h)))
 
-  module _ {words₀ words : List ℕ} {p₀ a₀ p a i : ℕ} (t : Counted words₀ p₀ a₀ words p a i) (l : i < size) (flag : getD flags i false ≡ true) (next b : ℕ) (eb : b ≡ a)
+  module _ {words₀ words : List ℕ} {p₀ a₀ p a i : ℕ} (t : Counted words₀ p₀ a₀ words p a i) (l : i < size) (flag : getD flags i false ≡ true)
+      (next b : ℕ) (eb : b ≡ a)
       (f : NextFlagged flags (i + 1) size next) where
     pub place-next : (after : List ℕ) → after ≡ set words p (from + i) → isPlace text pattern (from + i) ≡ true → Counted words₀ p₀ a₀ after (p + 1) b next
     place-next after e z =

@@ -60,24 +60,20 @@ module _ (flags : List Bool) where
   abbrev flag : ℕ → Bool
   flag i = getD flags i false
 
-  pub none-eight : (i : ℕ) → ((flag i || flag (i + 1) || flag (i + 2) || flag (i + 3)) || (flag (i + 4) || flag (i + 5) || flag (i + 6) || flag (i + 7))) ≡ false
+  pub none-four : (i : ℕ) → (flag i || flag (i + 1) || flag (i + 2) || flag (i + 3)) ≡ false → NoneFlagged flags i (i + 4)
+  none-four i e =
+      let three = or-neither (flag i || flag (i + 1) || flag (i + 2)) (flag (i + 3)) e in
+      let two = or-neither (flag i || flag (i + 1)) (flag (i + 2)) (three .0) in
+      let one = or-neither (flag i) (flag (i + 1)) (two .0) in
+      let n₁ = none-more i i (i + 1) (omega arith) (λ j a b. absurd (omega arith)) (one .0) in
+      let n₂ = none-more i (i + 1) (i + 2) (omega arith) n₁ (one .1) in
+      let n₃ = none-more i (i + 2) (i + 3) (omega arith) n₂ (two .1) in
+      none-more i (i + 3) (i + 4) (omega arith) n₃ (three .1)
+
+  -- four, and four behind them
+  pub none-eight : (a b : Bool) (i : ℕ) → (a ≡ false → NoneFlagged flags i (i + 4)) → (b ≡ false → NoneFlagged flags (i + 4) (i + 4 + 4)) → (a || b) ≡ false
       → NoneFlagged flags i (i + 8)
-  none-eight i e =
-      let halves = or-neither _ _ e in
-      let l₂ = or-neither _ _ (halves .0) in
-      let l₁ = or-neither _ _ (l₂ .0) in
-      let l₀ = or-neither _ _ (l₁ .0) in
-      let h₂ = or-neither _ _ (halves .1) in
-      let h₁ = or-neither _ _ (h₂ .0) in
-      let h₀ = or-neither _ _ (h₁ .0) in
-      let n₀ = none-more i i (i + 1) (omega arith) (λ j a b. absurd (omega arith)) (l₀ .0) in
-      let n₁ = none-more i (i + 1) (i + 2) (omega arith) n₀ (l₀ .1) in
-      let n₂ = none-more i (i + 2) (i + 3) (omega arith) n₁ (l₁ .1) in
-      let n₃ = none-more i (i + 3) (i + 4) (omega arith) n₂ (l₂ .1) in
-      let n₄ = none-more i (i + 4) (i + 5) (omega arith) n₃ (h₀ .0) in
-      let n₅ = none-more i (i + 5) (i + 6) (omega arith) n₄ (h₀ .1) in
-      let n₆ = none-more i (i + 6) (i + 7) (omega arith) n₅ (h₁ .1) in
-      none-more i (i + 7) (i + 8) (omega arith) n₆ (h₂ .1)
+  none-eight a b i f g e = let h = or-neither a b e in none-join i (i + 4) (i + 8) (f (h .0)) (λ j l m. g (h .1) j l (omega arith))
 
 module _ (flags : List Bool) (text pattern : List ℕ) (from i : ℕ) where
   behind : from + i - from ≡ i

@@ -147,7 +147,8 @@ module _ {P A : ℕ → Bool} {n c : ℕ} {words₀ : List ℕ} {p₀ a₀ : ℕ
           alarmed = count A a b eb (t .alarmed);
           written =
               rw (en, eq)
-              (sym (sets-append words p (passing P (n + i) s) (passing P (n + (i + s)) (c - (i + s)))) ∙ ap (sets words p) (sym (left-block P n i s c h)) ∙ t .written);
+              (sym (sets-append words p (passing P (n + i) s) (passing P (n + (i + s)) (c - (i + s)))) ∙ ap (sets words p) (sym (left-block P n i s c h))
+              ∙ t .written);
         }
       where
         count : (T : ℕ → Bool) (x y : ℕ) {z : ℕ} → y ≡ x + length (passing T (n + i) s) → x + length (passing T (n + i) (c - i)) ≡ z

@@ -50,7 +50,8 @@ module _ (test : ℕ → Bool) where
   in-passing i n zero l h e = absurd (omega arith)
   in-passing i n (suc c) l h e = go (test n) refl (ℕ-discrete n i) (λ m. in-passing i (suc n) c m (omega arith) e)
     where
-      go : (b : Bool) → test n ≡ b → Dec (n ≡ i) → (suc n ≤ i → In i (passing test (suc n) c)) → In i (cond b (n ∷ passing test (suc n) c) (passing test (suc n) c))
+      go : (b : Bool) → test n ≡ b → Dec (n ≡ i) → (suc n ≤ i → In i (passing test (suc n) c))
+          → In i (cond b (n ∷ passing test (suc n) c) (passing test (suc n) c))
       go true f (yes q) k = inl q
       go true f (no q) k = inr (k (omega arith))
       go false f (yes q) k = absurd (true≢false (sym e ∙ ap test (sym q) ∙ f))

@@ -7,14 +7,20 @@ ghost use lib.ListN.{length};
 ghost use lib.Seq.{sets};
 ghost use Rattle.search.specs.Flagged.{NoneFlagged, NextFlagged, flaggedPlaces, flaggedAlarms};
 
-// Whether one of eight windows is flagged.
+// Whether one of four windows is flagged.
+fn one_of_four(flags: &[bool; 1024], i: usize) -> bool
+    requires { ⌜ i + 4 ≤ 1024 ⌝ }
+    ensures { λ r. ⌜ (r ≡ false → NoneFlagged (now (flags .entry)) i (i + 4)) ⌝ }
+{
+    flags[i] | flags[i + 1] | flags[i + 2] | flags[i + 3]
+}
+
+// Whether one of eight is.
 fn one_of_eight(flags: &[bool; 1024], i: usize) -> bool
     requires { ⌜ i + 8 ≤ 1024 ⌝ }
     ensures { λ r. ⌜ (r ≡ false → NoneFlagged (now (flags .entry)) i (i + 8)) ⌝ }
 {
-    let low = flags[i] | flags[i + 1] | flags[i + 2] | flags[i + 3];
-    let high = flags[i + 4] | flags[i + 5] | flags[i + 6] | flags[i + 7];
-    low | high
+    one_of_four(flags, i) | one_of_four(flags, i + 4)
 }
 
 // The first flagged window from the given one on, or `size` where there is none.

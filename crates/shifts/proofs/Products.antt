@@ -30,7 +30,8 @@ module _ {key : ℕ} (pos : 0 < key) (e : ℕ) (words : List ℕ) (s : Shifts ke
   pub joined-by-table : (f g : ℕ) → f < 2 ^ 64 → g < 2 ^ degree key → looked 8 words 8 0 f ⊕ g ⊕ getD words 1 0 ≡ rem key (f * 2 ^ e ⊕ g ⊕ 2 ^ e)
   joined-by-table f g hf hg =
       rw (shifted pos e words f s hf, word-one)
-      (sym (rem-⊕ pos (f * 2 ^ e ⊕ g) (2 ^ e) ∙ ap (λ (x : ℕ). x ⊕ rem key (2 ^ e)) (rem-⊕ pos (f * 2 ^ e) g ∙ ap (λ (x : ℕ). rem key (f * 2 ^ e) ⊕ x) (rem-small pos g hg))))
+      (sym (rem-⊕ pos (f * 2 ^ e ⊕ g) (2 ^ e)
+      ∙ ap (λ (x : ℕ). x ⊕ rem key (2 ^ e)) (rem-⊕ pos (f * 2 ^ e) g ∙ ap (λ (x : ℕ). rem key (f * 2 ^ e) ⊕ x) (rem-small pos g hg))))
 
 -- ---- as the code goes
 

@@ -131,7 +131,8 @@ module _ (p : Modulus) (proper : Proper p) (text : List ℕ) (i : ℕ) where
   read-below j x e = residue-below p proper x (valueFrom 0 (bits (window j text i))) e
 
   -- the byte at e comes in behind
-  pub read-more : (j e x r : ℕ) → i + j ≡ e → e < length text → getD text e 0 < 256 → Read j x → r ≡ rem (polynomial p) (x * 256 + getD text e 0) → Read (j + 1) r
+  pub read-more : (j e x r : ℕ) → i + j ≡ e → e < length text → getD text e 0 < 256 → Read j x → r ≡ rem (polynomial p) (x * 256 + getD text e 0)
+      → Read (j + 1) r
   read-more j e x r q h l ex er = er ∙ rw (ex, ← q) (sym (residue-more pos j text i (rw q h) (rw q l)))
 
   pub read-all : (j m x : ℕ) → j ≡ m → Read j x → Read m x
@@ -144,14 +145,16 @@ pub hit-is : (s : Setup) (text : List ℕ) (from j x : ℕ) → ResidueAt s text
 unfolding hit
 hit-is s text from j x e = ap (λ (y : ℕ). eqb y (s .wanted)) e
 
-pub flagged-all : (s : Setup) (text : List ℕ) (from j size x : ℕ) (flags : List Bool) → j ≡ size → (from + j + s .m ≤ length text → ResidueAt s text (from + j) x)
+pub flagged-all : (s : Setup) (text : List ℕ) (from j size x : ℕ) (flags : List Bool) → j ≡ size
+    → (from + j + s .m ≤ length text → ResidueAt s text (from + j) x)
     → Filled false (hit s text from) 0 j flags → Flagged s text from size x flags
 flagged-all s text from j size x flags e next f = rw (← e) (record { flags = f; next = next })
 
 -- ---- the tables
 
 -- the multiples of a residue are those of what it is the residue of
-pub multiples-of : (p : Modulus) → Proper p → (c x : ℕ) (table : List ℕ) → x ≡ rem (polynomial p) c → Multiples (polynomial p) x 0 256 table → Multiples (polynomial p) c 0 256 table
+pub multiples-of : (p : Modulus) → Proper p → (c x : ℕ) (table : List ℕ) → x ≡ rem (polynomial p) c → Multiples (polynomial p) x 0 256 table
+    → Multiples (polynomial p) c 0 256 table
 multiples-of p h c x table e t i l =
     t i l ∙ ap (λ (y : ℕ). rem (polynomial p) (i ⊗ y)) e ∙ rem-⊗-right (monic-pos (p .degree) (p .low) (h .2)) i c
 

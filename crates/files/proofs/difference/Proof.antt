@@ -2,7 +2,7 @@
 use mathlib.Core.Path.{_≡_, sym, ap, _∙_}
 use Prim.Native.Nat.{_-_, _^_, _≤_, _<_}
 use native.Mathlib.Omega.{arith}
-use lib.ListN.{length, drop, drop-of-length-le}
+use lib.ListN.{length, getD, drop, drop-of-length-le}
 use lib.Pow.{pow-pos}
 use Rattle.gf2.specs.Polynomials.{_⊕_, rem}
 use Rattle.gf2.specs.Moduli.{polynomial}
@@ -76,7 +76,10 @@ loop-again c =
     let s = feed-byte→start c in
     let a = s .args in
     let m = s .pre .0 in
-    let next = pages-next (monic-pos (a .p .degree) (a .p .low) (m .2)) (a .old .now) (a .new .now) (s .pre .1) (l .x) (l .i) (omega arith) (omega (arith, feed-byte→shared-slice-known3 c .shared-slice-known3 .given (l .i))) (omega (arith, c .before .shared-slice-known4 .given (l .i))) in (
+    let pos = monic-pos (a .p .degree) (a .p .low) (m .2) in
+    let old-byte : getD (a .old .now) (l .i) 0 < 256 = omega (arith, feed-byte→shared-slice-known3 c .shared-slice-known3 .given (l .i)) in
+    let new-byte : getD (a .new .now) (l .i) 0 < 256 = omega (arith, c .before .shared-slice-known4 .given (l .i)) in
+    let next = pages-next pos (a .old .now) (a .new .now) (s .pre .1) (l .x) (l .i) (omega arith) old-byte new-byte in (
       omega arith,
       rw (c .feed-byte .ensures) (residue-lt (a .p .degree) (a .p .low) (m .2) _),
       rw (c .feed-byte .ensures) (next ∙ l .inv .2),

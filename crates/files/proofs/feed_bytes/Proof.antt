@@ -61,7 +61,8 @@ loop-again c =
     let m = s .pre .0 in
     let l = feed-byte→at-loop c .loop in
     let b = getD (a .part .now) (l .i) 0 in
-    let next = next-byte (monic-pos (a .p .degree) (a .p .low) (m .2)) (l .x) (l .i) (a .part .now) (omega arith) (omega (arith, c .before .shared-slice-known2 .given (l .i))) in (
+    let byte : b < 256 = omega (arith, c .before .shared-slice-known2 .given (l .i)) in
+    let next = next-byte (monic-pos (a .p .degree) (a .p .low) (m .2)) (l .x) (l .i) (a .part .now) (omega arith) byte in (
       omega arith,
       rw (c .feed-byte .ensures) (residue-lt (a .p .degree) (a .p .low) (m .2) (l .x * 256 + b)),
       rw (c .feed-byte .ensures) (next ∙ l .inv .2),

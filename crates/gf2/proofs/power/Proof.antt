@@ -1,6 +1,6 @@
 -- `gf2::power` meets its contract. The loop's invariant: x is the power by the bits of n from place i on. The measure is i.
 use mathlib.Core.Path.{_≡_, sym, ap, _∙_}
-use Prim.Native.Nat.{ℕ, _-_, _/_, _^_, _≤_, _<_}
+use Prim.Native.Nat.{ℕ, _/_, _^_, _≤_}
 use native.Mathlib.Nat.{div-one}
 use native.Mathlib.Omega.{arith}
 use lib.Count.{leading-le}
@@ -93,9 +93,10 @@ loop-again c =
     let s = product2→start c in
     let a = s .args in
     let l = product2→at-loop c .loop in
+    let square = product2→product c .product .ensures in
     let pos = monic-pos (a .p .degree) (a .p .low) (s .pre .0 .2) in (
       omega arith,
-      times-next pos (a .a) (a .n) (l .i) (l .x) _ (omega arith) (l .inv .1) (product2→product c .product .ensures) _ (c .product2 .ensures) (c .before .if1 .taken),
+      times-next pos (a .a) (a .n) (l .i) (l .x) _ (omega arith) (l .inv .1) square _ (c .product2 .ensures) (c .before .if1 .taken),
     )
 
 loop-less-2 : tie.Need-loop-less-2 Inv-loop μ-loop
@@ -114,7 +115,8 @@ returns c =
     let a = loop→start c .args in
     let l = c .before .loop in
     let e : l .i ≡ 0 = omega arith in
-    l .inv .1 ∙ ap (λ (i : ℕ). rem (polynomial (a .p)) (a .a ⊗^ (a .n / 2 ^ i))) e ∙ ap (λ (m : ℕ). rem (polynomial (a .p)) (a .a ⊗^ m)) (div-one (a .n))
+    let p = polynomial (a .p) in
+    l .inv .1 ∙ ap (λ (i : ℕ). rem p (a .a ⊗^ (a .n / 2 ^ i))) e ∙ ap (λ (m : ℕ). rem p (a .a ⊗^ m)) (div-one (a .n))
 
 pub power-spec : {M : Type 1} → statement M
 power-spec =

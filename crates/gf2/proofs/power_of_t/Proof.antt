@@ -1,6 +1,6 @@
 -- `gf2::power_of_t` meets its contract. The loop's invariant: x is the power by the bits of n from place i on. The measure is i.
 use mathlib.Core.Path.{_≡_, sym, ap, _∙_}
-use Prim.Native.Nat.{ℕ, _+_, _-_, _*_, _/_, _^_, _≤_, _<_}
+use Prim.Native.Nat.{ℕ, _+_, _*_, _/_, _^_, _≤_}
 use native.Mathlib.Nat.{add-zero, div-one}
 use native.Mathlib.Omega.{arith}
 use lib.Pow.{pow-lt}
@@ -130,9 +130,13 @@ loop-again-2 c =
 returns : tie.Need-returns Inv-loop μ-loop
 returns c =
     let a = loop→start c .args in
+    let p = polynomial (a .p) in
     let l = c .before .loop in
     let e : l .i ≡ 0 = omega arith in
-    l .inv .1 ∙ ap (λ (i : ℕ). rem (polynomial (a .p)) (2 ⊗^ (a .n / 2 ^ i))) e ∙ ap (λ (m : ℕ). rem (polynomial (a .p)) (2 ⊗^ m)) (div-one (a .n)) ∙ ap (rem (polynomial (a .p))) (pow-t (a .n))
+    l .inv .1
+    ∙ ap (λ (i : ℕ). rem p (2 ⊗^ (a .n / 2 ^ i))) e
+    ∙ ap (λ (m : ℕ). rem p (2 ⊗^ m)) (div-one (a .n))
+    ∙ ap (rem p) (pow-t (a .n))
 
 pub power-of-t-spec : {M : Type 1} → statement M
 power-of-t-spec =

@@ -91,7 +91,8 @@ returns c =
     let a = s .args in
     let l = c .before .loop in
     let e : l .i ≡ a .p .degree = omega arith in
-    l .inv .2 ∙ ap (λ (n : ℕ). rem (polynomial (a .p)) (a .a ⊗ (a .b % 2 ^ n))) e ∙ ap (λ (x : ℕ). rem (polynomial (a .p)) (a .a ⊗ x)) (mod-eq-of-lt (s .pre .2))
+    let p = polynomial (a .p) in
+    l .inv .2 ∙ ap (λ (n : ℕ). rem p (a .a ⊗ (a .b % 2 ^ n))) e ∙ ap (λ (x : ℕ). rem p (a .a ⊗ x)) (mod-eq-of-lt (s .pre .2))
 
 pub product-spec : {M : Type 1} → statement M
 product-spec = tie.close (tie.spec Inv-loop μ-loop loop-holds cast-bit shr-bit mul-sum step-requires add-i loop-less loop-again returns)

@@ -59,7 +59,8 @@ unfolding _⊕_
 returns c =
     let a = struct-known2→start c .args in
     let p = struct-known2→start c .pre in
-    rw (c .before .low-bits .ensures, one-bit (a .p .degree) (a .f) (p .0 .0) (p .1)) (sym (step-is (a .p .degree) (a .p .low) (a .f) (a .bit) (p .0 .0) (p .0 .2) (p .1) (p .2)))
+    rw (c .before .low-bits .ensures, one-bit (a .p .degree) (a .f) (p .0 .0) (p .1))
+    (sym (step-is (a .p .degree) (a .p .low) (a .f) (a .bit) (p .0 .0) (p .0 .2) (p .1) (p .2)))
 
 pub step-spec : {M : Type 1} → statement M
 step-spec = tie.close (tie.spec sub-cut cast-top shr-top low-bits-requires mul-reduced mul-result add-result returns)

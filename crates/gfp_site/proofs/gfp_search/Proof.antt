@@ -74,7 +74,7 @@ returns c =
     let e = sym (known-told→c c .c .given .1) in (
       ap (λ (x : Searched). numberOf (searched x)) e ∙ ap numberOf (m .ensures .0),
       m .ensures .1,
-      ap (λ (x : Searched). valueOr (countsAt (s .places .now) (s .alarms .now)) (searched x)) e ∙ ap (valueOr (countsAt (s .places .now) (s .alarms .now))) (m .ensures .0),
+      ap (λ (x : Searched). valueOr (countsAt (s .count .now) (s .alarms .now)) (searched x)) e ∙ ap (valueOr (countsAt (s .count .now) (s .alarms .now))) (m .ensures .0),
     )
 
 same-length-2 : tie.Need-same-length-2
@@ -87,7 +87,7 @@ returns-2 c =
     let e = sym (number→r c .r .given .1) in (
       c .number .ensures ∙ ap (λ (x : Searched). numberOf (searched x)) e ∙ ap numberOf (m .ensures .0),
       m .ensures .1,
-      ap (λ (x : Searched). valueOr (countsAt (s .places .now) (s .alarms .now)) (searched x)) e ∙ ap (valueOr (countsAt (s .places .now) (s .alarms .now))) (m .ensures .0),
+      ap (λ (x : Searched). valueOr (countsAt (s .count .now) (s .alarms .now)) (searched x)) e ∙ ap (valueOr (countsAt (s .count .now) (s .alarms .now))) (m .ensures .0),
     )
 
 pub gfp-search-spec : {M : Type 1} → statement M

@@ -1,8 +1,7 @@
--- `eight_at` meets its contract.
-use Prim.Native.Nat.{_+_}
+-- `eight_at` meets its contract: four bytes, and four behind them.
 use native.Mathlib.Omega.{arith}
-use Rattle.lookups.proofs.Parts.{four-lt, value-eight}
 use borrow.Author.Needs.{needs}
+use Rattle.lookups.proofs.Parts.{piece-lt, value-join, join-lt}
 use Rattle.lookups.proofs.eight_at.Statement.{statement}
 use Rattle.lookups.proofs.eight_at.Tie as tie
 
@@ -20,7 +19,7 @@ four-at-requires c κs = search needs
 mul-result : tie.Need-mul-result
 mul-result c =
     let s = four-at→start c in
-    omega (arith, four-lt (s .args .part .now) (s .args .i) (c .four-at .result) (omega arith) (c .four-at .ensures))
+    omega (arith, piece-lt (s .args .part .now) (s .args .i) 4 (c .four-at .result) (omega arith) (c .four-at .ensures))
 
 add-four-at : tie.Need-add-four-at
 add-four-at c = search needs
@@ -31,16 +30,14 @@ four-at-requires-2 c κs = search needs
 add-result : tie.Need-add-result
 add-result c =
     let s = four-at2→start c in
-    omega (
-      arith,
-      four-lt (s .args .part .now) (s .args .i) (c .before .four-at .result) (omega arith) (c .before .four-at .ensures),
-      four-lt (s .args .part .now) (s .args .i + 4) (c .four-at2 .result) (omega arith) (c .four-at2 .ensures),
-    )
+    let front = c .before .four-at in
+    omega (arith, join-lt (s .args .part .now) (s .args .i) 4 4 (front .result) (c .four-at2 .result) (omega arith) (front .ensures) (c .four-at2 .ensures))
 
 returns : tie.Need-returns
 returns c =
     let s = four-at2→start c in
-    value-eight (s .args .part .now) (s .args .i) (c .before .four-at .result) (c .four-at2 .result) (s .pre) (c .before .four-at .ensures) (c .four-at2 .ensures)
+    let front = c .before .four-at in
+    value-join (s .args .part .now) (s .args .i) 4 4 (front .result) (c .four-at2 .result) (omega arith) (front .ensures) (c .four-at2 .ensures)
 
 pub eight-at-spec : {M : Type 1} → statement M
 eight-at-spec = tie.close (tie.spec four-at-requires mul-result add-four-at four-at-requires-2 add-result returns)

@@ -3,7 +3,7 @@ use mathlib.Core.Path.{refl, _∙_}
 use Prim.Native.Nat.{_-_, _≤_}
 use native.Mathlib.Omega.{arith}
 use lib.ListN.{length}
-use Rattle.lookups.proofs.Parts.{four-lt, Going, going-four}
+use Rattle.lookups.proofs.Parts.{piece-lt, Going, going-four}
 use Rattle.lookups.proofs.feed_lane.Statement.{statement}
 use Rattle.lookups.proofs.feed_lane.Tie as tie
 
@@ -22,9 +22,6 @@ shared-slice-known2→start c = c .before .before
 abbrev loop→start : tie.After-loop Inv-loop μ-loop → tie.Start Inv-loop μ-loop
 loop→start c = shared-slice-known2→start (c .before .before)
 
-abbrev loop→at-loop : tie.After-loop Inv-loop μ-loop → tie.At-loop Inv-loop μ-loop
-loop→at-loop c = c .before
-
 abbrev four-at→start : tie.After-four-at Inv-loop μ-loop → tie.Start Inv-loop μ-loop
 four-at→start c = shared-slice-known2→start (c .before .before .before)
 
@@ -32,7 +29,7 @@ abbrev four-at→at-loop : tie.After-four-at Inv-loop μ-loop → tie.At-loop In
 four-at→at-loop c = c .before .before
 
 abbrev feed-tail→at-loop : tie.After-feed-tail Inv-loop μ-loop → tie.At-loop Inv-loop μ-loop
-feed-tail→at-loop c = loop→at-loop (c .before)
+feed-tail→at-loop c = c .before .before
 
 abbrev feed-four→start : tie.After-feed-four Inv-loop μ-loop → tie.Start Inv-loop μ-loop
 feed-four→start c = four-at→start (c .before)
@@ -53,7 +50,7 @@ feed-four-requires : tie.Need-feed-four-requires Inv-loop μ-loop
 feed-four-requires c κs =
     let s = four-at→start c in
     let l = four-at→at-loop c .loop in
-    (s .pre .0, l .inv .1 .0, four-lt (s .args .part .now) (l .i) (c .four-at .result) (omega arith) (c .four-at .ensures))
+    (s .pre .0, l .inv .1 .0, piece-lt (s .args .part .now) (l .i) 4 (c .four-at .result) (omega arith) (c .four-at .ensures))
 
 add-i : tie.Need-add-i Inv-loop μ-loop
 add-i c = omega arith
@@ -68,7 +65,8 @@ loop-again c =
     let l = feed-four→at-loop c .loop in
     let v = c .before .four-at in (
       omega arith,
-      going-four (a .p) (s .pre .0 .0) (a .f) (a .part .now) 0 (l .i) (l .x) (l .inv .1) (v .result) (c .feed-four .result) (omega arith) (v .ensures) (c .feed-four .ensures),
+      going-four (a .p) (s .pre .0 .0) (a .f) (a .part .now) 0 (l .i) (l .x) (l .inv .1) (v .result) (c .feed-four .result) (omega arith) (v .ensures)
+          (c .feed-four .ensures),
     )
 
 feed-tail-requires : tie.Need-feed-tail-requires Inv-loop μ-loop

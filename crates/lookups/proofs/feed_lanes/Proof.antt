@@ -1,9 +1,12 @@
 -- `feed_lanes` meets its contract: each chain stands for its start and its bytes before i.
 use mathlib.Core.Path.{_≡_, refl}
-use Prim.Native.Nat.{_+_, _-_, _%_, _≤_}
+use mathlib.Core.List.{List}
+use Prim.Native.Nat.{ℕ, _+_, _-_, _%_, _^_, _≤_, _<_}
 use native.Mathlib.Omega.{arith}
-use lib.ListN.{length}
-use Rattle.lookups.proofs.Parts.{four-lt, Going, going-four, going-all}
+use lib.ListN.{length, take, drop}
+use Rattle.files.specs.Files.{bits, valueFrom}
+use Rattle.lookups.specs.Rule.{TableOf}
+use Rattle.lookups.proofs.Parts.{piece-lt, Going, going-four, going-all}
 use Rattle.lookups.proofs.feed_lanes.Statement.{statement}
 use Rattle.lookups.proofs.feed_lanes.Tie as tie
 
@@ -97,6 +100,14 @@ feed-four4→four-at3 c = c .before .before .before
 abbrev feed-four4→feed-four3 : tie.After-feed-four4 Inv-loop μ-loop → tie.After-feed-four3 Inv-loop μ-loop
 feed-four4→feed-four3 c = c .before .before
 
+-- four bytes can be fed to a lane
+feeds : (s : tie.Start Inv-loop μ-loop) (part : List ℕ) (i x v : ℕ) → x < 2 ^ s .args .p .degree → i + 4 ≤ length part
+    → v ≡ valueFrom 0 (bits (take 4 (drop i part)))
+    → TableOf (s .args .p) (s .args .words .now) × (x < 2 ^ s .args .p .degree) × (v < 2 ^ 32)
+feeds s part i x v h l e = (s .pre .0, h, piece-lt part i 4 v l e)
+
+-- ---- the needs
+
 loop-holds : tie.Need-loop-holds Inv-loop μ-loop
 loop-holds c =
     let s = shared-slice-known5→start c in
@@ -109,7 +120,7 @@ feed-four-requires : tie.Need-feed-four-requires Inv-loop μ-loop
 feed-four-requires c κs =
     let s = four-at→start c in
     let l = four-at→at-loop c .loop in
-    (s .pre .0, l .inv .2 .0, four-lt (s .args .q .now) (l .i) (c .four-at .result) (omega arith) (c .four-at .ensures))
+    feeds s (s .args .q .now) (l .i) (l .a) (c .four-at .result) (l .inv .2 .0) (omega arith) (c .four-at .ensures)
 
 four-at-requires-2 : tie.Need-four-at-requires-2 Inv-loop μ-loop
 four-at-requires-2 c κs = omega arith
@@ -118,7 +129,7 @@ feed-four-requires-2 : tie.Need-feed-four-requires-2 Inv-loop μ-loop
 feed-four-requires-2 c κs =
     let s = four-at2→start c in
     let l = four-at2→at-loop c .loop in
-    (s .pre .0, l .inv .3 .0, four-lt (s .args .r .now) (l .i) (c .four-at2 .result) (omega arith) (c .four-at2 .ensures))
+    feeds s (s .args .r .now) (l .i) (l .b) (c .four-at2 .result) (l .inv .3 .0) (omega arith) (c .four-at2 .ensures)
 
 four-at-requires-3 : tie.Need-four-at-requires-3 Inv-loop μ-loop
 four-at-requires-3 c κs = omega arith
@@ -127,7 +138,7 @@ feed-four-requires-3 : tie.Need-feed-four-requires-3 Inv-loop μ-loop
 feed-four-requires-3 c κs =
     let s = four-at3→start c in
     let l = four-at3→at-loop c .loop in
-    (s .pre .0, l .inv .4 .0, four-lt (s .args .s .now) (l .i) (c .four-at3 .result) (omega arith) (c .four-at3 .ensures))
+    feeds s (s .args .s .now) (l .i) (l .c) (c .four-at3 .result) (l .inv .4 .0) (omega arith) (c .four-at3 .ensures)
 
 four-at-requires-4 : tie.Need-four-at-requires-4 Inv-loop μ-loop
 four-at-requires-4 c κs = omega arith
@@ -136,7 +147,7 @@ feed-four-requires-4 : tie.Need-feed-four-requires-4 Inv-loop μ-loop
 feed-four-requires-4 c κs =
     let s = four-at4→start c in
     let l = four-at4→at-loop c .loop in
-    (s .pre .0, l .inv .5 .0, four-lt (s .args .t .now) (l .i) (c .four-at4 .result) (omega arith) (c .four-at4 .ensures))
+    feeds s (s .args .t .now) (l .i) (l .d) (c .four-at4 .result) (l .inv .5 .0) (omega arith) (c .four-at4 .ensures)
 
 add-i : tie.Need-add-i Inv-loop μ-loop
 add-i c =
@@ -151,36 +162,30 @@ loop-again : tie.Need-loop-again Inv-loop μ-loop
 loop-again c =
     let s = feed-four4→start c in
     let a = s .args in
-    let m = s .pre .0 .0 in
-    let l = feed-four4→at-loop c .loop in
     let p = s .pre in
+    let l = feed-four4→at-loop c .loop in
     let g : l .i + 4 ≤ length (a .q .now) = omega (arith, feed-four4→in-loop c .loop-test .taken, l .inv .1, p .5) in
-    let v1 = feed-four4→four-at c .four-at in
-    let x1 = feed-four4→feed-four c .feed-four in
-    let v2 = feed-four4→four-at2 c .four-at2 in
-    let x2 = feed-four4→feed-four2 c .feed-four2 in
-    let v3 = feed-four4→four-at3 c .four-at3 in
-    let x3 = feed-four4→feed-four3 c .feed-four3 in
-    let v4 = c .before .four-at4 in
-    let x4 = c .feed-four4 in (
+    let more = going-four (a .p) (p .0 .0) in (
       g,
       omega (arith, l .inv .1),
-      going-four (a .p) m (a .f .a) (a .q .now) 0 (l .i) (l .a) (l .inv .2) (v1 .result) (x1 .result) g (v1 .ensures) (x1 .ensures),
-      going-four (a .p) m (a .f .b) (a .r .now) 0 (l .i) (l .b) (l .inv .3) (v2 .result) (x2 .result) (omega (arith, g, p .6)) (v2 .ensures) (x2 .ensures),
-      going-four (a .p) m (a .f .c) (a .s .now) 0 (l .i) (l .c) (l .inv .4) (v3 .result) (x3 .result) (omega (arith, g, p .7)) (v3 .ensures) (x3 .ensures),
-      going-four (a .p) m (a .f .d) (a .t .now) 0 (l .i) (l .d) (l .inv .5) (v4 .result) (x4 .result) (omega (arith, g, p .8)) (v4 .ensures) (x4 .ensures),
+      more (a .f .a) (a .q .now) 0 (l .i) (l .a) (l .inv .2) _ _ g (feed-four4→four-at c .four-at .ensures) (feed-four4→feed-four c .feed-four .ensures),
+      more (a .f .b) (a .r .now) 0 (l .i) (l .b) (l .inv .3) _ _ (omega (arith, g, p .6)) (feed-four4→four-at2 c .four-at2 .ensures)
+          (feed-four4→feed-four2 c .feed-four2 .ensures),
+      more (a .f .c) (a .s .now) 0 (l .i) (l .c) (l .inv .4) _ _ (omega (arith, g, p .7)) (feed-four4→four-at3 c .four-at3 .ensures)
+          (feed-four4→feed-four3 c .feed-four3 .ensures),
+      more (a .f .d) (a .t .now) 0 (l .i) (l .d) (l .inv .5) _ _ (omega (arith, g, p .8)) (c .before .four-at4 .ensures) (c .feed-four4 .ensures),
     )
 
 returns : tie.Need-returns Inv-loop μ-loop
 returns c =
     let s = loop→start c in
     let a = s .args in
-    let m = s .pre .0 .0 in
-    let l = c .before .loop in (
-      going-all (a .p) m (a .f .a) (a .q .now) 0 (l .i) (l .a) (l .inv .2) (omega arith),
-      going-all (a .p) m (a .f .b) (a .r .now) 0 (l .i) (l .b) (l .inv .3) (omega arith),
-      going-all (a .p) m (a .f .c) (a .s .now) 0 (l .i) (l .c) (l .inv .4) (omega arith),
-      going-all (a .p) m (a .f .d) (a .t .now) 0 (l .i) (l .d) (l .inv .5) (omega arith),
+    let l = c .before .loop in
+    let all = going-all (a .p) (s .pre .0 .0) in (
+      all (a .f .a) (a .q .now) 0 (l .i) (l .a) (l .inv .2) (omega arith),
+      all (a .f .b) (a .r .now) 0 (l .i) (l .b) (l .inv .3) (omega arith),
+      all (a .f .c) (a .s .now) 0 (l .i) (l .c) (l .inv .4) (omega arith),
+      all (a .f .d) (a .t .now) 0 (l .i) (l .d) (l .inv .5) (omega arith),
     )
 
 pub feed-lanes-spec : {M : Type 1} → statement M

@@ -26,17 +26,11 @@ feed-lanes-arg4→start c = feed-lanes-arg→start (c .before .before .before)
 abbrev power-of-t→start : tie.After-power-of-t → tie.Start
 power-of-t→start c = feed-lanes-arg4→start (c .before .before)
 
-abbrev power-of-t→feed-lanes : tie.After-power-of-t → tie.After-feed-lanes
-power-of-t→feed-lanes c = c .before
-
 abbrev times-plus→start : tie.After-times-plus → tie.Start
 times-plus→start c = power-of-t→start (c .before)
 
 abbrev times-plus→feed-lanes : tie.After-times-plus → tie.After-feed-lanes
-times-plus→feed-lanes c = power-of-t→feed-lanes (c .before)
-
-abbrev times-plus→power-of-t : tie.After-times-plus → tie.After-power-of-t
-times-plus→power-of-t c = c .before
+times-plus→feed-lanes c = c .before .before
 
 abbrev times-plus2→start : tie.After-times-plus2 → tie.Start
 times-plus2→start c = times-plus→start (c .before)
@@ -45,7 +39,7 @@ abbrev times-plus2→feed-lanes : tie.After-times-plus2 → tie.After-feed-lanes
 times-plus2→feed-lanes c = times-plus→feed-lanes (c .before)
 
 abbrev times-plus2→power-of-t : tie.After-times-plus2 → tie.After-power-of-t
-times-plus2→power-of-t c = times-plus→power-of-t (c .before)
+times-plus2→power-of-t c = c .before .before
 
 abbrev times-plus3→start : tie.After-times-plus3 → tie.Start
 times-plus3→start c = times-plus2→start (c .before)
@@ -59,14 +53,11 @@ times-plus3→power-of-t c = times-plus2→power-of-t (c .before)
 abbrev feed-lane-arg→start : tie.After-feed-lane-arg → tie.Start
 feed-lane-arg→start c = times-plus3→start (c .before)
 
-abbrev feed-lane-arg→times-plus3 : tie.After-feed-lane-arg → tie.After-times-plus3
-feed-lane-arg→times-plus3 c = c .before
-
 abbrev feed-lane→start : tie.After-feed-lane → tie.Start
 feed-lane→start c = feed-lane-arg→start (c .before)
 
 abbrev feed-lane→times-plus3 : tie.After-feed-lane → tie.After-times-plus3
-feed-lane→times-plus3 c = feed-lane-arg→times-plus3 (c .before)
+feed-lane→times-plus3 c = c .before .before
 
 -- ---- what is known at the places
 
@@ -90,7 +81,8 @@ two-lanes c =
     let n = one (s .args .part .now) in
     let x = times-plus→feed-lanes c .feed-lanes in
     let t = c .before .power-of-t in
-    lane-joined (pos s) (s .args .f) (s .args .part .now) n (2 * n) n (x .result .a) (x .result .b) (t .result) (c .times-plus .result) (omega arith) (omega arith)
+    lane-joined (pos s) (s .args .f) (s .args .part .now) n (2 * n) n (x .result .a) (x .result .b) (t .result) (c .times-plus .result) (omega arith)
+    (omega arith)
     (x .ensures .0)
     (x .ensures .1)
     (t .ensures)
@@ -103,7 +95,8 @@ three-lanes c =
     let x = times-plus2→feed-lanes c .feed-lanes in
     let t = times-plus2→power-of-t c .power-of-t in
     let ab = c .before in
-    lane-joined (pos s) (s .args .f) (s .args .part .now) (2 * n) (3 * n) n (ab .times-plus .result) (x .result .c) (t .result) (c .times-plus2 .result) (omega arith) (omega arith)
+    lane-joined (pos s) (s .args .f) (s .args .part .now) (2 * n) (3 * n) n (ab .times-plus .result) (x .result .c) (t .result) (c .times-plus2 .result)
+    (omega arith) (omega arith)
     (two-lanes ab)
     (x .ensures .2)
     (t .ensures)
@@ -116,7 +109,8 @@ four-lanes c =
     let x = times-plus3→feed-lanes c .feed-lanes in
     let t = times-plus3→power-of-t c .power-of-t in
     let abc = c .before in
-    lane-joined (pos s) (s .args .f) (s .args .part .now) (3 * n) (4 * n) n (abc .times-plus2 .result) (x .result .d) (t .result) (c .times-plus3 .result) (omega arith) (omega arith)
+    lane-joined (pos s) (s .args .f) (s .args .part .now) (3 * n) (4 * n) n (abc .times-plus2 .result) (x .result .d) (t .result) (c .times-plus3 .result)
+    (omega arith) (omega arith)
     (three-lanes abc)
     (x .ensures .3)
     (t .ensures)

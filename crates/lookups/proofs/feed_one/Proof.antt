@@ -17,14 +17,11 @@ low-bits→start c = c .before .before .before
 abbrev wide→start : tie.After-wide → tie.Start
 wide→start c = low-bits→start (c .before)
 
-abbrev wide→low-bits : tie.After-wide → tie.After-low-bits
-wide→low-bits c = c .before
-
 abbrev shared-slice-known2→start : tie.After-shared-slice-known2 → tie.Start
 shared-slice-known2→start c = wide→start (c .before)
 
 abbrev shared-slice-known2→low-bits : tie.After-shared-slice-known2 → tie.After-low-bits
-shared-slice-known2→low-bits c = wide→low-bits (c .before)
+shared-slice-known2→low-bits c = c .before .before
 
 sub-cut : tie.Need-sub-cut
 sub-cut c = search needs

@@ -57,8 +57,11 @@ loop-again c =
     let s = feed-one→start c in
     let a = s .args in
     let l = feed-one→at-loop c .loop in
-    let b = c .before .shared-slice-known3 .given (l .i) .fits in
-    (omega arith, going-one (a .p) (s .pre .0 .0) (a .f) (a .part .now) (a .from) (l .i) (l .x) (l .inv .1) (c .feed-one .result) (omega arith) b (c .feed-one .ensures))
+    let b = c .before .shared-slice-known3 .given (l .i) .fits in (
+      omega arith,
+      going-one (a .p) (s .pre .0 .0) (a .f) (a .part .now) (a .from) (l .i) (l .x) (l .inv .1) (c .feed-one .result) (omega arith) b
+          (c .feed-one .ensures),
+    )
 
 returns : tie.Need-returns Inv-loop μ-loop
 returns c =

@@ -6,11 +6,8 @@ use Rattle.lookups.proofs.table_holds.Tie as tie
 
 -- ---- the places: from each one to an earlier one
 
-abbrev shared-slice-known→start : tie.After-shared-slice-known → tie.Start
-shared-slice-known→start c = c .before
-
 abbrev rows-hold→start : tie.After-rows-hold → tie.Start
-rows-hold→start c = shared-slice-known→start (c .before)
+rows-hold→start c = c .before .before
 
 rows-hold-requires : tie.Need-rows-hold-requires
 rows-hold-requires c κs = let p = c .before .pre in (p .0, p .0 .2, omega arith, omega arith, omega (arith, p .1))

@@ -17,7 +17,8 @@ use Rattle.multiples.proofs.fill_row.Tie as tie
 
 abbrev Inv-loop : tie.InvT-loop
 Inv-loop words₀ at width p x n₀ y₀ b₀ words n y b =
-    (b ≤ width) × (n ≡ 2 ^ b) × (y ≡ rem (polynomial p) (n ⊗ x)) × (length words ≡ length words₀) × Multiples (polynomial p) x at n words × SameBefore at words₀ words
+    (b ≤ width) × (n ≡ 2 ^ b) × (y ≡ rem (polynomial p) (n ⊗ x)) × (length words ≡ length words₀) × Multiples (polynomial p) x at n words
+    × SameBefore at words₀ words
 
 abbrev μ-loop : tie.MeasureT-loop
 μ-loop words₀ at width p x n₀ y₀ b₀ words n y b = width - b
@@ -117,7 +118,8 @@ loop-again c =
       rw (add-one, pow-suc, v .1),
       c .step .ensures ∙ ap (λ (y : ℕ). rem (polynomial (a .p)) (y * 2 + 0)) (v .2) ∙ multiple-next pos (a .x) (l .n),
       d .kept .0 ∙ v .3,
-      row-more pos (a .x) (a .at) (l .b) (l .n) (l .y) (d .last .0) (v .1) (v .2) (row-kept (polynomial (a .p)) (a .x) (a .at) (l .n) (l .words) (d .last .0) same (v .4))
+      row-more pos (a .x) (a .at) (l .b) (l .n) (l .y) (d .last .0) (v .1) (v .2)
+          (row-kept (polynomial (a .p)) (a .x) (a .at) (l .n) (l .words) (d .last .0) same (v .4))
           (shifted-kept (a .at) (l .n) (l .y) (l .words) (d .last .0) same (d .ensures .0)),
       λ i h. same i (omega arith) ∙ v .5 i h,
     )

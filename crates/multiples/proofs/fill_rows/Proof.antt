@@ -83,15 +83,22 @@ middle-within c =
     let s = fill-row→start c .args in
     let l = fill-row→at-loop c .loop in
     let n = fill-row→row-size c .row-size in
-    let m = middle-in (s .width) (l .j) (s .rows) (n .result) (length (l .words)) (n .ensures) (fill-row→in-loop c .loop-test .taken) (within (fill-row→in-loop c)) in
+    let m = middle-in (s .width) (l .j) (s .rows) (n .result) (length (l .words)) (n .ensures) (fill-row→in-loop c .loop-test .taken)
+    (within (fill-row→in-loop c)) in
     omega (arith, m, c .fill-row .kept .0)
 
 -- row j is made
-row : (c : tie.After-fill-row Inv-loop μ-loop)
-    → let a = fill-row→start c .args in let l = fill-row→at-loop c .loop in Row (a .p) (a .width) (a .x) (fill-row→row-size c .row-size .result) (l .j) (l .y) (c .fill-row .last .0)
+row : (c : tie.After-fill-row Inv-loop μ-loop) → let a = fill-row→start c .args in let l = fill-row→at-loop c .loop in
+    Row (a .p) (a .width) (a .x) (fill-row→row-size c .row-size .result) (l .j) (l .y) (c .fill-row .last .0)
 row c =
     let s = fill-row→start c in
-    record { proper = s .pre .0; some = s .pre .2; whole = fill-row→row-size c .row-size .ensures; start = fill-row→at-loop c .loop .inv .2; row = c .fill-row .ensures .0 }
+    record {
+      proper = s .pre .0;
+      some = s .pre .2;
+      whole = fill-row→row-size c .row-size .ensures;
+      start = fill-row→at-loop c .loop .inv .2;
+      row = c .fill-row .ensures .0;
+    }
 
 -- ---- the needs
 
@@ -156,4 +163,21 @@ returns c =
     λ j h. l .inv .3 j (omega (arith, e, h))
 
 pub fill-rows-spec : {M : Type 1} → statement M
-fill-rows-spec = tie.close (tie.spec Inv-loop μ-loop row-size-requires loop-holds mul-at fill-row-requires add-step mul-step slice-read-step step-requires add-j loop-less loop-again same-length returns)
+fill-rows-spec =
+    tie.close
+    (tie.spec
+    Inv-loop
+    μ-loop
+    row-size-requires
+    loop-holds
+    mul-at
+    fill-row-requires
+    add-step
+    mul-step
+    slice-read-step
+    step-requires
+    add-j
+    loop-less
+    loop-again
+    same-length
+    returns)

@@ -101,7 +101,8 @@ loop-again c =
       omega arith,
       rw (add-one, pow-suc, v .1),
       c .step .ensures ∙ ap (λ (y : ℕ). rem (polynomial (a .p)) (y * 2 + 0)) (v .2) ∙ multiple-next pos (a .x) (l .n),
-      iff-trans (or-iff (l .sum) (d .result) {Q = Shifted (a .at) (a .at + l .n) (l .n) (l .y) (a .words .now) (a .words .now)} (v .3) (d .ensures)) (row-iff pos (a .x) (a .at) (a .words .now) (l .b) (l .n) (l .y) (v .1) (v .2)),
+      iff-trans (or-iff (l .sum) (d .result) {Q = Shifted (a .at) (a .at + l .n) (l .n) (l .y) (a .words .now) (a .words .now)} (v .3) (d .ensures))
+          (row-iff pos (a .x) (a .at) (a .words .now) (l .b) (l .n) (l .y) (v .1) (v .2)),
     )
 
 returns : tie.Need-returns Inv-loop μ-loop

@@ -1,15 +1,15 @@
 -- `rows_hold` meets its contract: after j turns the first j rows are right, and y is the start of the next one.
-use mathlib.Core.Path.{_≡_, refl, sym, _∙_}
+use mathlib.Core.Path.{_≡_, refl, sym}
 use mathlib.Core.Bool.{true≢false}
 use Prim.Native.Nat.{_+_, _-_, _*_, _/_, _^_, _≤_, _<_}
 use native.Mathlib.Omega.{arith}
-use borrow.Author.Tests.{not-true, not-false}
+use borrow.Author.Tests.{not-false}
 use lib.ListN.{length}
 use Rattle.gf2.specs.Polynomials.{rem}
 use Rattle.gf2.specs.Moduli.{polynomial}
 use Rattle.gf2.proofs.Steps.{residue-below}
 use Rattle.multiples.specs.Rows.{Rows}
-use Rattle.multiples.proofs.Following.{Row, row-le, middle-in, start-first, row-of, rows-more, middle-lt, start-next}
+use Rattle.multiples.proofs.Following.{Row, row-le, middle-in, start-first, rows-refused, rows-more, middle-lt, start-next}
 use Rattle.multiples.proofs.rows_hold.Statement.{statement}
 use Rattle.multiples.proofs.rows_hold.Tie as tie
 
@@ -83,12 +83,18 @@ middle-within c =
     middle-in (s .args .width) (c .before .loop .j) (s .args .rows) (n .result) (length (s .args .words .now)) (n .ensures) (c .loop-test .taken) (s .pre .4)
 
 -- row j is right
-row : (c : tie.Else1 Inv-loop μ-loop)
-    → let a = else1→start c .args in let l = else1→at-loop c .loop in Row (a .p) (a .width) (a .x) (else1→row-size c .row-size .result) (l .j) (l .y) (a .words .now)
+row : (c : tie.Else1 Inv-loop μ-loop) → let a = else1→start c .args in let l = else1→at-loop c .loop in
+    Row (a .p) (a .width) (a .x) (else1→row-size c .row-size .result) (l .j) (l .y) (a .words .now)
 row c =
     let s = else1→start c in
     let r = c .before .row-holds in
-    record { proper = s .pre .0; some = s .pre .2; whole = else1→row-size c .row-size .ensures; start = else1→at-loop c .loop .inv .1; row = r .ensures .0 (not-false (r .result) (c .if1 .left)) }
+    record {
+      proper = s .pre .0;
+      some = s .pre .2;
+      whole = else1→row-size c .row-size .ensures;
+      start = else1→at-loop c .loop .inv .1;
+      row = r .ensures .0 (not-false (r .result) (c .if1 .left));
+    }
 
 -- ---- the needs
 
@@ -119,9 +125,11 @@ returns c =
     let s = then1→start c .args in
     let l = then1→at-loop c .loop in
     let r = c .before .row-holds in
-    let n = then1→row-size c .row-size in (
+    let n = then1→row-size c .row-size in
+    let taken = then1→in-loop c .loop-test .taken in (
       λ e. absurd (true≢false (sym e)),
-      λ f. absurd (true≢false (sym (r .ensures .1 (row-of (s .p) (s .width) (s .x) (n .result) (l .j) (l .y) (s .words .now) (n .ensures) (l .inv .1) (f (l .j) (then1→in-loop c .loop-test .taken)))) ∙ not-true (r .result) (c .if1 .taken))),
+      λ f. absurd (rows-refused (s .p) (s .width) (s .x) (n .result) (l .j) (s .rows) (l .y) (s .words .now) (n .ensures) (l .inv .1)
+          taken (r .result) (r .ensures .1) (c .if1 .taken) f),
     )
 
 add-step : tie.Need-add-step Inv-loop μ-loop

@@ -29,9 +29,6 @@ read-first→fill-row c = reduce3→fill-row (c .before)
 abbrev outgoing→start : tie.After-outgoing → tie.Start
 outgoing→start c = reduce3→start (c .before .before)
 
-abbrev outgoing→read-first : tie.After-outgoing → tie.After-read-first
-outgoing→read-first c = c .before
-
 abbrev outgoing2→start : tie.After-outgoing2 → tie.Start
 outgoing2→start c = outgoing→start (c .before .before)
 
@@ -39,7 +36,7 @@ abbrev outgoing2→fill-row : tie.After-outgoing2 → tie.After-fill-row
 outgoing2→fill-row c = read-first→fill-row (c .before .before .before)
 
 abbrev outgoing2→read-first : tie.After-outgoing2 → tie.After-read-first
-outgoing2→read-first c = outgoing→read-first (c .before .before)
+outgoing2→read-first c = c .before .before .before
 
 abbrev outgoing2→fill-row2 : tie.After-outgoing2 → tie.After-fill-row2
 outgoing2→fill-row2 c = c .before
@@ -94,7 +91,8 @@ search-blocks-requires c κs =
       record {
         some = s .pre .2;
         reduce = (s .pre .0, s .pre .1, omega arith, one-row (a .p) (s .pre .0) (row .last .0) (row .ensures .0));
-        outgoing = multiples-of (a .p) (s .pre .0) (2 ^ (8 * length (a .pattern .now))) (begin .result .shift) (out .last .0) (begin .ensures .2) (out .ensures .0);
+        outgoing = multiples-of (a .p) (s .pre .0) (2 ^ (8 * length (a .pattern .now))) (begin .result .shift) (out .last .0) (begin .ensures .2)
+            (out .ensures .0);
       },
       refl,
       begin .ensures .1,

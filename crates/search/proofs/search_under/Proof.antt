@@ -15,17 +15,14 @@ use Rattle.search.proofs.search_under.Tie as tie
 
 -- ---- the places: from each one to an earlier one
 
-abbrev shared-slice-known→start : tie.After-shared-slice-known → tie.Start
-shared-slice-known→start c = c .before
-
-abbrev within→start : tie.After-within → tie.Start
-within→start c = shared-slice-known→start (c .before .before .before)
+abbrev shared-slice-known2→start : tie.After-shared-slice-known2 → tie.Start
+shared-slice-known2→start c = c .before .before
 
 abbrev then1→start : tie.Then1 → tie.Start
-then1→start c = within→start (c .before)
+then1→start c = shared-slice-known2→start (c .before .before .before)
 
 abbrev else1→start : tie.Else1 → tie.Start
-else1→start c = within→start (c .before)
+else1→start c = shared-slice-known2→start (c .before .before .before)
 
 abbrev then2→start : tie.Then2 → tie.Start
 then2→start c = else1→start (c .before)

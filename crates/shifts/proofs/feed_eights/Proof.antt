@@ -125,8 +125,10 @@ loop-again c =
     let eight = next-eight (a .words .now) in (
       fits,
       omega (arith, l .inv .1),
-      eight (a .q .now) (l .i) (l .a) (eight-at4→times c .times .result) (eight-at4→eight-at3 c .eight-at3 .result) (l .inv .2) fits (eight-at4→times c .times .ensures) (eight-at4→eight-at3 c .eight-at3 .ensures),
-      eight (a .r .now) (l .i) (l .b) (c .before .times2 .result) (c .eight-at4 .result) (l .inv .3) (omega (arith, fits, s .pre .3)) (c .before .times2 .ensures) (c .eight-at4 .ensures),
+      eight (a .q .now) (l .i) (l .a) (eight-at4→times c .times .result) (eight-at4→eight-at3 c .eight-at3 .result) (l .inv .2) fits
+          (eight-at4→times c .times .ensures) (eight-at4→eight-at3 c .eight-at3 .ensures),
+      eight (a .r .now) (l .i) (l .b) (c .before .times2 .result) (c .eight-at4 .result) (l .inv .3) (omega (arith, fits, s .pre .3))
+          (c .before .times2 .ensures) (c .eight-at4 .ensures),
     )
 
 returns : tie.Need-returns Inv-loop μ-loop

@@ -121,8 +121,14 @@ next-flagged-requires c κs = (omega arith, omega arith)
 windows-holds : tie.Need-windows-holds Inv-loop μ-loop Inv-windows μ-windows
 windows-holds c =
     let a = next-flagged→start c .args in
-    let f = c .next-flagged .ensures in
-    (f .high, omega arith, omega arith, f .flagged, skipped (a .flags .now) (a .text .now) (a .pattern .now) (a .from) (a .size) tally-begin (c .next-flagged .result) f)
+    let f = c .next-flagged .ensures in (
+      f .high,
+      omega arith,
+      omega arith,
+      f .flagged,
+      skipped (a .flags .now) (a .text .now) (a .pattern .now) (a .from) (a .size) tally-begin
+          (c .next-flagged .result) f,
+    )
 
 add-at : tie.Need-add-at Inv-loop μ-loop Inv-windows μ-windows
 add-at c = omega arith
@@ -183,8 +189,12 @@ loop-again c =
     let t = a .text .now in
     let q = a .pattern .now in
     let at = a .from + w .i in
-    let long = window-length (length q) t at (omega arith) in
-    (l .inv .0, omega arith, l .inv .2 ∙ same-step (window (length q) t at) q (l .j) (omega arith) (omega arith) (window-at (length q) t at (l .j) (omega arith) ∙ c .if1 .left))
+    let long = window-length (length q) t at (omega arith) in (
+      l .inv .0,
+      omega arith,
+      l .inv .2
+          ∙ same-step (window (length q) t at) q (l .j) (omega arith) (omega arith) (window-at (length q) t at (l .j) (omega arith) ∙ c .if1 .left),
+    )
 
 cast-n : tie.Need-cast-n Inv-loop μ-loop Inv-windows μ-windows
 cast-n c = omega arith
@@ -205,7 +215,8 @@ windows-less-2 : tie.Need-windows-less-2 Inv-loop μ-loop Inv-windows μ-windows
 windows-less-2 c = let f = joined2→next-flagged2 c .next-flagged2 .ensures in omega (arith, f .low, f .high)
 
 -- where the arms meet: a store past the end changes nothing
-stored : (c : tie.Joined2 Inv-loop μ-loop Inv-windows μ-windows) → let w = joined2→at-windows c .windows in c .if2 .places ≡ set (w .places) (w .count) (joined2→start c .args .from + w .i)
+stored : (c : tie.Joined2 Inv-loop μ-loop Inv-windows μ-windows)
+    → let w = joined2→at-windows c .windows in c .if2 .places ≡ set (w .places) (w .count) (joined2→start c .args .from + w .i)
 stored c =
     let w = joined2→at-windows c .windows in
     ⊎-elim (λ t. t .1) (λ t. t .1 ∙ sym (set-out (w .places) (w .count) _ (t .0 .left))) (c .if2 .came)
@@ -223,7 +234,8 @@ windows-again-2 c =
     let taken = joined2→in-windows c .windows-test .taken in
     let n = joined2→next-flagged2 c .next-flagged2 in
     let f = n .ensures in
-    let done = place-next (a .flags .now) t q (a .from) (a .size) (w .inv .4) taken (w .inv .3 taken) (n .result) (l .alarms) (l .inv .0) f (c .if2 .places) (stored c) z in
+    let done = place-next (a .flags .now) t q (a .from) (a .size) (w .inv .4) taken (w .inv .3 taken) (n .result) (l .alarms) (l .inv .0) f (c .if2 .places)
+    (stored c) z in
     (f .high, omega (arith, f .low), omega (arith, f .low, l .inv .0), f .flagged, done)
 
 same-length : tie.Need-same-length Inv-loop μ-loop Inv-windows μ-windows

@@ -17,17 +17,17 @@ abbrev μ-loop : tie.MeasureT-loop
 abbrev at-loop→start : tie.At-loop Inv-loop μ-loop → tie.Start Inv-loop μ-loop
 at-loop→start c = c .before
 
+abbrev in-loop→start : tie.In-loop Inv-loop μ-loop → tie.Start Inv-loop μ-loop
+in-loop→start c = at-loop→start (c .before)
+
+abbrev in-loop→at-loop : tie.In-loop Inv-loop μ-loop → tie.At-loop Inv-loop μ-loop
+in-loop→at-loop c = c .before
+
 abbrev flagged-from2→start : tie.After-flagged-from2 Inv-loop μ-loop → tie.Start Inv-loop μ-loop
 flagged-from2→start c = at-loop→start (c .before .before)
 
-abbrev one-of-eight→start : tie.After-one-of-eight Inv-loop μ-loop → tie.Start Inv-loop μ-loop
-one-of-eight→start c = at-loop→start (c .before .before)
-
 abbrev flagged-from2→at-loop : tie.After-flagged-from2 Inv-loop μ-loop → tie.At-loop Inv-loop μ-loop
 flagged-from2→at-loop c = c .before .before
-
-abbrev one-of-eight→at-loop : tie.After-one-of-eight Inv-loop μ-loop → tie.At-loop Inv-loop μ-loop
-one-of-eight→at-loop c = c .before .before
 
 abbrev else1→start : tie.Else1 Inv-loop μ-loop → tie.Start Inv-loop μ-loop
 else1→start c = at-loop→start (c .before .before .before)
@@ -36,10 +36,10 @@ abbrev else1→at-loop : tie.Else1 Inv-loop μ-loop → tie.At-loop Inv-loop μ-
 else1→at-loop c = c .before .before .before
 
 abbrev flagged-from→start : tie.After-flagged-from Inv-loop μ-loop → tie.Start Inv-loop μ-loop
-flagged-from→start c = one-of-eight→start (c .before .before)
+flagged-from→start c = in-loop→start (c .before .before .before)
 
 abbrev flagged-from→at-loop : tie.After-flagged-from Inv-loop μ-loop → tie.At-loop Inv-loop μ-loop
-flagged-from→at-loop c = one-of-eight→at-loop (c .before .before)
+flagged-from→at-loop c = in-loop→at-loop (c .before .before .before)
 
 loop-holds : tie.Need-loop-holds Inv-loop μ-loop
 loop-holds c = (omega arith, omega arith, λ j a b. absurd (omega arith))

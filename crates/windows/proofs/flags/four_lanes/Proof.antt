@@ -1,4 +1,5 @@
--- `windows::flags::four_lanes` meets its contract. The loop's invariant: j windows of each lane have their flags, and the four residues are those of the next ones.
+-- `windows::flags::four_lanes` meets its contract. The loop's invariant: j windows of each lane have their flags, and the four residues are
+-- those of the next ones.
 use mathlib.Core.Bool.{false}
 use Prim.Native.Nat.{ℕ, _+_, _-_, _≤_, _<_}
 use native.Mathlib.Omega.{arith}
@@ -101,7 +102,8 @@ abbrev Lane : tie.Start Inv-loop μ-loop → ℕ → ℕ → Type 0
 Lane s i x = ResidueAt (s .args .s) (s .args .text .now) i x
 
 -- it can be rolled
-rolls : (c : tie.In-loop Inv-loop μ-loop) (n x : ℕ) → n ≤ 768 → let s = in-loop→start c in let a = s .args in let j = c .before .loop .j in Lane s (a .from + (j + n)) x
+rolls : (c : tie.In-loop Inv-loop μ-loop) (n x : ℕ) → n ≤ 768
+    → let s = in-loop→start c in let a = s .args in let j = c .before .loop .j in Lane s (a .from + (j + n)) x
     → Ready (a .s) (a .reduce .now) (a .outgoing .now) × (a .from + j + n + a .s .m < length (a .text .now)) × Lane s (a .from + j + n) x
 rolls c n x l h =
     let s = in-loop→start c in

@@ -12,7 +12,8 @@ use Rattle.windows.proofs.flags.start_lanes.Tie as tie
 
 abbrev Inv-loop : tie.InvT-loop
 Inv-loop s reduce text from g b₀ c₀ d₀ j₀ b c d j =
-    (j ≤ s .m) × (b ≡ residue (keyOf s) (window j text (from + 256))) × (c ≡ residue (keyOf s) (window j text (from + 512))) × (d ≡ residue (keyOf s) (window j text (from + 768)))
+    (j ≤ s .m) × (b ≡ residue (keyOf s) (window j text (from + 256))) × (c ≡ residue (keyOf s) (window j text (from + 512)))
+    × (d ≡ residue (keyOf s) (window j text (from + 768)))
 
 abbrev μ-loop : tie.MeasureT-loop
 μ-loop s reduce text from g b₀ c₀ d₀ j₀ b c d j = s .m - j
@@ -77,13 +78,16 @@ abbrev Lane : tie.Start Inv-loop μ-loop → ℕ → ℕ → ℕ → Type 0
 Lane s n j x = x ≡ residue (keyOf (s .args .s)) (window j (s .args .text .now) (s .args .from + n))
 
 -- a byte can be fed
-feeds : (s : tie.Start Inv-loop μ-loop) (n j x : ℕ) → Lane s n j x → ReducesByte (s .args .s .modulus) (s .args .reduce .now) × (x < 2 ^ s .args .s .modulus .degree)
+feeds : (s : tie.Start Inv-loop μ-loop) (n j x : ℕ) → Lane s n j x → ReducesByte (s .args .s .modulus) (s .args .reduce .now)
+    × (x < 2 ^ s .args .s .modulus .degree)
 feeds s n j x e = (s .pre .0, read-below (s .args .s .modulus) (s .pre .0 .0) (s .args .text .now) (s .args .from + n) j x e)
 
 -- and is the next one
-fed : (s : tie.Start Inv-loop μ-loop) (j : ℕ) → j < s .args .s .m → (n x r : ℕ) → n ≤ 768 → getD (s .args .text .now) (s .args .from + j + n) 0 < 256 → Lane s n j x
+fed : (s : tie.Start Inv-loop μ-loop) (j : ℕ) → j < s .args .s .m → (n x r : ℕ) → n ≤ 768 → getD (s .args .text .now) (s .args .from + j + n) 0 < 256
+    → Lane s n j x
     → r ≡ rem (keyOf (s .args .s)) (x * 256 + getD (s .args .text .now) (s .args .from + j + n) 0) → Lane s n (j + 1) r
-fed s j h n x r l = read-more (s .args .s .modulus) (s .pre .0 .0) (s .args .text .now) (s .args .from + n) j (s .args .from + j + n) x r (omega arith) (omega (arith, s .pre .1))
+fed s j h n x r l = read-more (s .args .s .modulus) (s .pre .0 .0) (s .args .text .now) (s .args .from + n) j (s .args .from + j + n) x r (omega arith)
+    (omega (arith, s .pre .1))
 
 -- ---- the needs
 

@@ -116,7 +116,8 @@ loop-again c =
     let byte = feed-one3→shared-slice-known4 c .shared-slice-known4 .given (l .i) in
     let byte₂ = feed-one3→shared-slice-known5 c .shared-slice-known5 .given (l .i) in (
       omega arith,
-      more (a .text .now) 0 (l .i) (l .i) (l .first) _ (zero-add (l .i)) (omega arith) (omega (arith, byte)) (l .inv .1) (feed-one3→feed-one c .feed-one .ensures),
+      more (a .text .now) 0 (l .i) (l .i) (l .first) _ (zero-add (l .i)) (omega arith) (omega (arith, byte)) (l .inv .1)
+          (feed-one3→feed-one c .feed-one .ensures),
       more (a .pattern .now) 0 (l .i) (l .i) (l .wanted) _ (zero-add (l .i)) (omega arith) (omega (arith, byte₂)) (l .inv .2) (c .before .feed-one2 .ensures),
       shift-more (monic-pos (a .p .degree) (a .p .low) (s .pre .0 .0 .2)) (l .i) (l .shift) _ (l .inv .3) (c .feed-one3 .ensures),
     )

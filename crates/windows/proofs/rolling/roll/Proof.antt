@@ -59,7 +59,8 @@ returns c =
     let a = s .args in
     let r = s .pre .0 in
     let byte = c .before .shared-slice-known4 .given in
-    rolled (monic-pos (a .s .modulus .degree) (a .s .modulus .low) (r .reduce .0 .2)) (a .s .m) (a .text .now) (a .outgoing .now) (a .i) (a .i + a .s .m) (a .g) _
+    rolled (monic-pos (a .s .modulus .degree) (a .s .modulus .low) (r .reduce .0 .2)) (a .s .m) (a .text .now) (a .outgoing .now) (a .i) (a .i + a .s .m)
+    (a .g) _
     refl (s .pre .1) (omega (arith, byte (a .i))) (omega (arith, byte (a .i + a .s .m))) (r .outgoing) (s .pre .2)
     (ap (λ (x : ℕ). x ⊕ getD (a .outgoing .now) (getD (a .text .now) (a .i) 0) 0) (gone→feed-one c .feed-one .ensures))
 
