@@ -1,12 +1,13 @@
 -- Laws of the tests of two marks.
-use mathlib.Core.Path.{_≡_, sym, ap, ap₂, _∙_}
-use mathlib.Core.Bool.{Bool, true, false, _||_, or-assoc, or-comm}
+use mathlib.Core.Path.{_≡_, ap, ap₂, _∙_}
+use mathlib.Core.Bool.{Bool, true, false, _||_, or-comm}
 use mathlib.Core.List.{List, [], _∷_, _++_}
 use Prim.Native.Nat.{ℕ, _+_, _≤_, _<_}
 use native.Mathlib.Nat.{add-comm}
 use lib.Dec.{ltb}
 use lib.ListN.{length}
 use borrow.Author.Tests.{eq-eqb, ne-eqb, lt-ltb, le-ltb}
+use Rattle.lists.proofs.Truth.{or-left-comm}
 use Rattle.refusals.specs.declared.Refusal.the-variants.{TooLong, MarkNotReduced, PageLengthsDiffer, PagePastEnd}
 use Rattle.refusals.specs.Refusals.{Done, Refused, _⇒_, firstOf, longest, passes}
 use Rattle.files.specs.declared.Mark.{Mark}
@@ -14,9 +15,6 @@ use Rattle.files.specs.Files.{unreduced}
 use Rattle.compose.specs.Composing.{marksTests, pageTests}
 
 -- ---- they do not depend on the order of the marks
-
-pub or-left-comm : (x y z : Bool) → (x || (y || z)) ≡ (y || (x || z))
-or-left-comm x y z = sym (or-assoc x y z) ∙ ap (λ (b : Bool). b || z) (or-comm x y) ∙ or-assoc y x z
 
 pub marks-swap : (key : ℕ) (x y : Mark) → marksTests key x y ≡ marksTests key y x
 marks-swap key x y =

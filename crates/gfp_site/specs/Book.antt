@@ -13,7 +13,7 @@ use Rattle.files.specs.declared.Mark.{Mark}
 use Rattle.files.specs.Files.{True, unreduced}
 use Rattle.marks.specs.Feeding.{sumTest}
 use Rattle.compose.specs.Composing.{joinBehind, joinInFront, replacePage}
-use Rattle.sheets.specs.Layout.{version1, pagePlace, sheetSize, pageCount, numberAt}
+use Rattle.sheets.specs.Layout.{version1, pagePlace, sheetLength, pageCount, numberAt}
 use Rattle.sheets.specs.Sheets.{writeSheet}
 use Rattle.book.specs.Runs.{Level, Leaves}
 use Rattle.gfp_bench.specs.Book as bench-level
@@ -64,7 +64,7 @@ site = record { Call = Call; step = step; tests = bookTests; written = written; 
 -- the 8 bytes behind the page fingerprints of a written sheet
 abbrev pub lastField : ℕ → List ℕ → List ℕ → ℕ
 lastField s file after =
-    numberAt (pagePlace version1 (pageCount s (length file))) 8 (take (sheetSize version1 (pageCount s (length file))) after)
+    numberAt (pagePlace version1 (pageCount s (length file))) 8 (take (sheetLength version1 (pageCount s (length file))) after)
 
 -- The routes: the Bench level's, a list of this level's calls, and "any other call of ours that gives a file's fingerprint [..] from
 -- its contents or from true marks and old bytes [..], as the writing of a sheet does with its last field".

@@ -12,7 +12,6 @@ use marks::Running;
 use search::Searched;
 use sheets::Checked;
 use sheets::Reading;
-use sheets::Written;
 
 // The file of the mark (other, other_length) goes behind the file of the mark in the two places. Numbers 1, 2, 7, 8.
 #[no_mangle]
@@ -128,10 +127,7 @@ pub extern "C" fn gfp_write_sheet(key: u64, size: u64, file: &[u8], sheet: &mut 
         × (now (sheet .exit) ≡ stateOf (writeSheet key size (now (file .entry)) (now (sheet .entry))))
         ⌝ }
 {
-    match sheet_writing::write(key, size, file, sheet) {
-        Written::Done => 0,
-        Written::Refused(r) => refusals::number(r),
-    }
+    refusals::number_of(sheet_writing::write(key, size, file, sheet))
 }
 
 // The numbers of a sheet into five places. Numbers 14 (size, letters, version), 1, 2, 12, 14 (total, fingerprints, joining), in this order.
@@ -171,10 +167,7 @@ pub extern "C" fn gfp_read_pages(sheet: &[u8], fingerprints: &mut [u64]) -> u32
         × (now (fingerprints .exit) ≡ stateOf (readPages (now (sheet .entry)) (now (fingerprints .entry))))
         ⌝ }
 {
-    match sheet_reading::read_pages(sheet, fingerprints) {
-        Written::Done => 0,
-        Written::Refused(r) => refusals::number(r),
-    }
+    refusals::number_of(sheet_reading::read_pages(sheet, fingerprints))
 }
 
 // A file checked against a sheet: 0 for same, 1 for a page with its place, 2 for another length. All of reading's numbers, then 7.

@@ -1,23 +1,22 @@
 -- How a check answers, by what reading answers.
 use mathlib.Core.Path.{_≡_, sym, ap, ap₂, _∙_}
-use mathlib.Core.Bool.{not}
 use mathlib.Core.List.{List, [], _∷_, _++_}
 use Prim.Native.Nat.{ℕ, _+_, _*_, _^_, _≤_, _<_, min}
-use native.Mathlib.Nat.{sub-zero, mul-le-mul-left, le-of-suc-le-suc}
+use native.Mathlib.Nat.{mul-le-mul-left, le-of-suc-le-suc}
 use native.Mathlib.Decide.{ℕ-discrete}
 use native.Mathlib.Omega.{arith}
-use lib.Dec.{ltb, eqb}
 use lib.ListN.{length}
-use borrow.Author.Tests.{eq-eqb, ne-eqb, lt-ltb, le-ltb, ltb-false}
+use borrow.Author.Tests.{eq-eqb, ne-eqb, lt-ltb, le-ltb}
 use Rattle.refusals.specs.declared.Refusal.{Refusal}
 use Rattle.refusals.specs.declared.Refusal.the-variants.{TooLong}
 use Rattle.refusals.specs.Refusals.{Done, Refused, _⇒_, passes, longest}
 use Rattle.sheets.specs.declared.Sheet.{Sheet}
-use Rattle.sheets.specs.Layout.{version1, numberAt, numbersAt, contentsIn}
-use Rattle.sheets.specs.Sheets.{contentsOf, readTests, readSheet, sheetRead, Page, OtherLength, firstChange, compared, checkSheet, FromTo, rangeOf}
-use Rattle.sheets.specs.Parts.{pagesLeft, fingerprintsFrom, ReadAs, comparison}
+use Rattle.sheets.specs.Layout.{PageSize, version1, numbersAt, pagePlace, sheetLength, pageCount, fieldIn, contentsIn}
+use Rattle.sheets.specs.Sheets.{pageFingerprints, contentsOf, readTests, readSheet, sheetRead, Page, OtherLength, firstChange, compared, checkSheet, FromTo, rangeOf}
+use Rattle.sheets.specs.Parts.{ReadAs, comparison, fingerprintsPart}
 use Rattle.refusals.proofs.Laws.{Clear, done-clear, more-refused, more-clear}
-use Rattle.sheets.proofs.Sound.{neither}
+use Rattle.sheets.proofs.Numbers.{numbers-part}
+use Rattle.sheets.proofs.Sound.{head-right}
 use Rattle.sheets.proofs.Known.{refused-inv, tests-clear, total}
 use Rattle.sheets.proofs.Changes.{not-other}
 use Rattle.sheets.proofs.Guarantee.{other-length}
@@ -51,10 +50,13 @@ module _ (sheet file : List ℕ) where
 
     -- equally long: page by page
     pub compare-pages : (key size : ℕ) → key ≡ contentsIn version1 sheet .key → size ≡ contentsIn version1 sheet .pageSize → length file ≡ contentsIn version1 sheet .length
-        → comparison sheet file ≡ Done (firstChange 0 (numbersAt 19 8 (pagesLeft size file 0) sheet) (fingerprintsFrom key size file 0))
+        → (part : List ℕ) → part ≡ fingerprintsPart sheet
+        → comparison sheet file
+        ≡ Done (firstChange 0 (numbersAt 0 8 (pageCount size (length file)) part) (pageFingerprints key size (pageCount size (length file)) file))
     unfolding compared contentsOf contentsIn
-    compare-pages key size ek es en =
-        after-long ∙ rw (eq-eqb (length file) (contentsIn version1 sheet .length) en, ← en, ← ek, ← es, sub-zero)
+    compare-pages key size ek es en part ep =
+        after-long
+        ∙ rw (eq-eqb (length file) (contentsIn version1 sheet .length) en, ← en, ← ek, ← es, ep, numbers-part (pagePlace version1 0) 0 8 (pageCount size (length file)) sheet)
 
 -- the numbers that a check goes by
 module _ (sheet : List ℕ) {x : Sheet} (r : ReadAs sheet x) where
@@ -68,9 +70,9 @@ module _ (sheet : List ℕ) {x : Sheet} (r : ReadAs sheet x) where
   length-is = ap (λ (y : Sheet). y .length) (r .numbers)
 
   -- all fields of the pages are there
-  pub pages-there : (file : List ℕ) → length file ≡ x .length → 19 + 8 * pagesLeft (x .size) file 0 ≤ length sheet
+  pub pages-there : (file : List ℕ) → length file ≡ x .length → sheetLength version1 (pageCount (x .size) (length file)) ≡ length sheet
   unfolding contentsIn
-  pages-there file e = rw (total sheet r, sub-zero, e, length-is, size-is) (omega arith)
+  pages-there file e = sym (total sheet r ∙ ap₂ (λ (s n : ℕ). sheetLength version1 (pageCount s n)) (sym size-is) (sym (e ∙ length-is)))
 
 -- ---- the page that a check names
 
@@ -80,10 +82,8 @@ module _ (sheet file : List ℕ) (i : ℕ) (e : checkSheet sheet file ≡ Done (
   named =
       done-clear (readTests version1 sheet ++ passes (length file ∷ []) ⇒ TooLong ∷ []) tt (compared (contentsIn version1 sheet) file) (Page i) e
 
-  pub named-long : 27 ≤ length sheet
-  named-long =
-      ltb-false (length sheet) 27
-      (neither (ltb (length sheet) 27) (not (eqb (numberAt 0 3 sheet) 0x474650)) (not (eqb (numberAt 3 2 sheet) 1)) (named .0 .0) .0)
+  pub named-long : sheetLength version1 0 ≤ length sheet
+  named-long = head-right sheet (named .0 .0) .long
 
   pub named-equal : length file ≡ contentsIn version1 sheet .length
   named-equal = go (ℕ-discrete (length file) (contentsIn version1 sheet .length))
@@ -93,7 +93,7 @@ module _ (sheet file : List ℕ) (i : ℕ) (e : checkSheet sheet file ≡ Done (
       go (no d) = absurd (not-other (sym (other-length (contentsIn version1 sheet) file d) ∙ named .1))
 
   -- its bytes, by the numbers that the code has
-  pub named-range : (from size end : ℕ) → size ≡ numberAt 17 2 sheet → from ≡ i * size → end ≡ min (from + size) (length file)
+  pub named-range : (from size end : ℕ) → size ≡ fieldIn version1 PageSize sheet → from ≡ i * size → end ≡ min (from + size) (length file)
       → FromTo from end ≡ rangeOf (contentsIn version1 sheet) (checkSheet sheet file)
   unfolding contentsIn
   named-range from size end es ef ee =

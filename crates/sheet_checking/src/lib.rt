@@ -1,30 +1,31 @@
 // Checking a file against a page sheet.
+use gf2::Modulus;
 use refusals::Refusal;
 use sheets::Changed;
 use sheets::Checked;
 use sheets::Reading;
 use sheets::Sheet;
-use sheets::fields;
+use sheets::layout;
 ghost use mathlib.Core.Path.{_≡_};
 ghost use Prim.Native.Nat.{_+_, _*_, _≤_, _<_, _^_};
 ghost use lib.ListN.{length};
-ghost use Rattle.gf2.specs.Polynomials.{monic};
+ghost use Rattle.gf2.specs.Moduli.{polynomial};
 ghost use Rattle.refusals.specs.Refusals.{Answer};
-ghost use Rattle.tables.specs.Tables.{TableOf};
-ghost use Rattle.shifts.specs.Shifts.{Shifts};
-ghost use Rattle.sheets.specs.Layout.{version1, numbersAt, contentsIn};
-ghost use Rattle.sheets.specs.Sheets.{firstChange, checkSheet, checked, rangeOf, changed};
-ghost use Rattle.sheets.specs.Parts.{pagesLeft, fingerprintsFrom, agreeing, ReadAs, comparison};
+ghost use Rattle.files.specs.Files.{fingerprint};
+ghost use Rattle.sheets.specs.Layout.{version1, numbersAt, pageCount, contentsIn};
+ghost use Rattle.sheets.specs.Sheets.{filled, pageFingerprints, firstChange, checkSheet, checked, rangeOf, changed};
+ghost use Rattle.sheets.specs.Parts.{lastPage, agreeing, ReadAs, comparison};
+ghost use Rattle.sheet_pages.specs.Blocks.{PageTables};
 
 // How many of the fingerprints, from the first on, are those of the sheet from a place on.
-fn agreeing(sheet: &[u8], from: usize, marks: &[u64]) -> usize
-    requires { ⌜ from + 8 * length (now marks) ≤ length (now sheet) ⌝ }
-    ensures { λ r. ⌜ r ≡ agreeing (numbersAt from 8 (length (now (marks .entry))) (now (sheet .entry))) (now (marks .entry)) ⌝ }
+fn agreeing(fields: &[u8], from: usize, marks: &[u64]) -> usize
+    requires { ⌜ from + 8 * length (now marks) ≤ length (now fields) ⌝ }
+    ensures { λ r. ⌜ r ≡ agreeing (numbersAt from 8 (length (now (marks .entry))) (now (fields .entry))) (now (marks .entry)) ⌝ }
 {
     let mut place = from;
     let mut i: usize = 0;
     while i < marks.len() {
-        if lookups::eight_at(sheet, place) != marks[i] {
+        if lookups::eight_at(fields, place) != marks[i] {
             return i;
         }
         place += 8;
@@ -35,39 +36,30 @@ fn agreeing(sheet: &[u8], from: usize, marks: &[u64]) -> usize
 
 // The first page whose fingerprint differs from the sheet's, block by block.
 fn first_change(
-    sheet: &[u8],
+    fields: &[u8],
     words: &[u64],
     eights: &[u64],
-    k: u32,
-    low: u64,
+    p: Modulus,
     size: usize,
+    last: u64,
     file: &[u8],
 ) -> Checked
-    requires { ⌜ TableOf k low (now words) × Shifts (monic k low) 64 (now eights) × (16 ≤ size) × (size ≤ 4096) × (length (now file) < 2 ^ 32)
-        × (19 + 8 * pagesLeft size (now file) 0 ≤ length (now sheet)) ⌝ }
-    ensures { λ r. ⌜ checked r ≡ Answer.Done (firstChange 0 (numbersAt 19 8 (pagesLeft size (now (file .entry)) 0) (now (sheet .entry)))
-        (fingerprintsFrom (monic k low) size (now (file .entry)) 0)) ⌝ }
+    requires { ⌜ PageTables p (now words) (now eights) × (16 ≤ size) × (size ≤ 4096) × (length (now file) < 2 ^ 32)
+        × (last ≡ fingerprint (polynomial p) (filled size (lastPage size (now file)))) × (8 * pageCount size (length (now file)) ≤ length (now fields)) ⌝ }
+    ensures { λ r. ⌜ checked r ≡ Answer.Done (firstChange 0 (numbersAt 0 8 (pageCount size (length (now (file .entry)))) (now (fields .entry)))
+        (pageFingerprints (polynomial p) size (pageCount size (length (now (file .entry)))) (now (file .entry)))) ⌝ }
 {
     let mut marks = [0u64; 64];
-    let mut at: usize = 0;
-    let mut i: u32 = 0;
-    let mut place: usize = 19;
-    while size <= file.len() - at {
-        let n = sheet_pages::block(file.len() - at, size);
-        sheet_pages::whole_marks(&mut marks, words, eights, k, low, size, n, &file[at..]);
-        let same = agreeing(sheet, place, &marks[..n]);
+    let mut i: usize = 0;
+    while i * size < file.len() {
+        let at = i * size;
+        let n = sheet_pages::next_pages(&mut marks, words, eights, p, size, last, &file[at..]);
+        let same = agreeing(fields, 8 * i, &marks[..n]);
         if same < n {
-            return Checked::Page(i + same as u32);
+            let page = (i + same) as u32;
+            return Checked::Page(page);
         }
-        at += n * size;
-        place += 8 * n;
-        i += n as u32;
-    }
-    if at < file.len() {
-        let last = sheet_pages::filled_mark(words, k, low, size, &file[at..]);
-        if fields::number_at(sheet, place, 8) != last {
-            return Checked::Page(i);
-        }
+        i += n;
     }
     Checked::Same
 }
@@ -80,20 +72,27 @@ fn compare(sheet: &[u8], x: Sheet, file: &[u8]) -> Checked
     let n = file.len() as u64;
     let length = x.length;
     let key = x.key;
-    let size = x.size;
-    if 4294967295 < n {
+    let size = x.size as usize;
+    if refusals::LONGEST < n {
         return Checked::Refused(Refusal::TooLong);
     }
     if n != length {
         return Checked::OtherLength;
     }
-    let k = gf2::degree(key);
-    let low = gf2::low_bits(key, k);
+    let p = gf2::modulus_of(key);
     let mut words = [0u64; 1024];
-    tables::rows::fill(&mut words, k, low);
     let mut eights = [0u64; 2048];
-    shifts::fill(&mut eights, k, low, 8);
-    first_change(sheet, &words, &eights, k, low, size as usize, file)
+    sheet_pages::fill_tables(&mut words, &mut eights, p);
+    let last = sheet_pages::last_page(&words, p, size, file).filled;
+    first_change(
+        layout::page_fields(sheet),
+        &words,
+        &eights,
+        p,
+        size,
+        last,
+        file,
+    )
 }
 
 // Checks a file against a sheet. All of reading's numbers, then 7.
@@ -113,11 +112,12 @@ pub fn first_changed_range(sheet: &[u8], file: &[u8]) -> Changed
     let Checked::Page(i) = check(sheet, file) else {
         return Changed::None;
     };
-    let size = fields::number_at(sheet, 17, 2);
+    let size = layout::read_head(sheet).size;
     let n = file.len() as u64;
     let from = i as u64 * size;
-    if n < from + size {
+    let end = from + size;
+    if n < end {
         return Changed::Bytes(from, n);
     }
-    Changed::Bytes(from, from + size)
+    Changed::Bytes(from, end)
 }

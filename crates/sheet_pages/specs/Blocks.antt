@@ -1,10 +1,21 @@
--- What the inner functions promise of a block of whole pages: a reader of the promises need not read this page.
+-- What the inner functions promise of a block of pages: a reader of the promises need not read this page.
 use mathlib.Core.Path.{_≡_}
 use mathlib.Core.List.{List}
-use Prim.Native.Nat.{ℕ, _*_, _<_}
-use lib.ListN.{getD, take, drop}
+use Prim.Native.Nat.{ℕ, _*_, _≤_, _<_}
+use lib.ListN.{length, getD, take, drop}
 use Rattle.gf2.specs.Polynomials.{rem}
+use Rattle.gf2.specs.Moduli.{polynomial, Proper}
+use Rattle.gf2.specs.declared.Modulus.{Modulus}
 use Rattle.files.specs.Files.{bits, valueFrom, fingerprint}
+use Rattle.lookups.specs.Rule.{TableOf}
+use Rattle.shifts.specs.Shifts.{Shifts}
+use Rattle.sheets.specs.Layout.{pageCount}
+use Rattle.sheets.specs.Sheets.{pageFingerprints}
+
+-- the two tables that pages are fed by: four bytes at a time, and eight
+pub record PageTables (p : Modulus) (words eights : List ℕ) : Type 0 where
+  pub table : TableOf p words
+  pub shifts : Shifts (polynomial p) 64 eights
 
 -- the first w bytes of page i, of pages of s bytes
 abbrev pub pageFront : ℕ → ℕ → List ℕ → ℕ → List ℕ
@@ -14,6 +25,17 @@ pageFront s w pages i = take w (drop (i * s) pages)
 abbrev pub Begun : ℕ → ℕ → ℕ → ℕ → List ℕ → List ℕ → Type 0
 Begun key s w n pages marks = (i : ℕ) → i < n → rem key (getD marks i 0) ≡ rem key (valueFrom 1 (bits (pageFront s w pages i)))
 
+-- the same modulo each polynomial by which the words shift eight bytes
+abbrev pub BegunBy : List ℕ → ℕ → ℕ → ℕ → List ℕ → List ℕ → Type 0
+BegunBy eights s w n pages marks = (p : Modulus) → Proper p → Shifts (polynomial p) 64 eights → Begun (polynomial p) s w n pages marks
+
 -- it is the fingerprint of page i
 abbrev pub Finished : ℕ → ℕ → ℕ → List ℕ → List ℕ → Type 0
 Finished key s n pages marks = (i : ℕ) → i < n → getD marks i 0 ≡ fingerprint key (pageFront s s pages i)
+
+-- n pages of what is left of a file, at least one of them where a byte is left, and their fingerprints in the first n places
+pub record NextPages (key s : ℕ) (rest : List ℕ) (n : ℕ) (marks : List ℕ) : Type 0 where
+  pub few : n ≤ 64
+  pub within : n ≤ pageCount s (length rest)
+  pub some : 0 < length rest → 0 < n
+  pub prints : take n marks ≡ pageFingerprints key s n rest

@@ -1,2 +1,2 @@
-pub mod Chains
+pub mod Lanes
 pub mod Blocks

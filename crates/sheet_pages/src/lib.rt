@@ -1,20 +1,31 @@
 // The fingerprints of a file's pages, by tables. These functions are for the project's own crates: what they require, every caller proves.
+use gf2::Modulus;
 ghost use mathlib.Core.Path.{_≡_};
-ghost use Prim.Native.Nat.{_+_, _*_, _%_, _≤_, _<_};
+ghost use Prim.Native.Nat.{_+_, _*_, _/_, _%_, _≤_, _<_, min};
 ghost use lib.ListN.{length, take};
-ghost use Rattle.gf2.specs.Polynomials.{monic, rem, Modulus};
+ghost use Rattle.gf2.specs.Polynomials.{rem};
+ghost use Rattle.gf2.specs.Moduli.{polynomial, Proper};
 ghost use Rattle.files.specs.Files.{bits, valueFrom, fingerprint};
-ghost use Rattle.tables.specs.Tables.{TableOf};
-ghost use Rattle.shifts.specs.Shifts.{Shifts};
+ghost use Rattle.lookups.specs.Rule.{TableOf};
 ghost use Rattle.sheets.specs.Sheets.{filled, pageFingerprints};
-ghost use Rattle.sheet_pages.specs.Blocks.{Begun, Finished};
+ghost use Rattle.sheets.specs.Parts.{lastPage};
+ghost use Rattle.sheet_pages.specs.Blocks.{PageTables, Begun, BegunBy, Finished, NextPages};
 
 pub mod joining;
 
+// The two tables that pages are fed by: four bytes at a time, and eight.
+pub fn fill_tables(words: &mut [u64], eights: &mut [u64], p: Modulus)
+    requires { ⌜ Proper p × (8 ≤ p .degree) × (length (now words) ≡ 1024) × (length (now eights) ≡ 2048) ⌝ }
+    ensures { λ r. ⌜ PageTables p (now (words .exit)) (now (eights .exit)) ⌝ }
+{
+    lookups::fill_table(words, p);
+    shifts::fill(eights, p, 8);
+}
+
 // How many whole pages the next block has: all that are left, at most 64.
-pub fn block(left: usize, size: usize) -> usize
+fn block(left: usize, size: usize) -> usize
     requires { ⌜ 0 < size ⌝ }
-    ensures { λ r. ⌜ (r ≤ 64) × (r * size ≤ left) × (size ≤ left → 0 < r) ⌝ }
+    ensures { λ r. ⌜ r ≡ min (left / size) 64 ⌝ }
 {
     let n = left / size;
     if n < 64 { n } else { 64 }
@@ -29,26 +40,17 @@ fn beside(i: usize, n: usize) -> usize
 }
 
 // The first bytes of each of n pages, `whole` of them, in groups of eight: two pages side by side, which do not wait for each other.
-fn begin_pages(
-    marks: &mut [u64],
-    eights: &[u64],
-    k: u32,
-    low: u64,
-    size: usize,
-    whole: usize,
-    n: usize,
-    pages: &[u8],
-)
-    requires { ⌜ Modulus k low × Shifts (monic k low) 64 (now eights) × (8 ≤ whole) × (whole % 8 ≡ 0) × (whole ≤ size)
+fn begin_pages(marks: &mut [u64], eights: &[u64], size: usize, whole: usize, n: usize, pages: &[u8])
+    requires { ⌜ (length (now eights) ≡ 2048) × (8 ≤ whole) × (whole % 8 ≡ 0) × (whole ≤ size)
         × (n * size ≤ length (now pages)) × (n ≤ length (now marks)) ⌝ }
-    ensures { λ r. ⌜ Begun (monic k low) size whole n (now (pages .entry)) (now (marks .exit)) ⌝ }
+    ensures { λ r. ⌜ BegunBy (now (eights .entry)) size whole n (now (pages .entry)) (now (marks .exit)) ⌝ }
 {
     let mut i: usize = 0;
     while i < n {
         let j = beside(i, n);
         let a = i * size;
         let b = j * size;
-        let x = shifts::feed_eights(eights, k, low, &pages[a..a + whole], &pages[b..b + whole]);
+        let x = shifts::feed_eights(eights, &pages[a..a + whole], &pages[b..b + whole]);
         marks[i] = x.a;
         marks[j] = x.b;
         i = j + 1;
@@ -56,66 +58,102 @@ fn begin_pages(
 }
 
 // The residue of x with the bytes that are left of a page behind it.
-fn finished(words: &[u64], k: u32, low: u64, x: u64, rest: &[u8]) -> u64
-    requires { ⌜ TableOf k low (now words) ⌝ }
-    ensures { λ r. ⌜ r ≡ rem (monic k low) (valueFrom x (bits (now (rest .entry)))) ⌝ }
+fn finished(words: &[u64], p: Modulus, x: u64, rest: &[u8]) -> u64
+    requires { ⌜ TableOf p (now words) ⌝ }
+    ensures { λ r. ⌜ r ≡ rem (polynomial p) (valueFrom x (bits (now (rest .entry)))) ⌝ }
 {
-    let f = lookups::reduced(words, k, low, x);
+    let f = lookups::residue(words, p, x);
     if rest.len() == 0 {
         return f;
     }
-    lookups::fed(words, k, low, f, rest)
+    lookups::fed(words, p, f, rest)
 }
 
 // The fingerprints of n pages that are begun: each number is reduced, and the bytes that are left of its page are fed behind it.
 fn finish_pages(
     marks: &mut [u64],
     words: &[u64],
-    k: u32,
-    low: u64,
+    p: Modulus,
     size: usize,
     whole: usize,
     n: usize,
     pages: &[u8],
 )
-    requires { ⌜ TableOf k low (now words) × (whole ≤ size) × (n * size ≤ length (now pages)) × (n ≤ length (now marks))
-        × Begun (monic k low) size whole n (now pages) (now marks) ⌝ }
-    ensures { λ r. ⌜ Finished (monic k low) size n (now (pages .entry)) (now (marks .exit)) ⌝ }
+    requires { ⌜ TableOf p (now words) × (whole ≤ size) × (n * size ≤ length (now pages)) × (n ≤ length (now marks))
+        × Begun (polynomial p) size whole n (now pages) (now marks) ⌝ }
+    ensures { λ r. ⌜ Finished (polynomial p) size n (now (pages .entry)) (now (marks .exit)) ⌝ }
 {
     let mut i: usize = 0;
     while i < n {
         let a = i * size;
-        marks[i] = finished(words, k, low, marks[i], &pages[a + whole..a + size]);
+        marks[i] = finished(words, p, marks[i], &pages[a + whole..a + size]);
         i += 1;
     }
 }
 
-// The fingerprints of the first n pages, which are whole, into the first n words.
-pub fn whole_marks(
+// The fingerprints of the first n pages, which are whole, into the first n places.
+fn whole_marks(
     marks: &mut [u64],
     words: &[u64],
     eights: &[u64],
-    k: u32,
-    low: u64,
+    p: Modulus,
     size: usize,
     n: usize,
     pages: &[u8],
 )
-    requires { ⌜ TableOf k low (now words) × Shifts (monic k low) 64 (now eights) × (8 ≤ size)
-        × (n * size ≤ length (now pages)) × (n ≤ length (now marks)) ⌝ }
-    ensures { λ r. ⌜ take n (now (marks .exit)) ≡ pageFingerprints (monic k low) size n (now (pages .entry)) ⌝ }
+    requires { ⌜ PageTables p (now words) (now eights) × (8 ≤ size) × (n * size ≤ length (now pages)) × (n ≤ length (now marks)) ⌝ }
+    ensures { λ r. ⌜ take n (now (marks .exit)) ≡ pageFingerprints (polynomial p) size n (now (pages .entry)) ⌝ }
 {
     let whole = size / 8 * 8;
-    begin_pages(marks, eights, k, low, size, whole, n, pages);
-    finish_pages(marks, words, k, low, size, whole, n, pages);
+    begin_pages(marks, eights, size, whole, n, pages);
+    finish_pages(marks, words, p, size, whole, n, pages);
 }
 
-// The fingerprint of the last page, filled up with zero bytes: they come in as one power of t.
-pub fn filled_mark(words: &[u64], k: u32, low: u64, size: usize, page: &[u8]) -> u64
-    requires { ⌜ TableOf k low (now words) × (size ≤ 4096) × (length (now page) ≤ size) ⌝ }
-    ensures { λ r. ⌜ r ≡ fingerprint (monic k low) (filled size (now (page .entry))) ⌝ }
+// The fingerprint of what a file has behind its whole pages, and that of the page filled up with zero bytes.
+pub struct LastPage {
+    pub own: u64,
+    pub filled: u64,
+}
+
+// The bytes are fed once: zero bytes behind them come in as one power of t.
+pub fn last_page(words: &[u64], p: Modulus, size: usize, file: &[u8]) -> LastPage
+    requires { ⌜ TableOf p (now words) × (0 < size) × (size ≤ 4096) ⌝ }
+    ensures { λ r. ⌜ (r .own ≡ fingerprint (polynomial p) (lastPage size (now (file .entry))))
+        × (r .filled ≡ fingerprint (polynomial p) (filled size (lastPage size (now (file .entry))))) ⌝ }
 {
-    let f = tables::feeding::fed(words, k, low, 1, page);
-    let n = page.len();
-    gf2::product(k, low, f, gf2::power_of_t(k, low, 8 * (size - n) as u64))
+    let from = file.len() / size * size;
+    let own = lookups::fed(words, p, 1, &file[from..]);
+    let zeros = size - (file.len() - from);
+    let t = gf2::power_of_t(p, 8 * zeros as u64);
+    LastPage {
+        own: own,
+        filled: gf2::product(p, own, t),
+    }
+}
+
+// The fingerprints of the next pages, at most 64, into the first places: how many. Where the file ends inside a page, its fingerprint is
+// `last`.
+pub fn next_pages(
+    marks: &mut [u64],
+    words: &[u64],
+    eights: &[u64],
+    p: Modulus,
+    size: usize,
+    last: u64,
+    rest: &[u8],
+) -> usize
+    requires { ⌜ PageTables p (now words) (now eights) × (8 ≤ size) × (size ≤ 4096) × (64 ≤ length (now marks))
+        × (last ≡ fingerprint (polynomial p) (filled size (lastPage size (now rest)))) ⌝ }
+    ensures { λ r. ⌜ NextPages (polynomial p) size (now (rest .entry)) r (now (marks .exit)) ⌝ }
+{
+    let n = block(rest.len(), size);
+    whole_marks(marks, words, eights, p, size, n, rest);
+    if n == 64 {
+        return n;
+    }
+    if rest.len() <= n * size {
+        return n;
+    }
+    marks[n] = last;
+    n + 1
 }

@@ -1,24 +1,29 @@
 -- How the calls answer, test by test.
-use mathlib.Core.Path.{_≡_, refl, _∙_}
-use mathlib.Core.Bool.{Bool, true, false, _&&_, _||_, not}
+use mathlib.Core.Path.{_≡_, refl, ap, _∙_}
+use mathlib.Core.Bool.{Bool, true, false, _&&_, _||_, not, cond}
 use mathlib.Core.Logic.{_⊎_, inl, inr}
 use mathlib.Core.Option.{none, some}
 use mathlib.Core.List.{List, [], _∷_, _++_}
-use Prim.Native.Nat.{ℕ, _+_, _*_, _≤_, _<_}
-use native.Mathlib.Omega.{arith}
+use Prim.Native.Nat.{ℕ, _≤_, _<_}
 use lib.Dec.{ltb, eqb}
 use lib.ListN.{length}
-use borrow.Author.Tests.{lt-ltb, le-ltb, le-leb, lt-leb, eqb-true, ltb-false, not-false}
+use borrow.Author.Tests.{lt-ltb, le-ltb, le-leb, lt-leb, eqb-true, not-false}
 use Rattle.gf2.specs.Polynomials.{degree}
+use Rattle.gf2.specs.declared.Modulus.{Modulus}
 use Rattle.refusals.specs.declared.Refusal.{Refusal}
 use Rattle.refusals.specs.declared.Refusal.the-variants.{PageSize, SheetMalformed}
 use Rattle.refusals.specs.Refusals.{Done, Refused, Test, _⇒_, firstOf}
-use Rattle.acceptance.specs.Keys.{keyTests}
-use Rattle.keys.specs.Testing.{testKey}
-use Rattle.keys.proofs.Laws.{Passed, first-passed, first-refused}
+use Rattle.acceptance.specs.Keys.{keyTests, Opened}
+use Rattle.acceptance.proofs.Opened.{opened-first}
+use Rattle.keys.specs.declared.Tested.{Tested}
+use Rattle.keys.specs.declared.Tested.the-variants as tested-cases
+use Rattle.keys.specs.Testing.{testKey, tested}
+use Rattle.keys.proofs.Laws.{refused}
 use Rattle.sheets.specs.declared.Sheet.{Sheet}
-use Rattle.sheets.specs.Layout.{version1, sheetSize, pageCount, numberAt, lengthIn, sizeIn, pagesIn, contentsIn}
-use Rattle.sheets.specs.Sheets.{someUnreduced, pagesJoined, fileFilled, headWrong, bodyWrong, readSheet, numbersOf, given, pageAt}
+use Rattle.sheets.specs.declared.layout.Head.{Head}
+use Rattle.sheets.specs.Layout.{Key, PageSize, version1, numberAt, pagePlace, sheetLength, pageCount, Contents, fieldIn, pagesIn, contentsIn}
+use Rattle.sheets.specs.Sheets.{someUnreduced, pagesJoined, fileFilled, sizeTest, headWrong, bodyWrong, readSheet, numbersOf, pageAt}
+use Rattle.sheets.specs.Parts.{HeadOf, readBody}
 use Rattle.sheets.proofs.Numbers.{length-numbersAt}
 use Rattle.refusals.proofs.Laws.{first-true, first-false}
 use Rattle.sheets.proofs.Sound.{neither}
@@ -26,79 +31,70 @@ use Rattle.sheets.proofs.Sound.{neither}
 -- ---- reading
 
 -- the numbers of a sheet, as the code reads them
-pub numbers-are : (sheet : List ℕ) (k n s c f : ℕ) → k ≡ numberAt 5 8 sheet → n ≡ lengthIn version1 sheet → s ≡ sizeIn version1 sheet → c ≡ pageCount s n
-    → f ≡ numberAt (19 + 8 * c) 8 sheet → numbersOf (contentsIn version1 sheet) ≡ record { key = k; length = n; size = s; pages = c; fingerprint = f }
+pub numbers-are : (sheet : List ℕ) (head : Head) (c f : ℕ) → HeadOf sheet head → c ≡ pageCount (head .size) (head .length) → f ≡ numberAt (pagePlace version1 c) 8 sheet
+    → numbersOf (contentsIn version1 sheet) ≡ record { key = head .key; length = head .length; size = head .size; pages = c; fingerprint = f }
 unfolding contentsIn
-numbers-are sheet k n s c f ek en es ec ef = rw (length-numbersAt 19 8 (pagesIn version1 sheet) sheet, ← ek, ← en, ← es, ← ec, ← ef)
+numbers-are sheet head c f h ec ef =
+    rw (length-numbersAt (pagePlace version1 0) 8 (pagesIn version1 sheet) sheet, ← (h .key), ← (h .length), ← (h .size), ← ec, ← ef)
 
-pub body-total : (sheet : List ℕ) → bodyWrong version1 (length sheet) (contentsIn version1 sheet) ≡ false → length sheet ≡ 27 + 8 * pagesIn version1 sheet
+pub body-total : (sheet : List ℕ) → bodyWrong version1 (length sheet) (contentsIn version1 sheet) ≡ false → length sheet ≡ sheetLength version1 (pagesIn version1 sheet)
 unfolding contentsIn
 body-total sheet e =
     let x = contentsIn version1 sheet in
-    let t = neither (not (eqb (length sheet) (sheetSize version1 (length (x .pages))))) (someUnreduced (degree (x .key)) (x .pages ++ x .fingerprint ∷ [])) (not (eqb (pagesJoined x) (fileFilled x))) e in
-    eqb-true (length sheet) (sheetSize version1 (length (x .pages))) (not-false _ (t .0)) ∙ rw (length-numbersAt 19 8 (pagesIn version1 sheet) sheet) (omega arith)
-
-pub head-long : (sheet : List ℕ) → headWrong version1 sheet ≡ false → 27 ≤ length sheet
-head-long sheet e =
-    ltb-false (length sheet) 27 (neither (ltb (length sheet) 27) (not (eqb (numberAt 0 3 sheet) 0x474650)) (not (eqb (numberAt 3 2 sheet) 1)) e .0)
+    let sizes = eqb (length sheet) (sheetLength version1 (length (x .pages))) in
+    let t = neither (not sizes) (someUnreduced (degree (x .key)) (x .pages ++ x .fingerprint ∷ [])) (not (eqb (pagesJoined x) (fileFilled x))) e in
+    eqb-true (length sheet) (sheetLength version1 (length (x .pages))) (not-false _ (t .0))
+    ∙ ap (sheetLength version1) (length-numbersAt (pagePlace version1 0) 8 (pagesIn version1 sheet) sheet)
 
 module _ (sheet : List ℕ) where
-  size-wrong : Bool
-  size-wrong = ltb (sizeIn version1 sheet) 16 || ltb 4096 (sizeIn version1 sheet)
+  abbrev x : Contents
+  x = contentsIn version1 sheet
 
-  body-wrong : Bool
-  body-wrong = bodyWrong version1 (length sheet) (contentsIn version1 sheet)
-
-  last : List Test
-  last = body-wrong ⇒ SheetMalformed ∷ []
-
-  by-steps : readSheet sheet ≡ firstOf (headWrong version1 sheet ⇒ SheetMalformed ∷ (keyTests (numberAt 5 8 sheet) ++ (size-wrong ⇒ PageSize ∷ last))) tt (contentsIn version1 sheet)
-  unfolding readSheet contentsIn size-wrong body-wrong last
-  by-steps = refl
+  abbrev rest : List Test
+  rest = sizeTest (x .pageSize) ∷ bodyWrong version1 (length sheet) x ⇒ SheetMalformed ∷ []
 
   pub read-head : headWrong version1 sheet ≡ true → readSheet sheet ≡ Refused SheetMalformed tt
-  read-head e = by-steps ∙ first-true (headWrong version1 sheet) SheetMalformed (keyTests (numberAt 5 8 sheet) ++ (size-wrong ⇒ PageSize ∷ last)) tt (contentsIn version1 sheet) e
+  unfolding readSheet
+  read-head e = first-true (headWrong version1 sheet) SheetMalformed (keyTests (x .key) ++ rest) tt x e
 
   module _ (head : headWrong version1 sheet ≡ false) where
-    after-head : readSheet sheet ≡ firstOf (keyTests (numberAt 5 8 sheet) ++ (size-wrong ⇒ PageSize ∷ last)) tt (contentsIn version1 sheet)
-    after-head = by-steps ∙ first-false (headWrong version1 sheet) SheetMalformed (keyTests (numberAt 5 8 sheet) ++ (size-wrong ⇒ PageSize ∷ last)) tt (contentsIn version1 sheet) head
+    after-head : readSheet sheet ≡ firstOf (keyTests (fieldIn version1 Key sheet) ++ rest) tt x
+    unfolding readSheet contentsIn
+    after-head = first-false (headWrong version1 sheet) SheetMalformed (keyTests (fieldIn version1 Key sheet) ++ rest) tt x head
 
-    pub read-key : (q : Refusal) → testKey (numberAt 5 8 sheet) ≡ Refused q tt → readSheet sheet ≡ Refused q tt
-    read-key q e = after-head ∙ first-refused (numberAt 5 8 sheet) (size-wrong ⇒ PageSize ∷ last) tt (contentsIn version1 sheet) q e
+    pub read-refused : (t : Tested) (q : Refusal) → tested t ≡ testKey (fieldIn version1 Key sheet) → t ≡ tested-cases.Refused q → readSheet sheet ≡ Refused q tt
+    read-refused t q e a = after-head ∙ refused t (fieldIn version1 Key sheet) e rest tt x q a
 
-    module _ (passed : Passed (numberAt 5 8 sheet)) where
-      after-key : readSheet sheet ≡ firstOf (size-wrong ⇒ PageSize ∷ last) tt (contentsIn version1 sheet)
-      after-key = after-head ∙ first-passed (numberAt 5 8 sheet) (size-wrong ⇒ PageSize ∷ last) tt (contentsIn version1 sheet) passed
+    pub read-opened : (p : Modulus) → Opened (fieldIn version1 Key sheet) p → readSheet sheet ≡ readBody sheet
+    read-opened p o = after-head ∙ opened-first o rest tt x
 
-      pub read-size : (ltb (sizeIn version1 sheet) 16 || ltb 4096 (sizeIn version1 sheet)) ≡ true → readSheet sheet ≡ Refused PageSize tt
-      unfolding size-wrong
-      read-size e = after-key ∙ first-true size-wrong PageSize last tt (contentsIn version1 sheet) e
+  pub body-size : (ltb (fieldIn version1 PageSize sheet) 16 || ltb 4096 (fieldIn version1 PageSize sheet)) ≡ true → readBody sheet ≡ Refused PageSize tt
+  unfolding contentsIn
+  body-size e = first-true (ltb (x .pageSize) 16 || ltb 4096 (x .pageSize)) PageSize (bodyWrong version1 (length sheet) x ⇒ SheetMalformed ∷ []) tt x e
 
-      module _ (size : (ltb (sizeIn version1 sheet) 16 || ltb 4096 (sizeIn version1 sheet)) ≡ false) where
-        after-size : readSheet sheet ≡ firstOf last tt (contentsIn version1 sheet)
-        unfolding size-wrong
-        after-size = after-key ∙ first-false size-wrong PageSize last tt (contentsIn version1 sheet) size
+  module _ (size : (ltb (fieldIn version1 PageSize sheet) 16 || ltb 4096 (fieldIn version1 PageSize sheet)) ≡ false) where
+    after-size : readBody sheet ≡ firstOf (bodyWrong version1 (length sheet) x ⇒ SheetMalformed ∷ []) tt x
+    unfolding contentsIn
+    after-size = first-false (ltb (x .pageSize) 16 || ltb 4096 (x .pageSize)) PageSize (bodyWrong version1 (length sheet) x ⇒ SheetMalformed ∷ []) tt x size
 
-        pub read-body : bodyWrong version1 (length sheet) (contentsIn version1 sheet) ≡ true → readSheet sheet ≡ Refused SheetMalformed tt
-        unfolding last body-wrong
-        read-body e = after-size ∙ first-true body-wrong SheetMalformed [] tt (contentsIn version1 sheet) e
+    pub body-wrong : bodyWrong version1 (length sheet) (contentsIn version1 sheet) ≡ true → readBody sheet ≡ Refused SheetMalformed tt
+    body-wrong e = after-size ∙ first-true (bodyWrong version1 (length sheet) x) SheetMalformed [] tt x e
 
-        pub read-done : bodyWrong version1 (length sheet) (contentsIn version1 sheet) ≡ false → readSheet sheet ≡ Done (contentsIn version1 sheet)
-        unfolding last body-wrong
-        read-done e = after-size ∙ first-false body-wrong SheetMalformed [] tt (contentsIn version1 sheet) e
+    pub body-done : bodyWrong version1 (length sheet) (contentsIn version1 sheet) ≡ false → readBody sheet ≡ Done (contentsIn version1 sheet)
+    body-done e = after-size ∙ first-false (bodyWrong version1 (length sheet) x) SheetMalformed [] tt x e
 
 -- ---- a page's fingerprint
 
 module _ (x : Sheet) (sheet : List ℕ) (i : ℕ) where
-  pub page-none : (x .pages ≤ i) ⊎ (length sheet < sheetSize version1 i) → pageAt x sheet i ≡ none
+  pub page-none : (x .pages ≤ i) ⊎ (length sheet < sheetLength version1 i) → pageAt x sheet i ≡ none
   unfolding pageAt
   page-none (inl l) = rw (le-ltb i (x .pages) l)
-  page-none (inr l) = rw (lt-leb (sheetSize version1 i) (length sheet) l) (both (ltb i (x .pages)))
+  page-none (inr l) = rw (lt-leb (sheetLength version1 i) (length sheet) l) (both (ltb i (x .pages)))
     where
-      both : (b : Bool) → given (b && false) (numberAt (19 + 8 * i) 8 sheet) ≡ none
+      both : (b : Bool) → cond (b && false) (some (numberAt (pagePlace version1 i) 8 sheet)) none ≡ none
       both true = refl
       both false = refl
 
-  pub page-some : i < x .pages → sheetSize version1 i ≤ length sheet → pageAt x sheet i ≡ some (numberAt (19 + 8 * i) 8 sheet)
+  pub page-some : i < x .pages → sheetLength version1 i ≤ length sheet → pageAt x sheet i ≡ some (numberAt (pagePlace version1 i) 8 sheet)
   unfolding pageAt
-  page-some l m = rw (lt-ltb i (x .pages) l, le-leb (sheetSize version1 i) (length sheet) m)
+  page-some l m = rw (lt-ltb i (x .pages) l, le-leb (sheetLength version1 i) (length sheet) m)

@@ -1,3 +1,3 @@
 pub mod Joining
 pub mod Answers
-pub mod PageWords
+pub mod Lent

@@ -1,67 +1,72 @@
 // Reading a page sheet.
+use gf2::Modulus;
 use keys::Tested;
 use refusals::Refusal;
+use refusals::Reply;
 use sheets::PageField;
 use sheets::Reading;
 use sheets::Sheet;
-use sheets::Written;
 use sheets::fields;
+use sheets::layout;
+use sheets::layout::Head;
 ghost use mathlib.Core.Path.{_≡_};
 ghost use mathlib.Core.List.{_++_};
 ghost use Prim.Native.Nat.{_+_, _*_, _≤_, min};
 ghost use lib.ListN.{length, drop};
-ghost use Rattle.sheets.specs.Layout.{numbersAt};
-ghost use Rattle.sheets.specs.Sheets.{readSheet, sheetRead, reading, pageAt, pageField, readPages, written};
+ghost use Rattle.refusals.specs.Refusals.{reply};
+ghost use Rattle.acceptance.specs.Keys.{Opened};
+ghost use Rattle.sheets.specs.Layout.{version1, numbersAt, sheetLength};
+ghost use Rattle.sheets.specs.Sheets.{readSheet, sheetRead, reading, pageAt, pageField, readPages};
+ghost use Rattle.sheets.specs.Parts.{HeadOf, readBody};
 
 pub mod wellformed;
+
+// What stands behind a head that is right, under its opened key. Numbers 12, 14 (total, fingerprints, joining).
+fn read_under(p: Modulus, sheet: &[u8], head: Head) -> Reading
+    requires { ⌜ (sheetLength version1 0 ≤ length (now sheet)) × HeadOf (now sheet) head × Opened (head .key) p ⌝ }
+    ensures { λ r. ⌜ reading r ≡ sheetRead (readBody (now (sheet .entry))) ⌝ }
+{
+    if !fields::size_right(head.size) {
+        return Reading::Refused(Refusal::PageSize);
+    }
+    if !wellformed::body_right(sheet, head, p) {
+        return Reading::Refused(Refusal::SheetMalformed);
+    }
+    let count = fields::page_count(head.size, head.length);
+    Reading::Sheet(Sheet {
+        key: head.key,
+        length: head.length,
+        size: head.size,
+        pages: count,
+        fingerprint: layout::fingerprint_at(sheet, count),
+    })
+}
 
 // Reads a sheet. Numbers 14 (size, letters, version), 1, 2, 12, 14 (total, fingerprints, joining).
 pub fn read(sheet: &[u8]) -> Reading
     ensures { λ r. ⌜ reading r ≡ sheetRead (readSheet (now (sheet .entry))) ⌝ }
 {
-    if !wellformed::head_right(sheet) {
+    if !layout::head_right(sheet) {
         return Reading::Refused(Refusal::SheetMalformed);
     }
-    let key = fields::number_at(sheet, 5, 8);
-    match keys::test(key) {
-        Tested::Refused(r) => {
-            return Reading::Refused(r);
-        }
-        Tested::Accepted => {}
+    let head = layout::read_head(sheet);
+    match keys::test(head.key) {
+        Tested::Refused(r) => Reading::Refused(r),
+        Tested::Accepted(p) => read_under(p, sheet, head),
     }
-    let size = fields::number_at(sheet, 17, 2);
-    if !fields::size_right(size) {
-        return Reading::Refused(Refusal::PageSize);
-    }
-    let n = fields::number_at(sheet, 13, 4);
-    if !wellformed::body_right(sheet, key, n, size) {
-        return Reading::Refused(Refusal::SheetMalformed);
-    }
-    let count = fields::page_count(size, n);
-    Reading::Sheet(Sheet {
-        key: key,
-        length: n,
-        size: size,
-        pages: count,
-        fingerprint: fields::number_at(sheet, (19 + 8 * count) as usize, 8),
-    })
 }
 
 // The fingerprint of page i of a sheet that was read as x.
 pub fn page(x: Sheet, sheet: &[u8], i: u64) -> PageField
     ensures { λ r. ⌜ pageField r ≡ pageAt x (now (sheet .entry)) i ⌝ }
 {
-    let n = sheet.len() as u64;
     if x.pages <= i {
         return PageField::None;
     }
-    if n < 27 {
+    if !layout::reaches(sheet, i) {
         return PageField::None;
     }
-    if (n - 27) / 8 < i {
-        return PageField::None;
-    }
-    PageField::Fingerprint(fields::number_at(sheet, (19 + 8 * i) as usize, 8))
+    PageField::Fingerprint(layout::fingerprint_at(sheet, i))
 }
 
 // The smaller of two numbers.
@@ -71,30 +76,30 @@ fn least(a: u64, b: usize) -> usize
     if a < b as u64 { a as usize } else { b }
 }
 
-// The first n page fingerprints of a sheet into the first n words.
-fn copy_fields(words: &mut [u64], sheet: &[u8], n: usize)
-    requires { ⌜ (n ≤ length (now words)) × (19 + 8 * n ≤ length (now sheet)) ⌝ }
-    ensures { λ r. ⌜ now (words .exit) ≡ numbersAt 19 8 n (now (sheet .entry)) ++ drop n (now (words .entry)) ⌝ }
+// The first n fingerprints into the first n places.
+fn copy_fields(lent: &mut [u64], fields: &[u8], n: usize)
+    requires { ⌜ (n ≤ length (now lent)) × (8 * n ≤ length (now fields)) ⌝ }
+    ensures { λ r. ⌜ now (lent .exit) ≡ numbersAt 0 8 n (now (fields .entry)) ++ drop n (now (lent .entry)) ⌝ }
 {
-    let mut place: usize = 19;
+    let mut place: usize = 0;
     let mut i: usize = 0;
     while i < n {
-        words[i] = lookups::eight_at(sheet, place);
+        lent[i] = lookups::eight_at(fields, place);
         place += 8;
         i += 1;
     }
 }
 
-// The page fingerprints of a sheet into lent words: the first ones, as far as the words reach. Reading's numbers.
-pub fn read_pages(sheet: &[u8], words: &mut [u64]) -> Written
-    ensures { λ r. ⌜ written r (now (words .exit)) ≡ readPages (now (sheet .entry)) (now (words .entry)) ⌝ }
+// The page fingerprints of a sheet into lent places: the first ones, as far as the places reach. Reading's numbers.
+pub fn read_pages(sheet: &[u8], lent: &mut [u64]) -> Reply
+    ensures { λ r. ⌜ reply (now (lent .exit)) r ≡ readPages (now (sheet .entry)) (now (lent .entry)) ⌝ }
 {
     match read(sheet) {
-        Reading::Refused(r) => Written::Refused(r),
+        Reading::Refused(r) => Reply::Refused(r),
         Reading::Sheet(x) => {
-            let n = least(x.pages, words.len());
-            copy_fields(words, sheet, n);
-            Written::Done
+            let n = least(x.pages, lent.len());
+            copy_fields(lent, layout::page_fields(sheet), n);
+            Reply::Done
         }
     }
 }

@@ -2,17 +2,16 @@
 use mathlib.Core.Path.{_≡_, refl, sym, ap, ap₂, _∙_}
 use mathlib.Core.Logic.{_≢_}
 use mathlib.Core.List.{List, [], _∷_, _++_}
-use Prim.Native.Nat.{ℕ, zero, suc, _+_, _-_, _≤_, _<_}
+use Prim.Native.Nat.{ℕ, zero, suc, _+_, _-_, _*_, _≤_, _<_}
 use native.Mathlib.Nat.{add-zero, not-suc-le-zero}
 use native.Mathlib.Decide.{ℕ-discrete}
-use native.Mathlib.Numerals.{add-one}
 use native.Mathlib.Omega.{arith}
 use lib.ListN.{length, getD, drop, drop-of-length-le}
 use borrow.Author.Tests.{eq-eqb, ne-eqb}
 use Rattle.lists.proofs.Lists.{drop-next}
 use Rattle.sheets.specs.Layout.{numberAt, numbersAt}
 use Rattle.sheets.specs.Parts.{agreeing}
-use Rattle.sheets.proofs.Numbers.{numbers-next}
+use Rattle.sheets.proofs.Numbers.{length-numbersAt, numbers-next, numbers-append}
 use Rattle.sheets.specs.Sheets.{Same, Page, OtherLength, firstChange}
 
 -- the lists differ at place i and at no place before it
@@ -107,21 +106,6 @@ first-page n (f ∷ fs) (g ∷ gs) (suc i) l h = go (compare-heads n f g fs gs) 
     go (alike e d) rest = d ∙ rest ∙ ap Page (omega arith)
     go (unlike e d) rest = absurd (e (h .equal 0 (omega arith)))
 
--- ---- as the code goes: one page a turn
-
-module _ (i f g : ℕ) (fs gs xs ys : List ℕ) (ex : xs ≡ f ∷ fs) (ey : ys ≡ g ∷ gs) where
-  pub changed-here : f ≢ g → firstChange i xs ys ≡ Page i
-  unfolding firstChange
-  changed-here n = rw (ex, ey, ne-eqb f g n)
-
-  pub changed-later : f ≡ g → firstChange i xs ys ≡ firstChange (i + 1) fs gs
-  unfolding firstChange
-  changed-later e = rw (ex, ey, eq-eqb f g e, add-one i)
-
-pub changed-none : (i : ℕ) (xs ys : List ℕ) → xs ≡ [] → firstChange i xs ys ≡ Same
-unfolding firstChange
-changed-none i xs ys e = rw e
-
 -- ---- a block of pages at once: two lists of one length and what stands behind each
 
 agree-step : (f g : ℕ) (fs gs : List ℕ) → f ≡ g → agreeing (f ∷ fs) (g ∷ gs) ≡ suc (agreeing fs gs)
@@ -153,6 +137,38 @@ module _ (xs ys : List ℕ) where
           → firstChange i (f ∷ fs ++ xs) (g ∷ gs ++ ys) ≡ firstChange (i + length (g ∷ gs)) xs ys
       go (alike e d) rest = d ∙ rest (omega (arith, agree-step f g fs gs e)) ∙ ap (λ (n : ℕ). firstChange n xs ys) (omega arith)
       go (unlike e d) rest = absurd (omega (arith, agree-stop f g fs gs e))
+
+-- the fields of the c - i pages that are left from page i on, and their fingerprints, of which the first are us
+module _ (c i n : ℕ) (l us rest : List ℕ) (many : length us ≡ n) (fits : i + n ≤ c) where
+  abbrev first : List ℕ
+  first = numbersAt (8 * i) 8 (length us) l
+
+  abbrev behind : List ℕ
+  behind = numbersAt (8 * (i + n)) 8 (c - (i + n)) l
+
+  fields-split : numbersAt (8 * i) 8 (c - i) l ≡ first ++ behind
+  fields-split =
+      let e : c - i ≡ length us + (c - (i + n)) = omega arith in
+      let p : 8 * i + 8 * length us ≡ 8 * (i + n) = omega arith in
+      ap (λ (m : ℕ). numbersAt (8 * i) 8 m l) e ∙ numbers-append (8 * i) 8 (length us) (c - (i + n)) l ∙ ap (λ (m : ℕ). first ++ numbersAt m 8 (c - (i + n)) l) p
+
+  pub change-here : (r : ℕ) → r ≡ agreeing (numbersAt (8 * i) 8 (length us) l) us → r < n → firstChange i (numbersAt (8 * i) 8 (c - i) l) (us ++ rest) ≡ Page (i + r)
+  change-here r e h =
+      ap (λ (fs : List ℕ). firstChange i fs (us ++ rest)) fields-split
+      ∙ block-changed behind rest i first us (length-numbersAt (8 * i) 8 (length us) l) (omega (arith, e, many))
+      ∙ ap (λ (m : ℕ). Page (i + m)) (sym e)
+
+  pub change-later : (r : ℕ) → r ≡ agreeing (numbersAt (8 * i) 8 (length us) l) us → n ≤ r
+      → firstChange i (numbersAt (8 * i) 8 (c - i) l) (us ++ rest) ≡ firstChange (i + n) (numbersAt (8 * (i + n)) 8 (c - (i + n)) l) rest
+  change-later r e h =
+      ap (λ (fs : List ℕ). firstChange i fs (us ++ rest)) fields-split
+      ∙ block-same behind rest i first us (length-numbersAt (8 * i) 8 (length us) l) (omega (arith, e, many))
+      ∙ ap (λ (m : ℕ). firstChange (i + m) behind rest) many
+
+-- no page is left
+pub change-none : (i m : ℕ) (l gs : List ℕ) → m ≡ 0 → firstChange i (numbersAt (8 * i) 8 m l) gs ≡ Same
+unfolding firstChange numbersAt
+change-none i m l gs e = rw e
 
 -- and how the code counts them: fields of a sheet from a place on, and the numbers from the i-th on
 module _ (place : ℕ) (sheet gs : List ℕ) (i : ℕ) (l : i < length gs) where

@@ -8,32 +8,20 @@ use Prim.Native.Nat.{ℕ, _-_, _*_, _^_, _≤_, _<_}
 use native.Mathlib.Decide.{ℕ-discrete}
 use native.Mathlib.Omega.{arith}
 use lib.ListN.{length}
-use Rattle.gf2.specs.Polynomials.{_⊕_, degree, rem, Divides}
-use Rattle.gf2.proofs.Sums.{⊕-eq, ⊕-lt, ⊕-shl}
-use Rattle.gf2.proofs.Degrees.{degree-is}
-use Rattle.gf2.proofs.Divisors.{dvd-by}
-use Rattle.gf2.proofs.Residues.{dvd-of-rem}
+use Rattle.gf2.specs.Polynomials.{degree, rem}
+use Rattle.gf2.proofs.Congruences.{shift-cancels}
 use Rattle.refusals.specs.Refusals.{Done, longest}
 use Rattle.acceptance.specs.Keys.{accepted}
 use Rattle.acceptance.proofs.Laws.{accepted-iff, accepted-pos}
 use Rattle.files.specs.Files.{Bytes, fingerprint, markOf}
-use Rattle.book.specs.Confusions.{Burst}
-use Rattle.book.proofs.BurstLaws.{no-burst}
-use Rattle.book.proofs.ConfusionLaws.{no-equal-key}
+use Rattle.files.specs.Bursts.{Burst}
+use Rattle.files.proofs.Confusions.{burst-differs}
 use Rattle.sheets.specs.Layout.{version1, pageCount, Contents, sheetBytes}
 use Rattle.sheets.specs.Sheets.{contentsOf, joinedPages, WellFormed, Same, pagesNow, compared, checkSheet}
 use Rattle.sheets.proofs.Pages.{fingerprint-lt, pages-joined}
 use Rattle.sheets.proofs.Sound.{file-sound}
 use Rattle.sheets.proofs.Changes.{other-not-same}
 use Rattle.sheets.proofs.Guarantee.{checks, other-length, same-iff}
-
--- t has an inverse modulo an accepted key
-shift-cancels : (key a b e : ℕ) → accepted key ≡ true → a < 2 ^ degree key → b < 2 ^ degree key → rem key (a * 2 ^ e) ≡ rem key (b * 2 ^ e) → a ≡ b
-shift-cancels key a b e acc la lb h =
-    let i = accepted-iff key .0 acc in
-    let pos = accepted-pos key acc in
-    let d : Divides key ((a ⊕ b) * 2 ^ e) = dvd-by (dvd-of-rem pos (a * 2 ^ e) (b * 2 ^ e) h) (sym (⊕-shl e a b)) in
-    ⊕-eq a b (no-burst key (degree key) (a ⊕ b) e (i .2) (degree-is key pos) (omega arith) (⊕-lt (degree key) a b la lb) d)
 
 done-eq : {S A : Type 0} (x y : A) → _≡_ {A = Rattle.refusals.specs.Refusals.Answer S A} (Done x) (Done y) → x ≡ y
 done-eq x y e = cc
@@ -59,7 +47,8 @@ module _ (sheet : List ℕ) (w : WellFormed sheet) (file : List ℕ) (fits : len
   pub same-fingerprint : fingerprint (w .contents .key) file ≡ w .contents .fingerprint
   unfolding x contentsOf
   same-fingerprint =
-      shift-cancels (x .key) (fingerprint (x .key) file) (x .fingerprint) (8 * (pageCount (x .pageSize) (length file) * x .pageSize - length file)) (w .sound .key)
+      let i = accepted-iff (x .key) .0 (w .sound .key) in
+      shift-cancels (x .key) (fingerprint (x .key) file) (x .fingerprint) (8 * (pageCount (x .pageSize) (length file) * x .pageSize - length file)) (i .2) (omega arith)
       (fingerprint-lt pos file) (w .sound .fingerprint)
       (sym (pages-joined pos (x .pageSize) file (omega (arith, w .sound .pageSize .0)))
       ∙ ap (λ (fs : List ℕ). joinedPages (x .key) (x .pageSize) (markOf (x .key) []) fs .fingerprint) (sym same-pages)
@@ -75,5 +64,6 @@ pub no-burst-same : (key s : ℕ) (a b : List ℕ) → accepted key ≡ true →
 unfolding contentsOf
 no-burst-same key s a b acc n lo hi ha hb ne burst same =
     let w : WellFormed (sheetBytes version1 (contentsOf key s a)) = record { contents = contentsOf key s a; sound = file-sound key s a acc n lo hi; bytes = refl } in
-    no-equal-key (degree key) a b ha hb ne burst key
-    (record { is-accepted = acc; of-degree = refl; prints = sym (same-fingerprint (sheetBytes version1 (contentsOf key s a)) w b (omega (arith, burst .same-length)) same) })
+    let i = accepted-iff key .0 acc in
+    burst-differs key a b (i .2) (omega arith) ha hb ne burst
+    (sym (same-fingerprint (sheetBytes version1 (contentsOf key s a)) w b (omega (arith, burst .same-length)) same))

@@ -17,12 +17,12 @@ use Rattle.refusals.proofs.Laws.{Clear, clear-done, clear-append, done-clear}
 use Rattle.lists.proofs.Truth.{or-neither}
 use Rattle.acceptance.proofs.Laws.{key-iff}
 use Rattle.files.specs.Files.{Bytes, fingerprint}
-use Rattle.sheets.specs.Layout.{version1, numberAt, pagePlace, sheetSize, pageCount, pagesIn, Contents, sheetBytes, contentsIn}
+use Rattle.sheets.specs.Layout.{version1, numberAt, pagePlace, sheetLength, pageCount, pagesIn, Contents, sheetBytes, contentsIn}
 use Rattle.sheets.specs.Sheets.{contentsOf, writeTests, writeSheet, readTests, readSheet, readPages, Sound, WellFormed, Same, Page, OtherLength, firstChange, pagesNow, compared, checkSheet, numbersOf, pageAt}
 use Rattle.sheets.proofs.Numbers.{length-numbersAt, numbers-one}
-use Rattle.sheets.proofs.Layouts.{length-sheet, fingerprint-back, read-back}
+use Rattle.sheets.proofs.Layouts.{length-sheet, fingerprint-back}
 use Rattle.sheets.proofs.Pages.{length-pages}
-use Rattle.sheets.proofs.Sound.{size-bounds, sound-fits, sound-clear, clear-sound, file-sound}
+use Rattle.sheets.proofs.Sound.{size-bounds, sound-fits, sound-back, sound-clear, clear-sound, file-sound}
 use Rattle.sheets.proofs.Changes.{First, same-equal, equal-same, page-first, first-page}
 
 -- ---- reading
@@ -33,7 +33,7 @@ unfolding readSheet
 reads sheet w =
     rw (w .bytes)
     (clear-done (readTests version1 (sheetBytes version1 (w .contents))) tt (contentsIn version1 (sheetBytes version1 (w .contents))) (sound-clear (w .contents) (w .sound))
-    ∙ ap Done (read-back version1 (w .contents) (sound-fits (w .contents) (w .sound))))
+    ∙ ap Done (sound-back (w .contents) (w .sound)))
 
 -- and nothing else is
 pub read-iff : (sheet : List ℕ) → Bytes sheet → (readSheet sheet ≡ Done (contentsIn version1 sheet)) ↔ WellFormed sheet
@@ -47,7 +47,7 @@ read-iff sheet b = (there, back)
     back w = clear-done (readTests version1 sheet) tt (contentsIn version1 sheet) (rw (← (w .bytes)) at (sound-clear (w .contents) (w .sound)))
 
 contents-back : (sheet : List ℕ) (w : WellFormed sheet) → contentsIn version1 sheet ≡ w .contents
-contents-back sheet w = ap (contentsIn version1) (w .bytes) ∙ read-back version1 (w .contents) (sound-fits (w .contents) (w .sound))
+contents-back sheet w = ap (contentsIn version1) (w .bytes) ∙ sound-back (w .contents) (w .sound)
 
 -- its pages' fingerprints are given in lent words
 pub pages-given : (sheet : List ℕ) (w : WellFormed sheet) (words : List ℕ)
@@ -65,17 +65,17 @@ page-given sheet w i l =
     let x = w .contents in
     let back : contentsIn version1 sheet ≡ x = contents-back sheet w in
     let count : pagesIn version1 sheet ≡ length (x .pages) =
-    sym (length-numbersAt 19 8 (pagesIn version1 sheet) sheet) ∙ ap (λ (y : Contents). length (y .pages)) back in
-    let total : length sheet ≡ sheetSize version1 (length (x .pages)) = ap length (w .bytes) ∙ length-sheet version1 x in
-    let field : numberAt (19 + 8 * i) 8 sheet ≡ getD (x .pages) i 0 =
-    sym (numbers-one (pagesIn version1 sheet) 19 8 i sheet (rw count l)) ∙ ap (λ (y : Contents). getD (y .pages) i 0) back in
-    rw (lt-ltb i (length (x .pages)) l, le-leb (sheetSize version1 i) (length sheet) (omega arith), field)
+    sym (length-numbersAt (pagePlace version1 0) 8 (pagesIn version1 sheet) sheet) ∙ ap (λ (y : Contents). length (y .pages)) back in
+    let total : length sheet ≡ sheetLength version1 (length (x .pages)) = ap length (w .bytes) ∙ length-sheet version1 x in
+    let field : numberAt (pagePlace version1 i) 8 sheet ≡ getD (x .pages) i 0 =
+    sym (numbers-one (pagesIn version1 sheet) (pagePlace version1 0) 8 i sheet (rw count l)) ∙ ap (λ (y : Contents). getD (y .pages) i 0) back in
+    rw (lt-ltb i (length (x .pages)) l, le-leb (sheetLength version1 i) (length sheet) (omega arith), field)
 
 -- ---- writing, then reading
 
 -- what is written into a buffer reads back: key, length, page size, every page fingerprint and the file's
 module _ (key s : ℕ) (file buffer after : List ℕ) (fits : key < 2 ^ 64) (done : writeSheet key s file buffer ≡ Done after) where
-  cleared : Clear (writeTests key s file buffer) × (sheetBytes version1 (contentsOf key s file) ++ drop (sheetSize version1 (pageCount s (length file))) buffer ≡ after)
+  cleared : Clear (writeTests key s file buffer) × (sheetBytes version1 (contentsOf key s file) ++ drop (sheetLength version1 (pageCount s (length file))) buffer ≡ after)
   unfolding writeSheet
   cleared = done-clear (writeTests key s file buffer) buffer _ after done
 
@@ -86,18 +86,18 @@ module _ (key s : ℕ) (file buffer after : List ℕ) (fits : key < 2 ^ 64) (don
       let z = size-bounds s (c .1 .1 .1 .0) in
       file-sound key s file (key-iff key fits .1 (c .0, c .1 .0)) (ltb-false longest (length file) (p .0)) (z .0) (z .1)
 
-  written : take (sheetSize version1 (pageCount s (length file))) after ≡ sheetBytes version1 (contentsOf key s file)
+  written : take (sheetLength version1 (pageCount s (length file))) after ≡ sheetBytes version1 (contentsOf key s file)
   unfolding contentsOf
   written =
-      ap (take (sheetSize version1 (pageCount s (length file)))) (sym (cleared .1))
-      ∙ take-at (sheetBytes version1 (contentsOf key s file)) (drop (sheetSize version1 (pageCount s (length file))) buffer) (sheetSize version1 (pageCount s (length file)))
-      (length-sheet version1 (contentsOf key s file) ∙ ap (sheetSize version1) (length-pages key (pageCount s (length file)) s file))
+      ap (take (sheetLength version1 (pageCount s (length file)))) (sym (cleared .1))
+      ∙ take-at (sheetBytes version1 (contentsOf key s file)) (drop (sheetLength version1 (pageCount s (length file))) buffer) (sheetLength version1 (pageCount s (length file)))
+      (length-sheet version1 (contentsOf key s file) ∙ ap (sheetLength version1) (length-pages key (pageCount s (length file)) s file))
 
-  pub written-reads : readSheet (take (sheetSize version1 (pageCount s (length file))) after) ≡ Done (contentsOf key s file)
+  pub written-reads : readSheet (take (sheetLength version1 (pageCount s (length file))) after) ≡ Done (contentsOf key s file)
   written-reads = rw written (reads (sheetBytes version1 (contentsOf key s file)) (record { contents = contentsOf key s file; sound = sound; bytes = refl }))
 
   -- its last field is the file's fingerprint
-  pub written-fingerprint : numberAt (pagePlace version1 (pageCount s (length file))) 8 (take (sheetSize version1 (pageCount s (length file))) after) ≡ fingerprint key file
+  pub written-fingerprint : numberAt (pagePlace version1 (pageCount s (length file))) 8 (take (sheetLength version1 (pageCount s (length file))) after) ≡ fingerprint key file
   unfolding contentsOf
   written-fingerprint =
       rw written
@@ -113,7 +113,7 @@ module _ (sheet : List ℕ) (w : WellFormed sheet) (file : List ℕ) (fits : len
       clear-done (readTests version1 sheet ++ passes (length file ∷ []) ⇒ TooLong ∷ []) tt (compared (contentsIn version1 sheet) file)
       (clear-append (readTests version1 sheet) (passes (length file ∷ []) ⇒ TooLong ∷ []) (rw (← (w .bytes)) at (sound-clear (w .contents) (w .sound)))
       (rw (le-ltb longest (length file) fits) refl, tt))
-      ∙ ap (λ (x : Contents). Done (compared x file)) (ap (contentsIn version1) (w .bytes) ∙ read-back version1 (w .contents) (sound-fits (w .contents) (w .sound)))
+      ∙ ap (λ (x : Contents). Done (compared x file)) (ap (contentsIn version1) (w .bytes) ∙ sound-back (w .contents) (w .sound))
 
 -- the answer: other length where the lengths differ
 pub other-length : (x : Contents) (file : List ℕ) → length file ≢ x .length → compared x file ≡ OtherLength

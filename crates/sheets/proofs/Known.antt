@@ -1,4 +1,4 @@
--- What is known of a sheet that was read or refused, and of a lent buffer after a call.
+-- What is known of a sheet that was read or refused.
 use mathlib.Core.Path.{_≡_, refl, sym, ap, _∙_}
 use mathlib.Core.List.{List, [], _++_, append-nil}
 use Prim.Native.Nat.{ℕ}
@@ -6,12 +6,10 @@ use native.Mathlib.Omega.{arith}
 use lib.ListN.{length, take, drop}
 use Rattle.refusals.specs.declared.Refusal.{Refusal}
 use Rattle.refusals.proofs.Laws.{Clear, clear-done, done-clear, more-refused}
-use Rattle.refusals.specs.Refusals.{Answer, Done, Refused, stateOf, Test, firstOf}
+use Rattle.refusals.specs.Refusals.{Answer, Done, Refused, Test, firstOf}
 use Rattle.sheets.specs.declared.Sheet.{Sheet}
-use Rattle.sheets.specs.declared.Written.{Written}
-use Rattle.sheets.specs.declared.Written.the-variants as written-cases
-use Rattle.sheets.specs.Layout.{version1, pagesIn, sheetSize, Contents, contentsIn}
-use Rattle.sheets.specs.Sheets.{readTests, readSheet, readPages, numbersOf, sheetRead, written, Sound}
+use Rattle.sheets.specs.Layout.{version1, pagePlace, sheetLength, Contents, pagesIn, contentsIn}
+use Rattle.sheets.specs.Sheets.{readTests, readSheet, readPages, numbersOf, sheetRead, Sound}
 use Rattle.sheets.specs.Parts.{ReadAs}
 use Rattle.sheets.proofs.Numbers.{length-numbersAt}
 use Rattle.sheets.proofs.Sound.{clear-total, clear-contents}
@@ -42,12 +40,12 @@ module _ (sheet : List ℕ) {x : Sheet} (r : ReadAs sheet x) where
   pub sound : Sound (contentsIn version1 sheet)
   sound = clear-contents sheet tests-clear
 
-  pub total : length sheet ≡ sheetSize version1 (pagesIn version1 sheet)
+  pub total : length sheet ≡ sheetLength version1 (pagesIn version1 sheet)
   total = clear-total sheet tests-clear
 
   pub pages-counted : x .pages ≡ pagesIn version1 sheet
   unfolding contentsIn
-  pages-counted = ap (λ (y : Sheet). y .pages) (r .numbers) ∙ length-numbersAt 19 8 (pagesIn version1 sheet) sheet
+  pages-counted = ap (λ (y : Sheet). y .pages) (r .numbers) ∙ length-numbersAt (pagePlace version1 0) 8 (pagesIn version1 sheet) sheet
 
 -- ---- its page fingerprints in lent words
 
@@ -64,8 +62,3 @@ module _ (sheet words : List ℕ) where
       → readPages sheet words ≡ Done (take (length words) (contentsIn version1 sheet .pages) ++ drop (length (contentsIn version1 sheet .pages)) words)
   unfolding readPages
   pages-done r = clear-done (readTests version1 sheet) words _ (tests-clear sheet r)
-
--- what a lent buffer holds after a call is what the answer says
-pub written-state : (r : Written) (buffer : List ℕ) → buffer ≡ stateOf (written r buffer)
-written-state written-cases.Done buffer = refl
-written-state (written-cases.Refused q) buffer = refl

@@ -1,6 +1,5 @@
 pub mod Numbers
 pub mod Layouts
-pub mod Moduli
 pub mod Pages
 pub mod Sound
 pub mod Changes

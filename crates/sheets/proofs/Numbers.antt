@@ -2,7 +2,7 @@
 use mathlib.Core.Path.{_≡_, refl, sym, ap, ap₂, _∙_}
 use mathlib.Core.List.{List, [], _∷_, _++_, append-assoc}
 use Prim.Native.Nat.{ℕ, zero, suc, _+_, _-_, _*_, _/_, _%_, _^_, _≤_, _<_}
-use native.Mathlib.Nat.{suc-add, add-suc, mul-one, zero-mul, mul-zero, mul-assoc, zero-add, mul-add-div-right, mul-add-mod-self-right, add-zero, mod-one, mod-mod, mod-eq-of-lt, mul-suc, add-comm, mul-comm}
+use native.Mathlib.Nat.{suc-add, add-suc, mul-one, zero-mul, mul-zero, mul-assoc, zero-add, mul-add-div-right, mul-add-mod-self-right, add-zero, mod-one, mod-mod, mod-eq-of-lt, mul-suc, mul-add, add-assoc, add-comm, mul-comm}
 use native.Mathlib.Numerals.{add-one}
 use native.Mathlib.Omega.{arith}
 use lib.Arith.{digits-lt, digits-div}
@@ -12,7 +12,7 @@ use lib.Seq.{sets, sets-eq, drop-cons, take-at, drop-at, take-add, drop-drop, le
 use Rattle.lists.specs.Lists.{All}
 use Rattle.files.specs.Files.{bits, valueFrom, Bytes}
 use Rattle.files.proofs.Values.{value-byte, value-split, value-lt, length-bits}
-use Rattle.sheets.specs.Layout.{bytesOf, fieldsOf, numberAt, numbersAt}
+use Rattle.sheets.specs.Layout.{bytesOf, fieldsOf, numberAt, numbersAt, Name, Field, _bytes_, bytesIn}
 
 -- ---- lengths
 
@@ -56,6 +56,12 @@ number-seam p q place w x e h =
     ∙ ap (λ (l : List ℕ). valueFrom 0 (bits l)) (take-at (bytesOf w x) q w (length-bytesOf w x))
     ∙ value-bytesOf w 0 x
     ∙ simp (zero-mul, zero-add) (mod-eq-of-lt h)
+
+-- what stands behind w bytes
+pub number-behind : (u l : List ℕ) (n place w : ℕ) → length u ≡ n → numberAt (n + place) w (u ++ l) ≡ numberAt place w l
+unfolding numberAt
+number-behind u l n place w e =
+    ap (λ (r : List ℕ). valueFrom 0 (bits (take w r))) (sym (drop-drop place n (u ++ l)) ∙ ap (drop place) (drop-at u l n e))
 
 pub numbers-seam : (xs p q : List ℕ) (place w : ℕ) → length p ≡ place → All (λ x. x < 2 ^ (8 * w)) xs → numbersAt place w (length xs) (p ++ (fieldsOf w xs ++ q)) ≡ xs
 unfolding numbersAt fieldsOf
@@ -185,7 +191,24 @@ pub numbers-last : (place w c : ℕ) (l : List ℕ) → numbersAt place w (c + 1
 unfolding numbersAt
 numbers-last place w c l = numbers-append place w c 1 l
 
+-- the fields of a part of the sheet
+pub number-part : (p place w : ℕ) (l : List ℕ) → numberAt place w (drop p l) ≡ numberAt (p + place) w l
+unfolding numberAt
+number-part p place w l = ap (λ (r : List ℕ). valueFrom 0 (bits (take w r))) (drop-drop place p l)
+
+pub numbers-part : (p place w n : ℕ) (l : List ℕ) → numbersAt place w n (drop p l) ≡ numbersAt (p + place) w n l
+unfolding numbersAt
+numbers-part p place w zero l = refl
+numbers-part p place w (suc n) l =
+    ap₂ {C = List ℕ} (λ (x : ℕ) (xs : List ℕ). x ∷ xs) (number-part p place w l)
+    (numbers-part p (place + w) w n l ∙ ap (λ (m : ℕ). numbersAt m w n l) (sym (add-assoc p place w)))
+
 -- ---- stores behind each other
+
+pub fields-append : (w : ℕ) (us vs : List ℕ) → fieldsOf w (us ++ vs) ≡ fieldsOf w us ++ fieldsOf w vs
+unfolding fieldsOf
+fields-append w [] vs = refl
+fields-append w (u ∷ us) vs = ap (λ (l : List ℕ). bytesOf w u ++ l) (fields-append w us vs) ∙ sym (append-assoc (bytesOf w u) (fieldsOf w us) (fieldsOf w vs))
 
 sets-append : (u v l : List ℕ) (i : ℕ) → sets (sets l i u) (i + length u) v ≡ sets l i (u ++ v)
 sets-append [] v l i = ap (λ (n : ℕ). sets l n v) (add-zero i)
@@ -203,6 +226,25 @@ pub fields-behind : (w f : ℕ) (fs l : List ℕ) (i : ℕ) → sets (sets l i (
 unfolding fieldsOf
 fields-behind w f fs l i = sets-behind (bytesOf w f) (fieldsOf w fs) l i (i + w) (ap (λ (n : ℕ). i + n) (sym (length-bytesOf w f)))
 
+-- the fields in front of the fingerprints: one store more
+pub store-field : (fields : List Field) (value : Name → ℕ) (w : ℕ) (name : Name) (place : ℕ) (l l' after : List ℕ) → l' ≡ sets l place (bytesOf w (value name))
+    → after ≡ sets l' (place + w) (bytesIn fields value) → after ≡ sets l place (bytesIn (w bytes name ∷ fields) value)
+unfolding bytesIn
+store-field fields value w name place l l' after e d =
+    d
+    ∙ ap (λ (b : List ℕ). sets b (place + w) (bytesIn fields value)) e
+    ∙ sets-behind (bytesOf w (value name)) (bytesIn fields value) l place (place + w) (ap (λ (n : ℕ). place + n) (sym (length-bytesOf w (value name))))
+
+pub store-none : (value : Name → ℕ) (place : ℕ) (l : List ℕ) → l ≡ sets l place (bytesIn [] value)
+unfolding bytesIn
+store-none value place l = refl
+
+-- m fields from the i-th on are stored, and the others behind them
+pub fields-block : (w i m : ℕ) (us vs l : List ℕ) → length us ≡ m → sets (sets l (w * i) (fieldsOf w us)) (w * (i + m)) (fieldsOf w vs) ≡ sets l (w * i) (fieldsOf w (us ++ vs))
+fields-block w i m us vs l e =
+    sets-behind (fieldsOf w us) (fieldsOf w vs) l (w * i) (w * (i + m)) (mul-add w i m ∙ ap (λ (n : ℕ). w * i + n) (ap (λ (n : ℕ). w * n) (sym e) ∙ sym (length-fieldsOf w us)))
+    ∙ ap (sets l (w * i)) (sym (fields-append w us vs))
+
 -- one of the numbers
 pub numbers-one : (c place w i : ℕ) (l : List ℕ) → i < c → getD (numbersAt place w c l) i 0 ≡ numberAt (place + w * i) w l
 unfolding numbersAt
@@ -212,11 +254,6 @@ numbers-one (suc c) place w (suc i) l h =
     numbers-one c (place + w) w i l (omega arith) ∙ ap (λ (n : ℕ). numberAt n w l) (omega (arith, mul-suc w i))
 
 -- fields that were stored, read back
-pub fields-append : (w : ℕ) (us vs : List ℕ) → fieldsOf w (us ++ vs) ≡ fieldsOf w us ++ fieldsOf w vs
-unfolding fieldsOf
-fields-append w [] vs = refl
-fields-append w (u ∷ us) vs = ap (λ (l : List ℕ). bytesOf w u ++ l) (fields-append w us vs) ∙ sym (append-assoc (bytesOf w u) (fieldsOf w us) (fieldsOf w vs))
-
 pub numbers-stored : (us vs b : List ℕ) (place w : ℕ) → place + w * length (us ++ vs) ≤ length b → All (λ u. u < 2 ^ (8 * w)) us
     → numbersAt place w (length us) (sets b place (fieldsOf w (us ++ vs))) ≡ us
 numbers-stored us vs b place w h small =

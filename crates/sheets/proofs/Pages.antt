@@ -2,25 +2,22 @@
 use mathlib.Core.Path.{_≡_, refl, sym, ap, ap₂, _∙_}
 use mathlib.Core.List.{List, [], _∷_, _++_, append-assoc, append-nil}
 use Prim.Native.Nat.{ℕ, zero, suc, _+_, _-_, _*_, _/_, _^_, _≤_, _<_}
-use native.Mathlib.Nat.{add-div-right, div-add-mod', div-eq-of-lt, le-div-iff-mul-le, mod-lt, mul-le-mul-left, mul-one, sub-zero, suc-add, suc-mul, zero-add, zero-mul, add-zero, le-refl}
+use native.Mathlib.Nat.{div-add-mod', le-div-iff-mul-le, mod-lt, mul-add-div-right, mul-le-mul-left, mul-le-mul-right, mul-one, sub-zero, suc-add, suc-mul, add-mul, zero-add, zero-mul, le-refl}
 use native.Mathlib.Decide.{decLe}
-use native.Mathlib.Numerals.{add-one}
 use native.Mathlib.Omega.{arith}
 use lib.ListN.{length, take, drop, replicate, length-append, length-replicate, length-drop, length-take, drop-of-length-le, take-append-drop, replicate-append-replicate}
 use lib.Seq.{drop-drop, length-take-le, take-add, take-all}
-use Rattle.gf2.specs.Polynomials.{rem, degree}
+use Rattle.gf2.specs.Polynomials.{_⊕_, rem, degree}
 use Rattle.lists.specs.Lists.{All}
 use Rattle.gf2.proofs.Residues.{rem-lt}
 use Rattle.files.specs.declared.Mark.{Mark}
-use Rattle.files.specs.Files.{bits, valueFrom, value, fingerprint, markOf}
+use Rattle.files.specs.Files.{bits, valueFrom, value, fingerprint, markOf, joined}
 use Rattle.files.proofs.Values.{value-byte}
-use Rattle.files.proofs.Marks.{fed}
-use Rattle.compose.specs.Composing.{joined}
-use Rattle.compose.proofs.Laws.{joined-true}
-use Rattle.sheets.specs.Layout.{pageCount, numberAt, numbersAt}
+use Rattle.files.proofs.Marks.{fed, joined-true}
+use Rattle.sheets.specs.Layout.{pageCount}
 use Rattle.sheets.proofs.Numbers.{pow-next}
 use Rattle.sheets.specs.Sheets.{filled, pageFingerprints, joinedPages}
-use Rattle.sheets.specs.Parts.{pagesLeft, fingerprintsFrom}
+use Rattle.sheets.specs.Parts.{lastPage}
 
 -- ---- the number of pages
 
@@ -122,85 +119,16 @@ module _ {p : ℕ} (pos : 0 < p) where
       ∙ ap (fingerprint p) (pages-are (pageCount s (length file)) s file (count-covers s (length file) h))
       ∙ sym (with-zeros pos (pageCount s (length file) * s - length file) file)
 
--- ---- as the code goes: one page a turn
+-- ---- as the code goes: pages from the i-th on
 
-pub count-none : (s : ℕ) → 0 < s → pageCount s 0 ≡ 0
-count-none s h = div-eq-of-lt (omega arith)
+-- so many pages begin inside the file
+pub count-le : (s n m : ℕ) → 0 < s → m * s < n + s → m ≤ pageCount s n
+count-le s n m h l = le-div-iff-mul-le h .1 (omega arith)
 
-pub count-next : (s n : ℕ) → 0 < s → 0 < n → pageCount s n ≡ suc (pageCount s (n - s))
-count-next s n h p = go (decLe s n)
-  where
-    go : Dec (s ≤ n) → pageCount s n ≡ suc (pageCount s (n - s))
-    go (yes l) =
-        let e : n + s - 1 ≡ n - s + s - 1 + s = omega arith in
-        ap (λ (m : ℕ). m / s) e ∙ add-div-right (n - s + s - 1) h ∙ add-one (pageCount s (n - s))
-    go (no l) =
-        let e : n + s - 1 ≡ n - 1 + s = omega arith in
-        let z : n - s ≡ 0 = omega arith in
-        ap (λ (m : ℕ). m / s) e
-        ∙ add-div-right (n - 1) h
-        ∙ rw (z, count-none s h, div-eq-of-lt {n = n - 1} {m = s} (omega arith))
-
-module _ (s : ℕ) (file : List ℕ) (at : ℕ) (h : 0 < s) where
-  pub left-next : at < length file → pagesLeft s file at ≡ suc (pagesLeft s file (at + s))
-  left-next l = let e : length file - at - s ≡ length file - (at + s) = omega arith in count-next s (length file - at) h (omega arith) ∙ ap (λ (n : ℕ). suc (pageCount s n)) e
-
-  pub left-none : length file ≤ at → pagesLeft s file at ≡ 0
-  left-none l = let e : length file - at ≡ 0 = omega arith in rw e (count-none s h)
-
-  pub from-next : (p : ℕ) → at < length file → fingerprintsFrom p s file at ≡ fingerprint p (filled s (take s (drop at file))) ∷ fingerprintsFrom p s file (at + s)
-  unfolding pageFingerprints
-  from-next p l = rw (left-next l, drop-drop s at file)
-
-  pub from-none : (p : ℕ) → length file ≤ at → fingerprintsFrom p s file at ≡ []
-  unfolding pageFingerprints
-  from-none p l = rw (left-none l)
-
-  -- the same of the sheet's fields
-  pub fields-next : (place w : ℕ) (sheet : List ℕ) → at < length file
-      → numbersAt place w (pagesLeft s file at) sheet ≡ numberAt place w sheet ∷ numbersAt (place + w) w (pagesLeft s file (at + s)) sheet
-  unfolding numbersAt
-  fields-next place w sheet l = rw (left-next l)
-
-  pub fields-none : (place w : ℕ) (sheet : List ℕ) → length file ≤ at → numbersAt place w (pagesLeft s file at) sheet ≡ []
-  unfolding numbersAt
-  fields-none place w sheet l = rw (left-none l)
-
--- n pages at once, which the file has
-module _ (s : ℕ) (file : List ℕ) (h : 0 < s) where
-  in-file : (at n : ℕ) → at + suc n * s ≤ length file → (at < length file) × (at + s + n * s ≤ length file)
-  in-file at n l = (omega (arith, suc-mul n s), omega (arith, suc-mul n s))
-
-  behind : (at n : ℕ) → at + s + n * s ≡ at + suc n * s
-  behind at n = omega (arith, suc-mul n s)
-
-  pub left-block : (at n : ℕ) → at + n * s ≤ length file → pagesLeft s file at ≡ n + pagesLeft s file (at + n * s)
-  left-block at zero l = rw (zero-mul s, add-zero at, zero-add)
-  left-block at (suc n) l =
-      left-next s file at h (in-file at n l .0)
-      ∙ ap suc (left-block (at + s) n (in-file at n l .1))
-      ∙ sym (suc-add n (pagesLeft s file (at + s + n * s)))
-      ∙ ap (λ (m : ℕ). suc n + pagesLeft s file m) (behind at n)
-
-  pub from-block : (p at n : ℕ) → at + n * s ≤ length file → fingerprintsFrom p s file at ≡ pageFingerprints p s n (drop at file) ++ fingerprintsFrom p s file (at + n * s)
-  unfolding pageFingerprints
-  from-block p at zero l = rw (zero-mul s, add-zero at)
-  from-block p at (suc n) l =
-      from-next s file at h p (in-file at n l .0)
-      ∙ ap (λ (fs : List ℕ). fingerprint p (filled s (take s (drop at file))) ∷ fs)
-      (from-block p (at + s) n (in-file at n l .1)
-      ∙ ap₂ (λ (q : List ℕ) (m : ℕ). pageFingerprints p s n q ++ fingerprintsFrom p s file m) (sym (drop-drop s at file)) (behind at n))
-
--- the bytes from a place on, as the code lends them
-pub all-left : (file : List ℕ) (at : ℕ) → take (length file - at) (drop at file) ≡ drop at file
-all-left file at = take-all (length file - at) (drop at file) (rw (length-drop at file) (le-refl (length file - at)))
-
--- and the last page
-pub last-page : (s : ℕ) (file : List ℕ) (at : ℕ) → length file ≤ at + s → take (length file - at) (drop at file) ≡ take s (drop at file)
-last-page s file at l =
-    all-left file at ∙ sym (take-all s (drop at file) (rw (length-drop at file) (omega arith)))
-
--- ---- the whole pages
+pub count-after : (s n i : ℕ) → 0 < s → i * s ≤ n → pageCount s n ≡ i + pageCount s (n - i * s)
+count-after s n i h l =
+    let e : n + s - 1 ≡ i * s + (n - i * s + s - 1) = omega arith in
+    ap (λ (m : ℕ). m / s) e ∙ mul-add-div-right h i (n - i * s + s - 1)
 
 pub pages-split : (p s m n : ℕ) (file : List ℕ) → pageFingerprints p s (m + n) file ≡ pageFingerprints p s m file ++ pageFingerprints p s n (drop (m * s) file)
 unfolding pageFingerprints
@@ -212,6 +140,75 @@ pages-split p s (suc m) n file =
     (pages-split p s m n (drop s file)
     ∙ ap (λ (l : List ℕ). pageFingerprints p s m (drop s file) ++ pageFingerprints p s n l) (drop-drop (m * s) s file ∙ ap (λ (k : ℕ). drop k file) e))
 
+-- n pages of the c - i that are left from page i on, and the others
+pub pages-ahead : (p s c i n : ℕ) (file : List ℕ) → i + n ≤ c
+    → pageFingerprints p s (c - i) (drop (i * s) file) ≡ pageFingerprints p s n (drop (i * s) file) ++ pageFingerprints p s (c - (i + n)) (drop ((i + n) * s) file)
+pages-ahead p s c i n file l =
+    let e : c - i ≡ n + (c - (i + n)) = omega arith in
+    ap (λ (m : ℕ). pageFingerprints p s m (drop (i * s) file)) e
+    ∙ pages-split p s n (c - (i + n)) (drop (i * s) file)
+    ∙ ap (λ (r : List ℕ). pageFingerprints p s n (drop (i * s) file) ++ pageFingerprints p s (c - (i + n)) r)
+    (drop-drop (n * s) (i * s) file ∙ ap (λ (m : ℕ). drop m file) (sym (add-mul i n s)))
+
+pub pages-none : (p s c i : ℕ) (file : List ℕ) → c ≤ i → pageFingerprints p s (c - i) (drop (i * s) file) ≡ []
+unfolding pageFingerprints
+pages-none p s c i file l = let e : c - i ≡ 0 = omega arith in rw e
+
+-- page i begins inside the file or at most a page behind it
+pub page-begins : (s n i : ℕ) → 0 < s → i ≤ pageCount s n → i * s < n + s
+page-begins s n i h l = omega (arith, mul-le-mul-right s l, count-tight s n h)
+
+-- n pages of what is left from page i on are pages of the file
+pub block-within : (s i n : ℕ) (file : List ℕ) → 0 < s → i * s ≤ length file → n ≤ pageCount s (length (drop (i * s) file)) → i + n ≤ pageCount s (length file)
+block-within s i n file h l b =
+    let e : pageCount s (length (drop (i * s) file)) ≡ pageCount s (length file - i * s) = ap (pageCount s) (length-drop (i * s) file) in
+    omega (arith, e, count-after s (length file) i h l)
+
+-- no page is left where the file has no byte more
+pub count-reached : (s n i : ℕ) → 0 < s → n ≤ i * s → pageCount s n ≤ i
+count-reached s n i h l = go (decLe (pageCount s n) i)
+  where
+    go : Dec (pageCount s n ≤ i) → pageCount s n ≤ i
+    go (yes d) = d
+    go (no d) =
+        let more : suc i ≤ pageCount s n = omega arith in
+        absurd (omega (arith, suc-mul i s, mul-le-mul-right s more, count-tight s n h))
+
+-- ---- the last page
+
+pub whole-fits : (s n : ℕ) → n / s * s ≤ n
+whole-fits s n = omega (arith, div-add-mod' n s)
+
+pub last-short : (s n : ℕ) → 0 < s → n < n / s * s + s
+last-short s n h = omega (arith, div-add-mod' n s, mod-lt n h)
+
+-- it is the same from page i on
+pub last-after : (s i : ℕ) (file : List ℕ) → 0 < s → i * s ≤ length file → lastPage s (drop (i * s) file) ≡ lastPage s file
+last-after s i file h l =
+    let left : length (drop (i * s) file) ≡ length file - i * s = length-drop (i * s) file in
+    let q = (length file - i * s) / s in
+    let e : length file ≡ i * s + (length file - i * s) = omega arith in
+    let whole : length file / s ≡ i + q = ap (λ (n : ℕ). n / s) e ∙ mul-add-div-right h i (length file - i * s) in
+    ap (λ (n : ℕ). drop (n / s * s) (drop (i * s) file)) left
+    ∙ drop-drop (q * s) (i * s) file
+    ∙ ap (λ (n : ℕ). drop n file) (sym (add-mul i q s) ∙ ap (λ (n : ℕ). n * s) (sym whole))
+
+-- the whole pages, and the last one filled up
+pub pages-last : (p s : ℕ) (file : List ℕ) → 0 < s
+    → pageFingerprints p s (length file / s + 1) file ≡ pageFingerprints p s (length file / s) file ++ fingerprint p (filled s (lastPage s file)) ∷ []
+unfolding pageFingerprints
+pages-last p s file h =
+    let w = length file / s in
+    pages-split p s w 1 file
+    ∙ ap (λ (l : List ℕ). pageFingerprints p s w file ++ fingerprint p (filled s l) ∷ [])
+    (take-all s (lastPage s file) (rw (length-drop (w * s) file) (omega (arith, last-short s (length file) h))))
+
+-- the bytes from a place on, as the code lends them
+pub all-left : (file : List ℕ) (at : ℕ) → take (length file - at) (drop at file) ≡ drop at file
+all-left file at = take-all (length file - at) (drop at file) (rw (length-drop at file) (le-refl (length file - at)))
+
+-- ---- the whole pages
+
 whole-pages : (s m : ℕ) (file : List ℕ) → m * s ≤ length file → filledPages s m file ≡ take (m * s) file
 unfolding filledPages
 whole-pages s zero file h = ap (λ (k : ℕ). take k file) (sym (zero-mul s))
@@ -222,15 +219,21 @@ whole-pages s (suc m) file h =
     ∙ sym (take-add s (m * s) file)
     ∙ ap (λ (k : ℕ). take k file) e
 
--- their marks joined, and what is behind them fed, give the file's fingerprint
+-- their marks joined
 pub whole-joined : {p : ℕ} (pos : 0 < p) (s m : ℕ) (file : List ℕ) → m * s ≤ length file
     → joinedPages p s (markOf p []) (pageFingerprints p s m file) .fingerprint ≡ fingerprint p (take (m * s) file)
 unfolding markOf
 whole-joined {p} pos s m file h =
     ap (λ (k : Mark). k .fingerprint) (joined-pages pos m s [] file) ∙ ap (fingerprint p) (whole-pages s m file h)
 
-pub whole-fed : {p : ℕ} (pos : 0 < p) (file : List ℕ) (n : ℕ) → rem p (valueFrom (fingerprint p (take n file)) (bits (drop n file))) ≡ fingerprint p file
-whole-fed {p} pos file n = fed pos (take n file) (drop n file) ∙ ap (fingerprint p) (take-append-drop n file)
+-- and the last page's joined behind them
+pub last-joined : {p : ℕ} (pos : 0 < p) (s : ℕ) (file : List ℕ) (f g : ℕ) → f ≡ fingerprint p (take (length file / s * s) file) → g ≡ fingerprint p (lastPage s file)
+    → rem p (f * 2 ^ (8 * (length file - length file / s * s)) ⊕ g ⊕ 2 ^ (8 * (length file - length file / s * s))) ≡ fingerprint p file
+unfolding joined markOf
+last-joined {p} pos s file f g ef eg =
+    let n = length file / s * s in
+    rw (ef, eg, ← (length-drop n file))
+    (ap (λ (m : Mark). m .fingerprint) (joined-true pos (take n file) (drop n file)) ∙ ap (fingerprint p) (take-append-drop n file))
 
 pub count-whole : (s n : ℕ) → 0 < s → n / s ≤ pageCount s n
 count-whole s n h = le-div-iff-mul-le h .1 (omega (arith, div-add-mod' n s))

@@ -18,10 +18,10 @@ use Rattle.acceptance.specs.Keys.{accepted}
 use Rattle.lists.proofs.Truth.{or-neither}
 use Rattle.acceptance.proofs.Laws.{accepted-iff, accepted-pos, accepted-small, key-iff}
 use Rattle.files.specs.Files.{Bytes, fingerprint}
-use Rattle.sheets.specs.Layout.{version1, numberAt, sheetSize, pageCount, pagesIn, Contents, sheetBytes, contentsIn}
-use Rattle.sheets.specs.Sheets.{contentsOf, someUnreduced, pagesJoined, fileFilled, readTests, Sound, WellFormed}
+use Rattle.sheets.specs.Layout.{Letters, Version, Key, Length, version1, placeOf, widthOf, pagePlace, sheetLength, pageCount, Contents, letters, sheetBytes, fieldIn, pagesIn, contentsIn}
+use Rattle.sheets.specs.Sheets.{contentsOf, someUnreduced, pagesJoined, fileFilled, headWrong, readTests, Sound, WellFormed}
 use Rattle.sheets.proofs.Numbers.{number-lt, length-numbersAt}
-use Rattle.sheets.proofs.Layouts.{Fits, length-sheet, letters-back, version-back, read-back, write-back}
+use Rattle.sheets.proofs.Layouts.{Fits, length-sheet, field-back, read-back, write-back}
 use Rattle.sheets.proofs.Pages.{fingerprint-lt, fingerprints-lt, length-pages, pages-joined}
 
 -- ---- reduced fingerprints
@@ -49,11 +49,7 @@ none-unreduced k (g ∷ fs) f e =
 pub sound-fits : (x : Contents) → Sound x → Fits version1 x
 sound-fits x h =
     record {
-      letters = lit< tt;
-      version = lit< tt;
-      key = accepted-small (x .key) (h .key);
-      length = omega (arith, h .length);
-      pageSize = omega (arith, h .pageSize);
+      fields = (lit< tt, (lit< tt, (accepted-small (x .key) (h .key), (omega (arith, h .length), (omega (arith, h .pageSize), tt)))));
       pages = all-map (λ f l. lt-of-lt-of-le l small) (x .pages) (h .pages);
       fingerprint = lt-of-lt-of-le (h .fingerprint) small;
       count = h .count;
@@ -61,6 +57,9 @@ sound-fits x h =
   where
     small : 2 ^ degree (x .key) ≤ 2 ^ 64
     small = let d = accepted-iff (x .key) .0 (h .key) in pow-mono {i = degree (x .key)} {j = 64} (omega arith)
+
+pub sound-back : (x : Contents) → Sound x → contentsIn version1 (sheetBytes version1 x) ≡ x
+sound-back x h = read-back version1 x (sound-fits x h) refl refl refl
 
 -- ---- the tests of reading
 
@@ -78,8 +77,8 @@ pub sound-clear : (x : Contents) → Sound x → Clear (readTests version1 (shee
 sound-clear x h =
     let f = sound-fits x h in
     let k = key-iff (x .key) (accepted-small (x .key) (h .key)) .0 (h .key) in
-    rw (read-back version1 x f, length-sheet version1 x, letters-back version1 x f, version-back version1 x f) (
-      or-clear (le-ltb (sheetSize version1 (length (x .pages))) 27 (omega arith)) refl refl,
+    rw (sound-back x h, length-sheet version1 x, field-back version1 x f Letters refl, field-back version1 x f Version refl) (
+      or-clear (le-ltb (sheetLength version1 (length (x .pages))) (sheetLength version1 0) (omega arith)) refl refl,
       (
         k .0,
         (
@@ -87,7 +86,7 @@ sound-clear x h =
           (
             size-clear (x .pageSize) (h .pageSize .0) (h .pageSize .1),
             (
-              or-clear (ap not (eq-eqb (sheetSize version1 (length (x .pages))) (sheetSize version1 (length (x .pages))) refl))
+              or-clear (ap not (eq-eqb (sheetLength version1 (length (x .pages))) (sheetLength version1 (length (x .pages))) refl))
                   (all-reduced (degree (x .key)) (x .pages) (x .fingerprint) (h .pages) (h .fingerprint)) (ap not (eq-eqb (pagesJoined x) (fileFilled x) (h .joined))),
               tt,
             ),
@@ -100,34 +99,49 @@ sound-clear x h =
 pub neither : (a b c : Bool) → (a || b || c) ≡ false → (a ≡ false) × (b ≡ false) × (c ≡ false)
 neither a b c e = let x = or-neither (a || b) c e in let y = or-neither a b (x .0) in (y .0, y .1, x .1)
 
+-- size, letters and version are right
+pub record HeadRight (sheet : List ℕ) : Type 0 where
+  pub long : sheetLength version1 0 ≤ length sheet
+  pub letters : fieldIn version1 Letters sheet ≡ Rattle.sheets.specs.Layout.letters
+  pub version : fieldIn version1 Version sheet ≡ version1 .version
+
+pub head-right : (sheet : List ℕ) → headWrong version1 sheet ≡ false → HeadRight sheet
+head-right sheet e =
+    let n = neither (ltb (length sheet) (sheetLength version1 0)) (not (eqb (fieldIn version1 Letters sheet) letters)) (not (eqb (fieldIn version1 Version sheet) (version1 .version))) e in
+    record {
+      long = ltb-false (length sheet) (sheetLength version1 0) (n .0);
+      letters = eqb-true (fieldIn version1 Letters sheet) letters (not-false _ (n .1));
+      version = eqb-true (fieldIn version1 Version sheet) (version1 .version) (not-false _ (n .2));
+    }
+
 -- what the tests say of the bytes where none holds
 module _ (sheet : List ℕ) (c : Clear (readTests version1 sheet)) where
-  head : (ltb (length sheet) 27 ≡ false) × (not (eqb (numberAt 0 3 sheet) 0x474650) ≡ false) × (not (eqb (numberAt 3 2 sheet) 1) ≡ false)
-  head = neither (ltb (length sheet) 27) (not (eqb (numberAt 0 3 sheet) 0x474650)) (not (eqb (numberAt 3 2 sheet) 1)) (c .0)
+  head : HeadRight sheet
+  head = head-right sheet (c .0)
 
   x : Contents
   x = contentsIn version1 sheet
 
-  body : (not (eqb (length sheet) (sheetSize version1 (length (x .pages)))) ≡ false) × (someUnreduced (degree (x .key)) (x .pages ++ x .fingerprint ∷ []) ≡ false)
+  body : (not (eqb (length sheet) (sheetLength version1 (length (x .pages)))) ≡ false) × (someUnreduced (degree (x .key)) (x .pages ++ x .fingerprint ∷ []) ≡ false)
       × (not (eqb (pagesJoined x) (fileFilled x)) ≡ false)
   unfolding x
   body =
-      neither (not (eqb (length sheet) (sheetSize version1 (length (x .pages))))) (someUnreduced (degree (x .key)) (x .pages ++ x .fingerprint ∷ []))
+      neither (not (eqb (length sheet) (sheetLength version1 (length (x .pages))))) (someUnreduced (degree (x .key)) (x .pages ++ x .fingerprint ∷ []))
       (not (eqb (pagesJoined x) (fileFilled x))) (c .1 .1 .1 .1 .0)
 
   count : length (x .pages) ≡ pagesIn version1 sheet
   unfolding x contentsIn
-  count = length-numbersAt 19 8 (pagesIn version1 sheet) sheet
+  count = length-numbersAt (pagePlace version1 0) 8 (pagesIn version1 sheet) sheet
 
-  pub clear-total : length sheet ≡ sheetSize version1 (pagesIn version1 sheet)
-  clear-total = eqb-true (length sheet) (sheetSize version1 (length (x .pages))) (not-false _ (body .0)) ∙ ap (sheetSize version1) count
+  pub clear-total : length sheet ≡ sheetLength version1 (pagesIn version1 sheet)
+  clear-total = eqb-true (length sheet) (sheetLength version1 (length (x .pages))) (not-false _ (body .0)) ∙ ap (sheetLength version1) count
 
   pub clear-contents : Sound (contentsIn version1 sheet)
   unfolding x contentsIn
   clear-contents =
-      let long = ltb-false (length sheet) 27 (head .0) in
-      let small = number-lt 5 8 sheet (omega arith) in
-      let n = number-lt 13 4 sheet (omega arith) in
+      let long = head .long in
+      let small = number-lt (placeOf (version1 .fields) Key) (widthOf (version1 .fields) Key) sheet (omega arith) in
+      let n = number-lt (placeOf (version1 .fields) Length) (widthOf (version1 .fields) Length) sheet (omega arith) in
       let fs = none-unreduced (degree (x .key)) (x .pages) (x .fingerprint) (body .1) in
       record {
         key = key-iff (x .key) small .1 (c .1 .0, c .1 .1 .0);
@@ -145,7 +159,7 @@ module _ (sheet : List ℕ) (c : Clear (readTests version1 sheet)) where
         contents = contentsIn version1 sheet;
         sound = clear-contents;
         bytes =
-            sym (write-back version1 sheet b clear-total (eqb-true (numberAt 0 3 sheet) 0x474650 (not-false _ (head .1))) (eqb-true (numberAt 3 2 sheet) 1 (not-false _ (head .2))));
+            sym (write-back version1 (refl, (refl, (refl, (refl, (refl, tt))))) sheet b clear-total (head .letters) (head .version));
       }
 
 -- ---- the numbers of a file's sheet are sound

@@ -1,6 +1,8 @@
--- The bytes of a page sheet (document 01, "Page sheets"). A version of the layout is one record, for writing and reading alike.
+-- The bytes of a page sheet (document 01, "Page sheets"). A version of the layout is a list of fields, for writing and reading alike.
+use mathlib.Core.Bool.{Bool, cond}
 use mathlib.Core.List.{List, [], _∷_, _++_}
 use Prim.Native.Nat.{ℕ, zero, suc, _+_, _-_, _*_, _/_, _%_, _^_}
+use lib.Dec.{eqb}
 use lib.ListN.{take, drop}
 use Rattle.files.specs.Files.{bits, valueFrom}
 
@@ -18,58 +20,64 @@ fieldsOf w (x ∷ xs) = bytesOf w x ++ fieldsOf w xs
 
 -- the number in w bytes at a place
 unfoldable pub numberAt : ℕ → ℕ → List ℕ → ℕ
-numberAt place w bytes = valueFrom 0 (bits (take w (drop place bytes)))
+numberAt place w l = valueFrom 0 (bits (take w (drop place l)))
 
 -- the c numbers, of w bytes each, from a place on
 unfoldable pub numbersAt : ℕ → ℕ → ℕ → List ℕ → List ℕ
-numbersAt place w zero bytes = []
-numbersAt place w (suc c) bytes = numberAt place w bytes ∷ numbersAt (place + w) w c bytes
+numbersAt place w zero l = []
+numbersAt place w (suc c) l = numberAt place w l ∷ numbersAt (place + w) w c l
 
--- ---- a version: the letters and the version number in front, and the width of each field in bytes
+-- ---- a version: its number, the fields in front of the fingerprints, and the width of a fingerprint
+
+pub data Name : Type 0 where
+  Letters : Name
+  Version : Name
+  Key : Name
+  Length : Name
+  PageSize : Name
+
+infix 68 _bytes_
+pub data Field : Type 0 where
+  _bytes_ : ℕ → Name → Field
 
 pub record Layout : Type 0 where
-  pub letters : ℕ
-  pub lettersWidth : ℕ
   pub version : ℕ
-  pub versionWidth : ℕ
-  pub keyWidth : ℕ
-  pub lengthWidth : ℕ
-  pub sizeWidth : ℕ
+  pub fields : List Field
   pub fingerprintWidth : ℕ
 
--- the letters GFP are the bytes 47 46 50
 abbrev pub version1 : Layout
-version1 =
-    record {
-      letters = 0x474650;
-      lettersWidth = 3;
-      version = 1;
-      versionWidth = 2;
-      keyWidth = 8;
-      lengthWidth = 4;
-      sizeWidth = 2;
-      fingerprintWidth = 8;
-    }
+version1 = record { version = 1; fields = 3 bytes Letters ∷ 2 bytes Version ∷ 8 bytes Key ∷ 4 bytes Length ∷ 2 bytes PageSize ∷ []; fingerprintWidth = 8 }
 
--- where each field begins
-abbrev pub versionPlace : Layout → ℕ
-versionPlace v = v .lettersWidth
+-- names are told apart by their order in the list above
+abbrev pub order : Name → ℕ
+order Letters = 0
+order Version = 1
+order Key = 2
+order Length = 3
+order PageSize = 4
 
-abbrev pub keyPlace : Layout → ℕ
-keyPlace v = versionPlace v + v .versionWidth
+abbrev pub sameName : Name → Name → Bool
+sameName a b = eqb (order a) (order b)
 
-abbrev pub lengthPlace : Layout → ℕ
-lengthPlace v = keyPlace v + v .keyWidth
+-- where the field of a name begins, how wide it is, and how wide all fields are
+abbrev pub placeOf : List Field → Name → ℕ
+placeOf [] name = 0
+placeOf (w bytes other ∷ fields) name = cond (sameName name other) 0 (w + placeOf fields name)
 
-abbrev pub sizePlace : Layout → ℕ
-sizePlace v = lengthPlace v + v .lengthWidth
+abbrev pub widthOf : List Field → Name → ℕ
+widthOf [] name = 0
+widthOf (w bytes other ∷ fields) name = cond (sameName name other) w (widthOf fields name)
+
+abbrev pub width : List Field → ℕ
+width [] = 0
+width (w bytes name ∷ fields) = w + width fields
 
 abbrev pub pagePlace : Layout → ℕ → ℕ
-pagePlace v i = sizePlace v + v .sizeWidth + v .fingerprintWidth * i
+pagePlace v i = width (v .fields) + v .fingerprintWidth * i
 
 -- of a sheet with c pages: 27 + 8c in version 1
-abbrev pub sheetSize : Layout → ℕ → ℕ
-sheetSize v c = pagePlace v c + v .fingerprintWidth
+abbrev pub sheetLength : Layout → ℕ → ℕ
+sheetLength v c = pagePlace v c + v .fingerprintWidth
 
 -- c = n / s, rounded up
 abbrev pub pageCount : ℕ → ℕ → ℕ
@@ -84,33 +92,37 @@ pub record Contents : Type 0 where
   pub pages : List ℕ
   pub fingerprint : ℕ
 
--- the table of document 01, row by row
+-- GFP: the bytes 47 46 50
+abbrev pub letters : ℕ
+letters = 0x474650
+
+abbrev pub valueOf : Layout → Contents → Name → ℕ
+valueOf v x Letters = letters
+valueOf v x Version = v .version
+valueOf v x Key = x .key
+valueOf v x Length = x .length
+valueOf v x PageSize = x .pageSize
+
+unfoldable pub bytesIn : List Field → (Name → ℕ) → List ℕ
+bytesIn [] value = []
+bytesIn (w bytes name ∷ fields) value = bytesOf w (value name) ++ bytesIn fields value
+
 unfoldable pub sheetBytes : Layout → Contents → List ℕ
-sheetBytes v x =
-    bytesOf (v .lettersWidth) (v .letters)
-    ++ bytesOf (v .versionWidth) (v .version)
-    ++ bytesOf (v .keyWidth) (x .key)
-    ++ bytesOf (v .lengthWidth) (x .length)
-    ++ bytesOf (v .sizeWidth) (x .pageSize)
-    ++ fieldsOf (v .fingerprintWidth) (x .pages)
-    ++ bytesOf (v .fingerprintWidth) (x .fingerprint)
+sheetBytes v x = bytesIn (v .fields) (valueOf v x) ++ fieldsOf (v .fingerprintWidth) (x .pages) ++ bytesOf (v .fingerprintWidth) (x .fingerprint)
 
--- the fields as they stand in given bytes, with as many pages as the length and the page size ask
-abbrev pub lengthIn : Layout → List ℕ → ℕ
-lengthIn v sheet = numberAt (lengthPlace v) (v .lengthWidth) sheet
-
-abbrev pub sizeIn : Layout → List ℕ → ℕ
-sizeIn v sheet = numberAt (sizePlace v) (v .sizeWidth) sheet
+-- the numbers as they stand in given bytes, with as many pages as the length and the page size ask
+abbrev pub fieldIn : Layout → Name → List ℕ → ℕ
+fieldIn v name sheet = numberAt (placeOf (v .fields) name) (widthOf (v .fields) name) sheet
 
 abbrev pub pagesIn : Layout → List ℕ → ℕ
-pagesIn v sheet = pageCount (sizeIn v sheet) (lengthIn v sheet)
+pagesIn v sheet = pageCount (fieldIn v PageSize sheet) (fieldIn v Length sheet)
 
 unfoldable pub contentsIn : Layout → List ℕ → Contents
 contentsIn v sheet =
     record {
-      key = numberAt (keyPlace v) (v .keyWidth) sheet;
-      length = lengthIn v sheet;
-      pageSize = sizeIn v sheet;
+      key = fieldIn v Key sheet;
+      length = fieldIn v Length sheet;
+      pageSize = fieldIn v PageSize sheet;
       pages = numbersAt (pagePlace v 0) (v .fingerprintWidth) (pagesIn v sheet) sheet;
       fingerprint = numberAt (pagePlace v (pagesIn v sheet)) (v .fingerprintWidth) sheet;
     }

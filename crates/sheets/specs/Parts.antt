@@ -1,28 +1,32 @@
--- What the inner functions promise of the pages that are left: a reader of the promises need not read this page.
+-- What the inner functions promise: a reader of the promises need not read this page.
 use mathlib.Core.Path.{_≡_}
 use mathlib.Core.Bool.{cond}
-use mathlib.Core.List.{List, [], _∷_, _++_}
-use Prim.Native.Nat.{ℕ, suc, _-_}
+use mathlib.Core.List.{List, [], _∷_}
+use Prim.Native.Nat.{ℕ, suc, _*_, _/_, _^_, _<_}
 use lib.Dec.{eqb}
 use lib.ListN.{length, drop}
-use Rattle.refusals.specs.declared.Refusal.the-variants.{TooLong}
+use Rattle.refusals.specs.declared.Refusal.the-variants.{TooLong, SheetMalformed}
 use Rattle.refusals.specs.Refusals.{Answer, Done, _⇒_, firstOf, passes}
 use Rattle.sheets.specs.declared.Sheet.{Sheet}
-use Rattle.sheets.specs.Layout.{bytesOf, Layout, version1, pageCount, contentsIn}
-use Rattle.sheets.specs.Sheets.{pageFingerprints, readSheet, numbersOf, Outcome, compared}
+use Rattle.sheets.specs.declared.layout.Head.{Head}
+use Rattle.sheets.specs.Layout.{Key, Length, PageSize, version1, pagePlace, Contents, fieldIn, contentsIn}
+use Rattle.sheets.specs.Sheets.{sizeTest, bodyWrong, readSheet, numbersOf, Outcome, compared}
 
--- the pages that begin at a place or behind it
-abbrev pub pagesLeft : ℕ → List ℕ → ℕ → ℕ
-pagesLeft s file at = pageCount s (length file - at)
-
-abbrev pub fingerprintsFrom : ℕ → ℕ → List ℕ → ℕ → List ℕ
-fingerprintsFrom key s file at = pageFingerprints key s (pagesLeft s file at) (drop at file)
+-- what a file has behind its whole pages, of s bytes each
+abbrev pub lastPage : ℕ → List ℕ → List ℕ
+lastPage s file = drop (length file / s * s) file
 
 -- how many numbers, from the first on, two lists have in common
 unfoldable pub agreeing : List ℕ → List ℕ → ℕ
 agreeing [] gs = 0
 agreeing (f ∷ fs) [] = 0
 agreeing (f ∷ fs) (g ∷ gs) = cond (eqb f g) (suc (agreeing fs gs)) 0
+
+-- the rest of reading, where the head is right and the key accepted
+abbrev pub readBody : List ℕ → Answer Unit Contents
+readBody sheet =
+    let x = contentsIn version1 sheet in
+    firstOf (sizeTest (x .pageSize) ∷ bodyWrong version1 (length sheet) x ⇒ SheetMalformed ∷ []) tt x
 
 -- the sheet was read, as the numbers x
 pub record ReadAs (sheet : List ℕ) (x : Sheet) : Type 0 where
@@ -33,7 +37,18 @@ pub record ReadAs (sheet : List ℕ) (x : Sheet) : Type 0 where
 abbrev pub comparison : List ℕ → List ℕ → Answer Unit Outcome
 comparison sheet file = firstOf (passes (length file ∷ []) ⇒ TooLong ∷ []) tt (compared (contentsIn version1 sheet) file)
 
--- what stands in front of the pages' fingerprints
-unfoldable pub headBytes : Layout → ℕ → ℕ → ℕ → List ℕ
-headBytes v key n s =
-    bytesOf (v .lettersWidth) (v .letters) ++ bytesOf (v .versionWidth) (v .version) ++ bytesOf (v .keyWidth) key ++ bytesOf (v .lengthWidth) n ++ bytesOf (v .sizeWidth) s
+-- the numbers in front of a sheet's fingerprints, as the code reads them
+pub record HeadOf (sheet : List ℕ) (head : Head) : Type 0 where
+  pub key : head .key ≡ fieldIn version1 Key sheet
+  pub length : head .length ≡ fieldIn version1 Length sheet
+  pub size : head .size ≡ fieldIn version1 PageSize sheet
+  pub length-fits : head .length < 2 ^ 32
+  pub size-fits : head .size < 2 ^ 16
+
+-- the part of a sheet that begins with the fingerprints
+abbrev pub fingerprintsPart : List ℕ → List ℕ
+fingerprintsPart sheet = drop (pagePlace version1 0) sheet
+
+-- what stands in front of them, as the code writes it
+abbrev pub headOnly : Head → Contents
+headOnly head = record { key = head .key; length = head .length; pageSize = head .size; pages = []; fingerprint = 0 }

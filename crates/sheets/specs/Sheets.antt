@@ -1,6 +1,6 @@
 -- Writing, reading and checking a page sheet (document 01, "Page sheets"): each call is its tests, in document 01's order, and its value.
 use mathlib.Core.Path.{_≡_}
-use mathlib.Core.Bool.{Bool, true, false, _&&_, _||_, not}
+use mathlib.Core.Bool.{Bool, true, false, _&&_, _||_, not, cond}
 use mathlib.Core.List.{List, [], _∷_, _++_}
 use mathlib.Core.Option.{Option, none, some}
 use Prim.Native.Nat.{ℕ, zero, suc, _+_, _-_, _*_, _^_, _≤_, _<_, min}
@@ -12,11 +12,8 @@ use Rattle.refusals.specs.declared.Refusal.the-variants.{TooLong, PageSize, Buf
 use Rattle.refusals.specs.Refusals.{Answer, Done, Refused, Test, _⇒_, firstOf, passes, longest}
 use Rattle.acceptance.specs.Keys.{accepted, keyTests}
 use Rattle.files.specs.declared.Mark.{Mark}
-use Rattle.files.specs.Files.{fingerprint, markOf}
-use Rattle.compose.specs.Composing.{joined}
-use Rattle.sheets.specs.Layout.{Layout, version1, versionPlace, pagePlace, sheetSize, pageCount, numberAt, Contents, sheetBytes, contentsIn}
-use Rattle.sheets.specs.declared.Written.{Written}
-use Rattle.sheets.specs.declared.Written.the-variants as written-cases
+use Rattle.files.specs.Files.{fingerprint, markOf, joined}
+use Rattle.sheets.specs.Layout.{Letters, Version, Layout, version1, pagePlace, sheetLength, pageCount, numberAt, Contents, letters, sheetBytes, fieldIn, contentsIn}
 use Rattle.sheets.specs.declared.Sheet.{Sheet}
 use Rattle.sheets.specs.declared.Reading.{Reading}
 use Rattle.sheets.specs.declared.Reading.the-variants as reading-cases
@@ -59,14 +56,14 @@ writeTests key s file buffer =
     keyTests key
     ++ passes (length file ∷ []) ⇒ TooLong
     ∷ sizeTest s
-    ∷ ltb (length buffer) (sheetSize version1 (pageCount s (length file))) ⇒ BufferShort
+    ∷ ltb (length buffer) (sheetLength version1 (pageCount s (length file))) ⇒ BufferShort
     ∷ []
 
 -- what the lent buffer holds after the call: its further bytes keep their value
 unfoldable pub writeSheet : ℕ → ℕ → List ℕ → List ℕ → Answer (List ℕ) (List ℕ)
 writeSheet key s file buffer =
     firstOf (writeTests key s file buffer) buffer
-    (sheetBytes version1 (contentsOf key s file) ++ drop (sheetSize version1 (pageCount s (length file))) buffer)
+    (sheetBytes version1 (contentsOf key s file) ++ drop (sheetLength version1 (pageCount s (length file))) buffer)
 
 -- ---- reading: number 14 for size, letters and version; 1, 2, 12; then the rest of 14
 
@@ -90,14 +87,14 @@ fileFilled x = rem (x .key) (x .fingerprint * 2 ^ (8 * (length (x .pages) * x .p
 -- number 14, first: size, letters, version
 abbrev pub headWrong : Layout → List ℕ → Bool
 headWrong v sheet =
-    ltb (length sheet) (sheetSize v 0)
-    || not (eqb (numberAt 0 (v .lettersWidth) sheet) (v .letters))
-    || not (eqb (numberAt (versionPlace v) (v .versionWidth) sheet) (v .version))
+    ltb (length sheet) (sheetLength v 0)
+    || not (eqb (fieldIn v Letters sheet) letters)
+    || not (eqb (fieldIn v Version sheet) (v .version))
 
 -- number 14, last: total, fields, joining
 abbrev pub bodyWrong : Layout → ℕ → Contents → Bool
 bodyWrong v size x =
-    not (eqb size (sheetSize v (length (x .pages))))
+    not (eqb size (sheetLength v (length (x .pages))))
     || someUnreduced (degree (x .key)) (x .pages ++ x .fingerprint ∷ [])
     || not (eqb (pagesJoined x) (fileFilled x))
 
@@ -128,11 +125,11 @@ pub record WellFormed (sheet : List ℕ) : Type 0 where
   pub sound : Sound contents
   pub bytes : sheet ≡ sheetBytes version1 contents
 
--- the page fingerprints into lent words: the first ones, as far as the words reach; further words keep their value
+-- the page fingerprints into lent places: the first ones, as far as the places reach; further places keep their value
 unfoldable pub readPages : List ℕ → List ℕ → Answer (List ℕ) (List ℕ)
-readPages sheet words =
+readPages sheet lent =
     let pages = contentsIn version1 sheet .pages in
-    firstOf (readTests version1 sheet) words (take (length words) pages ++ drop (length pages) words)
+    firstOf (readTests version1 sheet) lent (take (length lent) pages ++ drop (length pages) lent)
 
 -- ---- checking a file: all of reading, then 7
 
@@ -141,22 +138,18 @@ pub data Outcome : Type 0 where
   Page : ℕ → Outcome
   OtherLength : Outcome
 
-abbrev pub choose : Bool → Outcome → Outcome → Outcome
-choose true a b = a
-choose false a b = b
-
 -- the first place where two lists of fingerprints differ, counted from i
 unfoldable pub firstChange : ℕ → List ℕ → List ℕ → Outcome
 firstChange i [] gs = Same
 firstChange i (f ∷ fs) [] = Same
-firstChange i (f ∷ fs) (g ∷ gs) = choose (eqb f g) (firstChange (suc i) fs gs) (Page i)
+firstChange i (f ∷ fs) (g ∷ gs) = cond (eqb f g) (firstChange (suc i) fs gs) (Page i)
 
 -- the fingerprints of a file's pages, by the sheet's key and page size
 abbrev pub pagesNow : Contents → List ℕ → List ℕ
 pagesNow x file = contentsOf (x .key) (x .pageSize) file .pages
 
 unfoldable pub compared : Contents → List ℕ → Outcome
-compared x file = choose (eqb (length file) (x .length)) (firstChange 0 (x .pages) (pagesNow x file)) OtherLength
+compared x file = cond (eqb (length file) (x .length)) (firstChange 0 (x .pages) (pagesNow x file)) OtherLength
 
 unfoldable pub checkSheet : List ℕ → List ℕ → Answer Unit Outcome
 checkSheet sheet file =
@@ -178,10 +171,6 @@ rangeOf x (Refused r s) = NoRange
 
 -- ---- the answers in code: their numbers and values
 
-abbrev pub written : Written → List ℕ → Answer (List ℕ) (List ℕ)
-written written-cases.Done buffer = Done buffer
-written (written-cases.Refused r) buffer = Refused r buffer
-
 -- the numbers that a reader is given at once; each page's fingerprint is asked for by its place
 abbrev pub numbersOf : Contents → Sheet
 numbersOf x = record { key = x .key; length = x .length; size = x .pageSize; pages = length (x .pages); fingerprint = x .fingerprint }
@@ -195,13 +184,10 @@ reading (reading-cases.Sheet x) = Done x
 reading (reading-cases.Refused r) = Refused r tt
 
 -- the fingerprint of page i, from the bytes and the numbers that they were read as
-abbrev pub given : Bool → ℕ → Option ℕ
-given true f = some f
-given false f = none
-
 unfoldable pub pageAt : Sheet → List ℕ → ℕ → Option ℕ
 pageAt x sheet i =
-    given (ltb i (x .pages) && leb (sheetSize version1 i) (length sheet)) (numberAt (pagePlace version1 i) (version1 .fingerprintWidth) sheet)
+    cond (ltb i (x .pages) && leb (sheetLength version1 i) (length sheet))
+    (some (numberAt (pagePlace version1 i) (version1 .fingerprintWidth) sheet)) none
 
 abbrev pub pageField : PageField → Option ℕ
 pageField (field-cases.Fingerprint f) = some f

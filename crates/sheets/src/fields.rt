@@ -8,7 +8,7 @@ ghost use lib.Seq.{sets};
 ghost use Rattle.sheets.specs.Layout.{bytesOf, numberAt, pageCount};
 
 // Writes the w low bytes of x at a place; every other byte keeps its value.
-pub fn put(bytes: &mut [u8], at: usize, w: u32, x: u64)
+pub fn put(bytes: &mut [u8], at: usize, w: usize, x: u64)
     requires { ⌜ (w ≤ 8) × (at + w ≤ length (now bytes)) ⌝ }
     ensures { λ r. ⌜ now (bytes .exit) ≡ sets (now (bytes .entry)) at (bytesOf w x) ⌝ }
 {
@@ -28,12 +28,12 @@ fn wide(b: u8) -> u64
 }
 
 // The number in w bytes at a place.
-pub fn number_at(bytes: &[u8], at: usize, w: u32) -> u64
+pub fn number_at(bytes: &[u8], at: usize, w: usize) -> u64
     requires { ⌜ (w ≤ 8) × (at + w ≤ length (now bytes)) ⌝ }
     ensures { λ r. ⌜ (r ≡ numberAt at w (now (bytes .entry))) × (r < 2 ^ (8 * w)) ⌝ }
 {
     let mut x: u64 = 0;
-    let mut n: u32 = 0;
+    let mut n: usize = 0;
     let mut i = at;
     while n < w {
         x = x * 256 + wide(bytes[i]);

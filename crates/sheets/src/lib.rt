@@ -3,12 +3,7 @@
 use refusals::Refusal;
 
 pub mod fields;
-
-// The answer to writing a sheet.
-pub enum Written {
-    Done,
-    Refused(Refusal),
-}
+pub mod layout;
 
 // The numbers of a sheet: its key, the file's length, the page size, the number of pages and the file's fingerprint.
 pub struct Sheet {

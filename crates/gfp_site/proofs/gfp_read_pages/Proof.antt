@@ -1,73 +1,25 @@
--- The words are what the answer says of them.
-use mathlib.Core.Path.{sym, ap, _∙_}
-use Rattle.refusals.specs.Refusals.{numberOf, stateOf}
-use Rattle.sheets.specs.declared.Written.{Written}
-use Rattle.sheets.specs.Sheets.{written}
-use Rattle.sheets.proofs.Known.{written-state}
+-- The number is that of the reply, and the lent places are what it leaves.
 use borrow.Author.Needs.{needs}
+use Rattle.refusals.proofs.Replies.{replied}
 use Rattle.gfp_site.proofs.gfp_read_pages.Statement.{statement}
 use Rattle.gfp_site.proofs.gfp_read_pages.Tie as tie
 
 -- ---- the places: from each one to an earlier one
 
-abbrev words→read-pages : tie.After-words → tie.After-read-pages
-words→read-pages c = c .before
-
-abbrev r→read-pages : tie.After-r → tie.After-read-pages
-r→read-pages c = words→read-pages (c .before .before .before)
-
-abbrev enum-told→read-pages : tie.After-enum-told → tie.After-read-pages
-enum-told→read-pages c = words→read-pages (c .before .before .before)
-
-abbrev number→read-pages : tie.After-number → tie.After-read-pages
-number→read-pages c = r→read-pages (c .before .before)
-
-abbrev number→r : tie.After-number → tie.After-r
-number→r c = c .before .before
+abbrev number-of→read-pages : tie.After-number-of → tie.After-read-pages
+number-of→read-pages c = c .before .before .before
 
 read-pages-requires : tie.Need-read-pages-requires
 read-pages-requires c κs = search needs
 
-enum-told : tie.Need-enum-told
-enum-told c = search needs
-
-enum-known-r : tie.Need-enum-known-r
-enum-known-r c = search needs
-
-number-requires : tie.Need-number-requires
-number-requires c κs = search needs
+number-of-requires : tie.Need-number-of-requires
+number-of-requires c κs = search needs
 
 same-length : tie.Need-same-length
 same-length c = search needs
 
 returns : tie.Need-returns
-returns c =
-    let w = enum-told→read-pages c .read-pages in
-    let e = sym (c .enum-told .given .1) in (
-      ap (λ (x : Written). numberOf (written x (w .last .1 .0))) e ∙ ap numberOf (w .ensures),
-      written-state (w .result) (w .last .1 .0) ∙ ap stateOf (w .ensures),
-    )
-
-same-length-2 : tie.Need-same-length-2
-same-length-2 c = search needs
-
-returns-2 : tie.Need-returns-2
-returns-2 c =
-    let w = number→read-pages c .read-pages in
-    let e = sym (number→r c .r .given .1) in (
-      c .number .ensures ∙ ap (λ (x : Written). numberOf (written x (w .last .1 .0))) e ∙ ap numberOf (w .ensures),
-      written-state (w .result) (w .last .1 .0) ∙ ap stateOf (w .ensures),
-    )
+returns c = let m = number-of→read-pages c .read-pages in replied (m .result) (m .ensures) (c .number-of .ensures)
 
 pub gfp-read-pages-spec : {M : Type 1} → statement M
-gfp-read-pages-spec =
-    tie.close
-    (tie.spec
-    read-pages-requires
-    enum-told
-    enum-known-r
-    number-requires
-    same-length
-    returns
-    same-length-2
-    returns-2)
+gfp-read-pages-spec = tie.close (tie.spec read-pages-requires number-of-requires same-length returns)

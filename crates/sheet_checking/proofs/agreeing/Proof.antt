@@ -11,18 +11,24 @@ use Rattle.sheet_checking.proofs.agreeing.Statement.{statement}
 use Rattle.sheet_checking.proofs.agreeing.Tie as tie
 
 abbrev Inv-loop : tie.InvT-loop
-Inv-loop sheet from marks place₀ i₀ place i =
+Inv-loop fields from marks place₀ i₀ place i =
     (i ≤ length marks) × (place ≡ from + 8 * i)
-    × (i + agreeing (numbersAt place 8 (length marks - i) sheet) (drop i marks) ≡ agreeing (numbersAt from 8 (length marks) sheet) marks)
+    × (i + agreeing (numbersAt place 8 (length marks - i) fields) (drop i marks) ≡ agreeing (numbersAt from 8 (length marks) fields) marks)
 
 abbrev μ-loop : tie.MeasureT-loop
-μ-loop sheet from marks place₀ i₀ place i = length marks - i
+μ-loop fields from marks place₀ i₀ place i = length marks - i
+
+abbrev start : tie.At-loop Inv-loop μ-loop → tie.Start Inv-loop μ-loop
+start c = c .before .before .before
+
+abbrev loop : tie.After-eight-at Inv-loop μ-loop → tie.At-loop Inv-loop μ-loop
+loop c = c .before .before
 
 loop-holds : tie.Need-loop-holds Inv-loop μ-loop
 loop-holds c = (omega arith, omega arith, rw (zero-add, sub-zero))
 
 eight-at-requires : tie.Need-eight-at-requires Inv-loop μ-loop
-eight-at-requires c κs = omega (arith, c .before .before .before .before .pre, c .before .loop .inv .1)
+eight-at-requires c κs = omega (arith, start (c .before) .pre, c .before .loop .inv .1)
 
 mul-if1 : tie.Need-mul-if1 Inv-loop μ-loop
 mul-if1 c = omega arith
@@ -33,12 +39,13 @@ shared-slice-read-if1 c = omega arith
 returns : tie.Need-returns Inv-loop μ-loop
 unfolding numberAt
 returns c =
-    let a = c .before .before .before .before .before .before .before .args in
-    let l = c .before .before .before .before .loop in
-    omega (arith, l .inv .2, agree-off (l .place) (a .sheet .now) (a .marks .now) (l .i) (omega arith) (λ e. c .if1 .taken (c .before .before .eight-at .ensures ∙ e)))
+    let e = c .before .before in
+    let l = loop e .loop in
+    let a = start (loop e) .args in
+    omega (arith, l .inv .2, agree-off (l .place) (a .fields .now) (a .marks .now) (l .i) (omega arith) (λ d. c .if1 .taken (e .eight-at .ensures ∙ d)))
 
 add-place : tie.Need-add-place Inv-loop μ-loop
-add-place c = omega (arith, c .before .before .before .before .before .before .before .pre, c .before .before .before .before .loop .inv .1)
+add-place c = let l = loop (c .before .before) in omega (arith, start l .pre, l .loop .inv .1)
 
 add-i : tie.Need-add-i Inv-loop μ-loop
 add-i c = omega arith
@@ -49,16 +56,17 @@ loop-less c = omega arith
 loop-again : tie.Need-loop-again Inv-loop μ-loop
 unfolding numberAt
 loop-again c =
-    let a = c .before .before .before .before .before .before .before .args in
-    let l = c .before .before .before .before .loop in
-    let on = agree-on (l .place) (a .sheet .now) (a .marks .now) (l .i) (omega arith) (sym (c .before .before .eight-at .ensures) ∙ c .if1 .left) in
+    let e = c .before .before in
+    let l = loop e .loop in
+    let a = start (loop e) .args in
+    let on = agree-on (l .place) (a .fields .now) (a .marks .now) (l .i) (omega arith) (sym (e .eight-at .ensures) ∙ c .if1 .left) in
     (omega arith, omega (arith, l .inv .1), omega (arith, l .inv .2, on))
 
 returns-2 : tie.Need-returns-2 Inv-loop μ-loop
 returns-2 c =
-    let a = c .before .before .before .before .args in
     let l = c .before .loop in
-    omega (arith, l .inv .2, agree-end (a .marks .now) (numbersAt (l .place) 8 (length (a .marks .now) - l .i) (a .sheet .now)) (l .i) (omega arith))
+    let a = start (c .before) .args in
+    omega (arith, l .inv .2, agree-end (a .marks .now) (numbersAt (l .place) 8 (length (a .marks .now) - l .i) (a .fields .now)) (l .i) (omega arith))
 
 pub agreeing-spec : {M : Type 1} → statement M
 agreeing-spec =

@@ -1,56 +1,94 @@
 -- `compare` meets its contract.
-use mathlib.Core.Path.{refl, sym, ap, _∙_}
-use Prim.Native.Nat.{ℕ}
+use mathlib.Core.Path.{_≡_, refl, sym, ap, _∙_}
+use mathlib.Core.List.{List}
+use Prim.Native.Nat.{ℕ, _≤_, _<_}
 use native.Mathlib.Omega.{arith}
+use lib.ListN.{length, length-drop}
+use Rattle.gf2.specs.Moduli.{modulusOf}
 use Rattle.refusals.specs.Refusals.{Done}
-use Rattle.acceptance.proofs.Laws.{accepted-pos, accepted-small}
-use Rattle.gf2.proofs.Monics.{word-degree}
-use Rattle.sheets.specs.Layout.{numbersAt}
-use Rattle.sheets.specs.Sheets.{firstChange}
-use Rattle.sheets.specs.Parts.{pagesLeft, fingerprintsFrom}
+use Rattle.acceptance.specs.Keys.{Opened}
+use Rattle.acceptance.proofs.Opened.{open-accepted, opened-from, opened-proper, opened-eight, opened-whole}
+use Rattle.sheets.specs.Layout.{version1, numbersAt, pagePlace, sheetLength, pageCount, contentsIn}
+use Rattle.sheets.specs.Sheets.{Sound, pageFingerprints, firstChange}
 use Rattle.sheets.proofs.Known.{sound}
-use Rattle.sheets.proofs.Moduli.{Held, accepted-held}
 use Rattle.sheet_checking.proofs.Laws.{compare-long, compare-other, compare-pages, size-is, key-is, length-is, pages-there}
 use borrow.Author.Needs.{needs}
 use Rattle.sheet_checking.proofs.compare.Statement.{statement}
 use Rattle.sheet_checking.proofs.compare.Tie as tie
 
-key-held : (c : tie.After-low-bits) → Held (c .before .before .before .before .before .before .args .x .key) (c .before .degree .result) (c .low-bits .result)
-key-held c =
-    let s = c .before .before .before .before .before .before in
-    let e = key-is (s .args .sheet .now) (s .pre) in
-    accepted-held (s .args .x .key) (c .before .degree .result) (c .low-bits .result) (rw e (sound (s .args .sheet .now) (s .pre) .key)) (c .before .degree .ensures) (c .low-bits .ensures)
+-- the lengths are equal, the key is opened, the tables and the last page are there
+abbrev start : tie.Else2 → tie.Start
+start c = c .before .before .before .before
+
+abbrev equal : tie.After-modulus-of → tie.Else2
+equal c = c .before
+
+abbrev opened : tie.After-fill-tables → tie.After-modulus-of
+opened c = c .before .before .before
+
+abbrev tables : tie.After-last-page → tie.After-fill-tables
+tables c = c .before .before .before .before
+
+abbrev last : tie.After-eights3 → tie.After-last-page
+last c = c .before .before .before
+
+abbrev begin : tie.After-eights3 → tie.Else2
+begin c = equal (opened (tables (last c)))
+
+abbrev sheet : tie.Start → List ℕ
+sheet s = s .args .sheet .now
+
+abbrev file : tie.Start → List ℕ
+file s = s .args .file .now
+
+fields : (s : tie.Start) → Sound (contentsIn version1 (sheet s))
+fields s = sound (sheet s) (s .pre)
+
+size : (s : tie.Start) → (16 ≤ s .args .x .size) × (s .args .x .size ≤ 4096)
+size s = rw (size-is (sheet s) (s .pre)) (fields s .pageSize)
+
+-- all fingerprints stand in the sheet
+total : (c : tie.Else2) → sheetLength version1 (pageCount (start c .args .x .size) (length (file (start c)))) ≡ length (sheet (start c))
+total c = let s = start c in pages-there (sheet s) (s .pre) (file s) (c .if2 .left)
+
+-- the key of a sheet that was read is accepted
+key-opened : (c : tie.Else2) → Opened (start c .args .x .key) (modulusOf (start c .args .x .key))
+key-opened c = let s = start c in open-accepted (s .args .x .key) (rw (key-is (sheet s) (s .pre)) (fields s .key))
+
+key-held : (c : tie.After-modulus-of) → Opened (start (c .before) .args .x .key) (c .modulus-of .result)
+key-held c = rw (c .modulus-of .ensures) (key-opened (c .before))
 
 returns : tie.Need-returns
-returns c = let a = c .before .before .before .args in sym (compare-long (a .sheet .now) (a .file .now) (omega arith))
+returns c = let s = c .before .before .before in sym (compare-long (sheet s) (file s) (omega arith))
 
 returns-2 : tie.Need-returns-2
 returns-2 c =
     let s = c .before .before .before .before in
-    let a = s .args in
-    sym (compare-other (a .sheet .now) (a .file .now) (omega arith) (λ e. c .if2 .taken (e ∙ sym (length-is (a .sheet .now) (s .pre)))))
+    sym (compare-other (sheet s) (file s) (omega arith) (λ e. c .if2 .taken (e ∙ sym (length-is (sheet s) (s .pre)))))
 
-degree-requires : tie.Need-degree-requires
-degree-requires c κs =
-    let s = c .before .before .before .before in
-    rw (key-is (s .args .sheet .now) (s .pre)) (accepted-pos _ (sound (s .args .sheet .now) (s .pre) .key))
+modulus-of-requires : tie.Need-modulus-of-requires
+modulus-of-requires c κs = omega (arith, opened-from (key-opened c))
 
-low-bits-requires : tie.Need-low-bits-requires
-low-bits-requires c κs =
-    let s = c .before .before .before .before .before in
-    rw (c .degree .ensures) (rw (key-is (s .args .sheet .now) (s .pre)) (word-degree _ (accepted-pos _ (sound (s .args .sheet .now) (s .pre) .key)) (accepted-small _ (sound (s .args .sheet .now) (s .pre) .key))))
+slice-aggregate-fill-tables : tie.Need-slice-aggregate-fill-tables
+slice-aggregate-fill-tables c = search needs
 
-slice-aggregate-fill : tie.Need-slice-aggregate-fill
-slice-aggregate-fill c = search needs
+slice-aggregate-fill-tables-2 : tie.Need-slice-aggregate-fill-tables-2
+slice-aggregate-fill-tables-2 c = search needs
 
-fill-requires : tie.Need-fill-requires
-fill-requires c κs = (key-held (c .before) .modulus, refl)
+fill-tables-requires : tie.Need-fill-tables-requires
+fill-tables-requires c κs = let h = key-held (c .before .before) in (opened-proper h, opened-eight h, refl, refl)
 
-slice-aggregate-fill-2 : tie.Need-slice-aggregate-fill-2
-slice-aggregate-fill-2 c = search needs
+slice-aggregate-last-page : tie.Need-slice-aggregate-last-page
+slice-aggregate-last-page c = search needs
 
-fill-requires-2 : tie.Need-fill-requires-2
-fill-requires-2 c κs = (key-held (c .before .before .before .before) .modulus, omega arith, refl)
+last-page-requires : tie.Need-last-page-requires
+last-page-requires c κs =
+    let t = c .before .before .before in
+    let z = size (start (equal (opened t))) in
+    (t .fill-tables .ensures .table, omega (arith, z .0), z .1)
+
+page-fields-requires : tie.Need-page-fields-requires
+page-fields-requires c κs = omega (arith, total (equal (opened (tables c))))
 
 slice-aggregate-first-change : tie.Need-slice-aggregate-first-change
 slice-aggregate-first-change c = search needs
@@ -60,28 +98,26 @@ slice-aggregate-first-change-2 c = search needs
 
 first-change-requires : tie.Need-first-change-requires
 first-change-requires c κs =
-    let s = c .before .before .before .before .before .before .before .before .before .before .before .before .before .before in
-    let h = key-held (c .before .before .before .before .before .before .before .before) in
-    let a = s .args in
-    let z = sound (a .sheet .now) (s .pre) .pageSize in
-    let e = size-is (a .sheet .now) (s .pre) in (
-      (h .modulus, h .eight, c .before .before .before .before .before .before .fill .ensures),
-      c .before .before .before .fill2 .ensures,
-      rw e (z .0),
-      rw e (z .1),
-      omega arith,
-      pages-there (a .sheet .now) (s .pre) (a .file .now) (c .before .before .before .before .before .before .before .before .before .before .if2 .left),
-    )
+    let l = last c in
+    let e = begin c in
+    let s = start e in
+    let z = size s in
+    let part = ap length (c .before .before .page-fields .ensures) ∙ length-drop (pagePlace version1 0) (sheet s) in
+    (tables l .fill-tables .ensures, z .0, z .1, omega arith, l .last-page .ensures .1, omega (arith, part, total e))
 
 returns-3 : tie.Need-returns-3
 returns-3 c =
-    let s = c .before .before .before .before .before .before .before .before .before .before .before .before .before .before .before in
-    let a = s .args in
-    let h = key-held (c .before .before .before .before .before .before .before .before .before) in
+    let b = c .before in
+    let e = begin b in
+    let s = start e in
+    let x = s .args .x in
+    let part = b .before .before .page-fields in
+    let h = key-held (opened (tables (last b))) in
+    let count = pageCount (x .size) (length (file s)) in
     c .first-change .ensures
-    ∙ ap (λ (m : ℕ). Done (firstChange 0 (numbersAt 19 8 (pagesLeft (a .x .size) (a .file .now) 0) (a .sheet .now)) (fingerprintsFrom m (a .x .size) (a .file .now) 0))) (h .whole)
-    ∙ sym (compare-pages (a .sheet .now) (a .file .now) (omega arith) (a .x .key) (a .x .size) (key-is (a .sheet .now) (s .pre)) (size-is (a .sheet .now) (s .pre))
-    (c .before .before .before .before .before .before .before .before .before .before .before .if2 .left ∙ length-is (a .sheet .now) (s .pre)))
+    ∙ ap (λ (m : ℕ). Done (firstChange 0 (numbersAt 0 8 count (part .result .now)) (pageFingerprints m (x .size) count (file s)))) (opened-whole h)
+    ∙ sym (compare-pages (sheet s) (file s) (omega arith) (x .key) (x .size) (key-is (sheet s) (s .pre)) (size-is (sheet s) (s .pre))
+    (e .if2 .left ∙ length-is (sheet s) (s .pre)) (part .result .now) (part .ensures))
 
 pub compare-spec : {M : Type 1} → statement M
 compare-spec =
@@ -89,12 +125,13 @@ compare-spec =
     (tie.spec
     returns
     returns-2
-    degree-requires
-    low-bits-requires
-    slice-aggregate-fill
-    fill-requires
-    slice-aggregate-fill-2
-    fill-requires-2
+    modulus-of-requires
+    slice-aggregate-fill-tables
+    slice-aggregate-fill-tables-2
+    fill-tables-requires
+    slice-aggregate-last-page
+    last-page-requires
+    page-fields-requires
     slice-aggregate-first-change
     slice-aggregate-first-change-2
     first-change-requires

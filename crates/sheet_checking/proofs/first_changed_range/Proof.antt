@@ -26,11 +26,20 @@ other x (cases.Page i) (inl e) = absurd (omega arith)
 other x (cases.Page i) (inr (inl e)) = absurd (omega arith)
 other x (cases.Page i) (inr (inr e)) = absurd (omega arith)
 
-page : (c : tie.After-known-told) → checkSheet (c .before .before .before .before .before .before .args .sheet .now) (c .before .before .before .before .before .before .args .file .now) ≡ Done (Page (c .before .i .given .0 .0))
-page c = sym (c .before .before .before .check .ensures) ∙ ap checked (c .before .i .given .1)
+abbrev start : tie.After-check → tie.Start
+start c = c .before .before .before
 
-fits : (c : tie.After-number-at) → c .before .before .i .given .0 .0 * c .number-at .result + c .number-at .result < 2 ^ 64
-fits c = range-fits (c .before .before .i .given .0 .0) (c .number-at .result) (search needs) (c .number-at .ensures .1)
+abbrev asked : tie.After-i → tie.After-check
+asked c = c .before .before
+
+abbrev place : tie.After-read-head → tie.After-i
+place c = c .before .before
+
+page : (c : tie.After-i) → checkSheet (start (asked c) .args .sheet .now) (start (asked c) .args .file .now) ≡ Done (Page (c .i .given .0 .0))
+page c = sym (asked c .check .ensures) ∙ ap checked (c .i .given .1)
+
+fits : (c : tie.After-read-head) → place c .i .given .0 .0 * c .read-head .result .size + c .read-head .result .size < 2 ^ 64
+fits c = range-fits (place c .i .given .0 .0) (c .read-head .result .size) (search needs) (c .read-head .ensures .size-fits)
 
 check-requires : tie.Need-check-requires
 check-requires c κs = search needs
@@ -40,12 +49,12 @@ enum-known-i c = search needs
 
 returns : tie.Need-returns
 returns c =
-    let a = c .before .before .before .before .args in
-    sym (ap (rangeOf (contentsIn version1 (a .sheet .now))) (sym (c .before .check .ensures)) ∙ other (contentsIn version1 (a .sheet .now)) (c .before .check .result) (c .match .keys2))
+    let k = c .before in
+    let x = contentsIn version1 (start k .args .sheet .now) in
+    sym (ap (rangeOf x) (sym (k .check .ensures)) ∙ other x (k .check .result) (c .match .keys2))
 
-number-at-requires : tie.Need-number-at-requires
-number-at-requires c κs =
-    omega (arith, named-long _ _ _ (page c))
+read-head-requires : tie.Need-read-head-requires
+read-head-requires c κs = named-long _ _ _ (page (c .before))
 
 cast-from : tie.Need-cast-from
 cast-from c = search needs
@@ -53,19 +62,14 @@ cast-from c = search needs
 mul-from : tie.Need-mul-from
 mul-from c = omega (arith, fits c)
 
-add-if1 : tie.Need-add-if1
-add-if1 c = omega (arith, fits c)
+add-end : tie.Need-add-end
+add-end c = omega (arith, fits c)
 
 returns-2 : tie.Need-returns-2
-returns-2 c =
-    named-range _ _ _ (page (c .before .before)) _ (c .before .number-at .result) _ (c .before .number-at .ensures .0) refl (omega arith)
-
-add-t9 : tie.Need-add-t9
-add-t9 c = search needs
+returns-2 c = let h = c .before in named-range _ _ _ (page (place h)) _ (h .read-head .result .size) _ (h .read-head .ensures .size) refl (omega arith)
 
 returns-3 : tie.Need-returns-3
-returns-3 c =
-    named-range _ _ _ (page (c .before .before)) _ (c .before .number-at .result) _ (c .before .number-at .ensures .0) refl (omega arith)
+returns-3 c = let h = c .before in named-range _ _ _ (page (place h)) _ (h .read-head .result .size) _ (h .read-head .ensures .size) refl (omega arith)
 
 pub first-changed-range-spec : {M : Type 1} → statement M
 first-changed-range-spec =
@@ -74,10 +78,9 @@ first-changed-range-spec =
     check-requires
     enum-known-i
     returns
-    number-at-requires
+    read-head-requires
     cast-from
     mul-from
-    add-if1
+    add-end
     returns-2
-    add-t9
     returns-3)

@@ -2,74 +2,91 @@
 use mathlib.Core.Path.{_≡_, refl, ap, _∙_}
 use mathlib.Core.List.{List}
 use Prim.Native.Nat.{ℕ, _+_, _-_, _*_, _≤_}
+use native.Mathlib.Nat.{not-suc-le-zero}
 use native.Mathlib.Omega.{arith}
 use lib.ListN.{length, take, drop, length-set}
-use Rattle.gf2.specs.Polynomials.{monic, rem}
+use Rattle.gf2.specs.Polynomials.{rem}
+use Rattle.gf2.specs.Moduli.{polynomial}
 use Rattle.files.specs.Files.{bits, valueFrom}
-use Rattle.lookups.proofs.Parts.{run-length}
-use Rattle.sheet_pages.specs.Blocks.{Begun}
+use Rattle.lookups.proofs.Parts.{lane-length}
+use Rattle.sheet_pages.specs.Blocks.{BegunBy}
 use Rattle.sheet_pages.proofs.Blocks.{begun-two, place-fits, front-cut}
 use Rattle.sheet_pages.proofs.begin_pages.Statement.{statement}
 use Rattle.sheet_pages.proofs.begin_pages.Tie as tie
 
 abbrev Inv-loop : tie.InvT-loop
-Inv-loop marks₀ eights k low size whole n pages i₀ marks i = (i ≤ n) × (length marks ≡ length marks₀) × Begun (monic k low) size whole i pages marks
+Inv-loop marks₀ eights size whole n pages i₀ marks i = (i ≤ n) × (length marks ≡ length marks₀) × BegunBy eights size whole i pages marks
 
 abbrev μ-loop : tie.MeasureT-loop
-μ-loop marks₀ eights k low size whole n pages i₀ marks i = n - i
+μ-loop marks₀ eights size whole n pages i₀ marks i = n - i
+
+-- the places behind the loop's begin, behind `beside` and behind the feeding, and the start
+abbrev start : tie.At-loop Inv-loop μ-loop → tie.Start Inv-loop μ-loop
+start c = c .before .before .before .before
+
+abbrev loop : tie.After-beside Inv-loop μ-loop → tie.At-loop Inv-loop μ-loop
+loop c = c .before .before
+
+abbrev two : tie.After-feed-eights Inv-loop μ-loop → tie.After-beside Inv-loop μ-loop
+two c = c .before .before .before
 
 loop-holds : tie.Need-loop-holds Inv-loop μ-loop
-loop-holds c = (omega arith, refl, λ i l. absurd (omega arith))
+loop-holds c = (omega arith, refl, λ p h sh i l. absurd (not-suc-le-zero l))
 
 beside-requires : tie.Need-beside-requires Inv-loop μ-loop
-beside-requires c κs = c .loop-test .taken
+beside-requires c κs = omega arith
 
--- the two pages at hand end inside the block
-first-fits : (c : tie.After-beside Inv-loop μ-loop) → c .before .before .loop .i * c .before .before .before .before .before .before .args .size + c .before .before .before .before .before .before .args .size ≤ length (c .before .before .before .before .before .before .args .pages .now)
-first-fits c = let s = c .before .before .before .before .before .before in place-fits (s .args .size) (s .args .n) (c .before .before .loop .i) (length (s .args .pages .now)) (c .before .loop-test .taken) (s .pre .5)
+-- both pages end inside the block
+first-fits : (c : tie.After-beside Inv-loop μ-loop) → loop c .loop .i * start (loop c) .args .size + start (loop c) .args .size ≤ length (start (loop c) .args .pages .now)
+first-fits c = let s = start (loop c) in place-fits (s .args .size) (s .args .n) (loop c .loop .i) (length (s .args .pages .now)) (c .before .loop-test .taken) (s .pre .4)
 
-second-fits : (c : tie.After-beside Inv-loop μ-loop) → c .beside .result * c .before .before .before .before .before .before .args .size + c .before .before .before .before .before .before .args .size ≤ length (c .before .before .before .before .before .before .args .pages .now)
-second-fits c = let s = c .before .before .before .before .before .before in place-fits (s .args .size) (s .args .n) (c .beside .result) (length (s .args .pages .now)) (c .beside .ensures .2) (s .pre .5)
+second-fits : (c : tie.After-beside Inv-loop μ-loop) → c .beside .result * start (loop c) .args .size + start (loop c) .args .size ≤ length (start (loop c) .args .pages .now)
+second-fits c = let s = start (loop c) in place-fits (s .args .size) (s .args .n) (c .beside .result) (length (s .args .pages .now)) (c .beside .ensures .2) (s .pre .4)
 
 mul-a : tie.Need-mul-a Inv-loop μ-loop
-mul-a c = omega (arith, c .before .before .before .before .before .before .pre .4, first-fits c)
+mul-a c = omega (arith, start (loop c) .pre .3, first-fits c)
 
 mul-b : tie.Need-mul-b Inv-loop μ-loop
-mul-b c = omega (arith, c .before .before .before .before .before .before .pre .4, second-fits c)
+mul-b c = omega (arith, start (loop c) .pre .3, second-fits c)
 
 add-feed-eights : tie.Need-add-feed-eights Inv-loop μ-loop
-add-feed-eights c = omega (arith, c .before .before .before .before .before .before .pre .4, first-fits c)
+add-feed-eights c = omega (arith, start (loop c) .pre .3, first-fits c)
 
 sub-feed-eights : tie.Need-sub-feed-eights Inv-loop μ-loop
-sub-feed-eights c = omega (arith, c .before .before .before .before .before .before .pre .4, first-fits c)
+sub-feed-eights c = omega (arith, start (loop c) .pre .3, first-fits c)
 
 part-feed-eights-start : tie.Need-part-feed-eights-start Inv-loop μ-loop
-part-feed-eights-start c = omega (arith, c .before .before .before .before .before .before .pre .4, first-fits c)
+part-feed-eights-start c = omega (arith, start (loop c) .pre .3, first-fits c)
 
 part-feed-eights-end : tie.Need-part-feed-eights-end Inv-loop μ-loop
-part-feed-eights-end c = omega (arith, c .before .before .before .before .before .before .pre .4, first-fits c)
+part-feed-eights-end c = omega (arith, start (loop c) .pre .3, first-fits c)
 
 add-feed-eights-2 : tie.Need-add-feed-eights-2 Inv-loop μ-loop
-add-feed-eights-2 c = omega (arith, c .before .before .before .before .before .before .before .pre .4, second-fits (c .before))
+add-feed-eights-2 c = omega (arith, start (loop (c .before)) .pre .3, second-fits (c .before))
 
 sub-feed-eights-2 : tie.Need-sub-feed-eights-2 Inv-loop μ-loop
-sub-feed-eights-2 c = omega (arith, c .before .before .before .before .before .before .before .pre .4, second-fits (c .before))
+sub-feed-eights-2 c = omega (arith, start (loop (c .before)) .pre .3, second-fits (c .before))
 
 part-feed-eights-start-2 : tie.Need-part-feed-eights-start-2 Inv-loop μ-loop
-part-feed-eights-start-2 c = omega (arith, c .before .before .before .before .before .before .before .pre .4, second-fits (c .before))
+part-feed-eights-start-2 c = omega (arith, start (loop (c .before)) .pre .3, second-fits (c .before))
 
 part-feed-eights-end-2 : tie.Need-part-feed-eights-end-2 Inv-loop μ-loop
-part-feed-eights-end-2 c = omega (arith, c .before .before .before .before .before .before .before .pre .4, second-fits (c .before))
+part-feed-eights-end-2 c = omega (arith, start (loop (c .before)) .pre .3, second-fits (c .before))
+
+-- the part of a page that ends inside the block
+part-length : (s : tie.Start Inv-loop μ-loop) (i : ℕ) → i * s .args .size + s .args .size ≤ length (s .args .pages .now)
+    → length (take (i * s .args .size + s .args .whole - i * s .args .size) (drop (i * s .args .size) (s .args .pages .now))) ≡ s .args .whole
+part-length s i l =
+    let a = s .args in
+    lane-length (a .pages .now) (i * a .size) (i * a .size + a .whole) (a .whole) refl (omega (arith, s .pre .3, l))
 
 feed-eights-requires : tie.Need-feed-eights-requires Inv-loop μ-loop
 feed-eights-requires c κs =
-    let s = c .before .before .before .before .before .before .before .before in
-    let a = s .args in
-    let run : (i : ℕ) → i * a .size + a .size ≤ length (a .pages .now) → length (take (i * a .size + a .whole - i * a .size) (drop (i * a .size) (a .pages .now))) ≡ a .whole
-    = λ i l. run-length (a .pages .now) (i * a .size) (i * a .size + a .whole) (a .whole) refl (omega (arith, s .pre .4, l)) in
-    let p = run (c .before .before .before .before .loop .i) (first-fits (c .before .before)) in
-    let q = run (c .before .before .beside .result) (second-fits (c .before .before)) in
-    (s .pre .0, s .pre .1, rw p (s .pre .2), rw p (s .pre .3), rw (p, q))
+    let b = c .before .before in
+    let s = start (loop b) in
+    let p = part-length s (loop b .loop .i) (first-fits b) in
+    let q = part-length s (b .beside .result) (second-fits b) in
+    (s .pre .0, rw p (s .pre .1), rw p (s .pre .2), rw (p, q))
 
 mul-marks : tie.Need-mul-marks Inv-loop μ-loop
 mul-marks c = omega arith
@@ -91,25 +108,26 @@ loop-less c = omega arith
 
 loop-again : tie.Need-loop-again Inv-loop μ-loop
 loop-again c =
-    let s = c .before .before .before .before .before .before .before .before .before in
+    let b = two c in
+    let l = loop b .loop in
+    let s = start (loop b) in
     let a = s .args in
-    let l = c .before .before .before .before .before .loop in
-    let j = c .before .before .before .beside .result in
-    let fed = c .feed-eights .ensures in
-    let key = monic (a .k) (a .low) in
-    let front : (i : ℕ) → rem key (valueFrom 1 (bits (take (i * a .size + a .whole - i * a .size) (drop (i * a .size) (a .pages .now))))) ≡ rem key (valueFrom 1 (bits (take (a .whole) (drop (i * a .size) (a .pages .now)))))
-    = λ i. ap (λ (q : List ℕ). rem key (valueFrom 1 (bits q))) (front-cut (i * a .size) (a .whole) (a .pages .now)) in (
+    let j = b .beside in
+    let x = c .feed-eights in
+    let front : (key i : ℕ) → rem key (valueFrom 1 (bits (take (i * a .size + a .whole - i * a .size) (drop (i * a .size) (a .pages .now)))))
+    ≡ rem key (valueFrom 1 (bits (take (a .whole) (drop (i * a .size) (a .pages .now))))) =
+    λ key i. ap (λ (q : List ℕ). rem key (valueFrom 1 (bits q))) (front-cut (i * a .size) (a .whole) (a .pages .now)) in (
       omega arith,
       simp length-set (l .inv .1),
-      begun-two key (a .size) (a .whole) (a .pages .now) (l .marks) (l .i) j (c .feed-eights .result .a) (c .feed-eights .result .b) (c .before .before .before .beside .ensures .0) (c .before .before .before .beside .ensures .1) (omega (arith, c .before .before .before .beside .ensures .2)) (l .inv .2)
-          (fed .0 ∙ front (l .i)) (fed .1 ∙ front j),
+      λ p h sh. begun-two (polynomial p) (a .size) (a .whole) (a .pages .now) (l .marks) (l .i) (j .result) (x .result .a) (x .result .b) (j .ensures .0) (j .ensures .1)
+          (omega (arith, j .ensures .2)) (l .inv .2 p h sh) (x .ensures .0 p h sh ∙ front (polynomial p) (l .i)) (x .ensures .1 p h sh ∙ front (polynomial p) (j .result)),
     )
 
 same-length : tie.Need-same-length Inv-loop μ-loop
 same-length c = omega arith
 
 returns : tie.Need-returns Inv-loop μ-loop
-returns c = λ i l. c .before .loop .inv .2 i (omega (arith, l))
+returns c = λ p h sh i l. c .before .loop .inv .2 p h sh i (omega (arith, l))
 
 pub begin-pages-spec : {M : Type 1} → statement M
 begin-pages-spec =

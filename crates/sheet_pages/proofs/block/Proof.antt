@@ -1,5 +1,4 @@
 -- `block` meets its contract: the quotient, or 64 where it is larger.
-use native.Mathlib.Nat.{div-add-mod', le-div-iff-mul-le}
 use native.Mathlib.Omega.{arith}
 use borrow.Author.Needs.{needs}
 use Rattle.sheet_pages.proofs.block.Statement.{statement}
@@ -9,14 +8,10 @@ div-n : tie.Need-div-n
 div-n c = search needs
 
 returns : tie.Need-returns
-returns c =
-    let a = c .before .args in
-    (omega arith, omega (arith, div-add-mod' (a .left) (a .size)), λ l. le-div-iff-mul-le (c .before .pre) .1 (omega (arith, l)))
+returns c = omega arith
 
 returns-2 : tie.Need-returns-2
-returns-2 c =
-    let a = c .before .args in
-    (omega arith, le-div-iff-mul-le (c .before .pre) .0 (omega arith), λ l. omega arith)
+returns-2 c = omega arith
 
 pub block-spec : {M : Type 1} → statement M
 block-spec = tie.close (tie.spec div-n returns returns-2)

@@ -1,28 +1,40 @@
 -- `whole_marks` meets its contract.
 use native.Mathlib.Omega.{arith}
-use Rattle.gf2.specs.Polynomials.{monic}
+use Rattle.gf2.specs.Moduli.{polynomial}
 use Rattle.sheet_pages.proofs.Blocks.{block-is}
 use borrow.Author.Needs.{needs}
 use Rattle.sheet_pages.proofs.whole_marks.Statement.{statement}
 use Rattle.sheet_pages.proofs.whole_marks.Tie as tie
 
+-- the pages are begun, and finished
+abbrev begun : tie.After-finish-pages → tie.After-begin-pages
+begun c = c .before .before .before .before
+
+abbrev start : tie.After-begin-pages-arg → tie.Start
+start c = c .before .before .before .before .before
+
 mul-whole : tie.Need-mul-whole
 mul-whole c = search needs
 
 begin-pages-requires : tie.Need-begin-pages-requires
-begin-pages-requires c κs = search needs
+begin-pages-requires c κs = let s = start c in (s .pre .0 .shifts .long, omega arith, omega arith, omega arith, s .pre .2, s .pre .3)
 
 finish-pages-requires : tie.Need-finish-pages-requires
-finish-pages-requires c κs = search needs
+finish-pages-requires c κs =
+    let b = c .before .before .before in
+    let s = start (b .before) in
+    (s .pre .0 .table, omega arith, s .pre .2, omega (arith, b .begin-pages .kept .0), b .begin-pages .ensures (s .args .p) (s .pre .0 .table .0) (s .pre .0 .shifts))
 
 same-length : tie.Need-same-length
 same-length c = search needs
 
 returns : tie.Need-returns
 returns c =
-    let s = c .before .before .before .before .before .before .before .before .before .before .before .before in
+    let f = c .before .before in
+    let b = begun f in
+    let s = start (b .before) in
     let a = s .args in
-    block-is (monic (a .k) (a .low)) (a .size) (a .n) (a .pages .now) _ (s .pre .3) (omega (arith, c .before .before .finish-pages .kept .0)) (c .before .before .finish-pages .ensures)
+    block-is (polynomial (a .p)) (a .size) (a .n) (a .pages .now) _ (s .pre .2) (omega (arith, b .begin-pages .kept .0, f .finish-pages .kept .0)) (f .finish-pages .ensures)
 
 pub whole-marks-spec : {M : Type 1} → statement M
 whole-marks-spec =

@@ -12,12 +12,21 @@ use Rattle.sheet_writing.proofs.put_fields.Statement.{statement}
 use Rattle.sheet_writing.proofs.put_fields.Tie as tie
 
 abbrev Inv-loop : tie.InvT-loop
-Inv-loop buffer₀ from marks place₀ i₀ buffer place i =
-    (i ≤ length marks) × (place ≡ from + 8 * i) × (length buffer ≡ length buffer₀)
-    × (sets buffer place (fieldsOf 8 (drop i marks)) ≡ sets buffer₀ from (fieldsOf 8 marks))
+Inv-loop fields₀ from marks place₀ i₀ fields place i =
+    (i ≤ length marks) × (place ≡ from + 8 * i) × (length fields ≡ length fields₀)
+    × (sets fields place (fieldsOf 8 (drop i marks)) ≡ sets fields₀ from (fieldsOf 8 marks))
 
 abbrev μ-loop : tie.MeasureT-loop
-μ-loop buffer₀ from marks place₀ i₀ buffer place i = length marks - i
+μ-loop fields₀ from marks place₀ i₀ fields place i = length marks - i
+
+abbrev start : tie.At-loop Inv-loop μ-loop → tie.Start Inv-loop μ-loop
+start c = c .before .before .before
+
+abbrev loop : tie.After-shared-slice-known2 Inv-loop μ-loop → tie.At-loop Inv-loop μ-loop
+loop c = c .before .before .before
+
+abbrev stored : tie.After-slice-known2 Inv-loop μ-loop → tie.After-put Inv-loop μ-loop
+stored c = c .before .before
 
 loop-holds : tie.Need-loop-holds Inv-loop μ-loop
 loop-holds c = (omega arith, omega arith, refl, refl)
@@ -29,10 +38,10 @@ shared-slice-read-put : tie.Need-shared-slice-read-put Inv-loop μ-loop
 shared-slice-read-put c = omega arith
 
 put-requires : tie.Need-put-requires Inv-loop μ-loop
-put-requires c κs = (omega arith, omega (arith, c .before .before .before .before .before .before .pre, c .before .before .before .loop .inv .1))
+put-requires c κs = (omega arith, omega (arith, start (loop c) .pre, loop c .loop .inv .1))
 
 add-place : tie.Need-add-place Inv-loop μ-loop
-add-place c = omega (arith, c .before .before .before .before .before .before .before .before .before .pre, c .before .before .before .before .before .before .loop .inv .1)
+add-place c = let l = loop (stored c .before) in omega (arith, start l .pre, l .loop .inv .1)
 
 add-i : tie.Need-add-i Inv-loop μ-loop
 add-i c = omega arith
@@ -42,16 +51,16 @@ loop-less c = omega arith
 
 loop-again : tie.Need-loop-again Inv-loop μ-loop
 loop-again c =
-    let a = c .before .before .before .before .before .before .before .before .before .args in
-    let l = c .before .before .before .before .before .before .loop in
-    let f = getD (a .marks .now) (l .i) 0 in
-    let next = drop-next (a .marks .now) (l .i) 0 (omega arith) in (
+    let p = stored c in
+    let l = loop (p .before) .loop in
+    let marks = start (loop (p .before)) .args .marks .now in
+    let rest = drop (l .i + 1) marks in (
       omega arith,
       omega (arith, l .inv .1),
-      c .before .before .put .kept .0 ∙ l .inv .2,
-      ap (λ (b : List ℕ). sets b (l .place + 8) (fieldsOf 8 (drop (l .i + 1) (a .marks .now)))) (c .before .before .put .ensures)
-          ∙ fields-behind 8 f (drop (l .i + 1) (a .marks .now)) (l .buffer) (l .place)
-          ∙ ap (λ (fs : List ℕ). sets (l .buffer) (l .place) (fieldsOf 8 fs)) (sym next)
+      p .put .kept .0 ∙ l .inv .2,
+      ap (λ (b : List ℕ). sets b (l .place + 8) (fieldsOf 8 rest)) (p .put .ensures)
+          ∙ fields-behind 8 (getD marks (l .i) 0) rest (l .fields) (l .place)
+          ∙ ap (λ (fs : List ℕ). sets (l .fields) (l .place) (fieldsOf 8 fs)) (sym (drop-next marks (l .i) 0 (omega arith)))
           ∙ l .inv .3,
     )
 
@@ -62,7 +71,8 @@ returns : tie.Need-returns Inv-loop μ-loop
 unfolding fieldsOf
 returns c =
     let l = c .before .loop in
-    sym (ap (λ (fs : List ℕ). sets (l .buffer) (l .place) (fieldsOf 8 fs)) (drop-of-length-le (c .before .before .before .before .args .marks .now) {i = l .i} (omega arith))) ∙ l .inv .3
+    let none = drop-of-length-le (start (c .before) .args .marks .now) {i = l .i} (omega arith) in
+    sym (ap (λ (fs : List ℕ). sets (l .fields) (l .place) (fieldsOf 8 fs)) none) ∙ l .inv .3
 
 pub put-fields-spec : {M : Type 1} → statement M
 put-fields-spec =

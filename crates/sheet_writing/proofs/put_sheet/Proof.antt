@@ -1,145 +1,78 @@
 -- `put_sheet` meets its contract.
-use mathlib.Core.Path.{_≡_, refl, ap, ap₂, _∙_}
-use Prim.Native.Nat.{ℕ, _+_, _-_, _*_, _/_, _≤_}
-use native.Mathlib.Nat.{sub-zero}
+use mathlib.Core.Path.{_≡_, ap, ap₂, _∙_}
+use mathlib.Core.List.{List, [], _++_, append-nil}
+use Prim.Native.Nat.{ℕ, _-_}
+use native.Mathlib.Nat.{le-refl}
 use native.Mathlib.Omega.{arith}
-use lib.ListN.{length}
+use lib.ListN.{length, take, drop, length-drop, drop-of-length-le}
 use lib.Seq.{sets}
-use Rattle.gf2.specs.Polynomials.{monic}
-use Rattle.gf2.proofs.Monics.{word-degree}
+use Rattle.acceptance.proofs.Opened.{opened-proper, opened-eight, opened-word, opened-whole}
 use Rattle.files.specs.Files.{fingerprint}
-use Rattle.sheets.specs.Layout.{bytesOf, fieldsOf, numbersAt, pageCount}
+use Rattle.sheets.specs.Layout.{version1, bytesOf, fieldsOf, pagePlace, pageCount, bytesIn}
 use Rattle.sheets.specs.Sheets.{pageFingerprints, contentsOf}
-use Rattle.sheets.proofs.Moduli.{Held, held}
-use Rattle.sheets.proofs.Pages.{length-pages, count-whole}
-use Rattle.sheet_writing.proofs.Stores.{sheet-stores, whole-stored}
+use Rattle.sheets.proofs.Pages.{length-pages, all-left}
+use Rattle.sheet_writing.proofs.Stores.{sheet-stores}
 use borrow.Author.Needs.{needs}
 use Rattle.sheet_writing.proofs.put_sheet.Statement.{statement}
 use Rattle.sheet_writing.proofs.put_sheet.Tie as tie
 
-key-held : (c : tie.After-low-bits) → Held (c .before .before .before .before .before .args .key) (c .before .degree .result) (c .low-bits .result)
-key-held c =
-    let s = c .before .before .before .before .before in
-    held (s .args .key) (c .before .degree .result) (c .low-bits .result) (s .pre .0) (s .fits .key .fits) (c .before .degree .ensures) (c .low-bits .ensures)
+abbrev start : tie.After-put-head → tie.Start
+start c = c .before .before .before .before
 
--- the buffer with all pages' fingerprints
-pages : (c : tie.After-put-pages) → c .put-pages .last .0 ≡ sets (c .before .before .before .before .before .before .put-head .last .0) 19 (fieldsOf 8 (pageFingerprints (monic (c .before .before .before .before .before .before .before .before .before .before .before .before .before .before .before .degree .result) (c .before .before .before .before .before .before .before .before .before .before .before .before .before .before .low-bits .result)) (c .before .before .before .before .before .before .before .before .before .before .before .before .before .before .before .before .before .before .before .args .size) (pageCount (c .before .before .before .before .before .before .before .before .before .before .before .before .before .before .before .before .before .before .before .args .size) (length (c .before .before .before .before .before .before .before .before .before .before .before .before .before .before .before .before .before .before .before .args .file .now))) (c .before .before .before .before .before .before .before .before .before .before .before .before .before .before .before .before .before .before .before .args .file .now)))
-pages c =
-    let a = c .before .before .before .before .before .before .before .before .before .before .before .before .before .before .before .before .before .before .before .args in
-    c .put-pages .ensures
-    ∙ ap (λ (n : ℕ). sets (c .before .before .before .before .before .before .put-head .last .0) 19 (fieldsOf 8 (pageFingerprints (monic (c .before .before .before .before .before .before .before .before .before .before .before .before .before .before .before .degree .result) (c .before .before .before .before .before .before .before .before .before .before .before .before .before .before .low-bits .result)) (a .size) (pageCount (a .size) n) (a .file .now)))) (sub-zero (length (a .file .now)))
-
-page-count-requires : tie.Need-page-count-requires
-page-count-requires c κs = search needs
-
-mul-last : tie.Need-mul-last
-mul-last c = search needs
-
-add-last : tie.Need-add-last
-add-last c = search needs
-
-degree-requires : tie.Need-degree-requires
-degree-requires c κs = search needs
-
-low-bits-requires : tie.Need-low-bits-requires
-low-bits-requires c κs =
-    let s = c .before .before .before .before in
-    rw (c .degree .ensures) (word-degree (s .args .key) (omega arith) (s .fits .key .fits))
-
-slice-aggregate-fill : tie.Need-slice-aggregate-fill
-slice-aggregate-fill c = search needs
-
-fill-requires : tie.Need-fill-requires
-fill-requires c κs = (key-held (c .before) .modulus, refl)
-
-slice-aggregate-fill-2 : tie.Need-slice-aggregate-fill-2
-slice-aggregate-fill-2 c = search needs
-
-fill-requires-2 : tie.Need-fill-requires-2
-fill-requires-2 c κs = (key-held (c .before .before .before .before) .modulus, omega arith, refl)
+abbrev head : tie.After-put-fingerprints-arg → tie.After-put-head
+head c = c .before .before .before
 
 put-head-requires : tie.Need-put-head-requires
-put-head-requires c κs = search needs
+put-head-requires c κs = omega (arith, c .before .before .before .pre .4)
 
-slice-aggregate-put-pages : tie.Need-slice-aggregate-put-pages
-slice-aggregate-put-pages c = search needs
+sub-put-fingerprints : tie.Need-sub-put-fingerprints
+sub-put-fingerprints c = let h = c .before .before in omega (arith, h .put-head .kept .0, start h .pre .4)
 
-slice-aggregate-put-pages-2 : tie.Need-slice-aggregate-put-pages-2
-slice-aggregate-put-pages-2 c = search needs
+part-put-fingerprints-start : tie.Need-part-put-fingerprints-start
+part-put-fingerprints-start c = let h = c .before .before in omega (arith, h .put-head .kept .0, start h .pre .4)
 
-put-pages-requires : tie.Need-put-pages-requires
-put-pages-requires c κs =
-    let s = c .before .before .before .before .before .before .before .before .before .before .before .before .before .before .before .before .before .before in
-    let a = s .args in
-    let h = key-held (c .before .before .before .before .before .before .before .before .before .before .before .before .before) in (
-      (h .modulus, h .eight, c .before .before .before .before .before .before .before .before .before .before .before .fill .ensures),
-      c .before .before .before .before .before .before .before .before .fill2 .ensures,
-      s .pre .1,
-      s .pre .2,
-      s .pre .3,
-      rw (sub-zero (length (a .file .now))) (omega (arith, c .before .before .before .before .before .put-head .kept .0)),
-    )
+part-put-fingerprints-end : tie.Need-part-put-fingerprints-end
+part-put-fingerprints-end c = search needs
 
-slice-aggregate-file-mark : tie.Need-slice-aggregate-file-mark
-slice-aggregate-file-mark c = search needs
-
-file-mark-requires : tie.Need-file-mark-requires
-file-mark-requires c κs =
-    let s = c .before .before .before .before .before .before .before .before .before .before .before .before .before .before .before .before .before .before .before .before .before .before .before in
-    let a = s .args in
-    let h = key-held (c .before .before .before .before .before .before .before .before .before .before .before .before .before .before .before .before .before .before) in
-    let file = a .file .now in
-    let b = c .before .before .before .before .before .before .before .before .before .before .put-head .last .0 in
-    let count = pageCount (a .size) (length file) in
-    let head = c .before .before .before .before .before .before .before .before .before .before .put-head .kept .0 in
-    let fits : 19 + 8 * count ≤ length b = omega (arith, head) in (
-      (h .modulus, h .eight, c .before .before .before .before .before .before .before .before .before .before .before .before .before .before .before .before .fill .ensures),
-      h .word,
-      s .pre .1,
-      s .pre .2,
-      s .pre .3,
-      omega (arith, c .before .before .before .before .put-pages .kept .0, head, count-whole (a .size) (length file) (omega arith)),
-      ap (numbersAt 19 8 (length file / a .size)) (pages (c .before .before .before .before)) ∙ whole-stored _ _ (h .modulus) (a .size) file b (omega arith) fits,
-    )
-
-put-requires : tie.Need-put-requires
-put-requires c κs = (omega arith, omega (arith, c .before .before .before .before .before .before .before .before .before .before .before .before .before .before .before .before .before .before .before .before .before .before .page-count .ensures, c .before .before .before .before .before .before .before .before .before .before .before .before .before .before .before .before .before .before .before .before .before .before .before .before .before .pre .4, c .before .before .before .before .before .before .before .before .before .before .before .before .put-head .kept .0, c .before .before .before .before .before .before .put-pages .kept .0))
+put-fingerprints-requires : tie.Need-put-fingerprints-requires
+put-fingerprints-requires c κs =
+    let h = head c in
+    let s = start h in
+    let p = s .pre in
+    let part = ap length (all-left (h .put-head .last .0) (pagePlace version1 0)) ∙ length-drop (pagePlace version1 0) (h .put-head .last .0) in
+    (opened-proper (p .0), opened-eight (p .0), opened-word (p .0), p .1, p .2, p .3, omega (arith, part, h .put-head .kept .0, p .4))
 
 same-length : tie.Need-same-length
 same-length c = search needs
 
 returns : tie.Need-returns
-unfolding contentsOf
+unfolding contentsOf bytesIn
 returns c =
-    let s = c .before .before .before .before .before .before .before .before .before .before .before .before .before .before .before .before .before .before .before .before .before .before .before .before .before .before .before .before in
+    let f = c .before .before in
+    let h = head (f .before) in
+    let s = start h in
     let a = s .args in
-    let h = key-held (c .before .before .before .before .before .before .before .before .before .before .before .before .before .before .before .before .before .before .before .before .before .before .before) in
     let file = a .file .now in
     let count = pageCount (a .size) (length file) in
-    sheet-stores (contentsOf (a .key) (a .size) file) count (a .buffer .now) _ _ _ (length-pages (a .key) count (a .size) file) (s .pre .4) (c .before .before .before .before .before .before .before .before .before .before .before .before .before .before .before .put-head .ensures)
-    (pages (c .before .before .before .before .before .before .before .before .before) ∙ ap (λ (m : ℕ). sets (c .before .before .before .before .before .before .before .before .before .before .before .before .before .before .before .put-head .last .0) 19 (fieldsOf 8 (pageFingerprints m (a .size) count file))) (h .whole))
-    (c .before .before .put .ensures ∙ ap₂ (λ (n f : ℕ). sets (c .before .before .before .before .before .before .before .before .before .put-pages .last .0) (19 + 8 * n) (bytesOf 8 f)) (c .before .before .before .before .before .before .before .before .before .before .before .before .before .before .before .before .before .before .before .before .before .before .before .before .before .page-count .ensures)
-    (c .before .before .before .before .file-mark .ensures ∙ ap (λ (m : ℕ). fingerprint m file) (h .whole)))
+    let b = h .put-head .last .0 in
+    let place = pagePlace version1 0 in
+    let part = f .put-fingerprints .last .0 in
+    let none : drop (length b - place) (drop place b) ≡ [] = drop-of-length-le (drop place b) {i = length b - place} (rw (length-drop place b) (le-refl (length b - place))) in
+    let stored : part ≡ sets (drop place b) 0 (fieldsOf 8 (pageFingerprints (a .key) (a .size) count file) ++ bytesOf 8 (fingerprint (a .key) file)) =
+    f .put-fingerprints .ensures
+    ∙ ap₂ (λ (l : List ℕ) (m : ℕ). sets l 0 (fieldsOf 8 (pageFingerprints m (a .size) count file) ++ bytesOf 8 (fingerprint m file))) (all-left b place) (opened-whole (s .pre .0)) in
+    ap (λ (l : List ℕ). take place b ++ (part ++ l)) none
+    ∙ ap (λ (l : List ℕ). take place b ++ l) (append-nil part)
+    ∙ sheet-stores (contentsOf (a .key) (a .size) file) count (a .buffer .now) b part (length-pages (a .key) count (a .size) file) (s .pre .4) (h .put-head .ensures) stored
 
 pub put-sheet-spec : {M : Type 1} → statement M
 put-sheet-spec =
     tie.close
     (tie.spec
-    page-count-requires
-    mul-last
-    add-last
-    degree-requires
-    low-bits-requires
-    slice-aggregate-fill
-    fill-requires
-    slice-aggregate-fill-2
-    fill-requires-2
     put-head-requires
-    slice-aggregate-put-pages
-    slice-aggregate-put-pages-2
-    put-pages-requires
-    slice-aggregate-file-mark
-    file-mark-requires
-    put-requires
+    sub-put-fingerprints
+    part-put-fingerprints-start
+    part-put-fingerprints-end
+    put-fingerprints-requires
     same-length
     returns)

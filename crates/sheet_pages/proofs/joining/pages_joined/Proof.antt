@@ -1,14 +1,43 @@
 -- `pages_joined` meets its contract.
-use mathlib.Core.Path.{_∙_}
-use Prim.Native.Nat.{_-_, _/_}
+use mathlib.Core.Path.{_≡_, _∙_}
+use Prim.Native.Nat.{ℕ, _*_, _/_, _^_, _<_}
 use native.Mathlib.Nat.{mul-le-mul-right, mod-lt}
 use native.Mathlib.Omega.{arith}
 use lib.Pow.{pow-pos}
 use Rattle.gf2.proofs.Steps.{residue-lt}
-use Rattle.sheet_pages.proofs.Chains.{bits-none, bits-all, few-joined, all-joined}
+use Rattle.sheet_pages.proofs.Lanes.{bits-none, bits-all, few-joined, times-low, all-joined}
 use borrow.Author.Needs.{needs}
 use Rattle.sheet_pages.proofs.joining.pages_joined.Statement.{statement}
 use Rattle.sheet_pages.proofs.joining.pages_joined.Tie as tie
+
+-- the table of the shift by a page
+abbrev table : tie.After-shift2 → tie.After-fill
+table c = c .before
+
+abbrev start : tie.After-fill → tie.Start
+start c = c .before .before .before
+
+-- behind the four lanes, behind the power of t, and behind each of the three products
+abbrev lanes : tie.After-power-of-t → tie.After-join-lanes
+lanes c = c .before
+
+abbrev filled : tie.After-join-lanes → tie.After-fill
+filled c = table (c .before .before .before)
+
+abbrev power : tie.After-low-bits → tie.After-power-of-t
+power c = c .before
+
+abbrev first : tie.After-low-bits2 → tie.After-low-bits
+first c = c .before .before
+
+abbrev second : tie.After-low-bits3 → tie.After-low-bits2
+second c = c .before .before
+
+small-by : {x y b : ℕ} → x ≡ y → y < b → x < b
+small-by e h = rw e h
+
+power-lt : (c : tie.After-power-of-t) → c .power-of-t .result < 2 ^ start (filled (lanes c)) .args .p .degree
+power-lt c = let s = start (filled (lanes c)) in small-by (c .power-of-t .ensures) (residue-lt (s .args .p .degree) (s .args .p .low) (s .pre .0 .2) _)
 
 slice-aggregate-fill : tie.Need-slice-aggregate-fill
 slice-aggregate-fill c = search needs
@@ -16,33 +45,31 @@ slice-aggregate-fill c = search needs
 fill-requires : tie.Need-fill-requires
 fill-requires c κs = search needs
 
-slice-aggregate-join-run : tie.Need-slice-aggregate-join-run
-slice-aggregate-join-run c = search needs
+slice-aggregate-join-lane : tie.Need-slice-aggregate-join-lane
+slice-aggregate-join-lane c = search needs
 
-join-run-requires : tie.Need-join-run-requires
-join-run-requires c κs = search needs
+join-lane-requires : tie.Need-join-lane-requires
+join-lane-requires c κs = search needs
 
 returns : tie.Need-returns
 returns c =
-    let s = c .before .before .before .before .before .before .before in
+    let t = table (c .before .before .before) in
+    let s = start t in
     let a = s .args in
-    let shift = c .before .before .before .before .fill in
-    (λ r. c .join-run .ensures .0 ∙ few-joined (a .k) (a .low) (s .pre .0) (a .size) (a .n) (a .sheet .now) (shift .last .0) (shift .ensures) r, λ k. c .join-run .ensures .1 k ∙ bits-none k _)
+    let x = c .join-lane .ensures in
+    (λ r. x .0 ∙ few-joined (a .p) (s .pre .0) (a .size) 0 (a .n) (a .fields .now) (t .fill .last .0) (t .fill .ensures) r, λ k. x .1 k ∙ bits-none k _)
 
-slice-aggregate-join-runs : tie.Need-slice-aggregate-join-runs
-slice-aggregate-join-runs c = search needs
+slice-aggregate-join-lanes : tie.Need-slice-aggregate-join-lanes
+slice-aggregate-join-lanes c = search needs
 
-join-runs-requires : tie.Need-join-runs-requires
-join-runs-requires c κs = search needs
+join-lanes-requires : tie.Need-join-lanes-requires
+join-lanes-requires c κs = search needs
 
 mul-power-of-t : tie.Need-mul-power-of-t
 mul-power-of-t c = search needs
 
 mul-power-of-t-2 : tie.Need-mul-power-of-t-2
-mul-power-of-t-2 c =
-    let s = c .before .before .before .before .before .before .before in
-    let a = s .args in
-    omega (arith, mul-le-mul-right (a .n / 4) (s .pre .2))
+mul-power-of-t-2 c = let s = start (filled c) in omega (arith, mul-le-mul-right (s .args .n / 4) (s .pre .2))
 
 power-of-t-requires : tie.Need-power-of-t-requires
 power-of-t-requires c κs = search needs
@@ -50,59 +77,59 @@ power-of-t-requires c κs = search needs
 low-bits-requires : tie.Need-low-bits-requires
 low-bits-requires c κs = search needs
 
-joined-requires : tie.Need-joined-requires
-joined-requires c κs =
-    let s = c .before .before .before .before .before .before .before .before .before in
-    (s .pre .0, rw (c .low-bits .ensures) (mod-lt _ (pow-pos (s .args .k))), rw (c .before .power-of-t .ensures) (residue-lt (s .args .k) (s .args .low) (s .pre .0 .2) _))
+times-plus-requires : tie.Need-times-plus-requires
+times-plus-requires c κs = let s = start (filled (lanes (power c))) in (s .pre .0, small-by (c .low-bits .ensures) (mod-lt _ (pow-pos (s .args .p .degree))), power-lt (power c))
 
 low-bits-requires-2 : tie.Need-low-bits-requires-2
 low-bits-requires-2 c κs = search needs
 
-joined-requires-2 : tie.Need-joined-requires-2
-joined-requires-2 c κs =
-    let s = c .before .before .before .before .before .before .before .before .before .before .before in
-    (s .pre .0, rw (c .low-bits2 .ensures) (mod-lt _ (pow-pos (s .args .k))), rw (c .before .before .before .power-of-t .ensures) (residue-lt (s .args .k) (s .args .low) (s .pre .0 .2) _))
+times-plus-requires-2 : tie.Need-times-plus-requires-2
+times-plus-requires-2 c κs =
+    let p = power (first c) in
+    let s = start (filled (lanes p)) in
+    (s .pre .0, small-by (c .low-bits2 .ensures) (mod-lt _ (pow-pos (s .args .p .degree))), power-lt p)
 
 low-bits-requires-3 : tie.Need-low-bits-requires-3
 low-bits-requires-3 c κs = search needs
 
-joined-requires-3 : tie.Need-joined-requires-3
-joined-requires-3 c κs =
-    let s = c .before .before .before .before .before .before .before .before .before .before .before .before .before in
-    (s .pre .0, rw (c .low-bits3 .ensures) (mod-lt _ (pow-pos (s .args .k))), rw (c .before .before .before .before .before .power-of-t .ensures) (residue-lt (s .args .k) (s .args .low) (s .pre .0 .2) _))
+times-plus-requires-3 : tie.Need-times-plus-requires-3
+times-plus-requires-3 c κs =
+    let p = power (first (second c)) in
+    let s = start (filled (lanes p)) in
+    (s .pre .0, small-by (c .low-bits3 .ensures) (mod-lt _ (pow-pos (s .args .p .degree))), power-lt p)
 
 mul-from : tie.Need-mul-from
 mul-from c = search needs
 
-add-from : tie.Need-add-from
-add-from c = search needs
+slice-aggregate-join-lane-2 : tie.Need-slice-aggregate-join-lane-2
+slice-aggregate-join-lane-2 c = search needs
 
-slice-aggregate-join-run-2 : tie.Need-slice-aggregate-join-run-2
-slice-aggregate-join-run-2 c = search needs
+mul-join-lane : tie.Need-mul-join-lane
+mul-join-lane c = search needs
 
-mul-join-run : tie.Need-mul-join-run
-mul-join-run c = search needs
+sub-join-lane : tie.Need-sub-join-lane
+sub-join-lane c = search needs
 
-sub-join-run : tie.Need-sub-join-run
-sub-join-run c = search needs
-
-join-run-requires-2 : tie.Need-join-run-requires-2
-join-run-requires-2 c κs = search needs
+join-lane-requires-2 : tie.Need-join-lane-requires-2
+join-lane-requires-2 c κs = search needs
 
 returns-2 : tie.Need-returns-2
 returns-2 c =
-    let s = c .before .before .before .before .before .before .before .before .before .before .before .before .before .before .before .before in
+    let c₃ = c .before .before in
+    let b₃ = c₃ .before in
+    let b₂ = second b₃ in
+    let b₁ = first b₂ in
+    let p = power b₁ in
+    let x = lanes p .join-lanes in
+    let t = filled (lanes p) .fill in
+    let s = start (filled (lanes p)) in
     let a = s .args in
-    let shift = c .before .before .before .before .before .before .before .before .before .before .before .before .before .fill in
-    let x = c .before .before .before .before .before .before .before .before .before .join-runs in
-    let t = c .before .before .before .before .before .before .before .before .power-of-t in
-    let ab = c .before .before .before .before .before .before .joined in
-    let abc = c .before .before .before .before .joined2 in
-    let abcd = c .before .before .joined3 in (
-      λ r. all-joined (a .k) (a .low) (s .pre .0) (a .size) (a .n) (a .n / 4) (omega arith) (a .sheet .now) (shift .last .0) (shift .ensures) r (x .result) (x .ensures) (t .result) (t .ensures)
-          (ab .result) (abc .result) (abcd .result) (c .join-run2 .result .mark)
-          (rw (c .before .before .before .before .before .before .before .low-bits .ensures) at (ab .ensures)) (rw (c .before .before .before .before .before .low-bits2 .ensures) at (abc .ensures)) (rw (c .before .before .before .low-bits3 .ensures) at (abcd .ensures)) (c .join-run2 .ensures .0),
-      bits-all (shift .last .0) (a .sheet .now) (a .n) (a .n / 4) (x .result) (c .join-run2 .result .bits) (omega arith) (x .ensures) (c .join-run2 .ensures .1),
+    let q = a .n / 4 in (
+      λ r. all-joined (a .p) (s .pre .0) (a .size) 0 (a .n) q (32 * q) (omega arith) (omega arith) (a .fields .now) (t .last .0) (t .ensures) r (x .result) (x .ensures)
+          (p .power-of-t .result) (p .power-of-t .ensures) (b₂ .before .times-plus .result) (b₃ .before .times-plus2 .result) (c₃ .times-plus3 .result) (c .join-lane2 .result .mark)
+          (times-low (a .p) _ _ _ _ _ (b₁ .low-bits .ensures) (b₂ .before .times-plus .ensures)) (times-low (a .p) _ _ _ _ _ (b₂ .low-bits2 .ensures) (b₃ .before .times-plus2 .ensures)) (times-low (a .p) _ _ _ _ _ (b₃ .low-bits3 .ensures) (c₃ .times-plus3 .ensures))
+          (c .join-lane2 .ensures .0),
+      bits-all (t .last .0) (a .fields .now) 0 (a .n) q (32 * q) (x .result) (c .join-lane2 .result .bits) (omega arith) (omega arith) (x .ensures) (c .join-lane2 .ensures .1),
     )
 
 pub pages-joined-spec : {M : Type 1} → statement M
@@ -111,24 +138,23 @@ pages-joined-spec =
     (tie.spec
     slice-aggregate-fill
     fill-requires
-    slice-aggregate-join-run
-    join-run-requires
+    slice-aggregate-join-lane
+    join-lane-requires
     returns
-    slice-aggregate-join-runs
-    join-runs-requires
+    slice-aggregate-join-lanes
+    join-lanes-requires
     mul-power-of-t
     mul-power-of-t-2
     power-of-t-requires
     low-bits-requires
-    joined-requires
+    times-plus-requires
     low-bits-requires-2
-    joined-requires-2
+    times-plus-requires-2
     low-bits-requires-3
-    joined-requires-3
+    times-plus-requires-3
     mul-from
-    add-from
-    slice-aggregate-join-run-2
-    mul-join-run
-    sub-join-run
-    join-run-requires-2
+    slice-aggregate-join-lane-2
+    mul-join-lane
+    sub-join-lane
+    join-lane-requires-2
     returns-2)

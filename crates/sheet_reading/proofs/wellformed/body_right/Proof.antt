@@ -1,175 +1,178 @@
 -- `body_right` meets its contract.
-use mathlib.Core.Path.{_≡_, sym, ap, ap₂, _∙_}
+use mathlib.Core.Path.{_≡_, sym, ap, _∙_}
 use mathlib.Core.Bool.{true, false}
-use mathlib.Core.List.{[]}
+use mathlib.Core.List.{List, [], _∷_, _++_}
 use Prim.Native.Nat.{ℕ, _+_, _-_, _*_, _^_, _≤_, _<_}
 use native.Mathlib.Omega.{arith}
 use lib.Bits.{bitOr}
 use lib.Dec.{leb}
-use lib.ListN.{length}
+use lib.ListN.{length, length-drop}
 use borrow.Author.Tests.{eq-eqb, ne-eqb, leb-false}
-use Rattle.gf2.specs.Polynomials.{_⊗_, monic, degree, rem}
-use Rattle.gf2.proofs.Powers.{rem-⊗-pow}
-use Rattle.gf2.proofs.Steps.{residue-lt, or-leb}
-use Rattle.gf2.proofs.Monics.{word-degree}
+use Rattle.gf2.specs.Polynomials.{degree}
+use Rattle.gf2.proofs.Steps.{residue-below, or-leb}
 use Rattle.refusals.proofs.Laws.{holds, fails}
+use Rattle.acceptance.proofs.Opened.{opened-proper, opened-word}
 use Rattle.lists.proofs.Truth.{or-neither}
-use Rattle.files.specs.Files.{markOf}
-use Rattle.sheets.specs.Layout.{numberAt, numbersAt}
-use Rattle.sheets.specs.Sheets.{someUnreduced, joinedPages}
-use Rattle.sheets.proofs.Numbers.{numbers-last}
+use Rattle.sheets.specs.Layout.{version1, numberAt, numbersAt, pagePlace, sheetLength, pageCount}
+use Rattle.sheets.specs.Sheets.{someUnreduced}
+use Rattle.sheets.specs.Parts.{fingerprintsPart}
 use Rattle.sheets.proofs.Pages.{count-covers, count-tight, count-small}
-use Rattle.sheets.proofs.Moduli.{Held, held}
-use Rattle.sheet_pages.proofs.Chains.{bits-last}
-use Rattle.sheet_reading.proofs.Joining.{twice, body-is}
+use Rattle.sheet_reading.proofs.Joining.{body-is, body-joined, bits-are, joined-are, filled-is}
 use borrow.Author.Needs.{needs}
 use Rattle.sheet_reading.proofs.wellformed.body_right.Statement.{statement}
 use Rattle.sheet_reading.proofs.wellformed.body_right.Tie as tie
 
-small : (c : tie.After-page-count) → c .page-count .result < 2 ^ 29
+-- the pages are counted, the length is right, the fields are joined and tested
+abbrev start : tie.After-page-count → tie.Start
+start c = c .before .before
+
+abbrev counted : tie.Else1 → tie.After-page-count
+counted c = c .before .before
+
+abbrev long : tie.After-pages-joined → tie.Else1
+long c = c .before .before
+
+abbrev joined : tie.After-is-residue → tie.After-pages-joined
+joined c = c .before .before .before
+
+abbrev tested : tie.After-product → tie.Else2
+tested c = c .before .before
+
+abbrev sheet : tie.After-page-count → List ℕ
+sheet c = start c .args .sheet .now
+
+abbrev count : tie.After-page-count → ℕ
+count c = c .page-count .result
+
+-- all fields, the file's among them
+abbrev all : tie.After-page-count → List ℕ
+all c = numbersAt 0 8 (count c) (fingerprintsPart (sheet c)) ++ numberAt (pagePlace version1 (count c)) 8 (sheet c) ∷ []
+
+small : (c : tie.After-page-count) → count c < 2 ^ 29
 small c =
-    let s = c .before .before in
-    rw (c .page-count .ensures) (count-small (s .args .size) (s .args .n) (s .pre .2) (s .pre .3) (s .pre .4))
+    let s = start c in
+    let h = s .args .head in
+    rw (c .page-count .ensures) (count-small (h .size) (h .length) (s .pre .2) (s .pre .3) (s .pre .1 .length-fits))
 
-tight : (c : tie.After-page-count) → c .page-count .result * c .before .before .args .size < c .before .before .args .n + c .before .before .args .size
-tight c = rw (c .page-count .ensures) (count-tight (c .before .before .args .size) (c .before .before .args .n) (omega arith))
+tight : (c : tie.After-page-count) → count c * start c .args .head .size < start c .args .head .length + start c .args .head .size
+tight c = let h = start c .args .head in by (h .size) (h .length) (count c) (omega (arith, start c .pre .2)) (c .page-count .ensures)
+  where
+    by : (s n m : ℕ) → 0 < s → m ≡ pageCount s n → m * s < n + s
+    by s n m h e = rw e (count-tight s n h)
 
-covered : (c : tie.After-page-count) → c .before .before .args .n ≤ c .page-count .result * c .before .before .args .size
-covered c = rw (c .page-count .ensures) (count-covers (c .before .before .args .size) (c .before .before .args .n) (omega arith))
+covered : (c : tie.After-page-count) → start c .args .head .length ≤ count c * start c .args .head .size
+covered c = let h = start c .args .head in by (h .size) (h .length) (count c) (omega (arith, start c .pre .2)) (c .page-count .ensures)
+  where
+    by : (s n m : ℕ) → 0 < s → m ≡ pageCount s n → n ≤ m * s
+    by s n m h e = rw e (count-covers s n h)
 
-key-held : (c : tie.After-low-bits) → Held (c .before .before .before .before .before .args .key) (c .before .degree .result) (c .low-bits .result)
-key-held c =
-    let s = c .before .before .before .before .before in
-    held (s .args .key) (c .before .degree .result) (c .low-bits .result) (s .pre .1) (s .fits .key .fits) (c .before .degree .ensures) (c .low-bits .ensures)
+-- the sheet has as many bytes as it should
+total : (c : tie.Else1) → length (sheet (counted c)) ≡ sheetLength version1 (count (counted c))
+total c = c .if1 .left ∙ c .before .sheet-length .ensures
 
--- the bits of all fields, the file's among them, are tested
-tested : (c : tie.After-reduced) → leb (2 ^ c .before .before .before .before .before .degree .result) (bitOr (c .before .before .before .pages-joined .result .bits) (c .before .before .number-at .result))
-    ≡ someUnreduced (degree (c .before .before .before .before .before .before .before .before .before .args .key)) (numbersAt 19 8 (c .before .before .before .before .before .before .before .page-count .result + 1) (c .before .before .before .before .before .before .before .before .before .args .sheet .now))
-tested c =
-    let n = c .before .before .before .before .before .before .before .page-count .result in
-    let l = c .before .before .before .before .before .before .before .before .before .args .sheet .now in
-    let joined = c .before .before .before .pages-joined in
-    rw (← (c .before .before .before .before .before .degree .ensures), numbers-last 19 8 n l, ← (c .before .before .number-at .ensures .0))
-    (bits-last (numbersAt 19 8 n l) (joined .result .bits) (c .before .before .number-at .result) (joined .ensures .1) (c .before .before .before .before .before .degree .result))
+-- the bits of all fields are tested
+bits : (c : tie.After-is-residue) → leb (2 ^ start (counted (long (joined c))) .args .p .degree) (bitOr (joined c .pages-joined .result .bits) (c .before .before .fingerprint-at .result))
+    ≡ someUnreduced (degree (start (counted (long (joined c))) .args .head .key)) (all (counted (long (joined c))))
+bits c =
+    let j = joined c in
+    let n = counted (long j) in
+    let s = start n in
+    bits-are (sheet n) (s .args .head) (s .pre .1) (count n) (n .page-count .ensures) (s .args .p) (s .pre .4) (j .pages-joined .result .bits) _
+    (j .before .page-fields .result .now) (j .before .page-fields .ensures) (c .before .before .fingerprint-at .ensures) (j .pages-joined .ensures .1)
 
 -- no bit stands too high: the pages' fields and the file's are reduced
-fields : (c : tie.Else2) → (someUnreduced (c .before .before .before .before .before .before .degree .result) (numbersAt 19 8 (c .before .before .before .before .before .before .before .before .page-count .result) (c .before .before .before .before .before .before .before .before .before .before .args .sheet .now)) ≡ false)
-    × (c .before .before .before .number-at .result < 2 ^ c .before .before .before .before .before .before .degree .result)
+fields : (c : tie.Else2) → (someUnreduced (start (counted (long (joined (c .before)))) .args .p .degree) (numbersAt 0 8 (count (counted (long (joined (c .before))))) (joined (c .before) .before .page-fields .result .now)) ≡ false)
+    × (c .before .before .before .fingerprint-at .result < 2 ^ start (counted (long (joined (c .before)))) .args .p .degree)
 fields c =
-    let k = c .before .before .before .before .before .before .degree .result in
-    let joined = c .before .before .before .before .pages-joined in
-    let file = c .before .before .before .number-at .result in
-    let o = or-neither (leb (2 ^ k) (joined .result .bits)) (leb (2 ^ k) file) (sym (or-leb k (joined .result .bits) file) ∙ fails _ _ (c .before .reduced .ensures) (c .if2 .left)) in
-    (sym (joined .ensures .1 k) ∙ o .0, leb-false (2 ^ k) file (o .1))
+    let j = joined (c .before) in
+    let k = start (counted (long j)) .args .p .degree in
+    let b = j .pages-joined .result .bits in
+    let f = c .before .before .before .fingerprint-at .result in
+    let o = or-neither (leb (2 ^ k) b) (leb (2 ^ k) f) (sym (or-leb k b f) ∙ fails _ _ (c .before .is-residue .ensures) (c .if2 .left)) in
+    (sym (j .pages-joined .ensures .1 k) ∙ o .0, leb-false (2 ^ k) f (o .1))
 
 page-count-requires : tie.Need-page-count-requires
-page-count-requires c κs = search needs
+page-count-requires c κs = let s = c .before in (omega (arith, s .pre .2), s .pre .3, s .pre .1 .length-fits)
 
-mul-if1 : tie.Need-mul-if1
-mul-if1 c = omega (arith, small c)
-
-add-if1 : tie.Need-add-if1
-add-if1 c = omega (arith, small c)
+sheet-length-requires : tie.Need-sheet-length-requires
+sheet-length-requires c κs = omega (arith, small c)
 
 returns : tie.Need-returns
 returns c =
-    let s = c .before .before .before in
-    let q = s .pre in
-    let n = c .before .page-count .result in
-    rw (body-is (s .args .sheet .now) (s .args .key) (s .args .n) (s .args .size) n (q .5) (q .6) (q .7) (c .before .page-count .ensures), ne-eqb (length (s .args .sheet .now)) (27 + 8 * n) (c .if1 .taken))
+    let n = c .before .before in
+    let s = start n in
+    rw (body-is (sheet n) (s .args .head) (s .pre .1) (count n) (n .page-count .ensures), ne-eqb (length (sheet n)) (sheetLength version1 (count n)) (λ e. c .if1 .taken (e ∙ sym (c .before .sheet-length .ensures))))
 
-degree-requires : tie.Need-degree-requires
-degree-requires c κs = search needs
-
-low-bits-requires : tie.Need-low-bits-requires
-low-bits-requires c κs =
-    let s = c .before .before .before .before in
-    rw (c .degree .ensures) (word-degree (s .args .key) (omega arith) (s .fits .key .fits))
+page-fields-requires : tie.Need-page-fields-requires
+page-fields-requires c κs = omega (arith, total c)
 
 pages-joined-requires : tie.Need-pages-joined-requires
 pages-joined-requires c κs =
-    let h = key-held c in
-    (h .modulus, h .word, c .before .before .before .before .before .pre .3, small (c .before .before .before), omega arith)
+    let n = counted (c .before) in
+    let s = start n in
+    let part = ap length (c .page-fields .ensures) ∙ length-drop (pagePlace version1 0) (sheet n) in
+    (opened-proper (s .pre .4), opened-word (s .pre .4), s .pre .3, small n, omega (arith, part, total (c .before)))
 
-mul-number-at : tie.Need-mul-number-at
-mul-number-at c = search needs
+fingerprint-at-requires : tie.Need-fingerprint-at-requires
+fingerprint-at-requires c κs = omega (arith, total (long c))
 
-add-number-at : tie.Need-add-number-at
-add-number-at c = search needs
-
-number-at-requires : tie.Need-number-at-requires
-number-at-requires c κs = search needs
-
-reduced-requires : tie.Need-reduced-requires
-reduced-requires c κs = key-held (c .before .before .before) .word
+is-residue-requires : tie.Need-is-residue-requires
+is-residue-requires c κs = opened-proper (start (counted (long (c .before .before))) .pre .4)
 
 returns-2 : tie.Need-returns-2
 returns-2 c =
-    let s = c .before .before .before .before .before .before .before .before .before .before in
-    let q = s .pre in
-    let n = c .before .before .before .before .before .before .before .before .page-count .result in
-    let l = s .args .sheet .now in
-    let t : someUnreduced (degree (s .args .key)) (numbersAt 19 8 (n + 1) l) ≡ true =
-    sym (tested (c .before)) ∙ holds _ _ (c .before .reduced .ensures) (c .if2 .taken) in
-    rw (body-is l (s .args .key) (s .args .n) (s .args .size) n (q .5) (q .6) (q .7) (c .before .before .before .before .before .before .before .before .page-count .ensures), eq-eqb (length l) (27 + 8 * n) (c .before .before .before .before .before .before .before .if1 .left), t)
+    let r = c .before in
+    let n = counted (long (joined r)) in
+    let s = start n in
+    let t : someUnreduced (degree (s .args .head .key)) (all n) ≡ true = sym (bits r) ∙ holds _ _ (r .is-residue .ensures) (c .if2 .taken) in
+    rw (body-is (sheet n) (s .args .head) (s .pre .1) (count n) (n .page-count .ensures), eq-eqb (length (sheet n)) (sheetLength version1 (count n)) (total (long (joined r))), t)
 
 mul-power-of-t : tie.Need-mul-power-of-t
-mul-power-of-t c = omega (arith, tight (c .before .before .before .before .before .before .before .before))
+mul-power-of-t c = let n = counted (long (joined (c .before))) in omega (arith, tight n, start n .pre .1 .length-fits, start n .pre .3)
 
 sub-power-of-t : tie.Need-sub-power-of-t
-sub-power-of-t c = covered (c .before .before .before .before .before .before .before .before)
+sub-power-of-t c = covered (counted (long (joined (c .before))))
 
 mul-power-of-t-2 : tie.Need-mul-power-of-t-2
-mul-power-of-t-2 c = omega (arith, tight (c .before .before .before .before .before .before .before .before))
+mul-power-of-t-2 c = let n = counted (long (joined (c .before))) in omega (arith, tight n, start n .pre .3)
 
 power-of-t-requires : tie.Need-power-of-t-requires
-power-of-t-requires c κs = key-held (c .before .before .before .before .before) .modulus
+power-of-t-requires c κs = opened-proper (start (counted (long (joined (c .before)))) .pre .4)
 
 product-requires : tie.Need-product-requires
 product-requires c κs =
-    let h = key-held (c .before .before .before .before .before .before) in
-    let k = c .before .before .before .before .before .before .before .degree .result in
-    (h .modulus, fields (c .before) .1, rw (c .power-of-t .ensures) (residue-lt k (c .before .before .before .before .before .before .low-bits .result) (h .modulus .2) _))
+    let e = c .before in
+    let s = start (counted (long (joined (e .before)))) in
+    (opened-proper (s .pre .4), fields e .1, residue-below (s .args .p) (opened-proper (s .pre .4)) _ _ (c .power-of-t .ensures))
 
 returns-3 : tie.Need-returns-3
 returns-3 c =
-    let s = c .before .before .before .before .before .before .before .before .before .before .before .before .before in
-    let q = s .pre in
-    let h = key-held (c .before .before .before .before .before .before .before .before) in
-    let n = c .before .before .before .before .before .before .before .before .before .before .before .page-count .result in
-    let l = s .args .sheet .now in
-    let key = s .args .key in
-    let pos : 0 < key = omega (arith, q .1) in
-    let k = c .before .before .before .before .before .before .before .before .before .degree .result in
-    let low = c .before .before .before .before .before .before .before .before .low-bits .result in
-    let t : someUnreduced (degree key) (numbersAt 19 8 (n + 1) l) ≡ false =
-    sym (tested (c .before .before .before .before)) ∙ fails _ _ (c .before .before .before .before .reduced .ensures) (c .before .before .before .if2 .left) in
-    let size = s .args .size in
-    let joined : c .before .before .before .before .before .before .before .pages-joined .result .mark ≡ joinedPages key size (markOf key []) (numbersAt 19 8 n l) .fingerprint =
-    c .before .before .before .before .before .before .before .pages-joined .ensures .0 (fields (c .before .before .before) .0) ∙ ap (λ (m : ℕ). joinedPages m size (markOf m []) (numbersAt 19 8 n l) .fingerprint) (h .whole) in
-    let product : c .before .product .result ≡ rem key (numberAt (19 + 8 * n) 8 l * 2 ^ (8 * (n * size - s .args .n))) =
-    c .before .product .ensures
-    ∙ ap₂ (λ (x y : ℕ). rem (monic k low) (x ⊗ y)) (c .before .before .before .before .before .before .number-at .ensures .0) (c .before .before .power-of-t .ensures)
-    ∙ ap (λ (m : ℕ). rem m (numberAt (19 + 8 * n) 8 l ⊗ rem m (2 ^ (8 * (n * size - s .args .n))))) (h .whole)
-    ∙ rem-⊗-pow pos (numberAt (19 + 8 * n) 8 l) (8 * (n * size - s .args .n)) in
-    rw (body-is l key (s .args .n) size n (q .5) (q .6) (q .7) (c .before .before .before .before .before .before .before .before .before .before .before .page-count .ensures), eq-eqb (length l) (27 + 8 * n) (c .before .before .before .before .before .before .before .before .before .before .if1 .left), t, joined, product)
-    (sym (twice _))
+    let p = c .before in
+    let e = tested p in
+    let r = e .before in
+    let j = joined r in
+    let n = counted (long j) in
+    let s = start n in
+    let a = s .args in
+    let part = j .before .page-fields in
+    let t : someUnreduced (degree (a .head .key)) (all n) ≡ false = sym (bits r) ∙ fails _ _ (r .is-residue .ensures) (e .if2 .left) in
+    let mark = joined-are (sheet n) (a .head) (s .pre .1) (count n) (n .page-count .ensures) (a .p) (s .pre .4) (j .pages-joined .result .mark)
+    (part .result .now) (part .ensures) (j .pages-joined .ensures .0 (fields e .0)) in
+    let product = filled-is (sheet n) (a .head) (s .pre .1) (count n) (n .page-count .ensures) (a .p) (s .pre .4) _ _ (p .product .result)
+    (count n * a .head .size - a .head .length) (r .before .before .fingerprint-at .ensures) (p .before .power-of-t .ensures) (p .product .ensures) in
+    body-joined (sheet n) (a .head) (s .pre .1) (count n) (n .page-count .ensures) (j .pages-joined .result .mark) (p .product .result) (total (long j)) t mark product
 
 pub body-right-spec : {M : Type 1} → statement M
 body-right-spec =
     tie.close
     (tie.spec
     page-count-requires
-    mul-if1
-    add-if1
+    sheet-length-requires
     returns
-    degree-requires
-    low-bits-requires
+    page-fields-requires
     pages-joined-requires
-    mul-number-at
-    add-number-at
-    number-at-requires
-    reduced-requires
+    fingerprint-at-requires
+    is-residue-requires
     returns-2
     mul-power-of-t
     sub-power-of-t

@@ -24,14 +24,11 @@ sub-left c = omega arith
 mul-bytes : tie.Need-mul-bytes Inv-loop μ-loop
 mul-bytes c = omega arith
 
-cast-bytes : tie.Need-cast-bytes Inv-loop μ-loop
-cast-bytes c = omega arith
-
 shr-bytes : tie.Need-shr-bytes Inv-loop μ-loop
 shr-bytes c = omega arith
 
-cast-bytes-2 : tie.Need-cast-bytes-2 Inv-loop μ-loop
-cast-bytes-2 c = omega arith
+cast-bytes : tie.Need-cast-bytes Inv-loop μ-loop
+cast-bytes c = omega arith
 
 slice-write-bytes : tie.Need-slice-write-bytes Inv-loop μ-loop
 slice-write-bytes c = omega arith
@@ -64,9 +61,8 @@ put-spec =
     loop-holds
     sub-left
     mul-bytes
-    cast-bytes
     shr-bytes
-    cast-bytes-2
+    cast-bytes
     slice-write-bytes
     add-i
     loop-less

@@ -8,7 +8,7 @@ use Rattle.gf2.specs.Polynomials.{_⊕_, rem}
 use Rattle.lookups.specs.Groups.{looked}
 use Rattle.sheets.specs.Layout.{numbersAt}
 use Rattle.sheets.specs.Sheets.{someUnreduced}
-use Rattle.sheet_pages.specs.declared.joining.FourJoined.{FourJoined}
+use Rattle.sheet_pages.specs.declared.joining.Lanes.{Lanes}
 
 -- page marks joined behind the residue f, each page shifting by t^e; and the same by the table of that shift
 unfoldable pub chained : ℕ → ℕ → ℕ → List ℕ → ℕ
@@ -23,10 +23,10 @@ looping words f (g ∷ gs) = looping words (looked 8 words 8 0 f ⊕ g ⊕ getD 
 abbrev pub BitsOf : List ℕ → ℕ → Type 0
 BitsOf fs bits = (k : ℕ) → leb (2 ^ k) bits ≡ someUnreduced k fs
 
--- four runs of q fields from a place on, the first behind 1 and the others behind 0; and the bits of all their fields
-pub record FourChains (words : List ℕ) (q : ℕ) (sheet : List ℕ) (r : FourJoined) : Type 0 where
-  pub a : r .a ≡ looping words 1 (numbersAt 19 8 q sheet)
-  pub b : r .b ≡ looping words 0 (numbersAt (19 + 8 * q) 8 q sheet)
-  pub c : r .c ≡ looping words 0 (numbersAt (19 + 8 * q + 8 * q) 8 q sheet)
-  pub d : r .d ≡ looping words 0 (numbersAt (19 + 8 * q + 8 * q + 8 * q) 8 q sheet)
-  pub bits : BitsOf (numbersAt 19 8 (4 * q) sheet) (r .bits)
+-- four lanes of q fields from a place on, the first behind 1 and the others behind 0; and the bits of all their fields
+pub record LanesJoined (words : List ℕ) (place q : ℕ) (l : List ℕ) (r : Lanes) : Type 0 where
+  pub a : r .a ≡ looping words 1 (numbersAt place 8 q l)
+  pub b : r .b ≡ looping words 0 (numbersAt (place + 8 * q) 8 q l)
+  pub c : r .c ≡ looping words 0 (numbersAt (place + 8 * q + 8 * q) 8 q l)
+  pub d : r .d ≡ looping words 0 (numbersAt (place + 8 * q + 8 * q + 8 * q) 8 q l)
+  pub bits : BitsOf (numbersAt place 8 (4 * q) l) (r .bits)

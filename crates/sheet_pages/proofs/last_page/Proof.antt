@@ -1,0 +1,114 @@
+-- `last_page` meets its contract.
+use mathlib.Core.Path.{_≡_, sym, ap, ap₂, _∙_}
+use mathlib.Core.List.{List}
+use Prim.Native.Nat.{ℕ, _+_, _-_, _*_, _/_, _^_, _≤_, _<_}
+use native.Mathlib.Omega.{arith}
+use lib.ListN.{length, length-drop}
+use lib.Pow.{pow-lt}
+use Rattle.gf2.specs.Polynomials.{_⊗_, rem}
+use Rattle.gf2.specs.Moduli.{polynomial}
+use Rattle.gf2.proofs.Powers.{rem-⊗-pow}
+use Rattle.gf2.proofs.Monics.{monic-pos}
+use Rattle.gf2.proofs.Steps.{residue-lt}
+use Rattle.files.specs.Files.{bits, valueFrom, value, fingerprint}
+use Rattle.sheets.specs.Sheets.{filled}
+use Rattle.sheets.specs.Parts.{lastPage}
+use Rattle.sheets.proofs.Pages.{whole-fits, last-short, all-left, with-zeros}
+use borrow.Author.Needs.{needs}
+use Rattle.sheet_pages.proofs.last_page.Statement.{statement}
+use Rattle.sheet_pages.proofs.last_page.Tie as tie
+
+abbrev start : tie.After-fed-arg → tie.Start
+start c = c .before .before .before
+
+abbrev key : tie.Start → ℕ
+key s = polynomial (s .args .p)
+
+abbrev file : tie.Start → List ℕ
+file s = s .args .file .now
+
+-- the whole pages end inside the file, and less than a page is left
+ends : (s : tie.Start) → length (file s) / s .args .size * s .args .size ≤ length (file s)
+ends s = whole-fits (s .args .size) (length (file s))
+
+short : (s : tie.Start) → length (file s) < length (file s) / s .args .size * s .args .size + s .args .size
+short s = last-short (s .args .size) (length (file s)) (s .pre .1)
+
+own : (c : tie.After-fed) → c .fed .result ≡ fingerprint (key (start (c .before))) (lastPage (start (c .before) .args .size) (file (start (c .before))))
+unfolding fingerprint value
+own c =
+    let s = start (c .before) in
+    c .fed .ensures ∙ ap (λ (q : List ℕ). rem (key s) (valueFrom 1 (bits q))) (all-left (file s) (length (file s) / s .args .size * s .args .size))
+
+div-from : tie.Need-div-from
+div-from c = search needs
+
+mul-from : tie.Need-mul-from
+mul-from c = omega (arith, ends (c .before .before))
+
+sub-fed : tie.Need-sub-fed
+sub-fed c = omega (arith, ends (c .before .before))
+
+part-fed-start : tie.Need-part-fed-start
+part-fed-start c = omega (arith, ends (c .before .before))
+
+part-fed-end : tie.Need-part-fed-end
+part-fed-end c = search needs
+
+fed-requires : tie.Need-fed-requires
+fed-requires c κs = let s = start c in (s .pre .0, pow-lt {i = 0} {j = s .args .p .degree} (s .pre .0 .0 .0))
+
+sub-zeros : tie.Need-sub-zeros
+sub-zeros c = omega (arith, ends (start (c .before)))
+
+sub-zeros-2 : tie.Need-sub-zeros-2
+sub-zeros-2 c = omega (arith, short (start (c .before)))
+
+mul-power-of-t : tie.Need-mul-power-of-t
+mul-power-of-t c = omega (arith, start (c .before) .pre .2)
+
+power-of-t-requires : tie.Need-power-of-t-requires
+power-of-t-requires c κs = start (c .before) .pre .0 .0
+
+-- a residue is below 2^k
+below : (s : tie.Start) (x y : ℕ) → x ≡ rem (key s) y → x < 2 ^ s .args .p .degree
+below s x y e = rw e (residue-lt (s .args .p .degree) (s .args .p .low) (s .pre .0 .0 .2) y)
+
+product-requires : tie.Need-product-requires
+product-requires c κs =
+    let s = start (c .before .before) in
+    (s .pre .0 .0, below s _ _ (c .before .fed .ensures), below s _ _ (c .power-of-t .ensures))
+
+returns : tie.Need-returns
+unfolding filled
+returns c =
+    let f = c .before .before in
+    let s = start (f .before) in
+    let a = s .args in
+    let last = lastPage (a .size) (file s) in
+    let pos = monic-pos (a .p .degree) (a .p .low) (s .pre .0 .0 .2) in
+    let left = length-drop (length (file s) / a .size * a .size) (file s) in (
+      own f,
+      c .product .ensures
+          ∙ ap₂ (λ (x y : ℕ). rem (key s) (x ⊗ y)) (own f) (c .before .power-of-t .ensures)
+          ∙ rem-⊗-pow pos (fingerprint (key s) last) (8 * (a .size - (length (file s) - length (file s) / a .size * a .size)))
+          ∙ ap (λ (n : ℕ). rem (key s) (fingerprint (key s) last * 2 ^ (8 * (a .size - n)))) (sym left)
+          ∙ with-zeros pos (a .size - length last) last,
+    )
+
+pub last-page-spec : {M : Type 1} → statement M
+last-page-spec =
+    tie.close
+    (tie.spec
+    div-from
+    mul-from
+    sub-fed
+    part-fed-start
+    part-fed-end
+    fed-requires
+    sub-zeros
+    sub-zeros-2
+    mul-power-of-t
+    power-of-t-requires
+    product-requires
+    returns)

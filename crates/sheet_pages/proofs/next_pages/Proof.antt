@@ -1,0 +1,125 @@
+-- `next_pages` meets its contract.
+use mathlib.Core.Path.{_≡_}
+use mathlib.Core.List.{List}
+use Prim.Native.Nat.{ℕ, zero, suc, _+_, _*_, _/_, _≤_, _<_}
+use native.Mathlib.Nat.{zero-mul, add-mul, mul-le-mul-right}
+use native.Mathlib.Omega.{arith}
+use lib.ListN.{length, length-set}
+use Rattle.gf2.specs.Moduli.{polynomial}
+use Rattle.sheets.specs.Layout.{pageCount}
+use Rattle.sheets.proofs.Pages.{count-le, whole-fits}
+use Rattle.sheet_pages.proofs.Blocks.{block-last}
+use borrow.Author.Needs.{needs}
+use Rattle.sheet_pages.proofs.next_pages.Statement.{statement}
+use Rattle.sheet_pages.proofs.next_pages.Tie as tie
+
+abbrev start : tie.After-block → tie.Start
+start c = c .before .before .before .before .before
+
+abbrev block : tie.After-slice-known2 → tie.After-block
+block c = c .before .before .before .before
+
+abbrev whole-marks : tie.After-slice-known2 → tie.After-whole-marks
+whole-marks c = c .before .before
+
+abbrev rest : tie.Start → List ℕ
+rest s = s .args .rest .now
+
+-- the whole pages of the block are in the file
+fits : (c : tie.After-block) → c .block .result * start c .args .size ≤ length (rest (start c))
+fits c =
+    let s = start c in
+    let few : c .block .result ≤ length (rest s) / s .args .size = omega arith in
+    omega (arith, mul-le-mul-right (s .args .size) few, whole-fits (s .args .size) (length (rest s)))
+
+-- so many pages begin in the file
+begin : (c : tie.After-block) → c .block .result ≤ pageCount (start c .args .size) (length (rest (start c)))
+begin c = let s = start c in count-le (s .args .size) (length (rest s)) (c .block .result) (omega arith) (omega (arith, fits c, s .pre .1))
+
+-- the last page is among them
+one-more : (s n m : ℕ) → 0 < s → m * s < n → m + 1 ≤ pageCount s n
+one-more s n m pos l = count-le s n (m + 1) pos (omega (arith, add-mul m 1 s))
+
+some : (s n m : ℕ) → n ≤ m * s → 0 < n → 0 < m
+some s n zero l h = absurd (omega (arith, zero-mul s))
+some s n (suc m) l h = omega arith
+
+block-requires : tie.Need-block-requires
+block-requires c κs = omega (arith, c .before .before .before .before .pre .1)
+
+whole-marks-requires : tie.Need-whole-marks-requires
+whole-marks-requires c κs =
+    let b = c .before in
+    let s = start b in
+    (s .pre .0, s .pre .1, fits b, omega (arith, s .pre .3))
+
+same-length : tie.Need-same-length
+same-length c = search needs
+
+returns : tie.Need-returns
+returns c =
+    let b = block (c .before) in
+    record { few = omega arith; within = begin b; some = λ l. omega arith; prints = whole-marks (c .before) .whole-marks .ensures }
+
+mul-if2 : tie.Need-mul-if2
+mul-if2 c = omega (arith, fits (block (c .before)))
+
+same-length-2 : tie.Need-same-length-2
+same-length-2 c = search needs
+
+returns-2 : tie.Need-returns-2
+returns-2 c =
+    let d = c .before .before in
+    let b = block d in
+    let s = start b in
+    record {
+      few = omega arith;
+      within = begin b;
+      some = some (s .args .size) (length (rest s)) (b .block .result) (c .if2 .taken);
+      prints = whole-marks d .whole-marks .ensures;
+    }
+
+mul-marks : tie.Need-mul-marks
+mul-marks c = omega arith
+
+slice-write-marks : tie.Need-slice-write-marks
+slice-write-marks c = let d = c .before .before in omega (arith, start (block d) .pre .3, whole-marks d .whole-marks .kept .0)
+
+add-result : tie.Need-add-result
+add-result c = search needs
+
+same-length-3 : tie.Need-same-length-3
+same-length-3 c = simp length-set (whole-marks (c .before .before) .whole-marks .kept .0)
+
+returns-3 : tie.Need-returns-3
+returns-3 c =
+    let d = c .before .before in
+    let w = whole-marks d .whole-marks in
+    let b = block d in
+    let s = start b in
+    let a = s .args in
+    let n = b .block .result in
+    let all : n ≡ length (rest s) / a .size = omega arith in
+    record {
+      few = omega arith;
+      within = one-more (a .size) (length (rest s)) n (omega arith) (omega (arith, c .if2 .left));
+      some = λ l. omega arith;
+      prints = block-last (polynomial (a .p)) (a .size) n (a .last) (rest s) _ (omega arith) all (omega (arith, s .pre .3, w .kept .0)) (s .pre .4) (w .ensures);
+    }
+
+pub next-pages-spec : {M : Type 1} → statement M
+next-pages-spec =
+    tie.close
+    (tie.spec
+    block-requires
+    whole-marks-requires
+    same-length
+    returns
+    mul-if2
+    same-length-2
+    returns-2
+    mul-marks
+    slice-write-marks
+    add-result
+    same-length-3
+    returns-3)

@@ -1,0 +1,146 @@
+-- `put_fingerprints` meets its contract.
+use mathlib.Core.Path.{_≡_, refl, sym, ap, ap₂, _∙_}
+use mathlib.Core.List.{List, _++_}
+use Prim.Native.Nat.{ℕ, _+_, _*_, _/_, _<_}
+use native.Mathlib.Nat.{zero-add}
+use native.Mathlib.Omega.{arith}
+use lib.ListN.{length}
+use lib.Seq.{sets}
+use Rattle.gf2.specs.Moduli.{polynomial}
+use Rattle.files.specs.Files.{fingerprint}
+use Rattle.sheets.specs.Layout.{bytesOf, fieldsOf, numbersAt, pageCount}
+use Rattle.sheets.specs.Sheets.{pageFingerprints}
+use Rattle.sheets.proofs.Numbers.{length-fieldsOf, sets-behind}
+use Rattle.sheets.proofs.Pages.{length-pages, count-whole}
+use Rattle.sheet_writing.proofs.Stores.{whole-stored}
+use borrow.Author.Needs.{needs}
+use Rattle.sheet_writing.proofs.put_fingerprints.Statement.{statement}
+use Rattle.sheet_writing.proofs.put_fingerprints.Tie as tie
+
+-- the tables, the last page, all pages' fields, the file's fingerprint
+abbrev start : tie.After-eights → tie.Start
+start c = c .before .before .before .before
+
+abbrev tables : tie.After-last-page → tie.After-fill-tables
+tables c = c .before .before .before .before
+
+abbrev last : tie.After-put-pages → tie.After-last-page
+last c = c .before .before .before .before
+
+abbrev pages : tie.After-file-mark → tie.After-put-pages
+pages c = c .before .before .before .before
+
+abbrev marked : tie.After-put → tie.After-file-mark
+marked c = c .before .before .before
+
+abbrev begin : tie.After-put-pages → tie.Start
+begin c = start (tables (last c) .before)
+
+abbrev key : tie.Start → ℕ
+key s = polynomial (s .args .p)
+
+abbrev file : tie.Start → List ℕ
+file s = s .args .file .now
+
+abbrev count : tie.Start → ℕ
+count s = pageCount (s .args .size) (length (file s))
+
+-- the fields after all pages' fingerprints
+prints : (c : tie.After-put-pages) → c .put-pages .last .0 ≡ sets (begin c .args .fields .now) 0 (fieldsOf 8 (pageFingerprints (key (begin c)) (begin c .args .size) (count (begin c)) (file (begin c))))
+prints c = c .put-pages .ensures
+
+slice-aggregate-fill-tables : tie.Need-slice-aggregate-fill-tables
+slice-aggregate-fill-tables c = search needs
+
+slice-aggregate-fill-tables-2 : tie.Need-slice-aggregate-fill-tables-2
+slice-aggregate-fill-tables-2 c = search needs
+
+fill-tables-requires : tie.Need-fill-tables-requires
+fill-tables-requires c κs = let s = start c in (s .pre .0, s .pre .1, refl, refl)
+
+slice-aggregate-last-page : tie.Need-slice-aggregate-last-page
+slice-aggregate-last-page c = search needs
+
+last-page-requires : tie.Need-last-page-requires
+last-page-requires c κs =
+    let t = c .before .before .before in
+    let s = start (t .before) in
+    (t .fill-tables .ensures .table, omega (arith, s .pre .3), s .pre .4)
+
+slice-aggregate-put-pages : tie.Need-slice-aggregate-put-pages
+slice-aggregate-put-pages c = search needs
+
+slice-aggregate-put-pages-2 : tie.Need-slice-aggregate-put-pages-2
+slice-aggregate-put-pages-2 c = search needs
+
+put-pages-requires : tie.Need-put-pages-requires
+put-pages-requires c κs =
+    let l = c .before .before .before in
+    let t = tables l in
+    let s = start (t .before) in
+    (t .fill-tables .ensures, s .pre .3, s .pre .4, s .pre .5, l .last-page .ensures .1, omega (arith, s .pre .6))
+
+file-mark-requires : tie.Need-file-mark-requires
+file-mark-requires c κs =
+    let p = c .before .before .before in
+    let s = begin p in
+    let a = s .args in
+    let pos : 0 < a .size = omega (arith, s .pre .3) in
+    let whole = count-whole (a .size) (length (file s)) pos in (
+      s .pre .0,
+      s .pre .2,
+      s .pre .3,
+      s .pre .4,
+      s .pre .5,
+      last p .last-page .ensures .0,
+      omega (arith, p .put-pages .kept .0, whole, s .pre .6),
+      ap (numbersAt 0 8 (length (file s) / a .size)) (prints p) ∙ whole-stored (a .p) (s .pre .0) (a .size) (file s) (a .fields .now) pos (omega (arith, s .pre .6)),
+    )
+
+page-count-requires : tie.Need-page-count-requires
+page-count-requires c κs = let s = begin (pages c) in (omega (arith, s .pre .3), s .pre .4, s .pre .5)
+
+mul-put : tie.Need-mul-put
+mul-put c = let s = begin (pages (c .before .before)) in omega (arith, c .before .page-count .ensures, s .pre .6)
+
+put-requires : tie.Need-put-requires
+put-requires c κs =
+    let p = pages (c .before .before) in
+    (omega arith, omega (arith, c .before .page-count .ensures, p .put-pages .kept .0, begin p .pre .6))
+
+same-length : tie.Need-same-length
+same-length c = search needs
+
+returns : tie.Need-returns
+returns c =
+    let q = c .before .before in
+    let m = marked q in
+    let p = pages m in
+    let s = begin p in
+    let a = s .args in
+    let fields = fieldsOf 8 (pageFingerprints (key s) (a .size) (count s) (file s)) in
+    let long : 8 * count s ≡ 0 + length fields =
+    sym (zero-add (length fields) ∙ length-fieldsOf 8 (pageFingerprints (key s) (a .size) (count s) (file s)) ∙ ap (λ (n : ℕ). 8 * n) (length-pages (key s) (count s) (a .size) (file s))) in
+    q .put .ensures
+    ∙ ap₂ (λ (n f : ℕ). sets (p .put-pages .last .0) (8 * n) (bytesOf 8 f)) (q .before .before .page-count .ensures) (m .file-mark .ensures)
+    ∙ ap (λ (b : List ℕ). sets b (8 * count s) (bytesOf 8 (fingerprint (key s) (file s)))) (prints p)
+    ∙ sets-behind fields (bytesOf 8 (fingerprint (key s) (file s))) (a .fields .now) 0 (8 * count s) long
+
+pub put-fingerprints-spec : {M : Type 1} → statement M
+put-fingerprints-spec =
+    tie.close
+    (tie.spec
+    slice-aggregate-fill-tables
+    slice-aggregate-fill-tables-2
+    fill-tables-requires
+    slice-aggregate-last-page
+    last-page-requires
+    slice-aggregate-put-pages
+    slice-aggregate-put-pages-2
+    put-pages-requires
+    file-mark-requires
+    page-count-requires
+    mul-put
+    put-requires
+    same-length
+    returns)

@@ -1,0 +1,44 @@
+-- `head_right` meets its contract.
+use mathlib.Core.Path.{sym, _∙_}
+use mathlib.Core.Bool.{Bool·not-not}
+use mathlib.Core.List.{List}
+use Prim.Native.Nat.{ℕ}
+use native.Mathlib.Omega.{arith}
+use lib.Dec.{eqb}
+use lib.ListN.{length}
+use borrow.Author.Tests.{lt-ltb, le-ltb, eq-eqb, ne-eqb}
+use Rattle.sheets.specs.Layout.{Letters, Version, version1, sheetLength, letters, fieldIn}
+use borrow.Author.Needs.{needs}
+use Rattle.sheets.proofs.layout.head_right.Statement.{statement}
+use Rattle.sheets.proofs.layout.head_right.Tie as tie
+
+abbrev start : tie.Else1 → tie.Start
+start c = c .before .before
+
+abbrev sheet : tie.Start → List ℕ
+sheet c = c .args .sheet .now
+
+returns : tie.Need-returns
+returns c = rw (lt-ltb (length (sheet (c .before .before))) (sheetLength version1 0) (c .if1 .taken))
+
+number-at-requires : tie.Need-number-at-requires
+number-at-requires c κs = search needs
+
+returns-2 : tie.Need-returns-2
+returns-2 c =
+    let l = sheet (start (c .before .before)) in
+    rw (le-ltb (length l) (sheetLength version1 0) (omega arith), ne-eqb (fieldIn version1 Letters l) letters (λ e. c .if2 .taken (c .before .number-at .ensures .0 ∙ e)))
+
+number-at-requires-2 : tie.Need-number-at-requires-2
+number-at-requires-2 c κs = search needs
+
+returns-3 : tie.Need-returns-3
+returns-3 c =
+    let l = sheet (start (c .before .before .before)) in
+    let right = eq-eqb (fieldIn version1 Letters l) letters (sym (c .before .before .number-at .ensures .0) ∙ c .before .if2 .left) in
+    rw (le-ltb (length l) (sheetLength version1 0) (omega arith), right, c .number-at2 .ensures .0)
+    (sym (Bool·not-not (eqb (fieldIn version1 Version l) (version1 .version))))
+
+pub head-right-spec : {M : Type 1} → statement M
+head-right-spec =
+    tie.close (tie.spec returns number-at-requires returns-2 number-at-requires-2 returns-3)
