@@ -26,7 +26,7 @@ store-requires c κs = search needs
 returns : tie.Need-returns
 returns c =
     let s = store→start c .args in
-    stored (s .key) (joinInFront (s .key) (markAt (s .fingerprint .now) (s .length .now)) (markAt (s .other) (s .other-length))) _ _ _ (store→join-in-front c .join-in-front .ensures) (c .store .ensures)
+    stored (s .key) (joinInFront (s .key) (markAt (s .fingerprint .now) (s .length .now)) (markAt (s .other) (s .bytes))) _ _ _ (store→join-in-front c .join-in-front .ensures) (c .store .ensures)
 
 pub gfp-join-in-front-spec : {M : Type 1} → statement M
 gfp-join-in-front-spec = tie.close (tie.spec join-in-front-requires store-requires returns)
