@@ -9,17 +9,8 @@ use Rattle.gfp_site.proofs.gfp_read_pages.Tie as tie
 abbrev number-of→read-pages : tie.After-number-of → tie.After-read-pages
 number-of→read-pages c = c .before .before .before
 
-read-pages-requires : tie.Need-read-pages-requires
-read-pages-requires c κs = search needs
-
-number-of-requires : tie.Need-number-of-requires
-number-of-requires c κs = search needs
-
-same-length : tie.Need-same-length
-same-length c = search needs
-
 returns : tie.Need-returns
 returns c = let m = number-of→read-pages c .read-pages in replied (m .result) (m .ensures) (c .number-of .ensures)
 
 pub gfp-read-pages-spec : {M : Type 1} → statement M
-gfp-read-pages-spec = tie.close (tie.spec read-pages-requires number-of-requires same-length returns)
+gfp-read-pages-spec = tie.close (tie.spec (λ c κs. search needs) (λ c κs. search needs) (λ c. search needs) returns)

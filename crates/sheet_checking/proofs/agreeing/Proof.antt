@@ -30,12 +30,6 @@ loop-holds c = (omega arith, omega arith, rw (zero-add, sub-zero))
 eight-at-requires : tie.Need-eight-at-requires Inv-loop μ-loop
 eight-at-requires c κs = omega (arith, start (c .before) .pre, c .before .loop .inv .1)
 
-mul-if1 : tie.Need-mul-if1 Inv-loop μ-loop
-mul-if1 c = omega arith
-
-shared-slice-read-if1 : tie.Need-shared-slice-read-if1 Inv-loop μ-loop
-shared-slice-read-if1 c = omega arith
-
 returns : tie.Need-returns Inv-loop μ-loop
 unfolding numberAt
 returns c =
@@ -46,12 +40,6 @@ returns c =
 
 add-place : tie.Need-add-place Inv-loop μ-loop
 add-place c = let l = loop (c .before .before) in omega (arith, start l .pre, l .loop .inv .1)
-
-add-i : tie.Need-add-i Inv-loop μ-loop
-add-i c = omega arith
-
-loop-less : tie.Need-loop-less Inv-loop μ-loop
-loop-less c = omega arith
 
 loop-again : tie.Need-loop-again Inv-loop μ-loop
 unfolding numberAt
@@ -76,11 +64,11 @@ agreeing-spec =
     μ-loop
     loop-holds
     eight-at-requires
-    mul-if1
-    shared-slice-read-if1
+    (λ c. omega arith)
+    (λ c. omega arith)
     returns
     add-place
-    add-i
-    loop-less
+    (λ c. omega arith)
+    (λ c. omega arith)
     loop-again
     returns-2)

@@ -17,15 +17,6 @@ read c = c .before .before
 known : (c : tie.After-x) → ReadAs (start (read c) .args .sheet .now) (c .x .given .0 .0)
 known c = read-as (start (read c) .args .sheet .now) (c .x .given .0 .0) (ap reading (sym (c .x .given .1)) ∙ read c .read .ensures)
 
-read-requires : tie.Need-read-requires
-read-requires c κs = search needs
-
-enum-known-r : tie.Need-enum-known-r
-enum-known-r c = search needs
-
-enum-known-x : tie.Need-enum-known-x
-enum-known-x c = search needs
-
 compare-requires : tie.Need-compare-requires
 compare-requires c κs = known (c .before)
 
@@ -43,4 +34,4 @@ returns-2 c =
 
 pub check-spec : {M : Type 1} → statement M
 check-spec =
-    tie.close (tie.spec read-requires enum-known-r enum-known-x compare-requires returns returns-2)
+    tie.close (tie.spec (λ c κs. search needs) (λ c. search needs) (λ c. search needs) compare-requires returns returns-2)

@@ -69,17 +69,8 @@ returns-2 c =
 modulus-of-requires : tie.Need-modulus-of-requires
 modulus-of-requires c κs = omega (arith, opened-from (key-opened c))
 
-slice-aggregate-fill-tables : tie.Need-slice-aggregate-fill-tables
-slice-aggregate-fill-tables c = search needs
-
-slice-aggregate-fill-tables-2 : tie.Need-slice-aggregate-fill-tables-2
-slice-aggregate-fill-tables-2 c = search needs
-
 fill-tables-requires : tie.Need-fill-tables-requires
 fill-tables-requires c κs = let h = key-held (c .before .before) in (opened-proper h, opened-eight h, refl, refl)
-
-slice-aggregate-last-page : tie.Need-slice-aggregate-last-page
-slice-aggregate-last-page c = search needs
 
 last-page-requires : tie.Need-last-page-requires
 last-page-requires c κs =
@@ -89,12 +80,6 @@ last-page-requires c κs =
 
 page-fields-requires : tie.Need-page-fields-requires
 page-fields-requires c κs = omega (arith, total (equal (opened (tables c))))
-
-slice-aggregate-first-change : tie.Need-slice-aggregate-first-change
-slice-aggregate-first-change c = search needs
-
-slice-aggregate-first-change-2 : tie.Need-slice-aggregate-first-change-2
-slice-aggregate-first-change-2 c = search needs
 
 first-change-requires : tie.Need-first-change-requires
 first-change-requires c κs =
@@ -126,13 +111,13 @@ compare-spec =
     returns
     returns-2
     modulus-of-requires
-    slice-aggregate-fill-tables
-    slice-aggregate-fill-tables-2
+    (λ c. search needs)
+    (λ c. search needs)
     fill-tables-requires
-    slice-aggregate-last-page
+    (λ c. search needs)
     last-page-requires
     page-fields-requires
-    slice-aggregate-first-change
-    slice-aggregate-first-change-2
+    (λ c. search needs)
+    (λ c. search needs)
     first-change-requires
     returns-3)

@@ -41,12 +41,6 @@ page c = sym (asked c .check .ensures) ∙ ap checked (c .i .given .1)
 fits : (c : tie.After-read-head) → place c .i .given .0 .0 * c .read-head .result .size + c .read-head .result .size < 2 ^ 64
 fits c = range-fits (place c .i .given .0 .0) (c .read-head .result .size) (search needs) (c .read-head .ensures .size-fits)
 
-check-requires : tie.Need-check-requires
-check-requires c κs = search needs
-
-enum-known-i : tie.Need-enum-known-i
-enum-known-i c = search needs
-
 returns : tie.Need-returns
 returns c =
     let k = c .before in
@@ -55,9 +49,6 @@ returns c =
 
 read-head-requires : tie.Need-read-head-requires
 read-head-requires c κs = named-long _ _ _ (page (c .before))
-
-cast-from : tie.Need-cast-from
-cast-from c = search needs
 
 mul-from : tie.Need-mul-from
 mul-from c = omega (arith, fits c)
@@ -75,11 +66,11 @@ pub first-changed-range-spec : {M : Type 1} → statement M
 first-changed-range-spec =
     tie.close
     (tie.spec
-    check-requires
-    enum-known-i
+    (λ c κs. search needs)
+    (λ c. search needs)
     returns
     read-head-requires
-    cast-from
+    (λ c. search needs)
     mul-from
     add-end
     returns-2

@@ -33,9 +33,6 @@ two c = c .before .before .before
 loop-holds : tie.Need-loop-holds Inv-loop μ-loop
 loop-holds c = (omega arith, refl, λ p h sh i l. absurd (not-suc-le-zero l))
 
-beside-requires : tie.Need-beside-requires Inv-loop μ-loop
-beside-requires c κs = omega arith
-
 -- both pages end inside the block
 first-fits : (c : tie.After-beside Inv-loop μ-loop) → loop c .loop .i * start (loop c) .args .size + start (loop c) .args .size ≤ length (start (loop c) .args .pages .now)
 first-fits c = let s = start (loop c) in place-fits (s .args .size) (s .args .n) (loop c .loop .i) (length (s .args .pages .now)) (c .before .loop-test .taken) (s .pre .4)
@@ -88,23 +85,8 @@ feed-eights-requires c κs =
     let q = part-length s (b .beside .result) (second-fits b) in
     (s .pre .0, rw p (s .pre .1), rw p (s .pre .2), rw (p, q))
 
-mul-marks : tie.Need-mul-marks Inv-loop μ-loop
-mul-marks c = omega arith
-
-slice-write-marks : tie.Need-slice-write-marks Inv-loop μ-loop
-slice-write-marks c = omega arith
-
-mul-marks-2 : tie.Need-mul-marks-2 Inv-loop μ-loop
-mul-marks-2 c = omega arith
-
 slice-write-marks-2 : tie.Need-slice-write-marks-2 Inv-loop μ-loop
 slice-write-marks-2 c = simp length-set (omega arith)
-
-add-i : tie.Need-add-i Inv-loop μ-loop
-add-i c = omega arith
-
-loop-less : tie.Need-loop-less Inv-loop μ-loop
-loop-less c = omega arith
 
 loop-again : tie.Need-loop-again Inv-loop μ-loop
 loop-again c =
@@ -123,9 +105,6 @@ loop-again c =
           (omega (arith, j .ensures .2)) (l .inv .2 p h sh) (x .ensures .0 p h sh ∙ front (polynomial p) (l .i)) (x .ensures .1 p h sh ∙ front (polynomial p) (j .result)),
     )
 
-same-length : tie.Need-same-length Inv-loop μ-loop
-same-length c = omega arith
-
 returns : tie.Need-returns Inv-loop μ-loop
 returns c = λ p h sh i l. c .before .loop .inv .2 p h sh i (omega (arith, l))
 
@@ -136,7 +115,7 @@ begin-pages-spec =
     Inv-loop
     μ-loop
     loop-holds
-    beside-requires
+    (λ c κs. omega arith)
     mul-a
     mul-b
     add-feed-eights
@@ -148,12 +127,12 @@ begin-pages-spec =
     part-feed-eights-start-2
     part-feed-eights-end-2
     feed-eights-requires
-    mul-marks
-    slice-write-marks
-    mul-marks-2
+    (λ c. omega arith)
+    (λ c. omega arith)
+    (λ c. omega arith)
     slice-write-marks-2
-    add-i
-    loop-less
+    (λ c. omega arith)
+    (λ c. omega arith)
     loop-again
-    same-length
+    (λ c. omega arith)
     returns)

@@ -16,12 +16,6 @@ fill-table-requires c κs = let s = start c in (s .pre .0, s .pre .2)
 fill-requires : tie.Need-fill-requires
 fill-requires c κs = let s = start (first c .before) in (s .pre .0, omega arith, s .pre .3)
 
-same-length : tie.Need-same-length
-same-length c = search needs
-
-same-length-2 : tie.Need-same-length-2
-same-length-2 c = search needs
-
 returns : tie.Need-returns
 returns c =
     let g = c .before .before in
@@ -30,4 +24,4 @@ returns c =
     record { table = (s .pre .0, s .pre .1, f .fill-table .ensures); shifts = g .fill .ensures }
 
 pub fill-tables-spec : {M : Type 1} → statement M
-fill-tables-spec = tie.close (tie.spec fill-table-requires fill-requires same-length same-length-2 returns)
+fill-tables-spec = tie.close (tie.spec fill-table-requires fill-requires (λ c. search needs) (λ c. search needs) returns)

@@ -42,12 +42,6 @@ fits c = let s = start (c .before) in place-fits (s .args .size) (s .args .n) (c
 mul-a : tie.Need-mul-a Inv-loop μ-loop
 mul-a c = omega (arith, start (c .before) .pre .1, fits c)
 
-mul-finished : tie.Need-mul-finished Inv-loop μ-loop
-mul-finished c = omega arith
-
-slice-read-finished : tie.Need-slice-read-finished Inv-loop μ-loop
-slice-read-finished c = omega arith
-
 add-finished : tie.Need-add-finished Inv-loop μ-loop
 add-finished c = omega (arith, start (loop c) .pre .1, fits (c .before))
 
@@ -66,18 +60,6 @@ part-finished-end c = omega (arith, start (loop c) .pre .1, fits (c .before))
 finished-requires : tie.Need-finished-requires Inv-loop μ-loop
 finished-requires c κs = start (loop (c .before)) .pre .0
 
-mul-marks : tie.Need-mul-marks Inv-loop μ-loop
-mul-marks c = omega arith
-
-slice-write-marks : tie.Need-slice-write-marks Inv-loop μ-loop
-slice-write-marks c = omega arith
-
-add-i : tie.Need-add-i Inv-loop μ-loop
-add-i c = omega arith
-
-loop-less : tie.Need-loop-less Inv-loop μ-loop
-loop-less c = omega arith
-
 loop-again : tie.Need-loop-again Inv-loop μ-loop
 loop-again c =
     let l = loop (read c) .loop in
@@ -92,9 +74,6 @@ loop-again c =
       λ j b. getD-set-other (l .marks) (l .i) j (x .result) 0 (λ e. omega (arith, e, b)) ∙ l .inv .3 j (omega (arith, b)),
     )
 
-same-length : tie.Need-same-length Inv-loop μ-loop
-same-length c = omega arith
-
 returns : tie.Need-returns Inv-loop μ-loop
 returns c = λ i l. c .before .loop .inv .2 i (omega (arith, l))
 
@@ -106,18 +85,18 @@ finish-pages-spec =
     μ-loop
     loop-holds
     mul-a
-    mul-finished
-    slice-read-finished
+    (λ c. omega arith)
+    (λ c. omega arith)
     add-finished
     add-finished-2
     sub-finished
     part-finished-start
     part-finished-end
     finished-requires
-    mul-marks
-    slice-write-marks
-    add-i
-    loop-less
+    (λ c. omega arith)
+    (λ c. omega arith)
+    (λ c. omega arith)
+    (λ c. omega arith)
     loop-again
-    same-length
+    (λ c. omega arith)
     returns)

@@ -40,9 +40,6 @@ own c =
     let s = start (c .before) in
     c .fed .ensures ∙ ap (λ (q : List ℕ). rem (key s) (valueFrom 1 (bits q))) (all-left (file s) (length (file s) / s .args .size * s .args .size))
 
-div-from : tie.Need-div-from
-div-from c = search needs
-
 mul-from : tie.Need-mul-from
 mul-from c = omega (arith, ends (c .before .before))
 
@@ -51,9 +48,6 @@ sub-fed c = omega (arith, ends (c .before .before))
 
 part-fed-start : tie.Need-part-fed-start
 part-fed-start c = omega (arith, ends (c .before .before))
-
-part-fed-end : tie.Need-part-fed-end
-part-fed-end c = search needs
 
 fed-requires : tie.Need-fed-requires
 fed-requires c κs = let s = start c in (s .pre .0, pow-lt {i = 0} {j = s .args .p .degree} (s .pre .0 .0 .0))
@@ -100,11 +94,11 @@ pub last-page-spec : {M : Type 1} → statement M
 last-page-spec =
     tie.close
     (tie.spec
-    div-from
+    (λ c. search needs)
     mul-from
     sub-fed
     part-fed-start
-    part-fed-end
+    (λ c. search needs)
     fed-requires
     sub-zeros
     sub-zeros-2

@@ -53,9 +53,6 @@ whole-marks-requires c κs =
     let s = start b in
     (s .pre .0, s .pre .1, fits b, omega (arith, s .pre .3))
 
-same-length : tie.Need-same-length
-same-length c = search needs
-
 returns : tie.Need-returns
 returns c =
     let b = block (c .before) in
@@ -63,9 +60,6 @@ returns c =
 
 mul-if2 : tie.Need-mul-if2
 mul-if2 c = omega (arith, fits (block (c .before)))
-
-same-length-2 : tie.Need-same-length-2
-same-length-2 c = search needs
 
 returns-2 : tie.Need-returns-2
 returns-2 c =
@@ -79,14 +73,8 @@ returns-2 c =
       prints = whole-marks d .whole-marks .ensures;
     }
 
-mul-marks : tie.Need-mul-marks
-mul-marks c = omega arith
-
 slice-write-marks : tie.Need-slice-write-marks
 slice-write-marks c = let d = c .before .before in omega (arith, start (block d) .pre .3, whole-marks d .whole-marks .kept .0)
-
-add-result : tie.Need-add-result
-add-result c = search needs
 
 same-length-3 : tie.Need-same-length-3
 same-length-3 c = simp length-set (whole-marks (c .before .before) .whole-marks .kept .0)
@@ -113,13 +101,13 @@ next-pages-spec =
     (tie.spec
     block-requires
     whole-marks-requires
-    same-length
+    (λ c. search needs)
     returns
     mul-if2
-    same-length-2
+    (λ c. search needs)
     returns-2
-    mul-marks
+    (λ c. omega arith)
     slice-write-marks
-    add-result
+    (λ c. search needs)
     same-length-3
     returns-3)

@@ -13,9 +13,6 @@ begun c = c .before .before .before .before
 abbrev start : tie.After-begin-pages-arg → tie.Start
 start c = c .before .before .before .before .before
 
-mul-whole : tie.Need-mul-whole
-mul-whole c = search needs
-
 begin-pages-requires : tie.Need-begin-pages-requires
 begin-pages-requires c κs = let s = start c in (s .pre .0 .shifts .long, omega arith, omega arith, omega arith, s .pre .2, s .pre .3)
 
@@ -24,9 +21,6 @@ finish-pages-requires c κs =
     let b = c .before .before .before in
     let s = start (b .before) in
     (s .pre .0 .table, omega arith, s .pre .2, omega (arith, b .begin-pages .kept .0), b .begin-pages .ensures (s .args .p) (s .pre .0 .table .0) (s .pre .0 .shifts))
-
-same-length : tie.Need-same-length
-same-length c = search needs
 
 returns : tie.Need-returns
 returns c =
@@ -38,4 +32,4 @@ returns c =
 
 pub whole-marks-spec : {M : Type 1} → statement M
 whole-marks-spec =
-    tie.close (tie.spec mul-whole begin-pages-requires finish-pages-requires same-length returns)
+    tie.close (tie.spec (λ c. search needs) begin-pages-requires finish-pages-requires (λ c. search needs) returns)

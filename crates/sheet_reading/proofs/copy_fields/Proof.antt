@@ -29,20 +29,8 @@ loop-holds c = (omega arith, omega arith, refl, refl)
 eight-at-requires : tie.Need-eight-at-requires Inv-loop μ-loop
 eight-at-requires c κs = omega (arith, start (c .before) .pre .1, c .before .loop .inv .1)
 
-mul-lent : tie.Need-mul-lent Inv-loop μ-loop
-mul-lent c = omega arith
-
-slice-write-lent : tie.Need-slice-write-lent Inv-loop μ-loop
-slice-write-lent c = omega arith
-
 add-place : tie.Need-add-place Inv-loop μ-loop
 add-place c = omega (arith, start (loop c) .pre .1, loop c .loop .inv .1)
-
-add-i : tie.Need-add-i Inv-loop μ-loop
-add-i c = omega arith
-
-loop-less : tie.Need-loop-less Inv-loop μ-loop
-loop-less c = omega arith
 
 loop-again : tie.Need-loop-again Inv-loop μ-loop
 unfolding numberAt
@@ -76,11 +64,11 @@ copy-fields-spec =
     μ-loop
     loop-holds
     eight-at-requires
-    mul-lent
-    slice-write-lent
+    (λ c. omega arith)
+    (λ c. omega arith)
     add-place
-    add-i
-    loop-less
+    (λ c. omega arith)
+    (λ c. omega arith)
     loop-again
     same-length
     returns)

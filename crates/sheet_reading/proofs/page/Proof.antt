@@ -25,9 +25,6 @@ reached c = leb-true _ _ (sym (c .before .reaches .ensures) ∙ not-false _ (c .
 returns : tie.Need-returns
 returns c = let a = start (c .before) .args in sym (page-none (a .x) (a .sheet .now) (a .i) (inl (c .if1 .taken)))
 
-reaches-requires : tie.Need-reaches-requires
-reaches-requires c κs = search needs
-
 returns-2 : tie.Need-returns-2
 returns-2 c =
     let a = asked (c .before) .args in
@@ -42,4 +39,4 @@ returns-3 c =
     ap some (c .fingerprint-at .ensures) ∙ sym (page-some (a .x) (a .sheet .now) (a .i) (omega arith) (reached (c .before)))
 
 pub page-spec : {M : Type 1} → statement M
-page-spec = tie.close (tie.spec returns reaches-requires returns-2 fingerprint-at-requires returns-3)
+page-spec = tie.close (tie.spec returns (λ c κs. search needs) returns-2 fingerprint-at-requires returns-3)

@@ -40,20 +40,8 @@ accepted c = c .before .before
 key-opened : (c : tie.After-p) → Opened (accepted c .before .read-head .result .key) (c .p .given .0 .0)
 key-opened c = let t = accepted c in opened (t .test .result) (t .before .read-head .result .key) (t .test .ensures) (c .p .given .0 .0) (omega arith) (c .p .given .1)
 
-head-right-requires : tie.Need-head-right-requires
-head-right-requires c κs = search needs
-
 read-head-requires : tie.Need-read-head-requires
 read-head-requires c κs = long c
-
-test-requires : tie.Need-test-requires
-test-requires c κs = search needs
-
-enum-known-r : tie.Need-enum-known-r
-enum-known-r c = search needs
-
-enum-known-p : tie.Need-enum-known-p
-enum-known-p c = search needs
 
 read-under-requires : tie.Need-read-under-requires
 read-under-requires c κs =
@@ -79,12 +67,12 @@ pub read-spec : {M : Type 1} → statement M
 read-spec =
     tie.close
     (tie.spec
-    head-right-requires
+    (λ c κs. search needs)
     returns
     read-head-requires
-    test-requires
-    enum-known-r
-    enum-known-p
+    (λ c κs. search needs)
+    (λ c. search needs)
+    (λ c. search needs)
     read-under-requires
     returns-2
     returns-3)

@@ -38,18 +38,6 @@ known c = read-as (sheet c) (c .x .given .0 .0) (ap reading (sym (c .x .given .1
 fits : (c : tie.After-least) → pagePlace version1 (c .least .result) ≤ length (sheet (given c))
 fits c = let x = given c in omega (arith, c .least .ensures, total (sheet x) (known x), pages-counted (sheet x) (known x))
 
-read-requires : tie.Need-read-requires
-read-requires c κs = search needs
-
-enum-known-r : tie.Need-enum-known-r
-enum-known-r c = search needs
-
-enum-known-x : tie.Need-enum-known-x
-enum-known-x c = search needs
-
-least-requires : tie.Need-least-requires
-least-requires c κs = search needs
-
 page-fields-requires : tie.Need-page-fields-requires
 page-fields-requires c κs = omega (arith, fits (c .before))
 
@@ -64,9 +52,6 @@ returns c =
     let r = c .before .before .before in
     let a = start r .args in
     sym (pages-refused (a .sheet .now) (a .lent .now) (c .before .r .given .0 .0) (ap reading (sym (c .before .r .given .1)) ∙ r .read .ensures))
-
-same-length : tie.Need-same-length
-same-length c = search needs
 
 returns-2 : tie.Need-returns-2
 unfolding contentsIn
@@ -89,12 +74,12 @@ pub read-pages-spec : {M : Type 1} → statement M
 read-pages-spec =
     tie.close
     (tie.spec
-    read-requires
-    enum-known-r
-    enum-known-x
-    least-requires
+    (λ c κs. search needs)
+    (λ c. search needs)
+    (λ c. search needs)
+    (λ c κs. search needs)
     page-fields-requires
     copy-fields-requires
     returns
-    same-length
+    (λ c. search needs)
     returns-2)

@@ -45,9 +45,6 @@ total c =
     c .page-count .ensures ∙ ap₂ (λ (m n : ℕ). pageCount m n) (s .pre .1 .size) (s .pre .1 .length) in
     body-total (sheet s) (fails _ _ (b .body-right .ensures) (c .before .if2 .left)) ∙ ap (sheetLength version1) (sym count)
 
-size-right-requires : tie.Need-size-right-requires
-size-right-requires c κs = search needs
-
 returns : tie.Need-returns
 returns c =
     let s = start (c .before) in
@@ -81,4 +78,4 @@ returns-3 c =
 pub read-under-spec : {M : Type 1} → statement M
 read-under-spec =
     tie.close
-    (tie.spec size-right-requires returns body-right-requires returns-2 page-count-requires fingerprint-at-requires returns-3)
+    (tie.spec (λ c κs. search needs) returns body-right-requires returns-2 page-count-requires fingerprint-at-requires returns-3)

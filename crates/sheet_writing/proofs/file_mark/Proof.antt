@@ -53,9 +53,6 @@ joined c =
     ∙ ap (λ (fs : List ℕ). joinedPages (key s) (a .size) (markOf (key s) []) fs .fingerprint) (s .pre .7)
     ∙ whole-joined (pos s) (a .size) w (file s) (ends s)
 
-div-whole : tie.Need-div-whole
-div-whole c = search needs
-
 pages-joined-requires : tie.Need-pages-joined-requires
 pages-joined-requires c κs =
     let s = c .before .before in
@@ -75,4 +72,4 @@ returns : tie.Need-returns
 returns c = let s = start (c .before) in c .joined-residue .ensures ∙ last-joined (pos s) (s .args .size) (file s) _ _ (joined (c .before)) (s .pre .5)
 
 pub file-mark-spec : {M : Type 1} → statement M
-file-mark-spec = tie.close (tie.spec div-whole pages-joined-requires mul-joined-residue sub-joined-residue joined-residue-requires returns)
+file-mark-spec = tie.close (tie.spec (λ c. search needs) pages-joined-requires mul-joined-residue sub-joined-residue joined-residue-requires returns)

@@ -49,29 +49,14 @@ count s = pageCount (s .args .size) (length (file s))
 prints : (c : tie.After-put-pages) → c .put-pages .last .0 ≡ sets (begin c .args .fields .now) 0 (fieldsOf 8 (pageFingerprints (key (begin c)) (begin c .args .size) (count (begin c)) (file (begin c))))
 prints c = c .put-pages .ensures
 
-slice-aggregate-fill-tables : tie.Need-slice-aggregate-fill-tables
-slice-aggregate-fill-tables c = search needs
-
-slice-aggregate-fill-tables-2 : tie.Need-slice-aggregate-fill-tables-2
-slice-aggregate-fill-tables-2 c = search needs
-
 fill-tables-requires : tie.Need-fill-tables-requires
 fill-tables-requires c κs = let s = start c in (s .pre .0, s .pre .1, refl, refl)
-
-slice-aggregate-last-page : tie.Need-slice-aggregate-last-page
-slice-aggregate-last-page c = search needs
 
 last-page-requires : tie.Need-last-page-requires
 last-page-requires c κs =
     let t = c .before .before .before in
     let s = start (t .before) in
     (t .fill-tables .ensures .table, omega (arith, s .pre .3), s .pre .4)
-
-slice-aggregate-put-pages : tie.Need-slice-aggregate-put-pages
-slice-aggregate-put-pages c = search needs
-
-slice-aggregate-put-pages-2 : tie.Need-slice-aggregate-put-pages-2
-slice-aggregate-put-pages-2 c = search needs
 
 put-pages-requires : tie.Need-put-pages-requires
 put-pages-requires c κs =
@@ -108,9 +93,6 @@ put-requires c κs =
     let p = pages (c .before .before) in
     (omega arith, omega (arith, c .before .page-count .ensures, p .put-pages .kept .0, begin p .pre .6))
 
-same-length : tie.Need-same-length
-same-length c = search needs
-
 returns : tie.Need-returns
 returns c =
     let q = c .before .before in
@@ -130,17 +112,17 @@ pub put-fingerprints-spec : {M : Type 1} → statement M
 put-fingerprints-spec =
     tie.close
     (tie.spec
-    slice-aggregate-fill-tables
-    slice-aggregate-fill-tables-2
+    (λ c. search needs)
+    (λ c. search needs)
     fill-tables-requires
-    slice-aggregate-last-page
+    (λ c. search needs)
     last-page-requires
-    slice-aggregate-put-pages
-    slice-aggregate-put-pages-2
+    (λ c. search needs)
+    (λ c. search needs)
     put-pages-requires
     file-mark-requires
     page-count-requires
     mul-put
     put-requires
-    same-length
+    (λ c. search needs)
     returns)

@@ -31,9 +31,6 @@ sub-put-fingerprints c = let h = c .before .before in omega (arith, h .put-head 
 part-put-fingerprints-start : tie.Need-part-put-fingerprints-start
 part-put-fingerprints-start c = let h = c .before .before in omega (arith, h .put-head .kept .0, start h .pre .4)
 
-part-put-fingerprints-end : tie.Need-part-put-fingerprints-end
-part-put-fingerprints-end c = search needs
-
 put-fingerprints-requires : tie.Need-put-fingerprints-requires
 put-fingerprints-requires c κs =
     let h = head c in
@@ -41,9 +38,6 @@ put-fingerprints-requires c κs =
     let p = s .pre in
     let part = ap length (all-left (h .put-head .last .0) (pagePlace version1 0)) ∙ length-drop (pagePlace version1 0) (h .put-head .last .0) in
     (opened-proper (p .0), opened-eight (p .0), opened-word (p .0), p .1, p .2, p .3, omega (arith, part, h .put-head .kept .0, p .4))
-
-same-length : tie.Need-same-length
-same-length c = search needs
 
 returns : tie.Need-returns
 unfolding contentsOf bytesIn
@@ -72,7 +66,7 @@ put-sheet-spec =
     put-head-requires
     sub-put-fingerprints
     part-put-fingerprints-start
-    part-put-fingerprints-end
+    (λ c. search needs)
     put-fingerprints-requires
-    same-length
+    (λ c. search needs)
     returns)

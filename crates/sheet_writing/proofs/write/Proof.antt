@@ -19,15 +19,6 @@ key-opened c =
     let s = start t in
     opened (t .test .result) (s .args .key) (t .test .ensures) (c .p .given .0 .0) (s .fits .key .fits) (c .p .given .1)
 
-test-requires : tie.Need-test-requires
-test-requires c κs = search needs
-
-enum-known-r : tie.Need-enum-known-r
-enum-known-r c = search needs
-
-enum-known-p : tie.Need-enum-known-p
-enum-known-p c = search needs
-
 write-under-requires : tie.Need-write-under-requires
 write-under-requires c κs = key-opened (c .before .before)
 
@@ -38,9 +29,6 @@ returns c =
     let r = c .before .r in
     sym (write-refused (a .key) (a .size) (a .file .now) (a .buffer .now) (t .test .result) (r .given .0 .0) (t .test .ensures) (r .given .1))
 
-same-length : tie.Need-same-length
-same-length c = search needs
-
 returns-2 : tie.Need-returns-2
 returns-2 c = c .before .before .write-under .ensures
 
@@ -48,10 +36,10 @@ pub write-spec : {M : Type 1} → statement M
 write-spec =
     tie.close
     (tie.spec
-    test-requires
-    enum-known-r
-    enum-known-p
+    (λ c κs. search needs)
+    (λ c. search needs)
+    (λ c. search needs)
     write-under-requires
     returns
-    same-length
+    (λ c. search needs)
     returns-2)

@@ -42,9 +42,6 @@ returns c =
     let a = s .args in
     sym (write-long (a .key) (a .size) (a .file .now) (a .buffer .now) (s .pre) (omega arith))
 
-size-right-requires : tie.Need-size-right-requires
-size-right-requires c κs = search needs
-
 returns-2 : tie.Need-returns-2
 returns-2 c =
     let s = start (c .before) in
@@ -70,9 +67,6 @@ put-sheet-requires c κs =
     let b = size e in
     (start (e .before) .pre, b .0, b .1, omega arith, omega (arith, total (c .before .before)))
 
-same-length : tie.Need-same-length
-same-length c = search needs
-
 returns-4 : tie.Need-returns-4
 returns-4 c =
     let p = c .before .before in
@@ -87,11 +81,11 @@ write-under-spec =
     tie.close
     (tie.spec
     returns
-    size-right-requires
+    (λ c κs. search needs)
     returns-2
     page-count-requires
     sheet-length-requires
     returns-3
     put-sheet-requires
-    same-length
+    (λ c. search needs)
     returns-4)

@@ -23,9 +23,6 @@ abbrev μ-loop : tie.MeasureT-loop
 loop-holds : tie.Need-loop-holds Inv-loop μ-loop
 loop-holds c = (c .before .before .pre .1, refl, λ k. refl)
 
-eight-at-requires : tie.Need-eight-at-requires Inv-loop μ-loop
-eight-at-requires c κs = omega arith
-
 -- the loop and the start
 abbrev loop : tie.After-eight-at Inv-loop μ-loop → tie.At-loop Inv-loop μ-loop
 loop c = c .before .before
@@ -35,15 +32,6 @@ start c = c .before .before .before
 
 join-requires : tie.Need-join-requires Inv-loop μ-loop
 join-requires c κs = start (loop c) .pre .0
-
-add-place : tie.Need-add-place Inv-loop μ-loop
-add-place c = omega arith
-
-sub-left : tie.Need-sub-left Inv-loop μ-loop
-sub-left c = omega arith
-
-loop-less : tie.Need-loop-less Inv-loop μ-loop
-loop-less c = omega arith
 
 loop-again : tie.Need-loop-again Inv-loop μ-loop
 unfolding numberAt
@@ -73,10 +61,10 @@ join-lane-spec =
     Inv-loop
     μ-loop
     loop-holds
-    eight-at-requires
+    (λ c κs. omega arith)
     join-requires
-    add-place
-    sub-left
-    loop-less
+    (λ c. omega arith)
+    (λ c. omega arith)
+    (λ c. omega arith)
     loop-again
     returns)

@@ -25,41 +25,8 @@ Inv-loop shift l q lane a₀ b₀ c₀ d₀ bits₀ place₀ left₀ a b c d bit
 abbrev μ-loop : tie.MeasureT-loop
 μ-loop shift l q lane a₀ b₀ c₀ d₀ bits₀ place₀ left₀ a b c d bits place left = left
 
-mul-lane : tie.Need-mul-lane Inv-loop μ-loop
-mul-lane c = omega arith
-
 loop-holds : tie.Need-loop-holds Inv-loop μ-loop
 loop-holds c = (refl, omega arith, refl, refl, refl, refl, λ k. refl)
-
-eight-at-requires : tie.Need-eight-at-requires Inv-loop μ-loop
-eight-at-requires c κs = omega arith
-
-add-eight-at : tie.Need-add-eight-at Inv-loop μ-loop
-add-eight-at c = omega arith
-
-eight-at-requires-2 : tie.Need-eight-at-requires-2 Inv-loop μ-loop
-eight-at-requires-2 c κs = omega arith
-
-add-eight-at-2 : tie.Need-add-eight-at-2 Inv-loop μ-loop
-add-eight-at-2 c = omega arith
-
-add-eight-at-3 : tie.Need-add-eight-at-3 Inv-loop μ-loop
-add-eight-at-3 c = omega arith
-
-eight-at-requires-3 : tie.Need-eight-at-requires-3 Inv-loop μ-loop
-eight-at-requires-3 c κs = omega arith
-
-add-eight-at-4 : tie.Need-add-eight-at-4 Inv-loop μ-loop
-add-eight-at-4 c = omega arith
-
-add-eight-at-5 : tie.Need-add-eight-at-5 Inv-loop μ-loop
-add-eight-at-5 c = omega arith
-
-add-eight-at-6 : tie.Need-add-eight-at-6 Inv-loop μ-loop
-add-eight-at-6 c = omega arith
-
-eight-at-requires-4 : tie.Need-eight-at-requires-4 Inv-loop μ-loop
-eight-at-requires-4 c κs = omega arith
 
 -- the four fields, the loop and the start
 abbrev loop : tie.After-eight-at4 Inv-loop μ-loop → tie.At-loop Inv-loop μ-loop
@@ -82,15 +49,6 @@ join-requires-3 c κs = start (loop (c .before .before)) .pre .0
 
 join-requires-4 : tie.Need-join-requires-4 Inv-loop μ-loop
 join-requires-4 c κs = start (loop (c .before .before .before)) .pre .0
-
-add-place : tie.Need-add-place Inv-loop μ-loop
-add-place c = omega arith
-
-sub-left : tie.Need-sub-left Inv-loop μ-loop
-sub-left c = omega arith
-
-loop-less : tie.Need-loop-less Inv-loop μ-loop
-loop-less c = omega arith
 
 loop-again : tie.Need-loop-again Inv-loop μ-loop
 unfolding numberAt
@@ -147,24 +105,24 @@ join-lanes-spec =
     (tie.spec
     Inv-loop
     μ-loop
-    mul-lane
+    (λ c. omega arith)
     loop-holds
-    eight-at-requires
-    add-eight-at
-    eight-at-requires-2
-    add-eight-at-2
-    add-eight-at-3
-    eight-at-requires-3
-    add-eight-at-4
-    add-eight-at-5
-    add-eight-at-6
-    eight-at-requires-4
+    (λ c κs. omega arith)
+    (λ c. omega arith)
+    (λ c κs. omega arith)
+    (λ c. omega arith)
+    (λ c. omega arith)
+    (λ c κs. omega arith)
+    (λ c. omega arith)
+    (λ c. omega arith)
+    (λ c. omega arith)
+    (λ c κs. omega arith)
     join-requires
     join-requires-2
     join-requires-3
     join-requires-4
-    add-place
-    sub-left
-    loop-less
+    (λ c. omega arith)
+    (λ c. omega arith)
+    (λ c. omega arith)
     loop-again
     returns)

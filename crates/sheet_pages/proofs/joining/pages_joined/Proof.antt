@@ -39,18 +39,6 @@ small-by e h = rw e h
 power-lt : (c : tie.After-power-of-t) → c .power-of-t .result < 2 ^ start (filled (lanes c)) .args .p .degree
 power-lt c = let s = start (filled (lanes c)) in small-by (c .power-of-t .ensures) (residue-lt (s .args .p .degree) (s .args .p .low) (s .pre .0 .2) _)
 
-slice-aggregate-fill : tie.Need-slice-aggregate-fill
-slice-aggregate-fill c = search needs
-
-fill-requires : tie.Need-fill-requires
-fill-requires c κs = search needs
-
-slice-aggregate-join-lane : tie.Need-slice-aggregate-join-lane
-slice-aggregate-join-lane c = search needs
-
-join-lane-requires : tie.Need-join-lane-requires
-join-lane-requires c κs = search needs
-
 returns : tie.Need-returns
 returns c =
     let t = table (c .before .before .before) in
@@ -59,29 +47,11 @@ returns c =
     let x = c .join-lane .ensures in
     (λ r. x .0 ∙ few-joined (a .p) (s .pre .0) (a .size) 0 (a .n) (a .fields .now) (t .fill .last .0) (t .fill .ensures) r, λ k. x .1 k ∙ bits-none k _)
 
-slice-aggregate-join-lanes : tie.Need-slice-aggregate-join-lanes
-slice-aggregate-join-lanes c = search needs
-
-join-lanes-requires : tie.Need-join-lanes-requires
-join-lanes-requires c κs = search needs
-
-mul-power-of-t : tie.Need-mul-power-of-t
-mul-power-of-t c = search needs
-
 mul-power-of-t-2 : tie.Need-mul-power-of-t-2
 mul-power-of-t-2 c = let s = start (filled c) in omega (arith, mul-le-mul-right (s .args .n / 4) (s .pre .2))
 
-power-of-t-requires : tie.Need-power-of-t-requires
-power-of-t-requires c κs = search needs
-
-low-bits-requires : tie.Need-low-bits-requires
-low-bits-requires c κs = search needs
-
 times-plus-requires : tie.Need-times-plus-requires
 times-plus-requires c κs = let s = start (filled (lanes (power c))) in (s .pre .0, small-by (c .low-bits .ensures) (mod-lt _ (pow-pos (s .args .p .degree))), power-lt (power c))
-
-low-bits-requires-2 : tie.Need-low-bits-requires-2
-low-bits-requires-2 c κs = search needs
 
 times-plus-requires-2 : tie.Need-times-plus-requires-2
 times-plus-requires-2 c κs =
@@ -89,29 +59,11 @@ times-plus-requires-2 c κs =
     let s = start (filled (lanes p)) in
     (s .pre .0, small-by (c .low-bits2 .ensures) (mod-lt _ (pow-pos (s .args .p .degree))), power-lt p)
 
-low-bits-requires-3 : tie.Need-low-bits-requires-3
-low-bits-requires-3 c κs = search needs
-
 times-plus-requires-3 : tie.Need-times-plus-requires-3
 times-plus-requires-3 c κs =
     let p = power (first (second c)) in
     let s = start (filled (lanes p)) in
     (s .pre .0, small-by (c .low-bits3 .ensures) (mod-lt _ (pow-pos (s .args .p .degree))), power-lt p)
-
-mul-from : tie.Need-mul-from
-mul-from c = search needs
-
-slice-aggregate-join-lane-2 : tie.Need-slice-aggregate-join-lane-2
-slice-aggregate-join-lane-2 c = search needs
-
-mul-join-lane : tie.Need-mul-join-lane
-mul-join-lane c = search needs
-
-sub-join-lane : tie.Need-sub-join-lane
-sub-join-lane c = search needs
-
-join-lane-requires-2 : tie.Need-join-lane-requires-2
-join-lane-requires-2 c κs = search needs
 
 returns-2 : tie.Need-returns-2
 returns-2 c =
@@ -136,25 +88,25 @@ pub pages-joined-spec : {M : Type 1} → statement M
 pages-joined-spec =
     tie.close
     (tie.spec
-    slice-aggregate-fill
-    fill-requires
-    slice-aggregate-join-lane
-    join-lane-requires
+    (λ c. search needs)
+    (λ c κs. search needs)
+    (λ c. search needs)
+    (λ c κs. search needs)
     returns
-    slice-aggregate-join-lanes
-    join-lanes-requires
-    mul-power-of-t
+    (λ c. search needs)
+    (λ c κs. search needs)
+    (λ c. search needs)
     mul-power-of-t-2
-    power-of-t-requires
-    low-bits-requires
+    (λ c κs. search needs)
+    (λ c κs. search needs)
     times-plus-requires
-    low-bits-requires-2
+    (λ c κs. search needs)
     times-plus-requires-2
-    low-bits-requires-3
+    (λ c κs. search needs)
     times-plus-requires-3
-    mul-from
-    slice-aggregate-join-lane-2
-    mul-join-lane
-    sub-join-lane
-    join-lane-requires-2
+    (λ c. search needs)
+    (λ c. search needs)
+    (λ c. search needs)
+    (λ c. search needs)
+    (λ c κs. search needs)
     returns-2)

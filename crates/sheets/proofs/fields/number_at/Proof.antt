@@ -28,9 +28,6 @@ mul-x c =
     let m : 2 ^ (8 * l .n) ≤ 2 ^ 56 = pow-mono {i = 8 * l .n} {j = 56} (omega arith) in
     omega arith
 
-shared-slice-read-wide : tie.Need-shared-slice-read-wide Inv-loop μ-loop
-shared-slice-read-wide c = omega arith
-
 wide-requires : tie.Need-wide-requires Inv-loop μ-loop
 wide-requires c κs = tt
 
@@ -39,15 +36,6 @@ add-x c =
     let l = c .before .before .before .loop in
     let m : 2 ^ (8 * l .n) ≤ 2 ^ 56 = pow-mono {i = 8 * l .n} {j = 56} (omega arith) in
     omega arith
-
-add-n : tie.Need-add-n Inv-loop μ-loop
-add-n c = omega arith
-
-add-i : tie.Need-add-i Inv-loop μ-loop
-add-i c = omega arith
-
-loop-less : tie.Need-loop-less Inv-loop μ-loop
-loop-less c = omega arith
 
 loop-again : tie.Need-loop-again Inv-loop μ-loop
 loop-again c =
@@ -76,11 +64,11 @@ number-at-spec =
     μ-loop
     loop-holds
     mul-x
-    shared-slice-read-wide
+    (λ c. omega arith)
     wide-requires
     add-x
-    add-n
-    add-i
-    loop-less
+    (λ c. omega arith)
+    (λ c. omega arith)
+    (λ c. omega arith)
     loop-again
     returns)

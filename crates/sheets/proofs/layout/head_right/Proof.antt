@@ -21,16 +21,10 @@ sheet c = c .args .sheet .now
 returns : tie.Need-returns
 returns c = rw (lt-ltb (length (sheet (c .before .before))) (sheetLength version1 0) (c .if1 .taken))
 
-number-at-requires : tie.Need-number-at-requires
-number-at-requires c κs = search needs
-
 returns-2 : tie.Need-returns-2
 returns-2 c =
     let l = sheet (start (c .before .before)) in
     rw (le-ltb (length l) (sheetLength version1 0) (omega arith), ne-eqb (fieldIn version1 Letters l) letters (λ e. c .if2 .taken (c .before .number-at .ensures .0 ∙ e)))
-
-number-at-requires-2 : tie.Need-number-at-requires-2
-number-at-requires-2 c κs = search needs
 
 returns-3 : tie.Need-returns-3
 returns-3 c =
@@ -41,4 +35,4 @@ returns-3 c =
 
 pub head-right-spec : {M : Type 1} → statement M
 head-right-spec =
-    tie.close (tie.spec returns number-at-requires returns-2 number-at-requires-2 returns-3)
+    tie.close (tie.spec returns (λ c κs. search needs) returns-2 (λ c κs. search needs) returns-3)

@@ -5,17 +5,8 @@ use borrow.Author.Needs.{needs}
 use Rattle.sheets.proofs.layout.page_fields.Statement.{statement}
 use Rattle.sheets.proofs.layout.page_fields.Tie as tie
 
-sub-result : tie.Need-sub-result
-sub-result c = search needs
-
-part-result-start : tie.Need-part-result-start
-part-result-start c = search needs
-
-part-result-end : tie.Need-part-result-end
-part-result-end c = search needs
-
 returns : tie.Need-returns
 returns c = all-left (c .before .args .sheet .now) (pagePlace version1 0)
 
 pub page-fields-spec : {M : Type 1} → statement M
-page-fields-spec = tie.close (tie.spec sub-result part-result-start part-result-end returns)
+page-fields-spec = tie.close (tie.spec (λ c. search needs) (λ c. search needs) (λ c. search needs) returns)
