@@ -27,12 +27,14 @@ module _ (sheet : List ℕ) where
   pub check-refused : (q : Refusal) (file : List ℕ) → Refused q tt ≡ sheetRead (readSheet sheet) → checkSheet sheet file ≡ Refused q tt
   unfolding readSheet checkSheet
   check-refused q file e =
-      more-refused (readTests version1 sheet) (passes (length file ∷ []) ⇒ TooLong ∷ []) tt tt (contentsIn version1 sheet) (compared (contentsIn version1 sheet) file) q
+      more-refused (readTests version1 sheet) (passes (length file ∷ []) ⇒ TooLong ∷ []) tt tt (contentsIn version1 sheet)
+      (compared (contentsIn version1 sheet) file) q
       (refused-inv (readSheet sheet) q (sym e))
 
   pub check-done : {x : Sheet} → ReadAs sheet x → (file : List ℕ) → checkSheet sheet file ≡ comparison sheet file
   unfolding checkSheet
-  check-done r file = more-clear (readTests version1 sheet) (passes (length file ∷ []) ⇒ TooLong ∷ []) tt (compared (contentsIn version1 sheet) file) (tests-clear sheet r)
+  check-done r file =
+      more-clear (readTests version1 sheet) (passes (length file ∷ []) ⇒ TooLong ∷ []) tt (compared (contentsIn version1 sheet) file) (tests-clear sheet r)
 
 -- ---- the comparison, test by test
 
@@ -49,14 +51,23 @@ module _ (sheet file : List ℕ) where
     compare-other n = after-long ∙ rw (ne-eqb (length file) (contentsIn version1 sheet .length) n)
 
     -- equally long: page by page
-    pub compare-pages : (key size : ℕ) → key ≡ contentsIn version1 sheet .key → size ≡ contentsIn version1 sheet .pageSize → length file ≡ contentsIn version1 sheet .length
+    pub compare-pages : (key size : ℕ) → key ≡ contentsIn version1 sheet .key → size ≡ contentsIn version1 sheet .pageSize
+        → length file ≡ contentsIn version1 sheet .length
         → (part : List ℕ) → part ≡ fingerprintsPart sheet
         → comparison sheet file
         ≡ Done (firstChange 0 (numbersAt 0 8 (pageCount size (length file)) part) (pageFingerprints key size (pageCount size (length file)) file))
     unfolding compared contentsOf contentsIn
     compare-pages key size ek es en part ep =
         after-long
-        ∙ rw (eq-eqb (length file) (contentsIn version1 sheet .length) en, ← en, ← ek, ← es, ep, numbers-part (pagePlace version1 0) 0 8 (pageCount size (length file)) sheet)
+        ∙ rw (
+          eq-eqb (length file) (contentsIn version1 sheet .length) en,
+          ← en,
+          ← ek,
+          ← es,
+          ep,
+          numbers-part (pagePlace version1 0) 0 8
+              (pageCount size (length file)) sheet,
+        )
 
 -- the numbers that a check goes by
 module _ (sheet : List ℕ) {x : Sheet} (r : ReadAs sheet x) where
@@ -97,7 +108,8 @@ module _ (sheet file : List ℕ) (i : ℕ) (e : checkSheet sheet file ≡ Done (
       → FromTo from end ≡ rangeOf (contentsIn version1 sheet) (checkSheet sheet file)
   unfolding contentsIn
   named-range from size end es ef ee =
-      ap₂ (λ (a b : ℕ). FromTo a b) (ef ∙ ap (λ (s : ℕ). i * s) es) (ee ∙ ap₂ (λ (a b : ℕ). min a b) (ap₂ (λ (a b : ℕ). a + b) (ef ∙ ap (λ (s : ℕ). i * s) es) es) named-equal)
+      ap₂ (λ (a b : ℕ). FromTo a b) (ef ∙ ap (λ (s : ℕ). i * s) es) (ee ∙ ap₂ (λ (a b : ℕ). min a b)
+      (ap₂ (λ (a b : ℕ). a + b) (ef ∙ ap (λ (s : ℕ). i * s) es) es) named-equal)
       ∙ ap (rangeOf (contentsIn version1 sheet)) (sym e)
 
 pub range-fits : (i size : ℕ) → i < 2 ^ 32 → size < 2 ^ 16 → i * size + size < 2 ^ 64

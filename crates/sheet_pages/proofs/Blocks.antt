@@ -30,7 +30,8 @@ module _ (key s w : ℕ) (pages marks : List ℕ) (i : ℕ) where
       stored 0 P (set marks i x) j y (simp length-set l) ey m (λ d. stored 0 P marks i x (omega arith) ex m (λ e. f m (omega (arith, d, e))))
 
   -- one page more
-  pub finished-more : (v : ℕ) → i < length marks → Finished key s i pages marks → v ≡ fingerprint key (pageFront s s pages i) → Finished key s (i + 1) pages (set marks i v)
+  pub finished-more : (v : ℕ) → i < length marks → Finished key s i pages marks → v ≡ fingerprint key (pageFront s s pages i)
+      → Finished key s (i + 1) pages (set marks i v)
   finished-more v l f e m b = stored 0 (λ n z. z ≡ fingerprint key (pageFront s s pages n)) marks i v l e m (λ d. f m (omega (arith, d)))
 
 -- ---- the bytes of a page in the block
@@ -72,14 +73,18 @@ pages-at p s (suc c) (suc i) file h =
     pages-at p s c i (drop s file) (omega arith)
     ∙ ap (λ (q : List ℕ). fingerprint p (filled s (take s q))) (drop-drop (i * s) s file ∙ ap (λ (n : ℕ). drop n file) e)
 
-pub block-is : (key s n : ℕ) (pages marks : List ℕ) → n * s ≤ length pages → n ≤ length marks → Finished key s n pages marks → take n marks ≡ pageFingerprints key s n pages
-block-is key s n pages marks h l f = ext-getD 0 (take n marks) (pageFingerprints key s n pages) (long ∙ sym (length-pages key n s pages)) (λ i b. same i (omega (arith, long, b)))
+pub block-is : (key s n : ℕ) (pages marks : List ℕ) → n * s ≤ length pages → n ≤ length marks → Finished key s n pages marks
+    → take n marks ≡ pageFingerprints key s n pages
+block-is key s n pages marks h l f =
+    ext-getD 0 (take n marks) (pageFingerprints key s n pages) (long ∙ sym (length-pages key n s pages)) (λ i b. same i (omega (arith, long, b)))
   where
     long : length (take n marks) ≡ n
     long = length-take-le n marks l
 
     whole : (i : ℕ) → i < n → filled s (take s (drop (i * s) pages)) ≡ take s (drop (i * s) pages)
-    whole i b = filled-whole s (take s (drop (i * s) pages)) (length-take-le s (drop (i * s) pages) (rw length-drop (omega (arith, place-fits s n i (length pages) b h))))
+    whole i b =
+        filled-whole s (take s (drop (i * s) pages)) (length-take-le s (drop (i * s) pages)
+        (rw length-drop (omega (arith, place-fits s n i (length pages) b h))))
 
     same : (i : ℕ) → i < n → getD (take n marks) i 0 ≡ getD (pageFingerprints key s n pages) i 0
     same i b = getD-take n marks i 0 b ∙ f i b ∙ ap (fingerprint key) (sym (whole i b)) ∙ sym (pages-at key s n i pages b)

@@ -175,7 +175,8 @@ module _ {key : ℕ} (pos : 0 < key) (e : ℕ) where
       ∙ ap (λ (x : ℕ). x ⊕ chained key e 0 gs) (rem-shl pos (0 * 2 ^ e ⊕ g ⊕ 2 ^ e) (e * n) ∙ ap (λ (x : ℕ). rem key (x * 2 ^ (e * n))) none)))
 
   -- by the table
-  pub looping-chained : (words : List ℕ) → Shifts key e words → degree key ≤ 64 → (f : ℕ) (gs : List ℕ) → f < 2 ^ degree key → someUnreduced (degree key) gs ≡ false
+  pub looping-chained : (words : List ℕ) → Shifts key e words → degree key ≤ 64 → (f : ℕ) (gs : List ℕ) → f < 2 ^ degree key
+      → someUnreduced (degree key) gs ≡ false
       → looping words f gs ≡ chained key e f gs
   unfolding looping chained
   looping-chained words s d f [] h r = refl
@@ -201,24 +202,28 @@ module _ (p : Modulus) (md : Proper p) (e : ℕ) where
       let deg = monic-degree (p .degree) (p .low) (md .2) in
       rw ex (rw deg at (chained-lt (monic-pos (p .degree) (p .low) (md .2)) e 1 u (rw deg (pow-lt {i = 0} {j = p .degree} (md .0)))))
 
-  pub lane-behind : (q : ℕ) (u v : List ℕ) (x y t r : ℕ) → length v ≡ q → x ≡ chained (polynomial p) e 1 u → y ≡ chained (polynomial p) e 0 v → t ≡ rem (polynomial p) (2 ^ (e * q))
+  pub lane-behind : (q : ℕ) (u v : List ℕ) (x y t r : ℕ) → length v ≡ q → x ≡ chained (polynomial p) e 1 u → y ≡ chained (polynomial p) e 0 v
+      → t ≡ rem (polynomial p) (2 ^ (e * q))
       → r ≡ rem (polynomial p) (x % 2 ^ p .degree ⊗ t) ⊕ y → r ≡ chained (polynomial p) e 1 (u ++ v)
   lane-behind q u v x y t r l ex ey et er =
       let pos = monic-pos (p .degree) (p .low) (md .2) in
       let small : chained (polynomial p) e 1 u < 2 ^ degree (polynomial p) = rw (monic-degree (p .degree) (p .low) (md .2), ← ex) (chain-lt x u ex) in
       er
-      ∙ ap₂ (λ (a b : ℕ). a ⊕ b) (ap₂ (λ (a b : ℕ). rem (polynomial p) (a ⊗ b)) (mod-eq-of-lt (chain-lt x u ex) ∙ ex) et ∙ rem-⊗-pow pos (chained (polynomial p) e 1 u) (e * q)) ey
+      ∙ ap₂ (λ (a b : ℕ). a ⊕ b) (ap₂ (λ (a b : ℕ). rem (polynomial p) (a ⊗ b)) (mod-eq-of-lt (chain-lt x u ex) ∙ ex) et ∙ rem-⊗-pow pos
+      (chained (polynomial p) e 1 u) (e * q)) ey
       ∙ ap (λ (n : ℕ). rem (polynomial p) (chained (polynomial p) e 1 u * 2 ^ (e * n)) ⊕ chained (polynomial p) e 0 v) (sym l)
       ∙ sym (chained-start pos e (chained (polynomial p) e 1 u) v small)
       ∙ sym (chained-append pos e 1 u v)
 
 -- the low bits of a number, times a power of t
-pub times-low : (p : Modulus) (a la t b r : ℕ) → la ≡ a % 2 ^ p .degree → r ≡ rem (polynomial p) (la ⊗ t) ⊕ b → r ≡ rem (polynomial p) (a % 2 ^ p .degree ⊗ t) ⊕ b
+pub times-low : (p : Modulus) (a la t b r : ℕ) → la ≡ a % 2 ^ p .degree → r ≡ rem (polynomial p) (la ⊗ t) ⊕ b
+    → r ≡ rem (polynomial p) (a % 2 ^ p .degree ⊗ t) ⊕ b
 times-low p a la t b r e d = d ∙ ap (λ (z : ℕ). rem (polynomial p) (z ⊗ t) ⊕ b) e
 
 -- four lanes of q fields and the rest, n fields in all
 module _ (p : Modulus) (md : Proper p) (s place n q from : ℕ) (fits : 4 * q ≤ n) (behind : from ≡ place + 32 * q) (l words : List ℕ)
-    (sh : Shifts (polynomial p) (8 * s) words) (r : someUnreduced (p .degree) (numbersAt place 8 n l) ≡ false) (x : Lanes) (four : LanesJoined words place q l x) (t : ℕ)
+    (sh : Shifts (polynomial p) (8 * s) words) (r : someUnreduced (p .degree) (numbersAt place 8 n l) ≡ false)
+    (x : Lanes) (four : LanesJoined words place q l x) (t : ℕ)
     (et : t ≡ rem (polynomial p) (2 ^ (8 * s * q))) where
   laneA : List ℕ
   laneA = numbersAt place 8 q l
@@ -249,7 +254,8 @@ module _ (p : Modulus) (md : Proper p) (s place n q from : ℕ) (fits : 4 * q �
   by-table : (f : ℕ) (gs : List ℕ) → f < 2 ^ p .degree → someUnreduced (p .degree) gs ≡ false → looping words f gs ≡ chained (polynomial p) (8 * s) f gs
   by-table f gs h u = looping-chained pos (8 * s) words sh (rw deg (md .1)) f gs (rw deg h) (rw deg u)
 
-  reduced : (someUnreduced (p .degree) laneA ≡ false) × (someUnreduced (p .degree) laneB ≡ false) × (someUnreduced (p .degree) laneC ≡ false) × (someUnreduced (p .degree) laneD ≡ false) × (someUnreduced (p .degree) rest ≡ false)
+  reduced : (someUnreduced (p .degree) laneA ≡ false) × (someUnreduced (p .degree) laneB ≡ false) × (someUnreduced (p .degree) laneC ≡ false)
+      × (someUnreduced (p .degree) laneD ≡ false) × (someUnreduced (p .degree) rest ≡ false)
   reduced =
       let d = reduced-split (p .degree) (laneA ++ laneB ++ laneC ++ laneD) rest (rw all-fields at r) in
       let c = reduced-split (p .degree) (laneA ++ laneB ++ laneC) laneD (d .0) in
@@ -264,9 +270,11 @@ module _ (p : Modulus) (md : Proper p) (s place n q from : ℕ) (fits : 4 * q �
   is-ab : (ab : ℕ) → ab ≡ rem (polynomial p) (x .a % 2 ^ p .degree ⊗ t) ⊕ x .b → ab ≡ chained (polynomial p) (8 * s) 1 (laneA ++ laneB)
   unfolding laneB
   is-ab ab e =
-      lane-behind p md (8 * s) q laneA laneB (x .a) (x .b) t ab (length-numbersAt (place + 8 * q) 8 q l) is-a (four .b ∙ by-table 0 laneB (pow-pos (p .degree)) (reduced .1)) et e
+      lane-behind p md (8 * s) q laneA laneB (x .a) (x .b) t ab (length-numbersAt (place + 8 * q) 8 q l) is-a
+      (four .b ∙ by-table 0 laneB (pow-pos (p .degree)) (reduced .1)) et e
 
-  is-abc : (ab abc : ℕ) → ab ≡ rem (polynomial p) (x .a % 2 ^ p .degree ⊗ t) ⊕ x .b → abc ≡ rem (polynomial p) (ab % 2 ^ p .degree ⊗ t) ⊕ x .c → abc ≡ chained (polynomial p) (8 * s) 1 (laneA ++ laneB ++ laneC)
+  is-abc : (ab abc : ℕ) → ab ≡ rem (polynomial p) (x .a % 2 ^ p .degree ⊗ t) ⊕ x .b → abc ≡ rem (polynomial p) (ab % 2 ^ p .degree ⊗ t) ⊕ x .c
+      → abc ≡ chained (polynomial p) (8 * s) 1 (laneA ++ laneB ++ laneC)
   unfolding laneC
   is-abc ab abc e f =
       lane-behind p md (8 * s) q (laneA ++ laneB) laneC ab (x .c) t abc (length-numbersAt (place + 8 * q + 8 * q) 8 q l) (is-ab ab e)
@@ -295,10 +303,12 @@ module _ (p : Modulus) (md : Proper p) (s place n q from : ℕ) (fits : 4 * q �
       ∙ sym (joined-chained (polynomial p) s (markOf (polynomial p) []) (numbersAt place 8 n l))
 
 -- few fields: one lane
-pub few-joined : (p : Modulus) → Proper p → (s place n : ℕ) (l words : List ℕ) → Shifts (polynomial p) (8 * s) words → someUnreduced (p .degree) (numbersAt place 8 n l) ≡ false
+pub few-joined : (p : Modulus) → Proper p → (s place n : ℕ) (l words : List ℕ) → Shifts (polynomial p) (8 * s) words
+    → someUnreduced (p .degree) (numbersAt place 8 n l) ≡ false
     → looping words 1 (numbersAt place 8 n l) ≡ joinedPages (polynomial p) s (markOf (polynomial p) []) (numbersAt place 8 n l) .fingerprint
 few-joined p md s place n l words sh r =
     let deg = monic-degree (p .degree) (p .low) (md .2) in
-    looping-chained (monic-pos (p .degree) (p .low) (md .2)) (8 * s) words sh (rw deg (md .1)) 1 (numbersAt place 8 n l) (rw deg (pow-lt {i = 0} {j = p .degree} (md .0))) (rw deg r)
+    looping-chained (monic-pos (p .degree) (p .low) (md .2)) (8 * s) words sh (rw deg (md .1)) 1 (numbersAt place 8 n l)
+    (rw deg (pow-lt {i = 0} {j = p .degree} (md .0))) (rw deg r)
     ∙ ap (λ (z : ℕ). chained (polynomial p) (8 * s) z (numbersAt place 8 n l)) (sym (empty-print p md))
     ∙ sym (joined-chained (polynomial p) s (markOf (polynomial p) []) (numbersAt place 8 n l))

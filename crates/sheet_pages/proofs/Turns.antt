@@ -17,7 +17,8 @@ module _ (key s : ℕ) (file : List ℕ) (i : ℕ) (pos : 0 < s) (more : i * s <
   abbrev left : List ℕ
   left = take (length file - i * s) (drop (i * s) file)
 
-  pub turn-last : (last : ℕ) → last ≡ fingerprint key (filled s (lastPage s file)) → last ≡ fingerprint key (filled s (lastPage s (take (length file - i * s) (drop (i * s) file))))
+  pub turn-last : (last : ℕ) → last ≡ fingerprint key (filled s (lastPage s file))
+      → last ≡ fingerprint key (filled s (lastPage s (take (length file - i * s) (drop (i * s) file))))
   turn-last last e =
       e ∙ ap (λ (l : List ℕ). fingerprint key (filled s l)) (sym (ap (lastPage s) (all-left file (i * s)) ∙ last-after s i file pos (omega arith)))
 

@@ -31,13 +31,15 @@ use Rattle.sheets.proofs.Sound.{neither}
 -- ---- reading
 
 -- the numbers of a sheet, as the code reads them
-pub numbers-are : (sheet : List ℕ) (head : Head) (c f : ℕ) → HeadOf sheet head → c ≡ pageCount (head .size) (head .length) → f ≡ numberAt (pagePlace version1 c) 8 sheet
+pub numbers-are : (sheet : List ℕ) (head : Head) (c f : ℕ) → HeadOf sheet head → c ≡ pageCount (head .size) (head .length)
+    → f ≡ numberAt (pagePlace version1 c) 8 sheet
     → numbersOf (contentsIn version1 sheet) ≡ record { key = head .key; length = head .length; size = head .size; pages = c; fingerprint = f }
 unfolding contentsIn
 numbers-are sheet head c f h ec ef =
     rw (length-numbersAt (pagePlace version1 0) 8 (pagesIn version1 sheet) sheet, ← (h .key), ← (h .length), ← (h .size), ← ec, ← ef)
 
-pub body-total : (sheet : List ℕ) → bodyWrong version1 (length sheet) (contentsIn version1 sheet) ≡ false → length sheet ≡ sheetLength version1 (pagesIn version1 sheet)
+pub body-total : (sheet : List ℕ) → bodyWrong version1 (length sheet) (contentsIn version1 sheet) ≡ false
+    → length sheet ≡ sheetLength version1 (pagesIn version1 sheet)
 unfolding contentsIn
 body-total sheet e =
     let x = contentsIn version1 sheet in
@@ -62,7 +64,8 @@ module _ (sheet : List ℕ) where
     unfolding readSheet contentsIn
     after-head = first-false (headWrong version1 sheet) SheetMalformed (keyTests (fieldIn version1 Key sheet) ++ rest) tt x head
 
-    pub read-refused : (t : Tested) (q : Refusal) → tested t ≡ testKey (fieldIn version1 Key sheet) → t ≡ tested-cases.Refused q → readSheet sheet ≡ Refused q tt
+    pub read-refused : (t : Tested) (q : Refusal) → tested t ≡ testKey (fieldIn version1 Key sheet) → t ≡ tested-cases.Refused q
+        → readSheet sheet ≡ Refused q tt
     read-refused t q e a = after-head ∙ refused t (fieldIn version1 Key sheet) e rest tt x q a
 
     pub read-opened : (p : Modulus) → Opened (fieldIn version1 Key sheet) p → readSheet sheet ≡ readBody sheet

@@ -29,7 +29,8 @@ fronts u v b b' n m eu ev h e =
 
 -- head, and fingerprints
 pub sheet-stores : (x : Contents) (c : ℕ) (b b' part : List ℕ) → length (x .pages) ≡ c → sheetLength version1 c ≤ length b
-    → b' ≡ sets b 0 (bytesIn (version1 .fields) (valueOf version1 x)) → part ≡ sets (drop (pagePlace version1 0) b') 0 (fieldsOf 8 (x .pages) ++ bytesOf 8 (x .fingerprint))
+    → b' ≡ sets b 0 (bytesIn (version1 .fields) (valueOf version1 x))
+    → part ≡ sets (drop (pagePlace version1 0) b') 0 (fieldsOf 8 (x .pages) ++ bytesOf 8 (x .fingerprint))
     → take (pagePlace version1 0) b' ++ part ≡ sheetBytes version1 x ++ drop (sheetLength version1 c) b
 unfolding sheetBytes
 sheet-stores x c b b' part ec h e ep =

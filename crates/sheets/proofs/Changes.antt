@@ -90,7 +90,12 @@ page-first n (f ∷ fs) (g ∷ gs) i e = go (compare-heads n f g fs gs) (page-fi
         let r = rest (sym d ∙ e) in
         record { place = suc (r .place); counted = omega (arith, r .counted); first = first-later f g fs gs (r .place) h (r .first) }
     go (unlike h d) rest =
-        record { place = 0; counted = sym (page-inj (sym d ∙ e)) ∙ sym (add-zero n); first = record { below = omega arith; differ = h; equal = λ j l. absurd (not-suc-le-zero l) } }
+        record {
+          place = 0;
+          counted = sym (page-inj (sym d ∙ e))
+              ∙ sym (add-zero n);
+          first = record { below = omega arith; differ = h; equal = λ j l. absurd (not-suc-le-zero l) };
+        }
 
 pub first-page : (n : ℕ) (fs gs : List ℕ) (i : ℕ) → length fs ≡ length gs → First fs gs i → firstChange n fs gs ≡ Page (n + i)
 first-page n [] gs i l h = absurd (not-suc-le-zero (h .below))
@@ -117,7 +122,8 @@ unfolding agreeing
 agree-stop f g fs gs n = rw (ne-eqb f g n)
 
 module _ (xs ys : List ℕ) where
-  pub block-changed : (i : ℕ) (fs gs : List ℕ) → length fs ≡ length gs → agreeing fs gs < length gs → firstChange i (fs ++ xs) (gs ++ ys) ≡ Page (i + agreeing fs gs)
+  pub block-changed : (i : ℕ) (fs gs : List ℕ) → length fs ≡ length gs → agreeing fs gs < length gs
+      → firstChange i (fs ++ xs) (gs ++ ys) ≡ Page (i + agreeing fs gs)
   block-changed i fs [] l h = absurd (not-suc-le-zero h)
   block-changed i [] (g ∷ gs) l h = absurd (omega arith)
   block-changed i (f ∷ fs) (g ∷ gs) l h = go (compare-heads i f g (fs ++ xs) (gs ++ ys)) (block-changed (suc i) fs gs (omega arith))
@@ -127,13 +133,15 @@ module _ (xs ys : List ℕ) where
       go (alike e d) rest = let s = agree-step f g fs gs e in d ∙ rest (omega (arith, s)) ∙ ap Page (omega (arith, s))
       go (unlike e d) rest = d ∙ ap Page (omega (arith, agree-stop f g fs gs e))
 
-  pub block-same : (i : ℕ) (fs gs : List ℕ) → length fs ≡ length gs → length gs ≤ agreeing fs gs → firstChange i (fs ++ xs) (gs ++ ys) ≡ firstChange (i + length gs) xs ys
+  pub block-same : (i : ℕ) (fs gs : List ℕ) → length fs ≡ length gs → length gs ≤ agreeing fs gs
+      → firstChange i (fs ++ xs) (gs ++ ys) ≡ firstChange (i + length gs) xs ys
   block-same i [] [] l h = ap (λ (n : ℕ). firstChange n xs ys) (sym (add-zero i))
   block-same i (f ∷ fs) [] l h = absurd (omega arith)
   block-same i [] (g ∷ gs) l h = absurd (omega arith)
   block-same i (f ∷ fs) (g ∷ gs) l h = go (compare-heads i f g (fs ++ xs) (gs ++ ys)) (block-same (suc i) fs gs (omega arith))
     where
-      go : Compared i f g (fs ++ xs) (gs ++ ys) → (length gs ≤ agreeing fs gs → firstChange (suc i) (fs ++ xs) (gs ++ ys) ≡ firstChange (suc i + length gs) xs ys)
+      go : Compared i f g (fs ++ xs) (gs ++ ys)
+          → (length gs ≤ agreeing fs gs → firstChange (suc i) (fs ++ xs) (gs ++ ys) ≡ firstChange (suc i + length gs) xs ys)
           → firstChange i (f ∷ fs ++ xs) (g ∷ gs ++ ys) ≡ firstChange (i + length (g ∷ gs)) xs ys
       go (alike e d) rest = d ∙ rest (omega (arith, agree-step f g fs gs e)) ∙ ap (λ (n : ℕ). firstChange n xs ys) (omega arith)
       go (unlike e d) rest = absurd (omega (arith, agree-stop f g fs gs e))
@@ -150,9 +158,11 @@ module _ (c i n : ℕ) (l us rest : List ℕ) (many : length us ≡ n) (fits : i
   fields-split =
       let e : c - i ≡ length us + (c - (i + n)) = omega arith in
       let p : 8 * i + 8 * length us ≡ 8 * (i + n) = omega arith in
-      ap (λ (m : ℕ). numbersAt (8 * i) 8 m l) e ∙ numbers-append (8 * i) 8 (length us) (c - (i + n)) l ∙ ap (λ (m : ℕ). first ++ numbersAt m 8 (c - (i + n)) l) p
+      ap (λ (m : ℕ). numbersAt (8 * i) 8 m l) e ∙ numbers-append (8 * i) 8 (length us) (c - (i + n)) l
+      ∙ ap (λ (m : ℕ). first ++ numbersAt m 8 (c - (i + n)) l) p
 
-  pub change-here : (r : ℕ) → r ≡ agreeing (numbersAt (8 * i) 8 (length us) l) us → r < n → firstChange i (numbersAt (8 * i) 8 (c - i) l) (us ++ rest) ≡ Page (i + r)
+  pub change-here : (r : ℕ) → r ≡ agreeing (numbersAt (8 * i) 8 (length us) l) us → r < n
+      → firstChange i (numbersAt (8 * i) 8 (c - i) l) (us ++ rest) ≡ Page (i + r)
   change-here r e h =
       ap (λ (fs : List ℕ). firstChange i fs (us ++ rest)) fields-split
       ∙ block-changed behind rest i first us (length-numbersAt (8 * i) 8 (length us) l) (omega (arith, e, many))

@@ -48,22 +48,26 @@ module _ (sheet : List ℕ) (w : WellFormed sheet) (file : List ℕ) (fits : len
   unfolding x contentsOf
   same-fingerprint =
       let i = accepted-iff (x .key) .0 (w .sound .key) in
-      shift-cancels (x .key) (fingerprint (x .key) file) (x .fingerprint) (8 * (pageCount (x .pageSize) (length file) * x .pageSize - length file)) (i .2) (omega arith)
+      shift-cancels (x .key) (fingerprint (x .key) file) (x .fingerprint) (8 * (pageCount (x .pageSize) (length file) * x .pageSize - length file)) (i .2)
+      (omega arith)
       (fingerprint-lt pos file) (w .sound .fingerprint)
       (sym (pages-joined pos (x .pageSize) file (omega (arith, w .sound .pageSize .0)))
       ∙ ap (λ (fs : List ℕ). joinedPages (x .key) (x .pageSize) (markOf (x .key) []) fs .fingerprint) (sym same-pages)
       ∙ w .sound .joined
-      ∙ ap₂ (λ (c n : ℕ). rem (x .key) (x .fingerprint * 2 ^ (8 * (c * x .pageSize - n)))) (w .sound .count ∙ ap (pageCount (x .pageSize)) (sym same-length)) (sym same-length))
+      ∙ ap₂ (λ (c n : ℕ). rem (x .key) (x .fingerprint * 2 ^ (8 * (c * x .pageSize - n)))) (w .sound .count ∙ ap (pageCount (x .pageSize)) (sym same-length))
+      (sym same-length))
     where
       pos : 0 < w .contents .key
       pos = accepted-pos (w .contents .key) (w .sound .key)
 
 -- of a written sheet: no file that differs inside k neighbouring bits is the same
-pub no-burst-same : (key s : ℕ) (a b : List ℕ) → accepted key ≡ true → length a ≤ longest → 16 ≤ s → s ≤ 4096 → Bytes a → Bytes b → a ≢ b → Burst (degree key) a b
+pub no-burst-same : (key s : ℕ) (a b : List ℕ) → accepted key ≡ true → length a ≤ longest → 16 ≤ s → s ≤ 4096 → Bytes a → Bytes b → a ≢ b
+    → Burst (degree key) a b
     → checkSheet (sheetBytes version1 (contentsOf key s a)) b ≡ Done Same → ⊥
 unfolding contentsOf
 no-burst-same key s a b acc n lo hi ha hb ne burst same =
-    let w : WellFormed (sheetBytes version1 (contentsOf key s a)) = record { contents = contentsOf key s a; sound = file-sound key s a acc n lo hi; bytes = refl } in
+    let w : WellFormed (sheetBytes version1 (contentsOf key s a)) =
+    record { contents = contentsOf key s a; sound = file-sound key s a acc n lo hi; bytes = refl } in
     let i = accepted-iff key .0 acc in
     burst-differs key a b (i .2) (omega arith) ha hb ne burst
     (sym (same-fingerprint (sheetBytes version1 (contentsOf key s a)) w b (omega (arith, burst .same-length)) same))

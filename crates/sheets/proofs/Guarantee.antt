@@ -32,7 +32,8 @@ pub reads : (sheet : List ℕ) (w : WellFormed sheet) → readSheet sheet ≡ Do
 unfolding readSheet
 reads sheet w =
     rw (w .bytes)
-    (clear-done (readTests version1 (sheetBytes version1 (w .contents))) tt (contentsIn version1 (sheetBytes version1 (w .contents))) (sound-clear (w .contents) (w .sound))
+    (clear-done (readTests version1 (sheetBytes version1 (w .contents))) tt (contentsIn version1 (sheetBytes version1 (w .contents)))
+    (sound-clear (w .contents) (w .sound))
     ∙ ap Done (sound-back (w .contents) (w .sound)))
 
 -- and nothing else is
@@ -75,7 +76,8 @@ page-given sheet w i l =
 
 -- what is written into a buffer reads back: key, length, page size, every page fingerprint and the file's
 module _ (key s : ℕ) (file buffer after : List ℕ) (fits : key < 2 ^ 64) (done : writeSheet key s file buffer ≡ Done after) where
-  cleared : Clear (writeTests key s file buffer) × (sheetBytes version1 (contentsOf key s file) ++ drop (sheetLength version1 (pageCount s (length file))) buffer ≡ after)
+  cleared : Clear (writeTests key s file buffer)
+      × (sheetBytes version1 (contentsOf key s file) ++ drop (sheetLength version1 (pageCount s (length file))) buffer ≡ after)
   unfolding writeSheet
   cleared = done-clear (writeTests key s file buffer) buffer _ after done
 
@@ -90,18 +92,21 @@ module _ (key s : ℕ) (file buffer after : List ℕ) (fits : key < 2 ^ 64) (don
   unfolding contentsOf
   written =
       ap (take (sheetLength version1 (pageCount s (length file)))) (sym (cleared .1))
-      ∙ take-at (sheetBytes version1 (contentsOf key s file)) (drop (sheetLength version1 (pageCount s (length file))) buffer) (sheetLength version1 (pageCount s (length file)))
+      ∙ take-at (sheetBytes version1 (contentsOf key s file)) (drop (sheetLength version1 (pageCount s (length file))) buffer)
+      (sheetLength version1 (pageCount s (length file)))
       (length-sheet version1 (contentsOf key s file) ∙ ap (sheetLength version1) (length-pages key (pageCount s (length file)) s file))
 
   pub written-reads : readSheet (take (sheetLength version1 (pageCount s (length file))) after) ≡ Done (contentsOf key s file)
   written-reads = rw written (reads (sheetBytes version1 (contentsOf key s file)) (record { contents = contentsOf key s file; sound = sound; bytes = refl }))
 
   -- its last field is the file's fingerprint
-  pub written-fingerprint : numberAt (pagePlace version1 (pageCount s (length file))) 8 (take (sheetLength version1 (pageCount s (length file))) after) ≡ fingerprint key file
+  pub written-fingerprint : numberAt (pagePlace version1 (pageCount s (length file))) 8 (take (sheetLength version1 (pageCount s (length file))) after)
+      ≡ fingerprint key file
   unfolding contentsOf
   written-fingerprint =
       rw written
-      (ap (λ (c : ℕ). numberAt (pagePlace version1 c) 8 (sheetBytes version1 (contentsOf key s file))) (sym (length-pages key (pageCount s (length file)) s file))
+      (ap (λ (c : ℕ). numberAt (pagePlace version1 c) 8 (sheetBytes version1 (contentsOf key s file)))
+      (sym (length-pages key (pageCount s (length file)) s file))
       ∙ fingerprint-back version1 (contentsOf key s file) (sound-fits (contentsOf key s file) sound))
 
 -- ---- checking a file against a well-formed sheet

@@ -54,7 +54,8 @@ module _ (value : Name → ℕ) where
   pub length-fields : (fields : List Field) → length (bytesIn fields value) ≡ width fields
   unfolding bytesIn
   length-fields [] = refl
-  length-fields (w bytes name ∷ fields) = length-append (bytesOf w (value name)) (bytesIn fields value) ∙ rw (length-bytesOf w (value name), length-fields fields)
+  length-fields (w bytes name ∷ fields) =
+      length-append (bytesOf w (value name)) (bytesIn fields value) ∙ rw (length-bytesOf w (value name), length-fields fields)
 
   pub field-read : (fields : List Field) (name : Name) (behind : List ℕ) → has fields name ≡ true → Fit fields
       → numberAt (placeOf fields name) (widthOf fields name) (bytesIn fields value ++ behind) ≡ value name
@@ -64,11 +65,13 @@ module _ (value : Name → ℕ) where
     where
       go : (b : Bool) → sameName name other ≡ b
           → (has fields name ≡ true → Fit fields → numberAt (placeOf fields name) (widthOf fields name) (bytesIn fields value ++ behind) ≡ value name)
-          → numberAt (placeOf (w bytes other ∷ fields) name) (widthOf (w bytes other ∷ fields) name) (bytesOf w (value other) ++ (bytesIn fields value ++ behind)) ≡ value name
+          → numberAt (placeOf (w bytes other ∷ fields) name) (widthOf (w bytes other ∷ fields) name) (bytesOf w (value other) ++ (bytesIn fields value ++ behind))
+          ≡ value name
       go true e ih = rw e (number-seam [] (bytesIn fields value ++ behind) 0 w (value other) refl (fit .0) ∙ ap value (sym (same-name name other e)))
       go false e ih =
           rw e
-          (number-behind (bytesOf w (value other)) (bytesIn fields value ++ behind) w (placeOf fields name) (widthOf fields name) (length-bytesOf w (value other))
+          (number-behind (bytesOf w (value other)) (bytesIn fields value ++ behind) w (placeOf fields name) (widthOf fields name)
+          (length-bytesOf w (value other))
           ∙ ih (rw e at h) (fit .1))
 
 -- ---- the fields: read, then written
@@ -172,7 +175,8 @@ module _ (v : Layout) (distinct : Distinct (v .fields)) (sheet : List ℕ) (h : 
       let p = width (v .fields) in
       let start : pagePlace v 0 ≡ p = rw (mul-zero w) (add-zero p) in
       ap₂ (λ (a b : List ℕ). a ++ b)
-      (ap₂ (λ (a b : List ℕ). a ++ b) (fields-written (valueOf v (contentsIn v sheet)) sheet h (v .fields) 0 distinct (λ name t. rw zero-add (agree name)) (omega arith))
+      (ap₂ (λ (a b : List ℕ). a ++ b) (fields-written (valueOf v (contentsIn v sheet)) sheet h (v .fields) 0 distinct (λ name t. rw zero-add (agree name))
+      (omega arith))
       (fields-numbers sheet h c (pagePlace v 0) w (omega (arith, start)) ∙ ap (λ (n : ℕ). take (w * c) (drop n sheet)) start)
       ∙ sym (take-add p (w * c) sheet))
       (bytes-number sheet h (pagePlace v c) w (omega arith))

@@ -63,7 +63,8 @@ unfolding numberAt
 number-behind u l n place w e =
     ap (λ (r : List ℕ). valueFrom 0 (bits (take w r))) (sym (drop-drop place n (u ++ l)) ∙ ap (drop place) (drop-at u l n e))
 
-pub numbers-seam : (xs p q : List ℕ) (place w : ℕ) → length p ≡ place → All (λ x. x < 2 ^ (8 * w)) xs → numbersAt place w (length xs) (p ++ (fieldsOf w xs ++ q)) ≡ xs
+pub numbers-seam : (xs p q : List ℕ) (place w : ℕ) → length p ≡ place → All (λ x. x < 2 ^ (8 * w)) xs
+    → numbersAt place w (length xs) (p ++ (fieldsOf w xs ++ q)) ≡ xs
 unfolding numbersAt fieldsOf
 numbers-seam [] p q place w e h = refl
 numbers-seam (x ∷ xs) p q place w e h =
@@ -113,7 +114,8 @@ bytes-above (suc w) s x =
 pub bytes-value : (l : List ℕ) → Bytes l → bytesOf (length l) (valueFrom 0 (bits l)) ≡ l
 unfolding bytesOf
 bytes-value [] h = refl
-bytes-value (b ∷ l) h = rw number (ap₂ {C = List ℕ} (λ (b : ℕ) (l : List ℕ). b ∷ l) first (bytes-above (length l) b (valueFrom 0 (bits l)) ∙ bytes-value l (h .1)))
+bytes-value (b ∷ l) h =
+    rw number (ap₂ {C = List ℕ} (λ (b : ℕ) (l : List ℕ). b ∷ l) first (bytes-above (length l) b (valueFrom 0 (bits l)) ∙ bytes-value l (h .1)))
   where
     number : valueFrom 0 (bits (b ∷ l)) ≡ b * 2 ^ (8 * length l) + valueFrom 0 (bits l)
     number =
@@ -240,9 +242,11 @@ unfolding bytesIn
 store-none value place l = refl
 
 -- m fields from the i-th on are stored, and the others behind them
-pub fields-block : (w i m : ℕ) (us vs l : List ℕ) → length us ≡ m → sets (sets l (w * i) (fieldsOf w us)) (w * (i + m)) (fieldsOf w vs) ≡ sets l (w * i) (fieldsOf w (us ++ vs))
+pub fields-block : (w i m : ℕ) (us vs l : List ℕ) → length us ≡ m
+    → sets (sets l (w * i) (fieldsOf w us)) (w * (i + m)) (fieldsOf w vs) ≡ sets l (w * i) (fieldsOf w (us ++ vs))
 fields-block w i m us vs l e =
-    sets-behind (fieldsOf w us) (fieldsOf w vs) l (w * i) (w * (i + m)) (mul-add w i m ∙ ap (λ (n : ℕ). w * i + n) (ap (λ (n : ℕ). w * n) (sym e) ∙ sym (length-fieldsOf w us)))
+    sets-behind (fieldsOf w us) (fieldsOf w vs) l (w * i) (w * (i + m)) (mul-add w i m ∙ ap (λ (n : ℕ). w * i + n)
+    (ap (λ (n : ℕ). w * n) (sym e) ∙ sym (length-fieldsOf w us)))
     ∙ ap (sets l (w * i)) (sym (fields-append w us vs))
 
 -- one of the numbers

@@ -87,7 +87,8 @@ sound-clear x h =
             size-clear (x .pageSize) (h .pageSize .0) (h .pageSize .1),
             (
               or-clear (ap not (eq-eqb (sheetLength version1 (length (x .pages))) (sheetLength version1 (length (x .pages))) refl))
-                  (all-reduced (degree (x .key)) (x .pages) (x .fingerprint) (h .pages) (h .fingerprint)) (ap not (eq-eqb (pagesJoined x) (fileFilled x) (h .joined))),
+                  (all-reduced (degree (x .key)) (x .pages) (x .fingerprint) (h .pages) (h .fingerprint))
+                  (ap not (eq-eqb (pagesJoined x) (fileFilled x) (h .joined))),
               tt,
             ),
           ),
@@ -107,7 +108,9 @@ pub record HeadRight (sheet : List ℕ) : Type 0 where
 
 pub head-right : (sheet : List ℕ) → headWrong version1 sheet ≡ false → HeadRight sheet
 head-right sheet e =
-    let n = neither (ltb (length sheet) (sheetLength version1 0)) (not (eqb (fieldIn version1 Letters sheet) letters)) (not (eqb (fieldIn version1 Version sheet) (version1 .version))) e in
+    let n =
+    neither (ltb (length sheet) (sheetLength version1 0)) (not (eqb (fieldIn version1 Letters sheet) letters))
+    (not (eqb (fieldIn version1 Version sheet) (version1 .version))) e in
     record {
       long = ltb-false (length sheet) (sheetLength version1 0) (n .0);
       letters = eqb-true (fieldIn version1 Letters sheet) letters (not-false _ (n .1));
@@ -122,7 +125,8 @@ module _ (sheet : List ℕ) (c : Clear (readTests version1 sheet)) where
   x : Contents
   x = contentsIn version1 sheet
 
-  body : (not (eqb (length sheet) (sheetLength version1 (length (x .pages)))) ≡ false) × (someUnreduced (degree (x .key)) (x .pages ++ x .fingerprint ∷ []) ≡ false)
+  body : (not (eqb (length sheet) (sheetLength version1 (length (x .pages)))) ≡ false)
+      × (someUnreduced (degree (x .key)) (x .pages ++ x .fingerprint ∷ []) ≡ false)
       × (not (eqb (pagesJoined x) (fileFilled x)) ≡ false)
   unfolding x
   body =

@@ -36,8 +36,11 @@ loop-holds : tie.Need-loop-holds Inv-loop μ-loop
 loop-holds c = (omega arith, refl, λ i l. absurd (omega arith), λ i l. refl)
 
 -- the page at hand ends inside the block
-fits : (c : tie.In-loop Inv-loop μ-loop) → c .before .loop .i * start (c .before) .args .size + start (c .before) .args .size ≤ length (start (c .before) .args .pages .now)
-fits c = let s = start (c .before) in place-fits (s .args .size) (s .args .n) (c .before .loop .i) (length (s .args .pages .now)) (c .loop-test .taken) (s .pre .2)
+fits : (c : tie.In-loop Inv-loop μ-loop)
+    → c .before .loop .i * start (c .before) .args .size + start (c .before) .args .size ≤ length (start (c .before) .args .pages .now)
+fits c =
+    let s = start (c .before) in
+    place-fits (s .args .size) (s .args .n) (c .before .loop .i) (length (s .args .pages .now)) (c .loop-test .taken) (s .pre .2)
 
 mul-a : tie.Need-mul-a Inv-loop μ-loop
 mul-a c = omega (arith, start (c .before) .pre .1, fits c)
@@ -70,7 +73,8 @@ loop-again c =
       omega arith,
       simp length-set (l .inv .1),
       finished-more (key s) (a .size) (a .whole) (a .pages .now) (l .marks) (l .i) (x .result) (omega arith) (l .inv .2)
-          (page-finished (monic-pos (a .p .degree) (a .p .low) (s .pre .0 .0 .2)) (a .size) (a .whole) (l .i) (a .pages .now) _ (x .result) (s .pre .1) begun (x .ensures)),
+          (page-finished (monic-pos (a .p .degree) (a .p .low) (s .pre .0 .0 .2)) (a .size) (a .whole) (l .i) (a .pages .now) _ (x .result) (s .pre .1) begun
+          (x .ensures)),
       λ j b. getD-set-other (l .marks) (l .i) j (x .result) 0 (λ e. omega (arith, e, b)) ∙ l .inv .3 j (omega (arith, b)),
     )
 

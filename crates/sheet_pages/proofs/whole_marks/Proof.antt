@@ -19,8 +19,14 @@ begin-pages-requires c κs = let s = start c in (s .pre .0 .shifts .long, omega 
 finish-pages-requires : tie.Need-finish-pages-requires
 finish-pages-requires c κs =
     let b = c .before .before .before in
-    let s = start (b .before) in
-    (s .pre .0 .table, omega arith, s .pre .2, omega (arith, b .begin-pages .kept .0), b .begin-pages .ensures (s .args .p) (s .pre .0 .table .0) (s .pre .0 .shifts))
+    let s = start (b .before) in (
+      s .pre .0 .table,
+      omega arith,
+      s .pre .2,
+      omega (arith, b .begin-pages .kept .0),
+      b .begin-pages .ensures (s .args .p) (s .pre .0 .table .0)
+          (s .pre .0 .shifts),
+    )
 
 returns : tie.Need-returns
 returns c =
@@ -28,7 +34,8 @@ returns c =
     let b = begun f in
     let s = start (b .before) in
     let a = s .args in
-    block-is (polynomial (a .p)) (a .size) (a .n) (a .pages .now) _ (s .pre .2) (omega (arith, b .begin-pages .kept .0, f .finish-pages .kept .0)) (f .finish-pages .ensures)
+    block-is (polynomial (a .p)) (a .size) (a .n) (a .pages .now) _ (s .pre .2) (omega (arith, b .begin-pages .kept .0, f .finish-pages .kept .0))
+    (f .finish-pages .ensures)
 
 pub whole-marks-spec : {M : Type 1} → statement M
 whole-marks-spec =

@@ -38,7 +38,9 @@ abbrev accepted : tie.After-p → tie.After-test
 accepted c = c .before .before
 
 key-opened : (c : tie.After-p) → Opened (accepted c .before .read-head .result .key) (c .p .given .0 .0)
-key-opened c = let t = accepted c in opened (t .test .result) (t .before .read-head .result .key) (t .test .ensures) (c .p .given .0 .0) (omega arith) (c .p .given .1)
+key-opened c =
+    let t = accepted c in
+    opened (t .test .result) (t .before .read-head .result .key) (t .test .ensures) (c .p .given .0 .0) (omega arith) (c .p .given .1)
 
 read-head-requires : tie.Need-read-head-requires
 read-head-requires c κs = long c
@@ -53,7 +55,8 @@ returns-2 c =
     let t = c .before .before .before in
     let h = t .before in
     let r = c .before .r in
-    sym (ap sheetRead (read-refused (bytes t) (right (h .before)) (t .test .result) (r .given .0 .0) (t .test .ensures ∙ ap testKey (h .read-head .ensures .key)) (r .given .1)))
+    sym (ap sheetRead (read-refused (bytes t) (right (h .before)) (t .test .result) (r .given .0 .0)
+    (t .test .ensures ∙ ap testKey (h .read-head .ensures .key)) (r .given .1)))
 
 returns-3 : tie.Need-returns-3
 returns-3 c =

@@ -46,7 +46,9 @@ abbrev count : tie.Start → ℕ
 count s = pageCount (s .args .size) (length (file s))
 
 -- the fields after all pages' fingerprints
-prints : (c : tie.After-put-pages) → c .put-pages .last .0 ≡ sets (begin c .args .fields .now) 0 (fieldsOf 8 (pageFingerprints (key (begin c)) (begin c .args .size) (count (begin c)) (file (begin c))))
+prints : (c : tie.After-put-pages)
+    → c .put-pages .last .0
+    ≡ sets (begin c .args .fields .now) 0 (fieldsOf 8 (pageFingerprints (key (begin c)) (begin c .args .size) (count (begin c)) (file (begin c))))
 prints c = c .put-pages .ensures
 
 fill-tables-requires : tie.Need-fill-tables-requires
@@ -79,7 +81,8 @@ file-mark-requires c κs =
       s .pre .5,
       last p .last-page .ensures .0,
       omega (arith, p .put-pages .kept .0, whole, s .pre .6),
-      ap (numbersAt 0 8 (length (file s) / a .size)) (prints p) ∙ whole-stored (a .p) (s .pre .0) (a .size) (file s) (a .fields .now) pos (omega (arith, s .pre .6)),
+      ap (numbersAt 0 8 (length (file s) / a .size)) (prints p)
+          ∙ whole-stored (a .p) (s .pre .0) (a .size) (file s) (a .fields .now) pos (omega (arith, s .pre .6)),
     )
 
 page-count-requires : tie.Need-page-count-requires
@@ -102,7 +105,8 @@ returns c =
     let a = s .args in
     let fields = fieldsOf 8 (pageFingerprints (key s) (a .size) (count s) (file s)) in
     let long : 8 * count s ≡ 0 + length fields =
-    sym (zero-add (length fields) ∙ length-fieldsOf 8 (pageFingerprints (key s) (a .size) (count s) (file s)) ∙ ap (λ (n : ℕ). 8 * n) (length-pages (key s) (count s) (a .size) (file s))) in
+    sym (zero-add (length fields) ∙ length-fieldsOf 8 (pageFingerprints (key s) (a .size) (count s) (file s))
+    ∙ ap (λ (n : ℕ). 8 * n) (length-pages (key s) (count s) (a .size) (file s))) in
     q .put .ensures
     ∙ ap₂ (λ (n f : ℕ). sets (p .put-pages .last .0) (8 * n) (bytesOf 8 f)) (q .before .before .page-count .ensures) (m .file-mark .ensures)
     ∙ ap (λ (b : List ℕ). sets b (8 * count s) (bytesOf 8 (fingerprint (key s) (file s)))) (prints p)

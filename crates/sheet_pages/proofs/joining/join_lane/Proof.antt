@@ -41,7 +41,8 @@ loop-again c =
     let a = start (loop (c .before)) .args in
     let bytes = a .fields .now in (
       omega arith,
-      sym (looping-next (a .shift .now) (l .x) (l .place) (l .left) (g .result) (c .join .result) bytes (omega arith) (g .ensures) (c .join .ensures)) ∙ l .inv .1,
+      sym (looping-next (a .shift .now) (l .x) (l .place) (l .left) (g .result) (c .join .result) bytes (omega arith) (g .ensures) (c .join .ensures))
+          ∙ l .inv .1,
       λ k. bits-next k (l .bits) (l .place) (l .left) (g .result) bytes (omega arith) (g .ensures) ∙ l .inv .2 k,
     )
 

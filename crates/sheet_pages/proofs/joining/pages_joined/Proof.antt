@@ -51,7 +51,9 @@ mul-power-of-t-2 : tie.Need-mul-power-of-t-2
 mul-power-of-t-2 c = let s = start (filled c) in omega (arith, mul-le-mul-right (s .args .n / 4) (s .pre .2))
 
 times-plus-requires : tie.Need-times-plus-requires
-times-plus-requires c κs = let s = start (filled (lanes (power c))) in (s .pre .0, small-by (c .low-bits .ensures) (mod-lt _ (pow-pos (s .args .p .degree))), power-lt (power c))
+times-plus-requires c κs =
+    let s = start (filled (lanes (power c))) in
+    (s .pre .0, small-by (c .low-bits .ensures) (mod-lt _ (pow-pos (s .args .p .degree))), power-lt (power c))
 
 times-plus-requires-2 : tie.Need-times-plus-requires-2
 times-plus-requires-2 c κs =
@@ -77,11 +79,16 @@ returns-2 c =
     let s = start (filled (lanes p)) in
     let a = s .args in
     let q = a .n / 4 in (
-      λ r. all-joined (a .p) (s .pre .0) (a .size) 0 (a .n) q (32 * q) (omega arith) (omega arith) (a .fields .now) (t .last .0) (t .ensures) r (x .result) (x .ensures)
-          (p .power-of-t .result) (p .power-of-t .ensures) (b₂ .before .times-plus .result) (b₃ .before .times-plus2 .result) (c₃ .times-plus3 .result) (c .join-lane2 .result .mark)
-          (times-low (a .p) _ _ _ _ _ (b₁ .low-bits .ensures) (b₂ .before .times-plus .ensures)) (times-low (a .p) _ _ _ _ _ (b₂ .low-bits2 .ensures) (b₃ .before .times-plus2 .ensures)) (times-low (a .p) _ _ _ _ _ (b₃ .low-bits3 .ensures) (c₃ .times-plus3 .ensures))
+      λ r. all-joined (a .p) (s .pre .0) (a .size) 0 (a .n) q (32 * q) (omega arith) (omega arith) (a .fields .now) (t .last .0) (t .ensures) r (x .result)
+          (x .ensures)
+          (p .power-of-t .result) (p .power-of-t .ensures) (b₂ .before .times-plus .result) (b₃ .before .times-plus2 .result) (c₃ .times-plus3 .result)
+          (c .join-lane2 .result .mark)
+          (times-low (a .p) _ _ _ _ _ (b₁ .low-bits .ensures) (b₂ .before .times-plus .ensures))
+          (times-low (a .p) _ _ _ _ _ (b₂ .low-bits2 .ensures) (b₃ .before .times-plus2 .ensures))
+          (times-low (a .p) _ _ _ _ _ (b₃ .low-bits3 .ensures) (c₃ .times-plus3 .ensures))
           (c .join-lane2 .ensures .0),
-      bits-all (t .last .0) (a .fields .now) 0 (a .n) q (32 * q) (x .result) (c .join-lane2 .result .bits) (omega arith) (omega arith) (x .ensures) (c .join-lane2 .ensures .1),
+      bits-all (t .last .0) (a .fields .now) 0 (a .n) q (32 * q) (x .result) (c .join-lane2 .result .bits) (omega arith) (omega arith) (x .ensures)
+          (c .join-lane2 .ensures .1),
     )
 
 pub pages-joined-spec : {M : Type 1} → statement M

@@ -44,6 +44,12 @@ sheet c = start c .args .sheet .now
 abbrev count : tie.After-page-count → ℕ
 count c = c .page-count .result
 
+abbrev k : tie.After-pages-joined → ℕ
+k c = start (counted (long c)) .args .p .degree
+
+abbrev part : tie.After-pages-joined → List ℕ
+part c = c .before .page-fields .result .now
+
 -- all fields, the file's among them
 abbrev all : tie.After-page-count → List ℕ
 all c = numbersAt 0 8 (count c) (fingerprintsPart (sheet c)) ++ numberAt (pagePlace version1 (count c)) 8 (sheet c) ∷ []
@@ -71,7 +77,8 @@ total : (c : tie.Else1) → length (sheet (counted c)) ≡ sheetLength version1 
 total c = c .if1 .left ∙ c .before .sheet-length .ensures
 
 -- the bits of all fields are tested
-bits : (c : tie.After-is-residue) → leb (2 ^ start (counted (long (joined c))) .args .p .degree) (bitOr (joined c .pages-joined .result .bits) (c .before .before .fingerprint-at .result))
+bits : (c : tie.After-is-residue)
+    → leb (2 ^ k (joined c)) (bitOr (joined c .pages-joined .result .bits) (c .before .before .fingerprint-at .result))
     ≡ someUnreduced (degree (start (counted (long (joined c))) .args .head .key)) (all (counted (long (joined c))))
 bits c =
     let j = joined c in
@@ -81,11 +88,12 @@ bits c =
     (j .before .page-fields .result .now) (j .before .page-fields .ensures) (c .before .before .fingerprint-at .ensures) (j .pages-joined .ensures .1)
 
 -- no bit stands too high: the pages' fields and the file's are reduced
-fields : (c : tie.Else2) → (someUnreduced (start (counted (long (joined (c .before)))) .args .p .degree) (numbersAt 0 8 (count (counted (long (joined (c .before))))) (joined (c .before) .before .page-fields .result .now)) ≡ false)
-    × (c .before .before .before .fingerprint-at .result < 2 ^ start (counted (long (joined (c .before)))) .args .p .degree)
+fields : (c : tie.Else2)
+    → (someUnreduced (k (joined (c .before))) (numbersAt 0 8 (count (counted (long (joined (c .before))))) (part (joined (c .before)))) ≡ false)
+    × (c .before .before .before .fingerprint-at .result < 2 ^ k (joined (c .before)))
 fields c =
     let j = joined (c .before) in
-    let k = start (counted (long j)) .args .p .degree in
+    let k = k j in
     let b = j .pages-joined .result .bits in
     let f = c .before .before .before .fingerprint-at .result in
     let o = or-neither (leb (2 ^ k) b) (leb (2 ^ k) f) (sym (or-leb k b f) ∙ fails _ _ (c .before .is-residue .ensures) (c .if2 .left)) in
@@ -101,7 +109,11 @@ returns : tie.Need-returns
 returns c =
     let n = c .before .before in
     let s = start n in
-    rw (body-is (sheet n) (s .args .head) (s .pre .1) (count n) (n .page-count .ensures), ne-eqb (length (sheet n)) (sheetLength version1 (count n)) (λ e. c .if1 .taken (e ∙ sym (c .before .sheet-length .ensures))))
+    rw (
+      body-is (sheet n) (s .args .head) (s .pre .1) (count n) (n .page-count .ensures),
+      ne-eqb (length (sheet n)) (sheetLength version1 (count n))
+          (λ e. c .if1 .taken (e ∙ sym (c .before .sheet-length .ensures))),
+    )
 
 page-fields-requires : tie.Need-page-fields-requires
 page-fields-requires c κs = omega (arith, total c)
@@ -125,7 +137,12 @@ returns-2 c =
     let n = counted (long (joined r)) in
     let s = start n in
     let t : someUnreduced (degree (s .args .head .key)) (all n) ≡ true = sym (bits r) ∙ holds _ _ (r .is-residue .ensures) (c .if2 .taken) in
-    rw (body-is (sheet n) (s .args .head) (s .pre .1) (count n) (n .page-count .ensures), eq-eqb (length (sheet n)) (sheetLength version1 (count n)) (total (long (joined r))), t)
+    rw (
+      body-is (sheet n) (s .args .head) (s .pre .1) (count n) (n .page-count .ensures),
+      eq-eqb (length (sheet n)) (sheetLength version1 (count n))
+          (total (long (joined r))),
+      t,
+    )
 
 mul-power-of-t : tie.Need-mul-power-of-t
 mul-power-of-t c = let n = counted (long (joined (c .before))) in omega (arith, tight n, start n .pre .1 .length-fits, start n .pre .3)
@@ -160,7 +177,8 @@ returns-3 c =
     (part .result .now) (part .ensures) (j .pages-joined .ensures .0 (fields e .0)) in
     let product = filled-is (sheet n) (a .head) (s .pre .1) (count n) (n .page-count .ensures) (a .p) (s .pre .4) _ _ (p .product .result)
     (count n * a .head .size - a .head .length) (r .before .before .fingerprint-at .ensures) (p .before .power-of-t .ensures) (p .product .ensures) in
-    body-joined (sheet n) (a .head) (s .pre .1) (count n) (n .page-count .ensures) (j .pages-joined .result .mark) (p .product .result) (total (long j)) t mark product
+    body-joined (sheet n) (a .head) (s .pre .1) (count n) (n .page-count .ensures) (j .pages-joined .result .mark) (p .product .result)
+    (total (long j)) t mark product
 
 pub body-right-spec : {M : Type 1} → statement M
 body-right-spec =

@@ -19,8 +19,13 @@ abbrev μ-loop : tie.MeasureT-loop
 
 loop-holds : tie.Need-loop-holds Inv-loop μ-loop
 unfolding numberAt
-loop-holds c =
-    (omega arith, omega arith, omega arith, ap (λ (m : ℕ). valueFrom 0 (bits (take m (drop (c .before .args .at) (c .before .args .bytes .now))))) (sub-zero (c .before .args .w)))
+loop-holds c = (
+  omega arith,
+  omega arith,
+  omega arith,
+  ap (λ (m : ℕ). valueFrom 0 (bits (take m (drop (c .before .args .at) (c .before .args .bytes .now)))))
+      (sub-zero (c .before .args .w)),
+)
 
 mul-x : tie.Need-mul-x Inv-loop μ-loop
 mul-x c =

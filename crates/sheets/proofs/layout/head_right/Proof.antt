@@ -24,7 +24,11 @@ returns c = rw (lt-ltb (length (sheet (c .before .before))) (sheetLength version
 returns-2 : tie.Need-returns-2
 returns-2 c =
     let l = sheet (start (c .before .before)) in
-    rw (le-ltb (length l) (sheetLength version1 0) (omega arith), ne-eqb (fieldIn version1 Letters l) letters (λ e. c .if2 .taken (c .before .number-at .ensures .0 ∙ e)))
+    rw (
+      le-ltb (length l) (sheetLength version1 0) (omega arith),
+      ne-eqb (fieldIn version1 Letters l) letters
+          (λ e. c .if2 .taken (c .before .number-at .ensures .0 ∙ e)),
+    )
 
 returns-3 : tie.Need-returns-3
 returns-3 c =
