@@ -16,23 +16,23 @@ shared-slice-known2→start c = c .before .before
 abbrev search→start : tie.After-search → tie.Start
 search→start c = shared-slice-known2→start (c .before .before .before)
 
-abbrev words→start : tie.After-words → tie.Start
-words→start c = search→start (c .before)
+abbrev places→start : tie.After-places → tie.Start
+places→start c = search→start (c .before)
 
-abbrev words→search : tie.After-words → tie.After-search
-words→search c = c .before
+abbrev places→search : tie.After-places → tie.After-search
+places→search c = c .before
 
 abbrev r→start : tie.After-r → tie.Start
-r→start c = words→start (c .before .before .before)
+r→start c = places→start (c .before .before .before)
 
 abbrev c→start : tie.After-c → tie.Start
-c→start c = words→start (c .before .before .before)
+c→start c = places→start (c .before .before .before)
 
 abbrev r→search : tie.After-r → tie.After-search
-r→search c = words→search (c .before .before .before)
+r→search c = places→search (c .before .before .before)
 
 abbrev c→search : tie.After-c → tie.After-search
-c→search c = words→search (c .before .before .before)
+c→search c = places→search (c .before .before .before)
 
 abbrev known-told→start : tie.After-known-told → tie.Start
 known-told→start c = c→start (c .before)
