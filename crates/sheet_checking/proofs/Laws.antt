@@ -33,8 +33,8 @@ module _ (sheet : List ℕ) where
 
   pub check-done : {x : Sheet} → ReadAs sheet x → (file : List ℕ) → checkSheet sheet file ≡ comparison sheet file
   unfolding checkSheet
-  check-done r file = more-clear (readTests version1 sheet) (passes (length file ∷ []) ⇒ TooLong ∷ []) tt (compared (contentsIn version1 sheet) file)
-      (tests-clear sheet r)
+  check-done r file =
+      more-clear (readTests version1 sheet) (passes (length file ∷ []) ⇒ TooLong ∷ []) tt (compared (contentsIn version1 sheet) file) (tests-clear sheet r)
 
 -- ---- the comparison, test by test
 
@@ -108,8 +108,8 @@ module _ (sheet file : List ℕ) (i : ℕ) (e : checkSheet sheet file ≡ Done (
       → FromTo from end ≡ rangeOf (contentsIn version1 sheet) (checkSheet sheet file)
   unfolding contentsIn
   named-range from size end es ef ee =
-      ap₂ (λ (a b : ℕ). FromTo a b) (ef ∙ ap (λ (s : ℕ). i * s) es)
-      (ee ∙ ap₂ (λ (a b : ℕ). min a b) (ap₂ (λ (a b : ℕ). a + b) (ef ∙ ap (λ (s : ℕ). i * s) es) es) named-equal)
+      ap₂ (λ (a b : ℕ). FromTo a b) (ef ∙ ap (λ (s : ℕ). i * s) es) (ee ∙ ap₂ (λ (a b : ℕ). min a b)
+      (ap₂ (λ (a b : ℕ). a + b) (ef ∙ ap (λ (s : ℕ). i * s) es) es) named-equal)
       ∙ ap (rangeOf (contentsIn version1 sheet)) (sym e)
 
 pub range-fits : (i size : ℕ) → i < 2 ^ 32 → size < 2 ^ 16 → i * size + size < 2 ^ 64

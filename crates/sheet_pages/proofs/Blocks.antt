@@ -75,14 +75,15 @@ pages-at p s (suc c) (suc i) file h =
 
 pub block-is : (key s n : ℕ) (pages marks : List ℕ) → n * s ≤ length pages → n ≤ length marks → Finished key s n pages marks
     → take n marks ≡ pageFingerprints key s n pages
-block-is key s n pages marks h l f = ext-getD 0 (take n marks) (pageFingerprints key s n pages) (long ∙ sym (length-pages key n s pages))
-    (λ i b. same i (omega (arith, long, b)))
+block-is key s n pages marks h l f =
+    ext-getD 0 (take n marks) (pageFingerprints key s n pages) (long ∙ sym (length-pages key n s pages)) (λ i b. same i (omega (arith, long, b)))
   where
     long : length (take n marks) ≡ n
     long = length-take-le n marks l
 
     whole : (i : ℕ) → i < n → filled s (take s (drop (i * s) pages)) ≡ take s (drop (i * s) pages)
-    whole i b = filled-whole s (take s (drop (i * s) pages)) (length-take-le s (drop (i * s) pages)
+    whole i b =
+        filled-whole s (take s (drop (i * s) pages)) (length-take-le s (drop (i * s) pages)
         (rw length-drop (omega (arith, place-fits s n i (length pages) b h))))
 
     same : (i : ℕ) → i < n → getD (take n marks) i 0 ≡ getD (pageFingerprints key s n pages) i 0

@@ -209,8 +209,8 @@ module _ (p : Modulus) (md : Proper p) (e : ℕ) where
       let pos = monic-pos (p .degree) (p .low) (md .2) in
       let small : chained (polynomial p) e 1 u < 2 ^ degree (polynomial p) = rw (monic-degree (p .degree) (p .low) (md .2), ← ex) (chain-lt x u ex) in
       er
-      ∙ ap₂ (λ (a b : ℕ). a ⊕ b) (ap₂ (λ (a b : ℕ). rem (polynomial p) (a ⊗ b)) (mod-eq-of-lt (chain-lt x u ex) ∙ ex) et
-      ∙ rem-⊗-pow pos (chained (polynomial p) e 1 u) (e * q)) ey
+      ∙ ap₂ (λ (a b : ℕ). a ⊕ b) (ap₂ (λ (a b : ℕ). rem (polynomial p) (a ⊗ b)) (mod-eq-of-lt (chain-lt x u ex) ∙ ex) et ∙ rem-⊗-pow pos
+      (chained (polynomial p) e 1 u) (e * q)) ey
       ∙ ap (λ (n : ℕ). rem (polynomial p) (chained (polynomial p) e 1 u * 2 ^ (e * n)) ⊕ chained (polynomial p) e 0 v) (sym l)
       ∙ sym (chained-start pos e (chained (polynomial p) e 1 u) v small)
       ∙ sym (chained-append pos e 1 u v)
@@ -222,8 +222,8 @@ times-low p a la t b r e d = d ∙ ap (λ (z : ℕ). rem (polynomial p) (z ⊗ t
 
 -- four lanes of q fields and the rest, n fields in all
 module _ (p : Modulus) (md : Proper p) (s place n q from : ℕ) (fits : 4 * q ≤ n) (behind : from ≡ place + 32 * q) (l words : List ℕ)
-    (sh : Shifts (polynomial p) (8 * s) words) (r : someUnreduced (p .degree) (numbersAt place 8 n l) ≡ false) (x : Lanes)
-    (four : LanesJoined words place q l x) (t : ℕ)
+    (sh : Shifts (polynomial p) (8 * s) words) (r : someUnreduced (p .degree) (numbersAt place 8 n l) ≡ false)
+    (x : Lanes) (four : LanesJoined words place q l x) (t : ℕ)
     (et : t ≡ rem (polynomial p) (2 ^ (8 * s * q))) where
   laneA : List ℕ
   laneA = numbersAt place 8 q l

@@ -59,8 +59,8 @@ module _ (sheet : List ℕ) (head : Head) (h : HeadOf sheet head) (count : ℕ) 
     -- the bits of all fields, the file's among them
     pub bits-are : (bits f : ℕ) (part : List ℕ) → part ≡ fingerprintsPart sheet → f ≡ numberAt (pagePlace version1 count) 8 sheet
         → BitsOf (numbersAt 0 8 count part) bits
-        → leb (2 ^ p .degree) (bitOr bits f) ≡ someUnreduced (degree (head .key))
-        (numbersAt 0 8 count (fingerprintsPart sheet) ++ numberAt (pagePlace version1 count) 8 sheet ∷ [])
+        → leb (2 ^ p .degree) (bitOr bits f)
+        ≡ someUnreduced (degree (head .key)) (numbersAt 0 8 count (fingerprintsPart sheet) ++ numberAt (pagePlace version1 count) 8 sheet ∷ [])
     bits-are bits f part ep ef b =
         bits-last (numbersAt 0 8 count part) bits f b (p .degree)
         ∙ ap₂ someUnreduced (opened-degree o) (ap₂ (λ (q : List ℕ) (x : ℕ). numbersAt 0 8 count q ++ x ∷ []) ep ef)
@@ -68,8 +68,8 @@ module _ (sheet : List ℕ) (head : Head) (h : HeadOf sheet head) (count : ℕ) 
     pub joined-are : (mark : ℕ) (part : List ℕ) → part ≡ fingerprintsPart sheet
         → mark ≡ joinedPages (polynomial p) (head .size) (markOf (polynomial p) []) (numbersAt 0 8 count part) .fingerprint
         → mark ≡ joinedPages (head .key) (head .size) (markOf (head .key) []) (numbersAt 0 8 count (fingerprintsPart sheet)) .fingerprint
-    joined-are mark part ep e = e ∙ ap₂ (λ (m : ℕ) (q : List ℕ). joinedPages m (head .size) (markOf m []) (numbersAt 0 8 count q) .fingerprint)
-        (opened-whole o) ep
+    joined-are mark part ep e =
+        e ∙ ap₂ (λ (m : ℕ) (q : List ℕ). joinedPages m (head .size) (markOf m []) (numbersAt 0 8 count q) .fingerprint) (opened-whole o) ep
 
     pub filled-is : (f t x n : ℕ) → f ≡ numberAt (pagePlace version1 count) 8 sheet → t ≡ rem (polynomial p) (2 ^ (8 * n)) → x ≡ rem (polynomial p) (f ⊗ t)
         → x ≡ rem (head .key) (numberAt (pagePlace version1 count) 8 sheet * 2 ^ (8 * n))

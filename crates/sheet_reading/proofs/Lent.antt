@@ -18,8 +18,8 @@ lent-next fields before lent i v e l ev =
     let xs = numbersAt 0 8 i fields in
     ap (λ (ls : List ℕ). set ls i v) e
     ∙ written-next xs before i 0 v (length-numbersAt 0 8 i fields) l
-    ∙ ap (λ (r : List ℕ). r ++ drop (i + 1) before) (ap (λ (x : ℕ). xs ++ x ∷ []) (ev ∙ ap (λ (m : ℕ). numberAt m 8 fields) (sym (zero-add (8 * i))))
-    ∙ sym (numbers-last 0 8 i fields))
+    ∙ ap (λ (r : List ℕ). r ++ drop (i + 1) before) (ap (λ (x : ℕ). xs ++ x ∷ []) (ev ∙ ap (λ (m : ℕ). numberAt m 8 fields) (sym (zero-add (8 * i)))) ∙ sym
+    (numbers-last 0 8 i fields))
 
 -- as many fields as there are, or as there are places
 pub lent-are : (fields lent : List ℕ) (c m : ℕ) → m ≡ min c (length lent)

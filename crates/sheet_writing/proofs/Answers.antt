@@ -58,7 +58,7 @@ module _ (key s : ℕ) (file buffer : List ℕ) where
         write-short l = after-key ∙ rw (le-ltb longest (length file) fits, right, lt-ltb (length buffer) long l)
 
         pub write-done : sheetLength version1 (pageCount s (length file)) ≤ length buffer
-            → writeSheet key s file buffer ≡ Done (sheetBytes version1 (contentsOf key s file) ++ drop
-            (sheetLength version1 (pageCount s (length file))) buffer)
+            → writeSheet key s file buffer
+            ≡ Done (sheetBytes version1 (contentsOf key s file) ++ drop (sheetLength version1 (pageCount s (length file))) buffer)
         unfolding rest last long after
         write-done l = after-key ∙ rw (le-ltb longest (length file) fits, right, le-ltb (length buffer) long l)

@@ -140,8 +140,8 @@ module _ (xs ys : List ℕ) where
   block-same i [] (g ∷ gs) l h = absurd (omega arith)
   block-same i (f ∷ fs) (g ∷ gs) l h = go (compare-heads i f g (fs ++ xs) (gs ++ ys)) (block-same (suc i) fs gs (omega arith))
     where
-      go : Compared i f g (fs ++ xs) (gs ++ ys) → (length gs ≤ agreeing fs gs
-          → firstChange (suc i) (fs ++ xs) (gs ++ ys) ≡ firstChange (suc i + length gs) xs ys)
+      go : Compared i f g (fs ++ xs) (gs ++ ys)
+          → (length gs ≤ agreeing fs gs → firstChange (suc i) (fs ++ xs) (gs ++ ys) ≡ firstChange (suc i + length gs) xs ys)
           → firstChange i (f ∷ fs ++ xs) (g ∷ gs ++ ys) ≡ firstChange (i + length (g ∷ gs)) xs ys
       go (alike e d) rest = d ∙ rest (omega (arith, agree-step f g fs gs e)) ∙ ap (λ (n : ℕ). firstChange n xs ys) (omega arith)
       go (unlike e d) rest = absurd (omega (arith, agree-stop f g fs gs e))

@@ -66,7 +66,8 @@ pub no-burst-same : (key s : ℕ) (a b : List ℕ) → accepted key ≡ true →
     → checkSheet (sheetBytes version1 (contentsOf key s a)) b ≡ Done Same → ⊥
 unfolding contentsOf
 no-burst-same key s a b acc n lo hi ha hb ne burst same =
-    let w : WellFormed (sheetBytes version1 (contentsOf key s a)) = record { contents = contentsOf key s a; sound = file-sound key s a acc n lo hi; bytes = refl } in
+    let w : WellFormed (sheetBytes version1 (contentsOf key s a)) =
+    record { contents = contentsOf key s a; sound = file-sound key s a acc n lo hi; bytes = refl } in
     let i = accepted-iff key .0 acc in
     burst-differs key a b (i .2) (omega arith) ha hb ne burst
     (sym (same-fingerprint (sheetBytes version1 (contentsOf key s a)) w b (omega (arith, burst .same-length)) same))

@@ -76,8 +76,8 @@ page-given sheet w i l =
 
 -- what is written into a buffer reads back: key, length, page size, every page fingerprint and the file's
 module _ (key s : ℕ) (file buffer after : List ℕ) (fits : key < 2 ^ 64) (done : writeSheet key s file buffer ≡ Done after) where
-  cleared : Clear (writeTests key s file buffer) × (sheetBytes version1 (contentsOf key s file) ++ drop
-      (sheetLength version1 (pageCount s (length file))) buffer ≡ after)
+  cleared : Clear (writeTests key s file buffer)
+      × (sheetBytes version1 (contentsOf key s file) ++ drop (sheetLength version1 (pageCount s (length file))) buffer ≡ after)
   unfolding writeSheet
   cleared = done-clear (writeTests key s file buffer) buffer _ after done
 
@@ -100,8 +100,8 @@ module _ (key s : ℕ) (file buffer after : List ℕ) (fits : key < 2 ^ 64) (don
   written-reads = rw written (reads (sheetBytes version1 (contentsOf key s file)) (record { contents = contentsOf key s file; sound = sound; bytes = refl }))
 
   -- its last field is the file's fingerprint
-  pub written-fingerprint : numberAt (pagePlace version1 (pageCount s (length file))) 8
-      (take (sheetLength version1 (pageCount s (length file))) after) ≡ fingerprint key file
+  pub written-fingerprint : numberAt (pagePlace version1 (pageCount s (length file))) 8 (take (sheetLength version1 (pageCount s (length file))) after)
+      ≡ fingerprint key file
   unfolding contentsOf
   written-fingerprint =
       rw written

@@ -114,8 +114,8 @@ bytes-above (suc w) s x =
 pub bytes-value : (l : List ℕ) → Bytes l → bytesOf (length l) (valueFrom 0 (bits l)) ≡ l
 unfolding bytesOf
 bytes-value [] h = refl
-bytes-value (b ∷ l) h = rw number (ap₂ {C = List ℕ} (λ (b : ℕ) (l : List ℕ). b ∷ l) first
-    (bytes-above (length l) b (valueFrom 0 (bits l)) ∙ bytes-value l (h .1)))
+bytes-value (b ∷ l) h =
+    rw number (ap₂ {C = List ℕ} (λ (b : ℕ) (l : List ℕ). b ∷ l) first (bytes-above (length l) b (valueFrom 0 (bits l)) ∙ bytes-value l (h .1)))
   where
     number : valueFrom 0 (bits (b ∷ l)) ≡ b * 2 ^ (8 * length l) + valueFrom 0 (bits l)
     number =
@@ -245,8 +245,8 @@ store-none value place l = refl
 pub fields-block : (w i m : ℕ) (us vs l : List ℕ) → length us ≡ m
     → sets (sets l (w * i) (fieldsOf w us)) (w * (i + m)) (fieldsOf w vs) ≡ sets l (w * i) (fieldsOf w (us ++ vs))
 fields-block w i m us vs l e =
-    sets-behind (fieldsOf w us) (fieldsOf w vs) l (w * i) (w * (i + m))
-    (mul-add w i m ∙ ap (λ (n : ℕ). w * i + n) (ap (λ (n : ℕ). w * n) (sym e) ∙ sym (length-fieldsOf w us)))
+    sets-behind (fieldsOf w us) (fieldsOf w vs) l (w * i) (w * (i + m)) (mul-add w i m ∙ ap (λ (n : ℕ). w * i + n)
+    (ap (λ (n : ℕ). w * n) (sym e) ∙ sym (length-fieldsOf w us)))
     ∙ ap (sets l (w * i)) (sym (fields-append w us vs))
 
 -- one of the numbers

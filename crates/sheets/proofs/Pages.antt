@@ -105,8 +105,8 @@ module _ {p : ℕ} (pos : 0 < p) where
   unfolding joinedPages pageFingerprints filledPages
   joined-pages zero s pre file = ap (markOf p) (sym (append-nil pre))
   joined-pages (suc c) s pre file =
-      ap (λ (m : Mark). joinedPages p s m (pageFingerprints p s c (drop s file)))
-      (joined-is pre (filled s (take s file)) s (length-filled s (take s file) (length-page s file)))
+      ap (λ (m : Mark). joinedPages p s m (pageFingerprints p s c (drop s file))) (joined-is pre (filled s (take s file)) s
+      (length-filled s (take s file) (length-page s file)))
       ∙ joined-pages c s (pre ++ filled s (take s file)) (drop s file)
       ∙ ap (markOf p) (append-assoc pre (filled s (take s file)) (filledPages s c (drop s file)))
 
@@ -143,8 +143,8 @@ pages-split p s (suc m) n file =
 
 -- n pages of the c - i that are left from page i on, and the others
 pub pages-ahead : (p s c i n : ℕ) (file : List ℕ) → i + n ≤ c
-    → pageFingerprints p s (c - i) (drop (i * s) file) ≡ pageFingerprints p s n (drop (i * s) file) ++ pageFingerprints p s (c - (i + n))
-    (drop ((i + n) * s) file)
+    → pageFingerprints p s (c - i) (drop (i * s) file)
+    ≡ pageFingerprints p s n (drop (i * s) file) ++ pageFingerprints p s (c - (i + n)) (drop ((i + n) * s) file)
 pages-ahead p s c i n file l =
     let e : c - i ≡ n + (c - (i + n)) = omega arith in
     ap (λ (m : ℕ). pageFingerprints p s m (drop (i * s) file)) e

@@ -108,7 +108,8 @@ pub record HeadRight (sheet : List ℕ) : Type 0 where
 
 pub head-right : (sheet : List ℕ) → headWrong version1 sheet ≡ false → HeadRight sheet
 head-right sheet e =
-    let n = neither (ltb (length sheet) (sheetLength version1 0)) (not (eqb (fieldIn version1 Letters sheet) letters))
+    let n =
+    neither (ltb (length sheet) (sheetLength version1 0)) (not (eqb (fieldIn version1 Letters sheet) letters))
     (not (eqb (fieldIn version1 Version sheet) (version1 .version))) e in
     record {
       long = ltb-false (length sheet) (sheetLength version1 0) (n .0);

@@ -68,10 +68,16 @@ abbrev marks : tie.After-next-pages Inv-loop μ-loop → List ℕ
 marks c = take (c .next-pages .result) (c .next-pages .last .0)
 
 long : (c : tie.After-next-pages Inv-loop μ-loop) → length (marks c) ≡ c .next-pages .result
-long c = length-take-le (c .next-pages .result) (c .next-pages .last .0)
-    (omega (arith, c .next-pages .ensures .few, c .next-pages .kept .0, begun c .loop .inv .1))
+long c =
+    length-take-le (c .next-pages .result) (c .next-pages .last .0) (omega
+    (arith, c .next-pages .ensures .few, c .next-pages .kept .0, begun c .loop .inv .1))
 
--- the fingerprints of the pages behind the block, and all that are left
+-- the fingerprints of all pages that are left, and of those behind the block
+abbrev left : tie.At-loop Inv-loop μ-loop → List ℕ
+left c =
+    let s = start c in
+    pageFingerprints (key s) (s .args .size) (count s - c .loop .i) (drop (c .loop .i * s .args .size) (file s))
+
 abbrev rest : tie.After-next-pages Inv-loop μ-loop → List ℕ
 rest c =
     let s = start (begun c) in
@@ -79,9 +85,7 @@ rest c =
     pageFingerprints (key s) (s .args .size) (count s - i) (drop (i * s .args .size) (file s))
 
 ahead : (c : tie.After-next-pages Inv-loop μ-loop)
-    → pageFingerprints (key (start (begun c))) (start (begun c) .args .size) (count (start (begun c)) - begun c .loop .i)
-    (drop (begun c .loop .i * start (begun c) .args .size) (file (start (begun c))))
-    ≡ marks c ++ rest c
+    → left (begun c) ≡ marks c ++ rest c
 ahead c =
     let s = start (begun c) in
     turn-ahead (key s) (s .args .size) (file s) (begun c .loop .i) (positive s) (more (c .before .before)) (c .next-pages .result) (c .next-pages .last .0)
@@ -128,8 +132,9 @@ returns c =
     let l = begun n .loop in
     let s = start (begun n) in
     let fields = s .args .fields .now in
-    let here = change-here (count s) (l .i) (n .next-pages .result) fields (marks n) (rest n) (long n) (within n) (g .agreeing .result)
-    (g .agreeing .ensures) (c .if1 .taken) in
+    let here =
+    change-here (count s) (l .i) (n .next-pages .result) fields (marks n) (rest n) (long n) (within n) (g .agreeing .result) (g .agreeing .ensures)
+    (c .if1 .taken) in
     ap Done (sym here ∙ ap (firstChange (l .i) (numbersAt (8 * l .i) 8 (count s - l .i) fields)) (sym (ahead n)) ∙ l .inv .2)
 
 add-i : tie.Need-add-i Inv-loop μ-loop

@@ -34,15 +34,17 @@ loop-holds : tie.Need-loop-holds Inv-loop μ-loop
 loop-holds c = (omega arith, refl, λ p h sh i l. absurd (not-suc-le-zero l))
 
 -- both pages end inside the block
-first-fits : (c : tie.After-beside Inv-loop μ-loop) → loop c .loop .i * start (loop c) .args .size + start (loop c) .args .size ≤ length
-    (start (loop c) .args .pages .now)
-first-fits c = let s = start (loop c) in place-fits (s .args .size) (s .args .n) (loop c .loop .i) (length (s .args .pages .now))
-    (c .before .loop-test .taken) (s .pre .4)
+first-fits : (c : tie.After-beside Inv-loop μ-loop)
+    → loop c .loop .i * start (loop c) .args .size + start (loop c) .args .size ≤ length (start (loop c) .args .pages .now)
+first-fits c =
+    let s = start (loop c) in
+    place-fits (s .args .size) (s .args .n) (loop c .loop .i) (length (s .args .pages .now)) (c .before .loop-test .taken) (s .pre .4)
 
-second-fits : (c : tie.After-beside Inv-loop μ-loop) → c .beside .result * start (loop c) .args .size + start (loop c) .args .size ≤ length
-    (start (loop c) .args .pages .now)
-second-fits c = let s = start (loop c) in place-fits (s .args .size) (s .args .n) (c .beside .result) (length (s .args .pages .now)) (c .beside .ensures .2)
-    (s .pre .4)
+second-fits : (c : tie.After-beside Inv-loop μ-loop)
+    → c .beside .result * start (loop c) .args .size + start (loop c) .args .size ≤ length (start (loop c) .args .pages .now)
+second-fits c =
+    let s = start (loop c) in
+    place-fits (s .args .size) (s .args .n) (c .beside .result) (length (s .args .pages .now)) (c .beside .ensures .2) (s .pre .4)
 
 mul-a : tie.Need-mul-a Inv-loop μ-loop
 mul-a c = omega (arith, start (loop c) .pre .3, first-fits c)

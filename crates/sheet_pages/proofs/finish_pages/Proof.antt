@@ -36,10 +36,11 @@ loop-holds : tie.Need-loop-holds Inv-loop μ-loop
 loop-holds c = (omega arith, refl, λ i l. absurd (omega arith), λ i l. refl)
 
 -- the page at hand ends inside the block
-fits : (c : tie.In-loop Inv-loop μ-loop) → c .before .loop .i * start (c .before) .args .size + start (c .before) .args .size ≤ length
-    (start (c .before) .args .pages .now)
-fits c = let s = start (c .before) in place-fits (s .args .size) (s .args .n) (c .before .loop .i) (length (s .args .pages .now)) (c .loop-test .taken)
-    (s .pre .2)
+fits : (c : tie.In-loop Inv-loop μ-loop)
+    → c .before .loop .i * start (c .before) .args .size + start (c .before) .args .size ≤ length (start (c .before) .args .pages .now)
+fits c =
+    let s = start (c .before) in
+    place-fits (s .args .size) (s .args .n) (c .before .loop .i) (length (s .args .pages .now)) (c .loop-test .taken) (s .pre .2)
 
 mul-a : tie.Need-mul-a Inv-loop μ-loop
 mul-a c = omega (arith, start (c .before) .pre .1, fits c)

@@ -26,15 +26,13 @@ returns : tie.Need-returns
 unfolding valueFrom bits
 returns c =
     let s = start (c .before) in
-    c .before .residue .ensures ∙ ap (λ (q : List ℕ). rem (key s) (valueFrom (s .args .x) (bits q)))
-    (take-all 0 (s .args .rest .now) (omega (arith, c .if1 .taken)))
+    c .before .residue .ensures
+    ∙ ap (λ (q : List ℕ). rem (key s) (valueFrom (s .args .x) (bits q))) (take-all 0 (s .args .rest .now) (omega (arith, c .if1 .taken)))
 
 fed-requires : tie.Need-fed-requires
-fed-requires c κs = let s = start (c .before) in (
-  s .pre,
-  below (c .before .residue .ensures)
-      (residue-lt (s .args .p .degree) (s .args .p .low) (s .pre .0 .2) (s .args .x)),
-)
+fed-requires c κs =
+    let s = start (c .before) in
+    (s .pre, below (c .before .residue .ensures) (residue-lt (s .args .p .degree) (s .args .p .low) (s .pre .0 .2) (s .args .x)))
   where
     below : {x y b : ℕ} → x ≡ y → y < b → x < b
     below e h = rw e h

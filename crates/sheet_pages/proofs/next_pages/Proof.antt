@@ -92,8 +92,8 @@ returns-3 c =
       few = omega arith;
       within = one-more (a .size) (length (rest s)) n (omega arith) (omega (arith, c .if2 .left));
       some = λ l. omega arith;
-      prints = block-last (polynomial (a .p)) (a .size) n (a .last) (rest s) _ (omega arith) all (omega (arith, s .pre .3, w .kept .0)) (s .pre .4)
-          (w .ensures);
+      prints =
+          block-last (polynomial (a .p)) (a .size) n (a .last) (rest s) _ (omega arith) all (omega (arith, s .pre .3, w .kept .0)) (s .pre .4) (w .ensures);
     }
 
 pub next-pages-spec : {M : Type 1} → statement M

@@ -38,8 +38,9 @@ abbrev accepted : tie.After-p → tie.After-test
 accepted c = c .before .before
 
 key-opened : (c : tie.After-p) → Opened (accepted c .before .read-head .result .key) (c .p .given .0 .0)
-key-opened c = let t = accepted c in opened (t .test .result) (t .before .read-head .result .key) (t .test .ensures) (c .p .given .0 .0) (omega arith)
-    (c .p .given .1)
+key-opened c =
+    let t = accepted c in
+    opened (t .test .result) (t .before .read-head .result .key) (t .test .ensures) (c .p .given .0 .0) (omega arith) (c .p .given .1)
 
 read-head-requires : tie.Need-read-head-requires
 read-head-requires c κs = long c

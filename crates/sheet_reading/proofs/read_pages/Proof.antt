@@ -63,8 +63,8 @@ returns-2 c =
     let n = l .least .result in
     let pages : (m : ℕ) → numbersAt 0 8 m (f .page-fields .result .now) ≡ numbersAt (pagePlace version1 0) 8 m (sheet x) =
     λ m. ap (numbersAt 0 8 m) (f .page-fields .ensures) ∙ numbers-part (pagePlace version1 0) 0 8 m (sheet x) in
-    let count : n ≡ min (pagesIn version1 (sheet x)) (length lent) = l .least .ensures
-    ∙ ap (λ (m : ℕ). min m (length lent)) (pages-counted (sheet x) (known x)) in
+    let count : n ≡ min (pagesIn version1 (sheet x)) (length lent) =
+    l .least .ensures ∙ ap (λ (m : ℕ). min m (length lent)) (pages-counted (sheet x) (known x)) in
     ap Done
     (c .before .before .copy-fields .ensures
     ∙ lent-are (f .page-fields .result .now) lent (pagesIn version1 (sheet x)) n count

@@ -30,8 +30,8 @@ abbrev head : tie.Start → Head
 head s = s .args .head
 
 -- the page size is right
-size-passed : (c : tie.Else1) → (ltb (fieldIn version1 PageSize (sheet (start (c .before)))) 16 || ltb 4096
-    (fieldIn version1 PageSize (sheet (start (c .before))))) ≡ false
+size-passed : (c : tie.Else1)
+    → (ltb (fieldIn version1 PageSize (sheet (start (c .before)))) 16 || ltb 4096 (fieldIn version1 PageSize (sheet (start (c .before))))) ≡ false
 size-passed c = let s = start (c .before) in rw (← (s .pre .1 .size)) (fails _ _ (c .before .size-right .ensures) (c .if1 .left))
 
 size : (c : tie.Else1) → (16 ≤ head (start (c .before)) .size) × (head (start (c .before)) .size ≤ 4096)

@@ -46,8 +46,9 @@ abbrev count : tie.Start → ℕ
 count s = pageCount (s .args .size) (length (file s))
 
 -- the fields after all pages' fingerprints
-prints : (c : tie.After-put-pages) → c .put-pages .last .0 ≡ sets (begin c .args .fields .now) 0
-    (fieldsOf 8 (pageFingerprints (key (begin c)) (begin c .args .size) (count (begin c)) (file (begin c))))
+prints : (c : tie.After-put-pages)
+    → c .put-pages .last .0
+    ≡ sets (begin c .args .fields .now) 0 (fieldsOf 8 (pageFingerprints (key (begin c)) (begin c .args .size) (count (begin c)) (file (begin c))))
 prints c = c .put-pages .ensures
 
 fill-tables-requires : tie.Need-fill-tables-requires

@@ -56,16 +56,17 @@ more : (c : tie.After-marks Inv-loop μ-loop) → loop c .loop .i * start (loop 
 more c = c .before .loop-test .taken
 
 -- the pages of the block are pages of the file
-within : (c : tie.After-next-pages Inv-loop μ-loop) → begun c .loop .i + c .next-pages .result ≤ pageCount (start (begun c) .args .size)
-    (length (file (start (begun c))))
+within : (c : tie.After-next-pages Inv-loop μ-loop)
+    → begun c .loop .i + c .next-pages .result ≤ pageCount (start (begun c) .args .size) (length (file (start (begun c))))
 within c =
     let s = start (begun c) in
     turn-within (key s) (s .args .size) (file s) (begun c .loop .i) (positive s) (more (c .before .before)) (c .next-pages .result) _ (c .next-pages .ensures)
 
 -- the marks of the block, as they are lent
 long : (c : tie.After-next-pages Inv-loop μ-loop) → length (take (c .next-pages .result) (c .next-pages .last .0)) ≡ c .next-pages .result
-long c = length-take-le (c .next-pages .result) (c .next-pages .last .0)
-    (omega (arith, c .next-pages .ensures .few, c .next-pages .kept .0, begun c .loop .inv .1))
+long c =
+    length-take-le (c .next-pages .result) (c .next-pages .last .0) (omega
+    (arith, c .next-pages .ensures .few, c .next-pages .kept .0, begun c .loop .inv .1))
 
 loop-holds : tie.Need-loop-holds Inv-loop μ-loop
 loop-holds c = (omega arith, refl, refl, rw (sub-zero, zero-mul))
@@ -119,8 +120,8 @@ loop-again c =
     let count = pageCount (s .args .size) (length (file s)) in
     let marks = take m (n .next-pages .last .0) in
     let rest = pageFingerprints (key s) (s .args .size) (count - (l .i + m)) (drop ((l .i + m) * s .args .size) (file s)) in
-    let ahead = turn-ahead (key s) (s .args .size) (file s) (l .i) (positive s) (more (n .before .before)) m (n .next-pages .last .0)
-    (n .next-pages .ensures) in (
+    let ahead =
+    turn-ahead (key s) (s .args .size) (file s) (l .i) (positive s) (more (n .before .before)) m (n .next-pages .last .0) (n .next-pages .ensures) in (
       within n,
       n .next-pages .kept .0 ∙ l .inv .1,
       p .put-fields .kept .0 ∙ l .inv .2,

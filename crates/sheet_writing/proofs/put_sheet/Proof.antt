@@ -51,8 +51,8 @@ returns c =
     let b = h .put-head .last .0 in
     let place = pagePlace version1 0 in
     let part = f .put-fingerprints .last .0 in
-    let none : drop (length b - place) (drop place b) ≡ [] = drop-of-length-le (drop place b) {i = length b - place}
-    (rw (length-drop place b) (le-refl (length b - place))) in
+    let none : drop (length b - place) (drop place b) ≡ [] =
+    drop-of-length-le (drop place b) {i = length b - place} (rw (length-drop place b) (le-refl (length b - place))) in
     let stored : part ≡ sets (drop place b) 0 (fieldsOf 8 (pageFingerprints (a .key) (a .size) count file) ++ bytesOf 8 (fingerprint (a .key) file)) =
     f .put-fingerprints .ensures
     ∙ ap₂ (λ (l : List ℕ) (m : ℕ). sets l 0 (fieldsOf 8 (pageFingerprints m (a .size) count file) ++ bytesOf 8 (fingerprint m file))) (all-left b place)

@@ -74,8 +74,8 @@ returns-4 c =
     let e = sized l in
     let s = start (e .before) in
     let a = s .args in
-    ap Done (p .put-sheet .ensures) ∙ sym (write-done (a .key) (a .size) (a .file .now) (a .buffer .now) (s .pre) (omega arith) (right e)
-    (omega (arith, total l)))
+    ap Done (p .put-sheet .ensures)
+    ∙ sym (write-done (a .key) (a .size) (a .file .now) (a .buffer .now) (s .pre) (omega arith) (right e) (omega (arith, total l)))
 
 pub write-under-spec : {M : Type 1} → statement M
 write-under-spec =

@@ -51,7 +51,8 @@ mul-power-of-t-2 : tie.Need-mul-power-of-t-2
 mul-power-of-t-2 c = let s = start (filled c) in omega (arith, mul-le-mul-right (s .args .n / 4) (s .pre .2))
 
 times-plus-requires : tie.Need-times-plus-requires
-times-plus-requires c κs = let s = start (filled (lanes (power c))) in
+times-plus-requires c κs =
+    let s = start (filled (lanes (power c))) in
     (s .pre .0, small-by (c .low-bits .ensures) (mod-lt _ (pow-pos (s .args .p .degree))), power-lt (power c))
 
 times-plus-requires-2 : tie.Need-times-plus-requires-2

@@ -44,6 +44,12 @@ sheet c = start c .args .sheet .now
 abbrev count : tie.After-page-count → ℕ
 count c = c .page-count .result
 
+abbrev k : tie.After-pages-joined → ℕ
+k c = start (counted (long c)) .args .p .degree
+
+abbrev part : tie.After-pages-joined → List ℕ
+part c = c .before .page-fields .result .now
+
 -- all fields, the file's among them
 abbrev all : tie.After-page-count → List ℕ
 all c = numbersAt 0 8 (count c) (fingerprintsPart (sheet c)) ++ numberAt (pagePlace version1 (count c)) 8 (sheet c) ∷ []
@@ -71,8 +77,8 @@ total : (c : tie.Else1) → length (sheet (counted c)) ≡ sheetLength version1 
 total c = c .if1 .left ∙ c .before .sheet-length .ensures
 
 -- the bits of all fields are tested
-bits : (c : tie.After-is-residue) → leb (2 ^ start (counted (long (joined c))) .args .p .degree)
-    (bitOr (joined c .pages-joined .result .bits) (c .before .before .fingerprint-at .result))
+bits : (c : tie.After-is-residue)
+    → leb (2 ^ k (joined c)) (bitOr (joined c .pages-joined .result .bits) (c .before .before .fingerprint-at .result))
     ≡ someUnreduced (degree (start (counted (long (joined c))) .args .head .key)) (all (counted (long (joined c))))
 bits c =
     let j = joined c in
@@ -82,12 +88,12 @@ bits c =
     (j .before .page-fields .result .now) (j .before .page-fields .ensures) (c .before .before .fingerprint-at .ensures) (j .pages-joined .ensures .1)
 
 -- no bit stands too high: the pages' fields and the file's are reduced
-fields : (c : tie.Else2) → (someUnreduced (start (counted (long (joined (c .before)))) .args .p .degree)
-    (numbersAt 0 8 (count (counted (long (joined (c .before))))) (joined (c .before) .before .page-fields .result .now)) ≡ false)
-    × (c .before .before .before .fingerprint-at .result < 2 ^ start (counted (long (joined (c .before)))) .args .p .degree)
+fields : (c : tie.Else2)
+    → (someUnreduced (k (joined (c .before))) (numbersAt 0 8 (count (counted (long (joined (c .before))))) (part (joined (c .before)))) ≡ false)
+    × (c .before .before .before .fingerprint-at .result < 2 ^ k (joined (c .before)))
 fields c =
     let j = joined (c .before) in
-    let k = start (counted (long j)) .args .p .degree in
+    let k = k j in
     let b = j .pages-joined .result .bits in
     let f = c .before .before .before .fingerprint-at .result in
     let o = or-neither (leb (2 ^ k) b) (leb (2 ^ k) f) (sym (or-leb k b f) ∙ fails _ _ (c .before .is-residue .ensures) (c .if2 .left)) in

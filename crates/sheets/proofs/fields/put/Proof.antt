@@ -10,8 +10,8 @@ use Rattle.sheets.proofs.fields.put.Statement.{statement}
 use Rattle.sheets.proofs.fields.put.Tie as tie
 
 abbrev Inv-loop : tie.InvT-loop
-Inv-loop bytes₀ at w x left₀ i₀ bytes left i = (left ≤ 8) × (i + left ≤ length bytes) × (length bytes ≡ length bytes₀)
-    × (sets bytes i (bytesOf left x) ≡ sets bytes₀ at (bytesOf w x))
+Inv-loop bytes₀ at w x left₀ i₀ bytes left i =
+    (left ≤ 8) × (i + left ≤ length bytes) × (length bytes ≡ length bytes₀) × (sets bytes i (bytesOf left x) ≡ sets bytes₀ at (bytesOf w x))
 
 abbrev μ-loop : tie.MeasureT-loop
 μ-loop bytes₀ at w x left₀ i₀ bytes left i = left
