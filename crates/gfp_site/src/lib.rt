@@ -23,8 +23,8 @@ pub extern "C" fn gfp_join_behind(
     bytes: u64,
 ) -> u32
     ensures { λ r. ⌜
-        (r ≡ numberOf (joinBehind key (markAt (now (fingerprint .entry)) (now (length .entry))) (markAt other «other_length»)))
-        × (markAt (now (fingerprint .exit)) (now (length .exit)) ≡ stateOf (joinBehind key (markAt (now (fingerprint .entry)) (now (length .entry))) (markAt other «other_length»)))
+        (r ≡ numberOf (joinBehind key (markAt (now (fingerprint .entry)) (now (length .entry))) (markAt other bytes)))
+        × (markAt (now (fingerprint .exit)) (now (length .exit)) ≡ stateOf (joinBehind key (markAt (now (fingerprint .entry)) (now (length .entry))) (markAt other bytes)))
         ⌝ }
 {
     let m = Running {
@@ -49,8 +49,8 @@ pub extern "C" fn gfp_join_in_front(
     bytes: u64,
 ) -> u32
     ensures { λ r. ⌜
-        (r ≡ numberOf (joinInFront key (markAt (now (fingerprint .entry)) (now (length .entry))) (markAt other «other_length»)))
-        × (markAt (now (fingerprint .exit)) (now (length .exit)) ≡ stateOf (joinInFront key (markAt (now (fingerprint .entry)) (now (length .entry))) (markAt other «other_length»)))
+        (r ≡ numberOf (joinInFront key (markAt (now (fingerprint .entry)) (now (length .entry))) (markAt other bytes)))
+        × (markAt (now (fingerprint .exit)) (now (length .exit)) ≡ stateOf (joinInFront key (markAt (now (fingerprint .entry)) (now (length .entry))) (markAt other bytes)))
         ⌝ }
 {
     let m = Running {

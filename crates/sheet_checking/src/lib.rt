@@ -14,7 +14,7 @@ ghost use Rattle.refusals.specs.Refusals.{Answer};
 ghost use Rattle.files.specs.Files.{fingerprint};
 ghost use Rattle.sheets.specs.Layout.{version1, numbersAt, pageCount, contentsIn};
 ghost use Rattle.sheets.specs.Sheets.{filled, pageFingerprints, firstChange, checkSheet, checked, rangeOf, changed};
-ghost use Rattle.sheets.specs.Parts.{lastPage, agreeing, ReadAs, comparison};
+ghost use Rattle.sheets.specs.Parts.{lastPage, agreeing, ReadAs, comparison, LastFilled};
 ghost use Rattle.sheet_pages.specs.Blocks.{PageTables};
 
 // How many of the fingerprints, from the first on, are those of the sheet from a place on.
@@ -45,7 +45,7 @@ fn first_change(
     file: &[u8],
 ) -> Checked
     requires { ⌜ PageTables p (now words) (now eights) × (16 ≤ size) × (size ≤ 4096) × (length (now file) < 2 ^ 32)
-        × (last ≡ fingerprint (polynomial p) (filled size (lastPage size (now file)))) × (8 * pageCount size (length (now file)) ≤ length (now fields)) ⌝ }
+        × LastFilled (polynomial p) size (now file) last × (8 * pageCount size (length (now file)) ≤ length (now fields)) ⌝ }
     ensures { λ r. ⌜ checked r ≡ Answer.Done (firstChange 0 (numbersAt 0 8 (pageCount size (length (now (file .entry)))) (now (fields .entry)))
         (pageFingerprints (polynomial p) size (pageCount size (length (now (file .entry)))) (now (file .entry)))) ⌝ }
 {

@@ -5,10 +5,9 @@ use Prim.Native.Nat.{ℕ, _+_, _-_, _*_, _≤_, _<_}
 use native.Mathlib.Omega.{arith}
 use lib.ListN.{length, take, drop, length-drop}
 use lib.Seq.{length-take-le}
-use Rattle.files.specs.Files.{fingerprint}
 use Rattle.sheets.specs.Layout.{pageCount}
-use Rattle.sheets.specs.Sheets.{filled, pageFingerprints}
-use Rattle.sheets.specs.Parts.{lastPage}
+use Rattle.sheets.specs.Sheets.{pageFingerprints}
+use Rattle.sheets.specs.Parts.{LastFilled}
 use Rattle.sheets.proofs.Pages.{block-within, pages-ahead, last-after, all-left}
 use Rattle.sheet_pages.specs.Blocks.{NextPages}
 
@@ -17,10 +16,8 @@ module _ (key s : ℕ) (file : List ℕ) (i : ℕ) (pos : 0 < s) (more : i * s <
   abbrev left : List ℕ
   left = take (length file - i * s) (drop (i * s) file)
 
-  pub turn-last : (last : ℕ) → last ≡ fingerprint key (filled s (lastPage s file))
-      → last ≡ fingerprint key (filled s (lastPage s (take (length file - i * s) (drop (i * s) file))))
-  turn-last last e =
-      e ∙ ap (λ (l : List ℕ). fingerprint key (filled s l)) (sym (ap (lastPage s) (all-left file (i * s)) ∙ last-after s i file pos (omega arith)))
+  pub turn-last : (last : ℕ) → LastFilled key s file last → LastFilled key s (take (length file - i * s) (drop (i * s) file)) last
+  turn-last last e = rw (all-left file (i * s), last-after s i file pos (omega arith)) e
 
   -- n pages, whose fingerprints are the first of the marks
   module _ (n : ℕ) (marks : List ℕ) (h : NextPages key s (take (length file - i * s) (drop (i * s) file)) n marks) where

@@ -8,7 +8,7 @@ ghost use Rattle.gf2.specs.Moduli.{polynomial, Proper};
 ghost use Rattle.files.specs.Files.{bits, valueFrom, fingerprint};
 ghost use Rattle.lookups.specs.Rule.{TableOf};
 ghost use Rattle.sheets.specs.Sheets.{filled, pageFingerprints};
-ghost use Rattle.sheets.specs.Parts.{lastPage};
+ghost use Rattle.sheets.specs.Parts.{lastPage, LastFilled};
 ghost use Rattle.sheet_pages.specs.Blocks.{PageTables, Begun, BegunBy, Finished, NextPages};
 
 pub mod joining;
@@ -109,7 +109,7 @@ fn whole_marks(
     finish_pages(marks, words, p, size, whole, n, pages);
 }
 
-// The fingerprint of what a file has behind its whole pages, and that of the page filled up with zero bytes.
+// The fingerprint of what a file has behind its whole pages, and that of the page filled up with zero bytes, where something is left.
 pub struct LastPage {
     pub own: u64,
     pub filled: u64,
@@ -119,9 +119,12 @@ pub struct LastPage {
 pub fn last_page(words: &[u64], p: Modulus, size: usize, file: &[u8]) -> LastPage
     requires { ⌜ TableOf p (now words) × (0 < size) × (size ≤ 4096) ⌝ }
     ensures { λ r. ⌜ (r .own ≡ fingerprint (polynomial p) (lastPage size (now (file .entry))))
-        × (r .filled ≡ fingerprint (polynomial p) (filled size (lastPage size (now (file .entry))))) ⌝ }
+        × LastFilled (polynomial p) size (now (file .entry)) (r .filled) ⌝ }
 {
     let from = file.len() / size * size;
+    if from == file.len() {
+        return LastPage { own: 1, filled: 1 };
+    }
     let own = lookups::fed(words, p, 1, &file[from..]);
     let zeros = size - (file.len() - from);
     let t = gf2::power_of_t(p, 8 * zeros as u64);
@@ -143,7 +146,7 @@ pub fn next_pages(
     rest: &[u8],
 ) -> usize
     requires { ⌜ PageTables p (now words) (now eights) × (8 ≤ size) × (size ≤ 4096) × (64 ≤ length (now marks))
-        × (last ≡ fingerprint (polynomial p) (filled size (lastPage size (now rest)))) ⌝ }
+        × LastFilled (polynomial p) size (now rest) last ⌝ }
     ensures { λ r. ⌜ NextPages (polynomial p) size (now (rest .entry)) r (now (marks .exit)) ⌝ }
 {
     let n = block(rest.len(), size);

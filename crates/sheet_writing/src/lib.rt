@@ -17,7 +17,7 @@ ghost use Rattle.acceptance.specs.Keys.{Opened};
 ghost use Rattle.files.specs.Files.{fingerprint};
 ghost use Rattle.sheets.specs.Layout.{version1, bytesOf, fieldsOf, numbersAt, sheetLength, pageCount, sheetBytes};
 ghost use Rattle.sheets.specs.Sheets.{filled, pageFingerprints, contentsOf, writeSheet};
-ghost use Rattle.sheets.specs.Parts.{lastPage};
+ghost use Rattle.sheets.specs.Parts.{lastPage, LastFilled};
 ghost use Rattle.sheet_pages.specs.Blocks.{PageTables};
 
 // Writes fingerprints one behind the other.
@@ -45,7 +45,7 @@ fn put_pages(
     file: &[u8],
 )
     requires { ⌜ PageTables p (now words) (now eights) × (16 ≤ size) × (size ≤ 4096) × (length (now file) < 2 ^ 32)
-        × (last ≡ fingerprint (polynomial p) (filled size (lastPage size (now file)))) × (8 * pageCount size (length (now file)) ≤ length (now fields)) ⌝ }
+        × LastFilled (polynomial p) size (now file) last × (8 * pageCount size (length (now file)) ≤ length (now fields)) ⌝ }
     ensures { λ r. ⌜ now (fields .exit) ≡ sets (now (fields .entry)) 0
         (fieldsOf 8 (pageFingerprints (polynomial p) size (pageCount size (length (now (file .entry)))) (now (file .entry)))) ⌝ }
 {

@@ -7,14 +7,19 @@ use lib.Dec.{eqb}
 use lib.ListN.{length, drop}
 use Rattle.refusals.specs.declared.Refusal.the-variants.{TooLong, SheetMalformed}
 use Rattle.refusals.specs.Refusals.{Answer, Done, _⇒_, firstOf, passes}
+use Rattle.files.specs.Files.{fingerprint}
 use Rattle.sheets.specs.declared.Sheet.{Sheet}
 use Rattle.sheets.specs.declared.layout.Head.{Head}
 use Rattle.sheets.specs.Layout.{Key, Length, PageSize, version1, pagePlace, Contents, fieldIn, contentsIn}
-use Rattle.sheets.specs.Sheets.{sizeTest, bodyWrong, readSheet, numbersOf, Outcome, compared}
+use Rattle.sheets.specs.Sheets.{filled, sizeTest, bodyWrong, readSheet, numbersOf, Outcome, compared}
 
 -- what a file has behind its whole pages, of s bytes each
 abbrev pub lastPage : ℕ → List ℕ → List ℕ
 lastPage s file = drop (length file / s * s) file
+
+-- the fingerprint of a last page that is not whole, filled up; any number where there is none
+abbrev pub LastFilled : ℕ → ℕ → List ℕ → ℕ → Type 0
+LastFilled key s file last = 0 < length (lastPage s file) → last ≡ fingerprint key (filled s (lastPage s file))
 
 -- how many numbers, from the first on, two lists have in common
 unfoldable pub agreeing : List ℕ → List ℕ → ℕ

@@ -3,14 +3,17 @@ use mathlib.Core.Path.{_≡_, sym, ap, ap₂, _∙_}
 use mathlib.Core.List.{List}
 use Prim.Native.Nat.{ℕ, _+_, _-_, _*_, _/_, _^_, _≤_, _<_}
 use native.Mathlib.Omega.{arith}
-use lib.ListN.{length, length-drop}
+use lib.ListN.{length, drop, length-drop, drop-of-length-le}
 use lib.Pow.{pow-lt}
 use Rattle.gf2.specs.Polynomials.{_⊗_, rem}
-use Rattle.gf2.specs.Moduli.{polynomial}
+use Rattle.gf2.specs.Moduli.{polynomial, Proper}
+use Rattle.gf2.specs.declared.Modulus.{Modulus}
 use Rattle.gf2.proofs.Powers.{rem-⊗-pow}
-use Rattle.gf2.proofs.Monics.{monic-pos}
+use Rattle.gf2.proofs.Monics.{monic-pos, of-degree-one}
 use Rattle.gf2.proofs.Steps.{residue-lt}
-use Rattle.files.specs.Files.{bits, valueFrom, value, fingerprint}
+use Rattle.files.specs.declared.Mark.{Mark}
+use Rattle.files.specs.Files.{bits, valueFrom, value, fingerprint, markOf}
+use Rattle.files.proofs.Marks.{empty-mark}
 use Rattle.sheets.specs.Sheets.{filled}
 use Rattle.sheets.specs.Parts.{lastPage}
 use Rattle.sheets.proofs.Pages.{whole-fits, last-short, all-left, with-zeros}
@@ -18,8 +21,11 @@ use borrow.Author.Needs.{needs}
 use Rattle.sheet_pages.proofs.last_page.Statement.{statement}
 use Rattle.sheet_pages.proofs.last_page.Tie as tie
 
+abbrev begun : tie.Else1 → tie.Start
+begun c = c .before .before .before
+
 abbrev start : tie.After-fed-arg → tie.Start
-start c = c .before .before .before
+start c = begun (c .before)
 
 abbrev key : tie.Start → ℕ
 key s = polynomial (s .args .p)
@@ -40,14 +46,27 @@ own c =
     let s = start (c .before) in
     c .fed .ensures ∙ ap (λ (q : List ℕ). rem (key s) (valueFrom 1 (bits q))) (all-left (file s) (length (file s) / s .args .size * s .args .size))
 
+-- nothing is left: the fingerprint of no bytes is 1
+none-left : (p : Modulus) → Proper p → (file : List ℕ) (n : ℕ) → length file ≤ n → 1 ≡ fingerprint (polynomial p) (drop n file)
+unfolding markOf
+none-left p h file n l =
+    sym (ap (λ (m : Mark). m .fingerprint) (empty-mark (polynomial p) (of-degree-one (p .degree) (p .low) (h .0) (h .2))))
+    ∙ ap (fingerprint (polynomial p)) (sym (drop-of-length-le file {i = n} l))
+
 mul-from : tie.Need-mul-from
 mul-from c = omega (arith, ends (c .before .before))
 
+returns : tie.Need-returns
+returns c =
+    let s = c .before .before .before in
+    let whole = length (file s) / s .args .size * s .args .size in
+    (none-left (s .args .p) (s .pre .0 .0) (file s) whole (omega arith), λ some. absurd (omega (arith, length-drop whole (file s))))
+
 sub-fed : tie.Need-sub-fed
-sub-fed c = omega (arith, ends (c .before .before))
+sub-fed c = omega (arith, ends (begun c))
 
 part-fed-start : tie.Need-part-fed-start
-part-fed-start c = omega (arith, ends (c .before .before))
+part-fed-start c = omega (arith, ends (begun c))
 
 fed-requires : tie.Need-fed-requires
 fed-requires c κs = let s = start c in (s .pre .0, pow-lt {i = 0} {j = s .args .p .degree} (s .pre .0 .0 .0))
@@ -73,9 +92,9 @@ product-requires c κs =
     let s = start (c .before .before) in
     (s .pre .0 .0, below s _ _ (c .before .fed .ensures), below s _ _ (c .power-of-t .ensures))
 
-returns : tie.Need-returns
+returns-2 : tie.Need-returns-2
 unfolding filled
-returns c =
+returns-2 c =
     let f = c .before .before in
     let s = start (f .before) in
     let a = s .args in
@@ -83,7 +102,7 @@ returns c =
     let pos = monic-pos (a .p .degree) (a .p .low) (s .pre .0 .0 .2) in
     let left = length-drop (length (file s) / a .size * a .size) (file s) in (
       own f,
-      c .product .ensures
+      λ some. c .product .ensures
           ∙ ap₂ (λ (x y : ℕ). rem (key s) (x ⊗ y)) (own f) (c .before .power-of-t .ensures)
           ∙ rem-⊗-pow pos (fingerprint (key s) last) (8 * (a .size - (length (file s) - length (file s) / a .size * a .size)))
           ∙ ap (λ (n : ℕ). rem (key s) (fingerprint (key s) last * 2 ^ (8 * (a .size - n)))) (sym left)
@@ -96,6 +115,7 @@ last-page-spec =
     (tie.spec
     (λ c. search needs)
     mul-from
+    returns
     sub-fed
     part-fed-start
     (λ c. search needs)
@@ -105,4 +125,4 @@ last-page-spec =
     mul-power-of-t
     power-of-t-requires
     product-requires
-    returns)
+    returns-2)

@@ -1,10 +1,10 @@
 -- `next_pages` meets its contract.
-use mathlib.Core.Path.{_≡_}
+use mathlib.Core.Path.{_≡_, ap}
 use mathlib.Core.List.{List}
 use Prim.Native.Nat.{ℕ, zero, suc, _+_, _*_, _/_, _≤_, _<_}
 use native.Mathlib.Nat.{zero-mul, add-mul, mul-le-mul-right}
 use native.Mathlib.Omega.{arith}
-use lib.ListN.{length, length-set}
+use lib.ListN.{length, drop, length-drop, length-set}
 use Rattle.gf2.specs.Moduli.{polynomial}
 use Rattle.sheets.specs.Layout.{pageCount}
 use Rattle.sheets.proofs.Pages.{count-le, whole-fits}
@@ -88,12 +88,15 @@ returns-3 c =
     let a = s .args in
     let n = b .block .result in
     let all : n ≡ length (rest s) / a .size = omega arith in
+    let whole = length (rest s) / a .size * a .size in
+    let some-left : 0 < length (drop whole (rest s)) =
+    omega (arith, length-drop whole (rest s), ap (λ (m : ℕ). m * a .size) all, c .if2 .left) in
     record {
       few = omega arith;
       within = one-more (a .size) (length (rest s)) n (omega arith) (omega (arith, c .if2 .left));
       some = λ l. omega arith;
       prints =
-          block-last (polynomial (a .p)) (a .size) n (a .last) (rest s) _ (omega arith) all (omega (arith, s .pre .3, w .kept .0)) (s .pre .4) (w .ensures);
+          block-last (polynomial (a .p)) (a .size) n (a .last) (rest s) _ (omega arith) all (omega (arith, s .pre .3, w .kept .0)) (s .pre .4 some-left) (w .ensures);
     }
 
 pub next-pages-spec : {M : Type 1} → statement M
