@@ -45,8 +45,19 @@ the-list = refl
 
 pub the-list-is-honest : Honest site 0x11B [] calls
 unfolding calls bookStep bookTests written bench-level.bookTests bench-level.written reducible anyBelow fingerprint value valueFrom bits lowBits markOf rem longDivision reduce degree halvings _⊕_ differs
-the-list-is-honest =
-    (λ e. tt, (λ e. tt, (λ e. refl, (λ e. absurd (omega (arith, e)), (λ e. absurd (omega (arith, e)), (λ e. refl, (λ e. absurd (omega (arith, e)), (λ e. absurd (omega (arith, e)), (λ e. refl, tt)))))))))
+the-list-is-honest = (
+  λ e. tt,
+  (
+    λ e. tt,
+    (
+      λ e. refl,
+      (
+        λ e. absurd (omega (arith, e)),
+        (λ e. absurd (omega (arith, e)), (λ e. refl, (λ e. absurd (omega (arith, e)), (λ e. absurd (omega (arith, e)), (λ e. refl, tt))))),
+      ),
+    ),
+  ),
+)
 
 -- a key that confuses two files: 00 00 and 01 1B under 0x11B
 pub both-5E : Confuses Route 8 (0x00 ∷ 0x00 ∷ []) (0x01 ∷ 0x1B ∷ []) 0x11B

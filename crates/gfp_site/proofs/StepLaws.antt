@@ -33,16 +33,19 @@ module _ (key : ℕ) (pos : 0 < key) (file : List ℕ) where
 
   -- the tests of a joining, this mark being true
   join-tests : (other : Mark) (x y : Mark)
-      → firstOf (joinTests key (markOf key file) other) x y ≡ firstOf (keyTests key ++ sumTest (length file) (other .length) ∷ unreduced key other ⇒ MarkNotReduced ∷ []) x y
+      → firstOf (joinTests key (markOf key file) other) x y ≡ firstOf
+      (keyTests key ++ sumTest (length file) (other .length) ∷ unreduced key other ⇒ MarkNotReduced ∷ []) x y
   unfolding markOf
   join-tests other x y =
-      ap (λ (b : Bool). firstOf (keyTests key ++ sumTest (length file) (other .length) ∷ (b || unreduced key other) ⇒ MarkNotReduced ∷ []) x y) (true-reduced key pos file)
+      ap (λ (b : Bool). firstOf (keyTests key ++ sumTest (length file) (other .length) ∷ (b || unreduced key other) ⇒ MarkNotReduced ∷ []) x y)
+      (true-reduced key pos file)
 
   behind-agrees : (other : Mark) (its : List ℕ) → (numberOf (bookStep site key file (Behind other its)) ≡ 0 → True key its other)
       → Agrees key (step key (markOf key file) (Behind other its)) (bookStep site key file (Behind other its))
   unfolding step joinBehind bookStep bookTests written
   behind-agrees other its h =
-      agrees-by key (joinBehind key (markOf key file) other) (bookTests key (length file) (Behind other its)) file (file ++ its) (joined key (markOf key file) other)
+      agrees-by key (joinBehind key (markOf key file) other) (bookTests key (length file) (Behind other its)) file (file ++ its)
+      (joined key (markOf key file) other)
       (join-tests other (markOf key file) (joined key (markOf key file) other))
       (λ e. ap (joined key (markOf key file)) (h e) ∙ joined-true pos file its)
 
@@ -50,7 +53,8 @@ module _ (key : ℕ) (pos : 0 < key) (file : List ℕ) where
       → Agrees key (step key (markOf key file) (InFront other its)) (bookStep site key file (InFront other its))
   unfolding step joinInFront bookStep bookTests written
   front-agrees other its h =
-      agrees-by key (joinInFront key (markOf key file) other) (bookTests key (length file) (InFront other its)) file (its ++ file) (joined key other (markOf key file))
+      agrees-by key (joinInFront key (markOf key file) other) (bookTests key (length file) (InFront other its)) file (its ++ file)
+      (joined key other (markOf key file))
       (join-tests other (markOf key file) (joined key other (markOf key file)))
       (λ e. ap (λ (x : Mark). joined key x (markOf key file)) (h e) ∙ joined-true pos its file)
 
@@ -61,7 +65,8 @@ module _ (key : ℕ) (pos : 0 < key) (file : List ℕ) where
   replaced-is place old new e l t =
       mark-eq
       (ap (λ (n : ℕ). rem key (fingerprint key file ⊕ (fingerprint key old ⊕ fingerprint key new) * 2 ^ (8 * n))) (sym (length-drop (place + length old) file))
-      ∙ ap (λ (f : List ℕ). rem key (fingerprint key f ⊕ (fingerprint key old ⊕ fingerprint key new) * 2 ^ (8 * length (drop (place + length old) file)))) (sym whole)
+      ∙ ap (λ (f : List ℕ). rem key (fingerprint key f ⊕ (fingerprint key old ⊕ fingerprint key new) * 2 ^ (8 * length (drop (place + length old) file))))
+      (sym whole)
       ∙ page pos (take place file) old new (drop (place + length old) file) e)
       size
     where
@@ -88,7 +93,8 @@ module _ (key : ℕ) (pos : 0 < key) (file : List ℕ) where
       → Agrees key (step key (markOf key file) (Page place old new)) (bookStep site key file (Page place old new))
   unfolding step replacePage bookStep bookTests written markOf
   page-agrees place old new h =
-      agrees-by key (replacePage key (markOf key file) place old new) (keyTests key ++ seven ∷ nine ∷ ten ∷ []) file to (replaced key (markOf key file) place old new)
+      agrees-by key (replacePage key (markOf key file) place old new) (keyTests key ++ seven ∷ nine ∷ ten ∷ []) file to
+      (replaced key (markOf key file) place old new)
       (leave-out-8 key pos file (keyTests key) (seven ∷ []) (nine ∷ ten ∷ []) (markOf key file) (replaced key (markOf key file) place old new))
       (λ e. replaced-is place old new (same e) (inside e) (h e))
     where
@@ -107,10 +113,12 @@ module _ (key : ℕ) (pos : 0 < key) (file : List ℕ) where
       same : numberOf (firstOf (keyTests key ++ seven ∷ nine ∷ ten ∷ []) file to) ≡ 0 → length old ≡ length new
       same e =
           eqb-true (length old) (length new)
-          (not-false (eqb (length old) (length new)) (passed (keyTests key ++ seven ∷ []) (ten ∷ []) (not (eqb (length old) (length new))) PageLengthsDiffer file to e))
+          (not-false (eqb (length old) (length new)) (passed (keyTests key ++ seven ∷ []) (ten ∷ [])
+          (not (eqb (length old) (length new))) PageLengthsDiffer file to e))
 
       inside : numberOf (firstOf (keyTests key ++ seven ∷ nine ∷ ten ∷ []) file to) ≡ 0 → place + length old ≤ length file
-      inside e = ltb-false (length file) (place + length old) (passed (keyTests key ++ seven ∷ nine ∷ []) [] (ltb (length file) (place + length old)) PagePastEnd file to e)
+      inside e = ltb-false (length file) (place + length old)
+          (passed (keyTests key ++ seven ∷ nine ∷ []) [] (ltb (length file) (place + length old)) PagePastEnd file to e)
 
   each : (c : Call) → (numberOf (bookStep site key file c) ≡ 0 → Brings key file c) → Agrees key (step key (markOf key file) c) (bookStep site key file c)
   each (Feeding c) h = feeding-agrees c

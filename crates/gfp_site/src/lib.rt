@@ -13,14 +13,14 @@ use search::Searched;
 use sheets::Checked;
 use sheets::Reading;
 
-// The file of the mark (other, other_length) goes behind the file of the mark in the two places. Numbers 1, 2, 7, 8.
+// The file of the mark (other, bytes) goes behind the file of the mark in the two places. Numbers 1, 2, 7, 8.
 #[no_mangle]
 pub extern "C" fn gfp_join_behind(
     key: u64,
     fingerprint: &mut u64,
     length: &mut u64,
     other: u64,
-    other_length: u64,
+    bytes: u64,
 ) -> u32
     ensures { λ r. ⌜
         (r ≡ numberOf (joinBehind key (markAt (now (fingerprint .entry)) (now (length .entry))) (markAt other «other_length»)))
@@ -34,19 +34,19 @@ pub extern "C" fn gfp_join_behind(
     };
     let behind = Mark {
         fingerprint: other,
-        length: other_length,
+        length: bytes,
     };
     gfp_bench::store(compose::join_behind(m, behind), fingerprint, length)
 }
 
-// The file of the mark (other, other_length) goes in front. Numbers 1, 2, 7, 8.
+// The file of the mark (other, bytes) goes in front. Numbers 1, 2, 7, 8.
 #[no_mangle]
 pub extern "C" fn gfp_join_in_front(
     key: u64,
     fingerprint: &mut u64,
     length: &mut u64,
     other: u64,
-    other_length: u64,
+    bytes: u64,
 ) -> u32
     ensures { λ r. ⌜
         (r ≡ numberOf (joinInFront key (markAt (now (fingerprint .entry)) (now (length .entry))) (markAt other «other_length»)))
@@ -60,7 +60,7 @@ pub extern "C" fn gfp_join_in_front(
     };
     let front = Mark {
         fingerprint: other,
-        length: other_length,
+        length: bytes,
     };
     gfp_bench::store(compose::join_in_front(m, front), fingerprint, length)
 }

@@ -25,20 +25,11 @@ enum-told→start c = check→start (c .before .before)
 abbrev r→check : tie.After-r → tie.After-check
 r→check c = c .before .before
 
-abbrev enum-told2→check : tie.After-enum-told2 → tie.After-check
-enum-told2→check c = c .before .before
-
-abbrev enum-told→check : tie.After-enum-told → tie.After-check
-enum-told→check c = c .before .before
-
 abbrev known-told→start : tie.After-known-told → tie.Start
 known-told→start c = check→start (c .before .before .before)
 
 abbrev known-told→check : tie.After-known-told → tie.After-check
 known-told→check c = c .before .before .before
-
-abbrev known-told→i : tie.After-known-told → tie.After-i
-known-told→i c = c .before
 
 abbrev number→start : tie.After-number → tie.Start
 number→start c = r→start (c .before .before)
@@ -46,31 +37,10 @@ number→start c = r→start (c .before .before)
 abbrev number→check : tie.After-number → tie.After-check
 number→check c = r→check (c .before .before)
 
-abbrev number→r : tie.After-number → tie.After-r
-number→r c = c .before .before
-
-check-requires : tie.Need-check-requires
-check-requires c κs = search needs
-
-enum-told : tie.Need-enum-told
-enum-told c = search needs
-
-enum-known-i : tie.Need-enum-known-i
-enum-known-i c = search needs
-
-enum-told-2 : tie.Need-enum-told-2
-enum-told-2 c = search needs
-
-enum-known-r : tie.Need-enum-known-r
-enum-known-r c = search needs
-
-number-requires : tie.Need-number-requires
-number-requires c κs = search needs
-
 returns : tie.Need-returns
 returns c =
     let s = enum-told→start c .args in
-    let h = enum-told→check c .check .ensures in
+    let h = c .before .before .check .ensures in
     let e = sym (c .enum-told .given .1) in (
       ap (λ (x : Checked). numberOf (checked x)) e ∙ ap numberOf h,
       ap (λ (x : Checked). toldOr (toldAt (s .outcome .now) (s .page .now)) (checked x)) e ∙ ap (toldOr (toldAt (s .outcome .now) (s .page .now))) h,
@@ -80,7 +50,7 @@ returns-2 : tie.Need-returns-2
 returns-2 c =
     let s = known-told→start c .args in
     let h = known-told→check c .check .ensures in
-    let e = sym (known-told→i c .i .given .1) in (
+    let e = sym (c .before .i .given .1) in (
       ap (λ (x : Checked). numberOf (checked x)) e ∙ ap numberOf h,
       ap (λ (x : Checked). toldOr (toldAt (s .outcome .now) (s .page .now)) (checked x)) e ∙ ap (toldOr (toldAt (s .outcome .now) (s .page .now))) h,
     )
@@ -88,7 +58,7 @@ returns-2 c =
 returns-3 : tie.Need-returns-3
 returns-3 c =
     let s = enum-told2→start c .args in
-    let h = enum-told2→check c .check .ensures in
+    let h = c .before .before .check .ensures in
     let e = sym (c .enum-told2 .given .1) in (
       ap (λ (x : Checked). numberOf (checked x)) e ∙ ap numberOf h,
       ap (λ (x : Checked). toldOr (toldAt (s .outcome .now) (s .page .now)) (checked x)) e ∙ ap (toldOr (toldAt (s .outcome .now) (s .page .now))) h,
@@ -98,7 +68,7 @@ returns-4 : tie.Need-returns-4
 returns-4 c =
     let s = number→start c .args in
     let h = number→check c .check .ensures in
-    let e = sym (number→r c .r .given .1) in (
+    let e = sym (c .before .before .r .given .1) in (
       c .number .ensures ∙ ap (λ (x : Checked). numberOf (checked x)) e ∙ ap numberOf h,
       ap (λ (x : Checked). toldOr (toldAt (s .outcome .now) (s .page .now)) (checked x)) e ∙ ap (toldOr (toldAt (s .outcome .now) (s .page .now))) h,
     )
@@ -107,12 +77,12 @@ pub gfp-check-file-spec : {M : Type 1} → statement M
 gfp-check-file-spec =
     tie.close
     (tie.spec
-    check-requires
-    enum-told
-    enum-known-i
-    enum-told-2
-    enum-known-r
-    number-requires
+    (λ c κs. search needs)
+    (λ c. search needs)
+    (λ c. search needs)
+    (λ c. search needs)
+    (λ c. search needs)
+    (λ c κs. search needs)
     returns
     returns-2
     returns-3

@@ -17,16 +17,11 @@ store→start c = join-behind→start (c .before .before .before)
 abbrev store→join-behind : tie.After-store → tie.After-join-behind
 store→join-behind c = c .before .before .before
 
-join-behind-requires : tie.Need-join-behind-requires
-join-behind-requires c κs = search needs
-
-store-requires : tie.Need-store-requires
-store-requires c κs = search needs
-
 returns : tie.Need-returns
 returns c =
     let s = store→start c .args in
-    stored (s .key) (joinBehind (s .key) (markAt (s .fingerprint .now) (s .length .now)) (markAt (s .other) (s .other-length))) _ _ _ (store→join-behind c .join-behind .ensures) (c .store .ensures)
+    stored (s .key) (joinBehind (s .key) (markAt (s .fingerprint .now) (s .length .now)) (markAt (s .other) (s .bytes))) _ _ _
+    (store→join-behind c .join-behind .ensures) (c .store .ensures)
 
 pub gfp-join-behind-spec : {M : Type 1} → statement M
-gfp-join-behind-spec = tie.close (tie.spec join-behind-requires store-requires returns)
+gfp-join-behind-spec = tie.close (tie.spec (λ c κs. search needs) (λ c κs. search needs) returns)

@@ -17,16 +17,11 @@ store→start c = join-in-front→start (c .before .before .before)
 abbrev store→join-in-front : tie.After-store → tie.After-join-in-front
 store→join-in-front c = c .before .before .before
 
-join-in-front-requires : tie.Need-join-in-front-requires
-join-in-front-requires c κs = search needs
-
-store-requires : tie.Need-store-requires
-store-requires c κs = search needs
-
 returns : tie.Need-returns
 returns c =
     let s = store→start c .args in
-    stored (s .key) (joinInFront (s .key) (markAt (s .fingerprint .now) (s .length .now)) (markAt (s .other) (s .other-length))) _ _ _ (store→join-in-front c .join-in-front .ensures) (c .store .ensures)
+    stored (s .key) (joinInFront (s .key) (markAt (s .fingerprint .now) (s .length .now)) (markAt (s .other) (s .bytes))) _ _ _
+    (store→join-in-front c .join-in-front .ensures) (c .store .ensures)
 
 pub gfp-join-in-front-spec : {M : Type 1} → statement M
-gfp-join-in-front-spec = tie.close (tie.spec join-in-front-requires store-requires returns)
+gfp-join-in-front-spec = tie.close (tie.spec (λ c κs. search needs) (λ c κs. search needs) returns)

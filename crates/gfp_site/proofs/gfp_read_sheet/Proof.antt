@@ -25,48 +25,32 @@ known-told→start c = read→start (c .before .before .before)
 abbrev known-told→read : tie.After-known-told → tie.After-read
 known-told→read c = c .before .before .before
 
-abbrev known-told→x : tie.After-known-told → tie.After-x
-known-told→x c = c .before
-
 abbrev number→start : tie.After-number → tie.Start
 number→start c = r→start (c .before .before)
 
 abbrev number→read : tie.After-number → tie.After-read
 number→read c = r→read (c .before .before)
 
-abbrev number→r : tie.After-number → tie.After-r
-number→r c = c .before .before
-
-read-requires : tie.Need-read-requires
-read-requires c κs = search needs
-
-enum-known-x : tie.Need-enum-known-x
-enum-known-x c = search needs
-
-enum-known-r : tie.Need-enum-known-r
-enum-known-r c = search needs
-
-number-requires : tie.Need-number-requires
-number-requires c κs = search needs
-
 returns : tie.Need-returns
 returns c =
     let s = known-told→start c .args in
     let h = known-told→read c .read .ensures in
-    let e = sym (known-told→x c .x .given .1) in (
+    let e = sym (c .before .x .given .1) in (
       ap (λ (x : Reading). numberOf (reading x)) e ∙ ap numberOf h,
-      ap (λ (x : Reading). valueOr (sheetAt (s .key .now) (s .length .now) (s .size .now) (s .pages .now) (s .fingerprint .now)) (reading x)) e ∙ ap (valueOr (sheetAt (s .key .now) (s .length .now) (s .size .now) (s .pages .now) (s .fingerprint .now))) h,
+      ap (λ (x : Reading). valueOr (sheetAt (s .key .now) (s .length .now) (s .size .now) (s .pages .now) (s .fingerprint .now)) (reading x)) e
+          ∙ ap (valueOr (sheetAt (s .key .now) (s .length .now) (s .size .now) (s .pages .now) (s .fingerprint .now))) h,
     )
 
 returns-2 : tie.Need-returns-2
 returns-2 c =
     let s = number→start c .args in
     let h = number→read c .read .ensures in
-    let e = sym (number→r c .r .given .1) in (
+    let e = sym (c .before .before .r .given .1) in (
       c .number .ensures ∙ ap (λ (x : Reading). numberOf (reading x)) e ∙ ap numberOf h,
-      ap (λ (x : Reading). valueOr (sheetAt (s .key .now) (s .length .now) (s .size .now) (s .pages .now) (s .fingerprint .now)) (reading x)) e ∙ ap (valueOr (sheetAt (s .key .now) (s .length .now) (s .size .now) (s .pages .now) (s .fingerprint .now))) h,
+      ap (λ (x : Reading). valueOr (sheetAt (s .key .now) (s .length .now) (s .size .now) (s .pages .now) (s .fingerprint .now)) (reading x)) e
+          ∙ ap (valueOr (sheetAt (s .key .now) (s .length .now) (s .size .now) (s .pages .now) (s .fingerprint .now))) h,
     )
 
 pub gfp-read-sheet-spec : {M : Type 1} → statement M
 gfp-read-sheet-spec =
-    tie.close (tie.spec read-requires enum-known-x enum-known-r number-requires returns returns-2)
+    tie.close (tie.spec (λ c κs. search needs) (λ c. search needs) (λ c. search needs) (λ c κs. search needs) returns returns-2)

@@ -20,16 +20,11 @@ store→start c = replace-page→start (c .before .before .before)
 abbrev store→replace-page : tie.After-store → tie.After-replace-page
 store→replace-page c = c .before .before .before
 
-replace-page-requires : tie.Need-replace-page-requires
-replace-page-requires c κs = search needs
-
-store-requires : tie.Need-store-requires
-store-requires c κs = search needs
-
 returns : tie.Need-returns
 returns c =
     let s = store→start c .args in
-    stored (s .key) (replacePage (s .key) (markAt (s .fingerprint .now) (s .length .now)) (s .place) (s .old .now) (s .new .now)) _ _ _ (store→replace-page c .replace-page .ensures) (c .store .ensures)
+    stored (s .key) (replacePage (s .key) (markAt (s .fingerprint .now) (s .length .now)) (s .place) (s .old .now) (s .new .now)) _ _ _
+    (store→replace-page c .replace-page .ensures) (c .store .ensures)
 
 pub gfp-replace-page-spec : {M : Type 1} → statement M
-gfp-replace-page-spec = tie.close (tie.spec replace-page-requires store-requires returns)
+gfp-replace-page-spec = tie.close (tie.spec (λ c κs. search needs) (λ c κs. search needs) returns)

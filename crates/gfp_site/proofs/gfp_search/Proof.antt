@@ -40,65 +40,43 @@ known-told→start c = c→start (c .before)
 abbrev known-told→search : tie.After-known-told → tie.After-search
 known-told→search c = c→search (c .before)
 
-abbrev known-told→c : tie.After-known-told → tie.After-c
-known-told→c c = c .before
-
 abbrev number→start : tie.After-number → tie.Start
 number→start c = r→start (c .before .before)
 
 abbrev number→search : tie.After-number → tie.After-search
 number→search c = r→search (c .before .before)
 
-abbrev number→r : tie.After-number → tie.After-r
-number→r c = c .before .before
-
-search-requires : tie.Need-search-requires
-search-requires c κs = search needs
-
-enum-known-c : tie.Need-enum-known-c
-enum-known-c c = search needs
-
-enum-known-r : tie.Need-enum-known-r
-enum-known-r c = search needs
-
-number-requires : tie.Need-number-requires
-number-requires c κs = search needs
-
-same-length : tie.Need-same-length
-same-length c = search needs
-
 returns : tie.Need-returns
 returns c =
     let m = known-told→search c .search in
     let s = known-told→start c .args in
-    let e = sym (known-told→c c .c .given .1) in (
+    let e = sym (c .before .c .given .1) in (
       ap (λ (x : Searched). numberOf (searched x)) e ∙ ap numberOf (m .ensures .0),
       m .ensures .1,
-      ap (λ (x : Searched). valueOr (countsAt (s .count .now) (s .alarms .now)) (searched x)) e ∙ ap (valueOr (countsAt (s .count .now) (s .alarms .now))) (m .ensures .0),
+      ap (λ (x : Searched). valueOr (countsAt (s .count .now) (s .alarms .now)) (searched x)) e
+          ∙ ap (valueOr (countsAt (s .count .now) (s .alarms .now))) (m .ensures .0),
     )
-
-same-length-2 : tie.Need-same-length-2
-same-length-2 c = search needs
 
 returns-2 : tie.Need-returns-2
 returns-2 c =
     let m = number→search c .search in
     let s = number→start c .args in
-    let e = sym (number→r c .r .given .1) in (
+    let e = sym (c .before .before .r .given .1) in (
       c .number .ensures ∙ ap (λ (x : Searched). numberOf (searched x)) e ∙ ap numberOf (m .ensures .0),
       m .ensures .1,
-      ap (λ (x : Searched). valueOr (countsAt (s .count .now) (s .alarms .now)) (searched x)) e ∙ ap (valueOr (countsAt (s .count .now) (s .alarms .now))) (m .ensures .0),
+      ap (λ (x : Searched). valueOr (countsAt (s .count .now) (s .alarms .now)) (searched x)) e
+          ∙ ap (valueOr (countsAt (s .count .now) (s .alarms .now))) (m .ensures .0),
     )
 
 pub gfp-search-spec : {M : Type 1} → statement M
 gfp-search-spec =
     tie.close
     (tie.spec
-    search-requires
-    enum-known-c
-    enum-known-r
-    number-requires
-    same-length
+    (λ c κs. search needs)
+    (λ c. search needs)
+    (λ c. search needs)
+    (λ c κs. search needs)
+    (λ c. search needs)
     returns
-    same-length-2
+    (λ c. search needs)
     returns-2)
