@@ -23,13 +23,8 @@ pub extern "C" fn gfp_join_behind(
     bytes: u64,
 ) -> u32
     ensures { λ r. ⌜
-        <<<<<<< HEAD
         (r ≡ numberOf (joinBehind key (markAt (now (fingerprint .entry)) (now (length .entry))) (markAt other bytes)))
         × (markAt (now (fingerprint .exit)) (now (length .exit)) ≡ stateOf (joinBehind key (markAt (now (fingerprint .entry)) (now (length .entry))) (markAt other bytes)))
-        =======
-        (r ≡ numberOf (joinBehind key (markAt (now (fingerprint .entry)) (now (length .entry))) (markAt other «other_length»)))
-        × (markAt (now (fingerprint .exit)) (now (length .exit)) ≡ stateOf (joinBehind key (markAt (now (fingerprint .entry)) (now (length .entry))) (markAt other «other_length»)))
-        >>>>>>> ba6d034e671ac5723bb9522477c10cea9d550691
         ⌝ }
 {
     let m = Running {
@@ -54,13 +49,8 @@ pub extern "C" fn gfp_join_in_front(
     bytes: u64,
 ) -> u32
     ensures { λ r. ⌜
-        <<<<<<< HEAD
         (r ≡ numberOf (joinInFront key (markAt (now (fingerprint .entry)) (now (length .entry))) (markAt other bytes)))
         × (markAt (now (fingerprint .exit)) (now (length .exit)) ≡ stateOf (joinInFront key (markAt (now (fingerprint .entry)) (now (length .entry))) (markAt other bytes)))
-        =======
-        (r ≡ numberOf (joinInFront key (markAt (now (fingerprint .entry)) (now (length .entry))) (markAt other «other_length»)))
-        × (markAt (now (fingerprint .exit)) (now (length .exit)) ≡ stateOf (joinInFront key (markAt (now (fingerprint .entry)) (now (length .entry))) (markAt other «other_length»)))
-        >>>>>>> ba6d034e671ac5723bb9522477c10cea9d550691
         ⌝ }
 {
     let m = Running {

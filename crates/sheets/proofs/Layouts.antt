@@ -65,7 +65,8 @@ module _ (value : Name → ℕ) where
     where
       go : (b : Bool) → sameName name other ≡ b
           → (has fields name ≡ true → Fit fields → numberAt (placeOf fields name) (widthOf fields name) (bytesIn fields value ++ behind) ≡ value name)
-          → numberAt (placeOf (w bytes other ∷ fields) name) (widthOf (w bytes other ∷ fields) name) (bytesOf w (value other) ++ (bytesIn fields value ++ behind))
+          → numberAt (placeOf (w bytes other ∷ fields) name) (widthOf (w bytes other ∷ fields) name)
+          (bytesOf w (value other) ++ (bytesIn fields value ++ behind))
           ≡ value name
       go true e ih = rw e (number-seam [] (bytesIn fields value ++ behind) 0 w (value other) refl (fit .0) ∙ ap value (sym (same-name name other e)))
       go false e ih =

@@ -96,11 +96,8 @@ returns-3 c =
       within = one-more (a .size) (length (rest s)) n (omega arith) (omega (arith, c .if2 .left));
       some = λ l. omega arith;
       prints =
-<<<<<<< HEAD
-          block-last (polynomial (a .p)) (a .size) n (a .last) (rest s) _ (omega arith) all (omega (arith, s .pre .3, w .kept .0)) (s .pre .4 some-left) (w .ensures);
-=======
-          block-last (polynomial (a .p)) (a .size) n (a .last) (rest s) _ (omega arith) all (omega (arith, s .pre .3, w .kept .0)) (s .pre .4) (w .ensures);
->>>>>>> ba6d034e671ac5723bb9522477c10cea9d550691
+          block-last (polynomial (a .p)) (a .size) n (a .last) (rest s) _ (omega arith) all (omega (arith, s .pre .3, w .kept .0)) (s .pre .4 some-left)
+          (w .ensures);
     }
 
 pub next-pages-spec : {M : Type 1} → statement M
