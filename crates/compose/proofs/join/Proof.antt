@@ -13,32 +13,17 @@ use Rattle.compose.proofs.join.Tie as tie
 
 -- ---- the places: from each one to an earlier one
 
-abbrev test→start : tie.After-test → tie.Start
-test→start c = c .before
-
 abbrev p→start : tie.After-p → tie.Start
 p→start c = c .before .before .before
 
 abbrev known-told→start : tie.After-known-told → tie.Start
-known-told→start c = test→start (c .before .before .before)
-
-abbrev known-told→test : tie.After-known-told → tie.After-test
-known-told→test c = c .before .before .before
-
-abbrev known-told2→p : tie.After-known-told2 → tie.After-p
-known-told2→p c = c .before
-
-abbrev join-under→start : tie.After-join-under → tie.Start
-join-under→start c = p→start (c .before .before)
-
-abbrev join-under→p : tie.After-join-under → tie.After-p
-join-under→p c = known-told2→p (c .before)
+known-told→start c = c .before .before .before .before
 
 returns : tie.Need-returns
 returns c =
     let a = known-told→start c .args in
     let key = a .m .key in
-    let t = known-told→test c .test in
+    let t = c .before .before .before .test in
     sym (ap (fedUnder key) (refused (t .result) key (t .ensures) (marksTests key (a .first) (a .second)) (markIn (a .m))
     (joined key (a .first) (a .second)) _ (c .before .r .given .1)))
 
@@ -52,10 +37,10 @@ join-under-requires c κs = key-opened (c .before)
 
 returns-2 : tie.Need-returns-2
 returns-2 c =
-    let a = join-under→start c .args in
+    let a = p→start (c .before .before) .args in
     let key = a .m .key in
     c .join-under .ensures
-    ∙ sym (ap (fedUnder key) (opened-first (key-opened (join-under→p c)) (marksTests key (a .first) (a .second)) (markIn (a .m))
+    ∙ sym (ap (fedUnder key) (opened-first (key-opened (c .before .before)) (marksTests key (a .first) (a .second)) (markIn (a .m))
     (joined key (a .first) (a .second))))
 
 pub join-spec : {M : Type 1} → statement M

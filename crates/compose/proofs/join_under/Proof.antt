@@ -28,38 +28,20 @@ else1→start c = c .before .before
 abbrev is-residue→else1 : tie.After-is-residue → tie.Else1
 is-residue→else1 c = c .before
 
-abbrev then2→start : tie.Then2 → tie.Start
-then2→start c = else1→start (c .before .before)
-
 abbrev else2→start : tie.Else2 → tie.Start
 else2→start c = else1→start (c .before .before)
-
-abbrev then2→else1 : tie.Then2 → tie.Else1
-then2→else1 c = is-residue→else1 (c .before)
-
-abbrev then3→start : tie.Then3 → tie.Start
-then3→start c = else2→start (c .before .before)
 
 abbrev else3→start : tie.Else3 → tie.Start
 else3→start c = else2→start (c .before .before)
 
-abbrev then3→else1 : tie.Then3 → tie.Else1
-then3→else1 c = is-residue→else1 (c .before .before .before)
-
 abbrev else3→else1 : tie.Else3 → tie.Else1
 else3→else1 c = is-residue→else1 (c .before .before .before)
-
-abbrev else3→else2 : tie.Else3 → tie.Else2
-else3→else2 c = c .before .before
 
 abbrev joined-residue→start : tie.After-joined-residue → tie.Start
 joined-residue→start c = else3→start (c .before)
 
 abbrev joined-residue→else1 : tie.After-joined-residue → tie.Else1
 joined-residue→else1 c = else3→else1 (c .before)
-
-abbrev joined-residue→else2 : tie.After-joined-residue → tie.Else2
-joined-residue→else2 c = else3→else2 (c .before)
 
 abbrev lengths : tie.Start → List ℕ
 lengths s = s .args .first .length ∷ s .args .second .length ∷ (s .args .first .length + s .args .second .length) ∷ []
@@ -104,8 +86,8 @@ unreduced-refused c high =
 returns-2 : tie.Need-returns-2
 returns-2 c =
     let r = c .before .is-residue in
-    let high = not-residue (then2→start c .pre) _ (r .result) (r .ensures) (c .if2 .taken) in
-    unreduced-refused (then2→else1 c) (rw high)
+    let high = not-residue (else1→start (c .before .before) .pre) _ (r .result) (r .ensures) (c .if2 .taken) in
+    unreduced-refused (is-residue→else1 (c .before)) (rw high)
 
 is-residue-requires-2 : tie.Need-is-residue-requires-2
 is-residue-requires-2 c κs = opened-proper (else2→start c .pre)
@@ -113,8 +95,8 @@ is-residue-requires-2 c κs = opened-proper (else2→start c .pre)
 returns-3 : tie.Need-returns-3
 returns-3 c =
     let r = c .before .is-residue2 in
-    let high = not-residue (then3→start c .pre) _ (r .result) (r .ensures) (c .if3 .taken) in
-    unreduced-refused (then3→else1 c) (rw (first-low (c .before .before), high))
+    let high = not-residue (else2→start (c .before .before) .pre) _ (r .result) (r .ensures) (c .if3 .taken) in
+    unreduced-refused (is-residue→else1 (c .before .before .before)) (rw (first-low (c .before .before), high))
 
 joined-residue-requires : tie.Need-joined-residue-requires
 joined-residue-requires c κs =
@@ -143,7 +125,7 @@ returns-4 c =
     c .joined-residue .ensures
     ∙ ap (λ (q : ℕ). rem q (x .fingerprint * 2 ^ (8 * y .length) ⊕ y .fingerprint ⊕ 2 ^ (8 * y .length))) (opened-whole (s .pre)) in
     ap (λ (z : Mark). fedUnder key (Done z)) (mark-eq value refl)
-    ∙ sym (ap (fedUnder key) (marks-passed key x y (markIn (a .m)) (joined key x y) (short (joined-residue→else1 c)) (first-low (joined-residue→else2 c))
+    ∙ sym (ap (fedUnder key) (marks-passed key x y (markIn (a .m)) (joined key x y) (short (joined-residue→else1 c)) (first-low (c .before .before .before))
     (second-low (c .before))))
 
 pub join-under-spec : {M : Type 1} → statement M

@@ -24,14 +24,8 @@ use Rattle.compose.proofs.replace.Tie as tie
 abbrev within→start : tie.After-within → tie.Start
 within→start c = c .before .before .before
 
-abbrev then1→start : tie.Then1 → tie.Start
-then1→start c = within→start (c .before)
-
 abbrev else1→start : tie.Else1 → tie.Start
 else1→start c = within→start (c .before)
-
-abbrev then2→start : tie.Then2 → tie.Start
-then2→start c = else1→start (c .before .before)
 
 abbrev else2→start : tie.Else2 → tie.Start
 else2→start c = else1→start (c .before .before)
@@ -39,50 +33,14 @@ else2→start c = else1→start (c .before .before)
 abbrev else2→else1 : tie.Else2 → tie.Else1
 else2→else1 c = c .before .before
 
-abbrev then3→start : tie.Then3 → tie.Start
-then3→start c = else2→start (c .before)
-
-abbrev then3→else1 : tie.Then3 → tie.Else1
-then3→else1 c = else2→else1 (c .before)
-
-abbrev then4→start : tie.Then4 → tie.Start
-then4→start c = else2→start (c .before .before)
-
-abbrev then4→else1 : tie.Then4 → tie.Else1
-then4→else1 c = else2→else1 (c .before .before)
-
-abbrev then5→start : tie.Then5 → tie.Start
-then5→start c = else2→start (c .before .before .before)
-
 abbrev else5→start : tie.Else5 → tie.Start
 else5→start c = else2→start (c .before .before .before)
-
-abbrev then5→else1 : tie.Then5 → tie.Else1
-then5→else1 c = else2→else1 (c .before .before .before)
 
 abbrev else5→else1 : tie.Else5 → tie.Else1
 else5→else1 c = else2→else1 (c .before .before .before)
 
-abbrev then5→else2 : tie.Then5 → tie.Else2
-then5→else2 c = c .before .before .before
-
 abbrev else5→else2 : tie.Else5 → tie.Else2
 else5→else2 c = c .before .before .before
-
-abbrev else5→else3 : tie.Else5 → tie.Else3
-else5→else3 c = c .before .before
-
-abbrev replaced-residue→start : tie.After-replaced-residue → tie.Start
-replaced-residue→start c = else5→start (c .before)
-
-abbrev replaced-residue→else1 : tie.After-replaced-residue → tie.Else1
-replaced-residue→else1 c = else5→else1 (c .before)
-
-abbrev replaced-residue→else2 : tie.After-replaced-residue → tie.Else2
-replaced-residue→else2 c = else5→else2 (c .before)
-
-abbrev replaced-residue→else3 : tie.After-replaced-residue → tie.Else3
-replaced-residue→else3 c = else5→else3 (c .before)
 
 abbrev lengths : tie.Start → List ℕ
 lengths s = s .args .m .length ∷ length (s .args .old .now) ∷ length (s .args .new .now) ∷ []
@@ -105,7 +63,7 @@ low c =
 
 returns : tie.Need-returns
 returns c =
-    let s = then1→start c in
+    let s = within→start (c .before) in
     let a = s .args in
     let long = holds _ (passes (lengths s)) (c .before .within .ensures) (c .if1 .taken) in
     sym (ap (fedUnder (a .m .key)) (page-long (a .m .key) (markIn (a .m)) (a .place) (a .old .now) (a .new .now) (markIn (a .m)) (value s) long))
@@ -115,7 +73,7 @@ is-residue-requires c κs = opened-proper (else1→start c .pre)
 
 returns-2 : tie.Need-returns-2
 returns-2 c =
-    let s = then2→start c in
+    let s = else1→start (c .before .before) in
     let a = s .args in
     let r = c .before .is-residue in
     let high = not-residue (s .pre) _ (r .result) (r .ensures) (c .if2 .taken) in
@@ -124,26 +82,26 @@ returns-2 c =
 
 returns-3 : tie.Need-returns-3
 returns-3 c =
-    let s = then3→start c in
+    let s = else2→start (c .before) in
     let a = s .args in
     sym (ap (fedUnder (a .m .key)) (page-lengths (a .m .key) (markIn (a .m)) (a .place) (a .old .now) (a .new .now) (markIn (a .m)) (value s)
-    (short (then3→else1 c)) (low (c .before)) (c .if3 .taken)))
+    (short (else2→else1 (c .before))) (low (c .before)) (c .if3 .taken)))
 
 returns-4 : tie.Need-returns-4
 returns-4 c =
-    let s = then4→start c in
+    let s = else2→start (c .before .before) in
     let a = s .args in
     let past : a .m .length < a .place + length (a .old .now) = omega arith in
     sym (ap (fedUnder (a .m .key)) (page-past (a .m .key) (markIn (a .m)) (a .place) (a .old .now) (a .new .now) (markIn (a .m)) (value s)
-    (short (then4→else1 c)) (low (c .before .before)) (c .before .if3 .left) past))
+    (short (else2→else1 (c .before .before))) (low (c .before .before)) (c .before .if3 .left) past))
 
 returns-5 : tie.Need-returns-5
 returns-5 c =
-    let s = then5→start c in
+    let s = else2→start (c .before .before .before) in
     let a = s .args in
     let past : a .m .length < a .place + length (a .old .now) = omega arith in
     sym (ap (fedUnder (a .m .key)) (page-past (a .m .key) (markIn (a .m)) (a .place) (a .old .now) (a .new .now) (markIn (a .m)) (value s)
-    (short (then5→else1 c)) (low (then5→else2 c)) (c .before .before .if3 .left) past))
+    (short (else2→else1 (c .before .before .before))) (low (c .before .before .before)) (c .before .before .if3 .left) past))
 
 replaced-residue-requires : tie.Need-replaced-residue-requires
 replaced-residue-requires c κs =
@@ -162,7 +120,7 @@ after-page n page place = omega arith
 returns-6 : tie.Need-returns-6
 unfolding replaced
 returns-6 c =
-    let s = replaced-residue→start c in
+    let s = else5→start (c .before) in
     let a = s .args in
     let key = a .m .key in
     let m = markIn (a .m) in
@@ -175,8 +133,8 @@ returns-6 c =
     ∙ ap (λ (q : ℕ). rem q (m .fingerprint ⊕ (fingerprint q old ⊕ fingerprint q new) * 2 ^ (8 * (m .length - length old - a .place)))) (opened-whole (s .pre))
     ∙ ap (λ (n : ℕ). rem key (m .fingerprint ⊕ (fingerprint key old ⊕ fingerprint key new) * 2 ^ (8 * n))) (after-page (m .length) (length old) (a .place)) in
     ap (λ (z : Mark). fedUnder key (Done z)) (mark-eq is refl)
-    ∙ sym (ap (fedUnder key) (page-passed key m (a .place) old new m (value s) (short (replaced-residue→else1 c)) (low (replaced-residue→else2 c))
-    (replaced-residue→else3 c .if3 .left) fits))
+    ∙ sym (ap (fedUnder key) (page-passed key m (a .place) old new m (value s) (short (else5→else1 (c .before))) (low (else5→else2 (c .before)))
+    (c .before .before .before .if3 .left) fits))
 
 pub replace-spec : {M : Type 1} → statement M
 replace-spec =

@@ -22,21 +22,6 @@ test→start c = c .before .before .before
 abbrev p→start : tie.After-p → tie.Start
 p→start c = test→start (c .before .before)
 
-abbrev known-told→start : tie.After-known-told → tie.Start
-known-told→start c = test→start (c .before .before .before)
-
-abbrev known-told→test : tie.After-known-told → tie.After-test
-known-told→test c = c .before .before .before
-
-abbrev known-told2→p : tie.After-known-told2 → tie.After-p
-known-told2→p c = c .before
-
-abbrev replace→start : tie.After-replace → tie.Start
-replace→start c = p→start (c .before .before)
-
-abbrev replace→p : tie.After-replace → tie.After-p
-replace→p c = known-told2→p (c .before)
-
 -- the tests behind those of the key, and the value
 abbrev tests : tie.Start → List Test
 tests s = pageTests (s .args .m .key) (markIn (s .args .m)) (s .args .place) (s .args .old .now) (s .args .new .now)
@@ -47,9 +32,9 @@ value s = replaced (s .args .m .key) (markIn (s .args .m)) (s .args .place) (s .
 returns : tie.Need-returns
 unfolding replacePage
 returns c =
-    let s = known-told→start c in
+    let s = test→start (c .before .before .before) in
     let key = s .args .m .key in
-    let t = known-told→test c .test in
+    let t = c .before .before .before .test in
     sym (ap (fedUnder key) (refused (t .result) key (t .ensures) (tests s) (markIn (s .args .m)) (value s) _ (c .before .r .given .1)))
 
 key-opened : (c : tie.After-p) → Opened (p→start c .args .m .key) (c .p .given .0 .0)
@@ -63,10 +48,10 @@ replace-requires c κs = key-opened (c .before)
 returns-2 : tie.Need-returns-2
 unfolding replacePage
 returns-2 c =
-    let s = replace→start c in
+    let s = p→start (c .before .before) in
     let key = s .args .m .key in
     c .replace .ensures
-    ∙ sym (ap (fedUnder key) (opened-first (key-opened (replace→p c)) (tests s) (markIn (s .args .m)) (value s)))
+    ∙ sym (ap (fedUnder key) (opened-first (key-opened (c .before .before)) (tests s) (markIn (s .args .m)) (value s)))
 
 pub replace-page-spec : {M : Type 1} → statement M
 replace-page-spec = tie.close (tie.spec (λ c κs. search needs) (λ c. search needs) (λ c. search needs) replace-requires returns returns-2)

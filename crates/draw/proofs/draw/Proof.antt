@@ -25,38 +25,20 @@ use Rattle.draw.proofs.draw.Tie as tie
 
 -- ---- the places: from each one to an earlier one
 
-abbrev else1→start : tie.Else1 → tie.Start
-else1→start c = c .before .before
-
 abbrev else2→start : tie.Else2 → tie.Start
-else2→start c = else1→start (c .before .before)
-
-abbrev else2→else1 : tie.Else2 → tie.Else1
-else2→else1 c = c .before .before
+else2→start c = c .before .before .before .before
 
 abbrev stock-key→start : tie.After-stock-key → tie.Start
 stock-key→start c = else2→start (c .before)
 
 abbrev stock-key→else1 : tie.After-stock-key → tie.Else1
-stock-key→else1 c = else2→else1 (c .before)
+stock-key→else1 c = c .before .before .before
 
 abbrev modulus-of→start : tie.After-modulus-of → tie.Start
 modulus-of→start c = stock-key→start (c .before)
 
 abbrev modulus-of→else1 : tie.After-modulus-of → tie.Else1
 modulus-of→else1 c = stock-key→else1 (c .before)
-
-abbrev modulus-of→else2 : tie.After-modulus-of → tie.Else2
-modulus-of→else2 c = c .before .before
-
-abbrev minimal-polynomial→start : tie.After-minimal-polynomial → tie.Start
-minimal-polynomial→start c = modulus-of→start (c .before)
-
-abbrev minimal-polynomial→else1 : tie.After-minimal-polynomial → tie.Else1
-minimal-polynomial→else1 c = modulus-of→else1 (c .before)
-
-abbrev minimal-polynomial→else2 : tie.After-minimal-polynomial → tie.Else2
-minimal-polynomial→else2 c = modulus-of→else2 (c .before)
 
 -- the stock key of a listed degree, opened
 module _ (k : ℕ) (listed : among k degrees ≡ true) (p : Modulus) (is : p ≡ modulusOf (stockKey k)) where
@@ -134,11 +116,11 @@ minimal-polynomial-requires c κs =
 returns-3 : tie.Need-returns-3
 unfolding draw
 returns-3 c =
-    let a = minimal-polynomial→start c .args in
-    let l = listed (minimal-polynomial→else1 c) in
+    let a = modulus-of→start (c .before) .args in
+    let l = listed (modulus-of→else1 (c .before)) in
     let p = c .before .modulus-of .result in
     let o = opened (c .before) in
-    rw (l, in-range (minimal-polynomial→else2 c))
+    rw (l, in-range (c .before .before .before))
     (ap Done (c .minimal-polynomial .ensures
     ∙ ap₂ (λ (f k : ℕ). drawn f k (a .element)) (whole (a .degree) l p o) (of-degree (a .degree) l p o)))
 

@@ -19,14 +19,6 @@ Inv-loop p a rows₀ x₀ j₀ rows x j = (j ≤ 64) × (length rows ≡ 64) × 
 abbrev μ-loop : tie.MeasureT-loop
 μ-loop p a rows₀ x₀ j₀ rows x j = 64 - j
 
--- ---- the places: from each one to an earlier one
-
-abbrev in-loop→start : tie.In-loop Inv-loop μ-loop → tie.Start Inv-loop μ-loop
-in-loop→start c = c .before .before
-
-abbrev step→start : tie.After-step Inv-loop μ-loop → tie.Start Inv-loop μ-loop
-step→start c = in-loop→start (c .before)
-
 loop-holds : tie.Need-loop-holds Inv-loop μ-loop
 loop-holds c =
     let a = c .args in (
@@ -46,7 +38,7 @@ step-requires c κs =
 
 loop-again : tie.Need-loop-again Inv-loop μ-loop
 loop-again c =
-    let s = step→start c in
+    let s = c .before .before .before in
     let pos = positive (s .args .p) (s .pre .0) in
     let l = c .before .before .loop in
     let next = times-next pos (s .args .a) (l .j) (l .x) (l .inv .2 .0) in (

@@ -22,26 +22,14 @@ abbrev μ-loop : tie.MeasureT-loop
 
 -- ---- the places: from each one to an earlier one
 
-abbrev multiples→start : tie.After-multiples Inv-loop μ-loop → tie.Start Inv-loop μ-loop
-multiples→start c = c .before
-
 abbrev at-loop→start : tie.At-loop Inv-loop μ-loop → tie.Start Inv-loop μ-loop
-at-loop→start c = multiples→start (c .before)
+at-loop→start c = c .before .before
 
 abbrev at-loop→multiples : tie.At-loop Inv-loop μ-loop → tie.After-multiples Inv-loop μ-loop
 at-loop→multiples c = c .before
 
-abbrev loop→start : tie.After-loop Inv-loop μ-loop → tie.Start Inv-loop μ-loop
-loop→start c = at-loop→start (c .before)
-
-abbrev loop→multiples : tie.After-loop Inv-loop μ-loop → tie.After-multiples Inv-loop μ-loop
-loop→multiples c = at-loop→multiples (c .before)
-
 abbrev sum-of→start : tie.After-sum-of Inv-loop μ-loop → tie.Start Inv-loop μ-loop
 sum-of→start c = at-loop→start (c .before .before .before)
-
-abbrev sum-of→multiples : tie.After-sum-of Inv-loop μ-loop → tie.After-multiples Inv-loop μ-loop
-sum-of→multiples c = at-loop→multiples (c .before .before .before)
 
 abbrev sum-of→at-loop : tie.After-sum-of Inv-loop μ-loop → tie.At-loop Inv-loop μ-loop
 sum-of→at-loop c = c .before .before .before
@@ -53,7 +41,8 @@ loop-holds : tie.Need-loop-holds Inv-loop μ-loop
 loop-holds c = (omega arith, search needs, λ p t. (sym (first-power p (t .0) (c .before .args .e)), λ j l. absurd (omega arith)))
 
 -- the next power
-turned : (c : tie.After-sum-of Inv-loop μ-loop) (p : Modulus) → Times p (sum-of→start c .args .e) (sum-of→multiples c .multiples .result)
+turned : (c : tie.After-sum-of Inv-loop μ-loop) (p : Modulus)
+    → Times p (sum-of→start c .args .e) (at-loop→multiples (c .before .before .before) .multiples .result)
     → c .sum-of .result ≡ at (polynomial p) (2 ^ (sum-of→at-loop c .loop .i + 1)) (sum-of→start c .args .e)
 turned c p t =
     let e = sum-of→start c .args .e in
@@ -72,11 +61,11 @@ loop-again c =
 
 returns : tie.Need-returns Inv-loop μ-loop
 returns c =
-    let s = loop→start c in
+    let s = at-loop→start (c .before) in
     let p = s .args .p in
     let l = c .before .loop in
     filling-matrix (value-additive p (s .pre .0) (s .args .e)) (l .rows) (l .power) (l .i) (l .inv .1) (omega arith)
-    (l .inv .2 p (s .pre .0, s .pre .1, loop→multiples c .multiples .ensures))
+    (l .inv .2 p (s .pre .0, s .pre .1, at-loop→multiples (c .before) .multiples .ensures))
 
 pub powers-spec : {M : Type 1} → statement M
 powers-spec =

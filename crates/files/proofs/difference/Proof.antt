@@ -24,26 +24,14 @@ abbrev μ-loop : tie.MeasureT-loop
 
 -- ---- the places: from each one to an earlier one
 
-abbrev shared-slice-known2→start : tie.After-shared-slice-known2 Inv-loop μ-loop → tie.Start Inv-loop μ-loop
-shared-slice-known2→start c = c .before .before
-
 abbrev at-loop→start : tie.At-loop Inv-loop μ-loop → tie.Start Inv-loop μ-loop
-at-loop→start c = shared-slice-known2→start (c .before)
-
-abbrev loop→start : tie.After-loop Inv-loop μ-loop → tie.Start Inv-loop μ-loop
-loop→start c = at-loop→start (c .before)
+at-loop→start c = c .before .before .before
 
 abbrev shared-slice-known4→start : tie.After-shared-slice-known4 Inv-loop μ-loop → tie.Start Inv-loop μ-loop
 shared-slice-known4→start c = at-loop→start (c .before .before .before)
 
 abbrev shared-slice-known4→at-loop : tie.After-shared-slice-known4 Inv-loop μ-loop → tie.At-loop Inv-loop μ-loop
 shared-slice-known4→at-loop c = c .before .before .before
-
-abbrev feed-byte→start : tie.After-feed-byte Inv-loop μ-loop → tie.Start Inv-loop μ-loop
-feed-byte→start c = shared-slice-known4→start (c .before)
-
-abbrev feed-byte→at-loop : tie.After-feed-byte Inv-loop μ-loop → tie.At-loop Inv-loop μ-loop
-feed-byte→at-loop c = shared-slice-known4→at-loop (c .before)
 
 loop-holds : tie.Need-loop-holds Inv-loop μ-loop
 loop-holds c =
@@ -57,8 +45,8 @@ feed-byte-requires c κs = (shared-slice-known4→start c .pre .0, shared-slice-
 loop-again : tie.Need-loop-again Inv-loop μ-loop
 unfolding _⊕_
 loop-again c =
-    let l = feed-byte→at-loop c .loop in
-    let s = feed-byte→start c in
+    let l = shared-slice-known4→at-loop (c .before) .loop in
+    let s = shared-slice-known4→start (c .before) in
     let a = s .args in
     let m = s .pre .0 in
     let pos = monic-pos (a .p .degree) (a .p .low) (m .2) in
@@ -73,7 +61,7 @@ loop-again c =
 returns : tie.Need-returns Inv-loop μ-loop
 unfolding valueFrom bits
 returns c =
-    let s = loop→start c in
+    let s = at-loop→start (c .before) in
     let a = s .args in
     let m = s .pre .0 in
     let l = c .before .loop in

@@ -20,11 +20,8 @@ abbrev μ-loop : tie.MeasureT-loop
 
 -- ---- the places: from each one to an earlier one
 
-abbrev in-loop→start : tie.In-loop Inv-loop μ-loop → tie.Start Inv-loop μ-loop
-in-loop→start c = c .before .before
-
 abbrev step→start : tie.After-step Inv-loop μ-loop → tie.Start Inv-loop μ-loop
-step→start c = in-loop→start (c .before)
+step→start c = c .before .before .before
 
 loop-holds : tie.Need-loop-holds Inv-loop μ-loop
 loop-holds c = (omega arith, c .pre .1, refl)

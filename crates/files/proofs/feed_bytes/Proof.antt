@@ -30,15 +30,6 @@ loop→start c = at-loop→start (c .before)
 abbrev shared-slice-known2→start : tie.After-shared-slice-known2 Inv-loop μ-loop → tie.Start Inv-loop μ-loop
 shared-slice-known2→start c = at-loop→start (c .before .before)
 
-abbrev shared-slice-known2→at-loop : tie.After-shared-slice-known2 Inv-loop μ-loop → tie.At-loop Inv-loop μ-loop
-shared-slice-known2→at-loop c = c .before .before
-
-abbrev feed-byte→start : tie.After-feed-byte Inv-loop μ-loop → tie.Start Inv-loop μ-loop
-feed-byte→start c = shared-slice-known2→start (c .before)
-
-abbrev feed-byte→at-loop : tie.After-feed-byte Inv-loop μ-loop → tie.At-loop Inv-loop μ-loop
-feed-byte→at-loop c = shared-slice-known2→at-loop (c .before)
-
 loop-holds : tie.Need-loop-holds Inv-loop μ-loop
 loop-holds c = (omega arith, c .before .pre .1, refl)
 
@@ -47,10 +38,10 @@ feed-byte-requires c κs = (shared-slice-known2→start c .pre .0, c .before .be
 
 loop-again : tie.Need-loop-again Inv-loop μ-loop
 loop-again c =
-    let s = feed-byte→start c in
+    let s = shared-slice-known2→start (c .before) in
     let a = s .args in
     let m = s .pre .0 in
-    let l = feed-byte→at-loop c .loop in
+    let l = c .before .before .before .loop in
     let b = getD (a .part .now) (l .i) 0 in
     let byte : b < 256 = omega (arith, c .before .shared-slice-known2 .given (l .i)) in
     let next = next-byte (monic-pos (a .p .degree) (a .p .low) (m .2)) (l .x) (l .i) (a .part .now) (omega arith) byte in (

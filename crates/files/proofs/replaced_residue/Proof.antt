@@ -13,14 +13,8 @@ use Rattle.files.proofs.replaced_residue.Tie as tie
 
 -- ---- the places: from each one to an earlier one
 
-abbrev shared-slice-known2→start : tie.After-shared-slice-known2 → tie.Start
-shared-slice-known2→start c = c .before .before
-
 abbrev power-of-t→start : tie.After-power-of-t → tie.Start
-power-of-t→start c = shared-slice-known2→start (c .before .before)
-
-abbrev product→start : tie.After-product → tie.Start
-product→start c = power-of-t→start (c .before)
+power-of-t→start c = c .before .before .before .before
 
 difference-requires : tie.Need-difference-requires
 difference-requires c κs = let s = c .before .before in (s .pre .0, s .pre .2)
@@ -39,7 +33,7 @@ product-requires c κs =
 returns : tie.Need-returns
 unfolding _⊕_
 returns c =
-    let s = product→start c in
+    let s = power-of-t→start (c .before) in
     let a = s .args in
     let p = polynomial (a .p) in
     ap (λ (x : ℕ). a .f ⊕ x)

@@ -30,26 +30,8 @@ in-loop→at-loop c = c .before
 abbrev then1→start : tie.Then1 Inv-loop μ-loop → tie.Start Inv-loop μ-loop
 then1→start c = in-loop→start (c .before .before)
 
-abbrev else1→start : tie.Else1 Inv-loop μ-loop → tie.Start Inv-loop μ-loop
-else1→start c = in-loop→start (c .before .before)
-
 abbrev then1→at-loop : tie.Then1 Inv-loop μ-loop → tie.At-loop Inv-loop μ-loop
 then1→at-loop c = in-loop→at-loop (c .before .before)
-
-abbrev else1→at-loop : tie.Else1 Inv-loop μ-loop → tie.At-loop Inv-loop μ-loop
-else1→at-loop c = in-loop→at-loop (c .before .before)
-
-abbrev then1→product : tie.Then1 Inv-loop μ-loop → tie.After-product Inv-loop μ-loop
-then1→product c = c .before
-
-abbrev product2→start : tie.After-product2 Inv-loop μ-loop → tie.Start Inv-loop μ-loop
-product2→start c = then1→start (c .before)
-
-abbrev product2→at-loop : tie.After-product2 Inv-loop μ-loop → tie.At-loop Inv-loop μ-loop
-product2→at-loop c = then1→at-loop (c .before)
-
-abbrev product2→product : tie.After-product2 Inv-loop μ-loop → tie.After-product Inv-loop μ-loop
-product2→product c = then1→product (c .before)
 
 sub-i : tie.Need-sub-i Inv-loop μ-loop
 sub-i c = leading-le 64 (c .args .n)
@@ -75,10 +57,10 @@ product-requires-2 c κs =
 
 loop-again : tie.Need-loop-again Inv-loop μ-loop
 loop-again c =
-    let s = product2→start c in
+    let s = then1→start (c .before) in
     let a = s .args in
-    let l = product2→at-loop c .loop in
-    let square = product2→product c .product .ensures in
+    let l = then1→at-loop (c .before) .loop in
+    let square = c .before .before .product .ensures in
     let pos = monic-pos (a .p .degree) (a .p .low) (s .pre .0 .2) in (
       omega arith,
       times-next pos (a .a) (a .n) (l .i) (l .x) _ (omega arith) (l .inv .1) square _ (c .product2 .ensures) (c .before .if1 .taken),
@@ -86,9 +68,9 @@ loop-again c =
 
 loop-again-2 : tie.Need-loop-again-2 Inv-loop μ-loop
 loop-again-2 c =
-    let s = else1→start c in
+    let s = in-loop→start (c .before .before) in
     let a = s .args in
-    let l = else1→at-loop c .loop in
+    let l = in-loop→at-loop (c .before .before) .loop in
     let pos = monic-pos (a .p .degree) (a .p .low) (s .pre .0 .2) in
     (omega arith, square-next pos (a .a) (a .n) (l .i) (l .x) _ (omega arith) (l .inv .1) (c .before .product .ensures) (c .if1 .left))
 

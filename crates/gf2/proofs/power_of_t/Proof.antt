@@ -25,17 +25,11 @@ abbrev μ-loop : tie.MeasureT-loop
 
 -- ---- the places: from each one to an earlier one
 
-abbrev low-places→start : tie.After-low-places Inv-loop μ-loop → tie.Start Inv-loop μ-loop
-low-places→start c = c .before
-
 abbrev first-power→start : tie.After-first-power Inv-loop μ-loop → tie.Start Inv-loop μ-loop
-first-power→start c = low-places→start (c .before)
+first-power→start c = c .before .before
 
 abbrev in-loop→start : tie.In-loop Inv-loop μ-loop → tie.Start Inv-loop μ-loop
 in-loop→start c = first-power→start (c .before .before)
-
-abbrev loop→start : tie.After-loop Inv-loop μ-loop → tie.Start Inv-loop μ-loop
-loop→start c = first-power→start (c .before .before)
 
 abbrev in-loop→at-loop : tie.In-loop Inv-loop μ-loop → tie.At-loop Inv-loop μ-loop
 in-loop→at-loop c = c .before
@@ -43,26 +37,8 @@ in-loop→at-loop c = c .before
 abbrev then1→start : tie.Then1 Inv-loop μ-loop → tie.Start Inv-loop μ-loop
 then1→start c = in-loop→start (c .before .before)
 
-abbrev else1→start : tie.Else1 Inv-loop μ-loop → tie.Start Inv-loop μ-loop
-else1→start c = in-loop→start (c .before .before)
-
 abbrev then1→at-loop : tie.Then1 Inv-loop μ-loop → tie.At-loop Inv-loop μ-loop
 then1→at-loop c = in-loop→at-loop (c .before .before)
-
-abbrev else1→at-loop : tie.Else1 Inv-loop μ-loop → tie.At-loop Inv-loop μ-loop
-else1→at-loop c = in-loop→at-loop (c .before .before)
-
-abbrev then1→product : tie.Then1 Inv-loop μ-loop → tie.After-product Inv-loop μ-loop
-then1→product c = c .before
-
-abbrev step→start : tie.After-step Inv-loop μ-loop → tie.Start Inv-loop μ-loop
-step→start c = then1→start (c .before)
-
-abbrev step→at-loop : tie.After-step Inv-loop μ-loop → tie.At-loop Inv-loop μ-loop
-step→at-loop c = then1→at-loop (c .before)
-
-abbrev step→product : tie.After-step Inv-loop μ-loop → tie.After-product Inv-loop μ-loop
-step→product c = then1→product (c .before)
 
 low-places-requires : tie.Need-low-places-requires Inv-loop μ-loop
 low-places-requires c κs = c .pre .0
@@ -94,10 +70,10 @@ step-requires c κs =
 
 loop-again : tie.Need-loop-again Inv-loop μ-loop
 loop-again c =
-    let s = step→start c in
+    let s = then1→start (c .before) in
     let a = s .args in
-    let l = step→at-loop c .loop in
-    let y = step→product c .product in
+    let l = then1→at-loop (c .before) .loop in
+    let y = c .before .before .product in
     let pos = monic-pos (a .p .degree) (a .p .low) (s .pre .2) in
     let twice = c .step .ensures ∙ ap (rem (polynomial (a .p))) (double (y .result)) in (
       omega arith,
@@ -106,15 +82,15 @@ loop-again c =
 
 loop-again-2 : tie.Need-loop-again-2 Inv-loop μ-loop
 loop-again-2 c =
-    let s = else1→start c in
+    let s = in-loop→start (c .before .before) in
     let a = s .args in
-    let l = else1→at-loop c .loop in
+    let l = in-loop→at-loop (c .before .before) .loop in
     let pos = monic-pos (a .p .degree) (a .p .low) (s .pre .2) in
     (omega arith, square-next pos 2 (a .n) (l .i) (l .x) _ (omega arith) (l .inv .1) (c .before .product .ensures) (c .if1 .left))
 
 returns : tie.Need-returns Inv-loop μ-loop
 returns c =
-    let a = loop→start c .args in
+    let a = first-power→start (c .before .before) .args in
     let p = polynomial (a .p) in
     let l = c .before .loop in
     let e : l .i ≡ 0 = omega arith in

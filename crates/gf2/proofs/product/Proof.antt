@@ -22,20 +22,6 @@ Inv-loop p a b k sum₀ shifted₀ i₀ sum shifted i =
 abbrev μ-loop : tie.MeasureT-loop
 μ-loop p a b k sum₀ shifted₀ i₀ sum shifted i = p .degree - i
 
--- ---- the places: from each one to an earlier one
-
-abbrev in-loop→start : tie.In-loop Inv-loop μ-loop → tie.Start Inv-loop μ-loop
-in-loop→start c = c .before .before
-
-abbrev in-loop→at-loop : tie.In-loop Inv-loop μ-loop → tie.At-loop Inv-loop μ-loop
-in-loop→at-loop c = c .before
-
-abbrev step→start : tie.After-step Inv-loop μ-loop → tie.Start Inv-loop μ-loop
-step→start c = in-loop→start (c .before)
-
-abbrev step→at-loop : tie.After-step Inv-loop μ-loop → tie.At-loop Inv-loop μ-loop
-step→at-loop c = in-loop→at-loop (c .before)
-
 loop-holds : tie.Need-loop-holds Inv-loop μ-loop
 loop-holds c =
     let a = c .args in
@@ -61,9 +47,9 @@ step-requires c κs =
 loop-again : tie.Need-loop-again Inv-loop μ-loop
 unfolding _⊕_
 loop-again c =
-    let s = step→start c in
+    let s = c .before .before .before in
     let a = s .args in
-    let l = step→at-loop c .loop in
+    let l = c .before .before .loop in
     let pos = monic-pos (a .p .degree) (a .p .low) (s .pre .0 .2) in (
       omega arith,
       rw add-one (c .step .ensures ∙ ap (λ (x : ℕ). rem (polynomial (a .p)) (x * 2 + 0)) (l .inv .1) ∙ shift-next pos (a .a) (l .i)),

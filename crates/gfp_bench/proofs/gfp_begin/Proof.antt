@@ -11,32 +11,20 @@ use Rattle.gfp_bench.proofs.gfp_begin.Tie as tie
 
 -- ---- the places: from each one to an earlier one
 
-abbrev begin→start : tie.After-begin → tie.Start
-begin→start c = c .before
-
 abbrev r→start : tie.After-r → tie.Start
 r→start c = c .before .before .before
 
-abbrev r→begin : tie.After-r → tie.After-begin
-r→begin c = c .before .before
-
 abbrev known-told→start : tie.After-known-told → tie.Start
-known-told→start c = begin→start (c .before .before .before)
-
-abbrev known-told→begin : tie.After-known-told → tie.After-begin
-known-told→begin c = c .before .before .before
-
-abbrev number→start : tie.After-number → tie.Start
-number→start c = r→start (c .before .before)
+known-told→start c = c .before .before .before .before
 
 abbrev number→begin : tie.After-number → tie.After-begin
-number→begin c = r→begin (c .before .before)
+number→begin c = c .before .before .before .before
 
 returns : tie.Need-returns
 returns c =
     let s = known-told→start c in
     let e = sym (c .before .m .given .1) in
-    let h = known-told→begin c .begin .ensures in (
+    let h = c .before .before .before .begin .ensures in (
       ap (λ (x : Begun). numberOf (begun x)) e ∙ ap numberOf h ∙ begun-number (s .args .key) (begin (s .args .key)),
       ap (λ (x : Begun). markOr (markAt (s .args .fingerprint .now) (s .args .length .now)) (begun x)) e
           ∙ ap (markOr (markAt (s .args .fingerprint .now) (s .args .length .now))) h
@@ -45,7 +33,7 @@ returns c =
 
 returns-2 : tie.Need-returns-2
 returns-2 c =
-    let s = number→start c in
+    let s = r→start (c .before .before) in
     let e = sym (c .before .before .r .given .1) in
     let h = number→begin c .begin .ensures in (
       c .number .ensures ∙ ap (λ (x : Begun). numberOf (begun x)) e ∙ ap numberOf h ∙ begun-number (s .args .key) (begin (s .args .key)),

@@ -8,22 +8,14 @@ use Rattle.gfp_bench.proofs.gfp_feed.Tie as tie
 
 -- ---- the places: from each one to an earlier one
 
-abbrev shared-slice-known→start : tie.After-shared-slice-known → tie.Start
-shared-slice-known→start c = c .before
-
 abbrev feed→start : tie.After-feed → tie.Start
-feed→start c = shared-slice-known→start (c .before .before .before)
-
-abbrev store→start : tie.After-store → tie.Start
-store→start c = feed→start (c .before .before .before)
-
-abbrev store→feed : tie.After-store → tie.After-feed
-store→feed c = c .before .before .before
+feed→start c = c .before .before .before .before
 
 returns : tie.Need-returns
 returns c =
-    let s = store→start c .args in
-    stored (s .key) (feedBits (s .key) (markAt (s .fingerprint .now) (s .length .now)) (s .part .now)) _ _ _ (store→feed c .feed .ensures) (c .store .ensures)
+    let s = feed→start (c .before .before .before) .args in
+    stored (s .key) (feedBits (s .key) (markAt (s .fingerprint .now) (s .length .now)) (s .part .now)) _ _ _ (c .before .before .before .feed .ensures)
+    (c .store .ensures)
 
 pub gfp-feed-spec : {M : Type 1} → statement M
 gfp-feed-spec = tie.close (tie.spec (λ c κs. search needs) (λ c κs. search needs) returns)

@@ -14,17 +14,11 @@ shared-slice-known2→start c = c .before .before
 abbrev feed-table→start : tie.After-feed-table → tie.Start
 feed-table→start c = shared-slice-known2→start (c .before .before .before)
 
-abbrev store→start : tie.After-store → tie.Start
-store→start c = feed-table→start (c .before .before .before)
-
-abbrev store→feed-table : tie.After-store → tie.After-feed-table
-store→feed-table c = c .before .before .before
-
 returns : tie.Need-returns
 returns c =
-    let s = store→start c .args in
+    let s = feed-table→start (c .before .before .before) .args in
     stored (s .key) (feedTable (s .key) (markAt (s .fingerprint .now) (s .length .now)) (s .words .now) (s .part .now)) _ _ _
-    (store→feed-table c .feed-table .ensures) (c .store .ensures)
+    (c .before .before .before .feed-table .ensures) (c .store .ensures)
 
 pub gfp-feed-table-spec : {M : Type 1} → statement M
 gfp-feed-table-spec = tie.close (tie.spec (λ c κs. search needs) (λ c κs. search needs) returns)

@@ -4,13 +4,8 @@ use Rattle.refusals.proofs.Replies.{replied}
 use Rattle.gfp_bench.proofs.gfp_make_table.Statement.{statement}
 use Rattle.gfp_bench.proofs.gfp_make_table.Tie as tie
 
--- ---- the places: from each one to an earlier one
-
-abbrev number-of→make : tie.After-number-of → tie.After-make
-number-of→make c = c .before .before .before
-
 returns : tie.Need-returns
-returns c = let m = number-of→make c .make in replied (m .result) (m .ensures) (c .number-of .ensures)
+returns c = let m = c .before .before .before .make in replied (m .result) (m .ensures) (c .number-of .ensures)
 
 pub gfp-make-table-spec : {M : Type 1} → statement M
 gfp-make-table-spec = tie.close (tie.spec (λ c κs. search needs) (λ c κs. search needs) (λ c. search needs) returns)

@@ -9,11 +9,8 @@ use Rattle.gfp_bench.proofs.gfp_test_key.Tie as tie
 
 -- ---- the places: from each one to an earlier one
 
-abbrev r→test : tie.After-r → tie.After-test
-r→test c = c .before .before
-
 abbrev number→test : tie.After-number → tie.After-test
-number→test c = r→test (c .before .before)
+number→test c = c .before .before .before .before
 
 returns : tie.Need-returns
 returns c =

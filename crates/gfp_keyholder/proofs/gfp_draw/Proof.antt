@@ -9,36 +9,24 @@ use Rattle.gfp_keyholder.proofs.gfp_draw.Tie as tie
 
 -- ---- the places: from each one to an earlier one
 
-abbrev draw→start : tie.After-draw → tie.Start
-draw→start c = c .before
-
 abbrev r→start : tie.After-r → tie.Start
 r→start c = c .before .before .before
 
-abbrev r→draw : tie.After-r → tie.After-draw
-r→draw c = c .before .before
-
 abbrev known-told→start : tie.After-known-told → tie.Start
-known-told→start c = draw→start (c .before .before .before)
-
-abbrev known-told→draw : tie.After-known-told → tie.After-draw
-known-told→draw c = c .before .before .before
-
-abbrev number→start : tie.After-number → tie.Start
-number→start c = r→start (c .before .before)
+known-told→start c = c .before .before .before .before
 
 abbrev number→draw : tie.After-number → tie.After-draw
-number→draw c = r→draw (c .before .before)
+number→draw c = c .before .before .before .before
 
 returns : tie.Need-returns
 returns c =
-    let e = ap (λ (x : Drawn). answer x) (sym (c .before .p .given .1)) ∙ known-told→draw c .draw .ensures in
+    let e = ap (λ (x : Drawn). answer x) (sym (c .before .p .given .1)) ∙ c .before .before .before .draw .ensures in
     (ap numberOf e, ap (valueOr (known-told→start c .args .key .now)) e)
 
 returns-2 : tie.Need-returns-2
 returns-2 c =
     let e = ap (λ (x : Drawn). answer x) (sym (c .before .before .r .given .1)) ∙ number→draw c .draw .ensures in
-    (c .number .ensures ∙ ap numberOf e, ap (valueOr (number→start c .args .key .now)) e)
+    (c .number .ensures ∙ ap numberOf e, ap (valueOr (r→start (c .before .before) .args .key .now)) e)
 
 pub gfp-draw-spec : {M : Type 1} → statement M
 gfp-draw-spec = tie.close (tie.spec (λ c κs. search needs) (λ c. search needs) (λ c. search needs) (λ c κs. search needs) returns returns-2)

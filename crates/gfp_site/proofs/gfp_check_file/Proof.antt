@@ -13,33 +13,15 @@ use Rattle.gfp_site.proofs.gfp_check_file.Tie as tie
 abbrev check→start : tie.After-check → tie.Start
 check→start c = c .before .before .before
 
-abbrev r→start : tie.After-r → tie.Start
-r→start c = check→start (c .before .before)
-
-abbrev enum-told2→start : tie.After-enum-told2 → tie.Start
-enum-told2→start c = check→start (c .before .before)
-
-abbrev enum-told→start : tie.After-enum-told → tie.Start
-enum-told→start c = check→start (c .before .before)
-
-abbrev r→check : tie.After-r → tie.After-check
-r→check c = c .before .before
-
-abbrev known-told→start : tie.After-known-told → tie.Start
-known-told→start c = check→start (c .before .before .before)
-
-abbrev known-told→check : tie.After-known-told → tie.After-check
-known-told→check c = c .before .before .before
-
 abbrev number→start : tie.After-number → tie.Start
-number→start c = r→start (c .before .before)
+number→start c = check→start (c .before .before .before .before)
 
 abbrev number→check : tie.After-number → tie.After-check
-number→check c = r→check (c .before .before)
+number→check c = c .before .before .before .before
 
 returns : tie.Need-returns
 returns c =
-    let s = enum-told→start c .args in
+    let s = check→start (c .before .before) .args in
     let h = c .before .before .check .ensures in
     let e = sym (c .enum-told .given .1) in (
       ap (λ (x : Checked). numberOf (checked x)) e ∙ ap numberOf h,
@@ -48,8 +30,8 @@ returns c =
 
 returns-2 : tie.Need-returns-2
 returns-2 c =
-    let s = known-told→start c .args in
-    let h = known-told→check c .check .ensures in
+    let s = check→start (c .before .before .before) .args in
+    let h = c .before .before .before .check .ensures in
     let e = sym (c .before .i .given .1) in (
       ap (λ (x : Checked). numberOf (checked x)) e ∙ ap numberOf h,
       ap (λ (x : Checked). toldOr (toldAt (s .outcome .now) (s .page .now)) (checked x)) e ∙ ap (toldOr (toldAt (s .outcome .now) (s .page .now))) h,
@@ -57,7 +39,7 @@ returns-2 c =
 
 returns-3 : tie.Need-returns-3
 returns-3 c =
-    let s = enum-told2→start c .args in
+    let s = check→start (c .before .before) .args in
     let h = c .before .before .check .ensures in
     let e = sym (c .enum-told2 .given .1) in (
       ap (λ (x : Checked). numberOf (checked x)) e ∙ ap numberOf h,

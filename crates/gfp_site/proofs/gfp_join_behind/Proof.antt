@@ -11,17 +11,11 @@ use Rattle.gfp_site.proofs.gfp_join_behind.Tie as tie
 abbrev join-behind→start : tie.After-join-behind → tie.Start
 join-behind→start c = c .before .before .before
 
-abbrev store→start : tie.After-store → tie.Start
-store→start c = join-behind→start (c .before .before .before)
-
-abbrev store→join-behind : tie.After-store → tie.After-join-behind
-store→join-behind c = c .before .before .before
-
 returns : tie.Need-returns
 returns c =
-    let s = store→start c .args in
+    let s = join-behind→start (c .before .before .before) .args in
     stored (s .key) (joinBehind (s .key) (markAt (s .fingerprint .now) (s .length .now)) (markAt (s .other) (s .bytes))) _ _ _
-    (store→join-behind c .join-behind .ensures) (c .store .ensures)
+    (c .before .before .before .join-behind .ensures) (c .store .ensures)
 
 pub gfp-join-behind-spec : {M : Type 1} → statement M
 gfp-join-behind-spec = tie.close (tie.spec (λ c κs. search needs) (λ c κs. search needs) returns)

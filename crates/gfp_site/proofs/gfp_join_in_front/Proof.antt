@@ -11,17 +11,11 @@ use Rattle.gfp_site.proofs.gfp_join_in_front.Tie as tie
 abbrev join-in-front→start : tie.After-join-in-front → tie.Start
 join-in-front→start c = c .before .before .before
 
-abbrev store→start : tie.After-store → tie.Start
-store→start c = join-in-front→start (c .before .before .before)
-
-abbrev store→join-in-front : tie.After-store → tie.After-join-in-front
-store→join-in-front c = c .before .before .before
-
 returns : tie.Need-returns
 returns c =
-    let s = store→start c .args in
+    let s = join-in-front→start (c .before .before .before) .args in
     stored (s .key) (joinInFront (s .key) (markAt (s .fingerprint .now) (s .length .now)) (markAt (s .other) (s .bytes))) _ _ _
-    (store→join-in-front c .join-in-front .ensures) (c .store .ensures)
+    (c .before .before .before .join-in-front .ensures) (c .store .ensures)
 
 pub gfp-join-in-front-spec : {M : Type 1} → statement M
 gfp-join-in-front-spec = tie.close (tie.spec (λ c κs. search needs) (λ c κs. search needs) returns)

@@ -13,28 +13,16 @@ use Rattle.gfp_site.proofs.gfp_read_sheet.Tie as tie
 abbrev read→start : tie.After-read → tie.Start
 read→start c = c .before .before
 
-abbrev r→start : tie.After-r → tie.Start
-r→start c = read→start (c .before .before)
-
-abbrev r→read : tie.After-r → tie.After-read
-r→read c = c .before .before
-
-abbrev known-told→start : tie.After-known-told → tie.Start
-known-told→start c = read→start (c .before .before .before)
-
-abbrev known-told→read : tie.After-known-told → tie.After-read
-known-told→read c = c .before .before .before
-
 abbrev number→start : tie.After-number → tie.Start
-number→start c = r→start (c .before .before)
+number→start c = read→start (c .before .before .before .before)
 
 abbrev number→read : tie.After-number → tie.After-read
-number→read c = r→read (c .before .before)
+number→read c = c .before .before .before .before
 
 returns : tie.Need-returns
 returns c =
-    let s = known-told→start c .args in
-    let h = known-told→read c .read .ensures in
+    let s = read→start (c .before .before .before) .args in
+    let h = c .before .before .before .read .ensures in
     let e = sym (c .before .x .given .1) in (
       ap (λ (x : Reading). numberOf (reading x)) e ∙ ap numberOf h,
       ap (λ (x : Reading). valueOr (sheetAt (s .key .now) (s .length .now) (s .size .now) (s .pages .now) (s .fingerprint .now)) (reading x)) e

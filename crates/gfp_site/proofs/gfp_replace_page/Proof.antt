@@ -14,17 +14,11 @@ shared-slice-known2→start c = c .before .before
 abbrev replace-page→start : tie.After-replace-page → tie.Start
 replace-page→start c = shared-slice-known2→start (c .before .before .before)
 
-abbrev store→start : tie.After-store → tie.Start
-store→start c = replace-page→start (c .before .before .before)
-
-abbrev store→replace-page : tie.After-store → tie.After-replace-page
-store→replace-page c = c .before .before .before
-
 returns : tie.Need-returns
 returns c =
-    let s = store→start c .args in
+    let s = replace-page→start (c .before .before .before) .args in
     stored (s .key) (replacePage (s .key) (markAt (s .fingerprint .now) (s .length .now)) (s .place) (s .old .now) (s .new .now)) _ _ _
-    (store→replace-page c .replace-page .ensures) (c .store .ensures)
+    (c .before .before .before .replace-page .ensures) (c .store .ensures)
 
 pub gfp-replace-page-spec : {M : Type 1} → statement M
 gfp-replace-page-spec = tie.close (tie.spec (λ c κs. search needs) (λ c κs. search needs) returns)

@@ -13,11 +13,8 @@ use Rattle.gfp_site.proofs.gfp_search.Tie as tie
 abbrev shared-slice-known2→start : tie.After-shared-slice-known2 → tie.Start
 shared-slice-known2→start c = c .before .before
 
-abbrev search→start : tie.After-search → tie.Start
-search→start c = shared-slice-known2→start (c .before .before .before)
-
 abbrev places→start : tie.After-places → tie.Start
-places→start c = search→start (c .before)
+places→start c = shared-slice-known2→start (c .before .before .before .before)
 
 abbrev places→search : tie.After-places → tie.After-search
 places→search c = c .before
@@ -25,26 +22,14 @@ places→search c = c .before
 abbrev r→start : tie.After-r → tie.Start
 r→start c = places→start (c .before .before .before)
 
-abbrev c→start : tie.After-c → tie.Start
-c→start c = places→start (c .before .before .before)
-
 abbrev r→search : tie.After-r → tie.After-search
 r→search c = places→search (c .before .before .before)
 
-abbrev c→search : tie.After-c → tie.After-search
-c→search c = places→search (c .before .before .before)
-
 abbrev known-told→start : tie.After-known-told → tie.Start
-known-told→start c = c→start (c .before)
+known-told→start c = places→start (c .before .before .before .before)
 
 abbrev known-told→search : tie.After-known-told → tie.After-search
-known-told→search c = c→search (c .before)
-
-abbrev number→start : tie.After-number → tie.Start
-number→start c = r→start (c .before .before)
-
-abbrev number→search : tie.After-number → tie.After-search
-number→search c = r→search (c .before .before)
+known-told→search c = places→search (c .before .before .before .before)
 
 returns : tie.Need-returns
 returns c =
@@ -59,8 +44,8 @@ returns c =
 
 returns-2 : tie.Need-returns-2
 returns-2 c =
-    let m = number→search c .search in
-    let s = number→start c .args in
+    let m = r→search (c .before .before) .search in
+    let s = r→start (c .before .before) .args in
     let e = sym (c .before .before .r .given .1) in (
       c .number .ensures ∙ ap (λ (x : Searched). numberOf (searched x)) e ∙ ap numberOf (m .ensures .0),
       m .ensures .1,

@@ -4,13 +4,8 @@ use Rattle.refusals.proofs.Replies.{replied}
 use Rattle.gfp_site.proofs.gfp_write_sheet.Statement.{statement}
 use Rattle.gfp_site.proofs.gfp_write_sheet.Tie as tie
 
--- ---- the places: from each one to an earlier one
-
-abbrev number-of→write : tie.After-number-of → tie.After-write
-number-of→write c = c .before .before .before
-
 returns : tie.Need-returns
-returns c = let m = number-of→write c .write in replied (m .result) (m .ensures) (c .number-of .ensures)
+returns c = let m = c .before .before .before .write in replied (m .result) (m .ensures) (c .number-of .ensures)
 
 pub gfp-write-sheet-spec : {M : Type 1} → statement M
 gfp-write-sheet-spec = tie.close (tie.spec (λ c κs. search needs) (λ c κs. search needs) (λ c. search needs) returns)

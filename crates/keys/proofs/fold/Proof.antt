@@ -16,18 +16,13 @@ Inv-loop x rest₀ sum₀ n₀ rest sum n = sum ⊕ folded n rest ≡ folded 6 x
 abbrev μ-loop : tie.MeasureT-loop
 μ-loop x rest₀ sum₀ n₀ rest sum n = n
 
--- ---- the places: from each one to an earlier one
-
-abbrev even-root→at-loop : tie.After-even-root Inv-loop μ-loop → tie.At-loop Inv-loop μ-loop
-even-root→at-loop c = c .before .before .before
-
 loop-holds : tie.Need-loop-holds Inv-loop μ-loop
 loop-holds c = zero-⊕ (folded 6 (c .args .x))
 
 loop-again : tie.Need-loop-again Inv-loop μ-loop
 unfolding _⊕_
 loop-again c =
-    let l = even-root→at-loop c .loop in
+    let l = c .before .before .before .loop in
     rw (c .even-root .ensures, c .before .odd-part .ensures) (sym (fold-next (l .n) (l .rest) (l .sum) (omega arith)) ∙ l .inv)
 
 returns : tie.Need-returns Inv-loop μ-loop

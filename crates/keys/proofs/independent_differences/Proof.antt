@@ -29,23 +29,14 @@ abbrev μ-loop : tie.MeasureT-loop
 abbrev at-loop→start : tie.At-loop Inv-loop μ-loop → tie.Start Inv-loop μ-loop
 at-loop→start c = c .before .before
 
-abbrev slice-known2→at-loop : tie.After-slice-known2 Inv-loop μ-loop → tie.At-loop Inv-loop μ-loop
-slice-known2→at-loop c = c .before .before
-
 abbrev independent→start : tie.After-independent Inv-loop μ-loop → tie.Start Inv-loop μ-loop
 independent→start c = at-loop→start (c .before .before .before)
-
-abbrev fold→start : tie.After-fold Inv-loop μ-loop → tie.Start Inv-loop μ-loop
-fold→start c = at-loop→start (c .before .before .before)
 
 abbrev independent→at-loop : tie.After-independent Inv-loop μ-loop → tie.At-loop Inv-loop μ-loop
 independent→at-loop c = c .before .before .before
 
 abbrev fold→at-loop : tie.After-fold Inv-loop μ-loop → tie.At-loop Inv-loop μ-loop
-fold→at-loop c = slice-known2→at-loop (c .before)
-
-abbrev slice-known3→start : tie.After-slice-known3 Inv-loop μ-loop → tie.Start Inv-loop μ-loop
-slice-known3→start c = independent→start (c .before .before)
+fold→at-loop c = c .before .before .before
 
 abbrev slice-known3→at-loop : tie.After-slice-known3 Inv-loop μ-loop → tie.At-loop Inv-loop μ-loop
 slice-known3→at-loop c = independent→at-loop (c .before .before)
@@ -69,7 +60,7 @@ slice-write-rows c = omega (arith, same (fold→at-loop c))
 loop-again : tie.Need-loop-again Inv-loop μ-loop
 unfolding _⊕_
 loop-again c =
-    let a = fold→start c .args in
+    let a = at-loop→start (c .before .before .before) .args in
     let l = fold→at-loop c .loop in
     let f : ℕ → ℕ = value (a .h) (a .rows .now) in
     let row : getD (l .rows) (l .i) 0 ≡ getD (a .rows .now) (l .i) 0 = ap (λ (x : List ℕ). getD x (l .i) 0) (l .inv .1)
@@ -82,7 +73,7 @@ same-length c = c .before .before .independent .kept .0 ∙ same (slice-known3�
 
 returns : tie.Need-returns Inv-loop μ-loop
 returns c =
-    let a = slice-known3→start c .args in
+    let a = independent→start (c .before .before) .args in
     let l = slice-known3→at-loop c .loop in
     let f : ℕ → ℕ = value (a .h) (a .rows .now) in
     let e : l .rows ≡ listFrom f 0 (length (a .rows .now)) = l .inv .1 ∙ fill-whole f 0 (l .i) (a .rows .now) (omega arith) in

@@ -23,23 +23,14 @@ abbrev μ-loop : tie.MeasureT-loop
 abbrev at-loop→start : tie.At-loop Inv-loop μ-loop → tie.Start Inv-loop μ-loop
 at-loop→start c = c .before .before
 
-abbrev slice-known2→at-loop : tie.After-slice-known2 Inv-loop μ-loop → tie.At-loop Inv-loop μ-loop
-slice-known2→at-loop c = c .before .before
-
 abbrev independent→start : tie.After-independent Inv-loop μ-loop → tie.Start Inv-loop μ-loop
 independent→start c = at-loop→start (c .before .before .before)
-
-abbrev odd-part→start : tie.After-odd-part Inv-loop μ-loop → tie.Start Inv-loop μ-loop
-odd-part→start c = at-loop→start (c .before .before .before)
 
 abbrev independent→at-loop : tie.After-independent Inv-loop μ-loop → tie.At-loop Inv-loop μ-loop
 independent→at-loop c = c .before .before .before
 
 abbrev odd-part→at-loop : tie.After-odd-part Inv-loop μ-loop → tie.At-loop Inv-loop μ-loop
-odd-part→at-loop c = slice-known2→at-loop (c .before)
-
-abbrev slice-known3→start : tie.After-slice-known3 Inv-loop μ-loop → tie.Start Inv-loop μ-loop
-slice-known3→start c = independent→start (c .before .before)
+odd-part→at-loop c = c .before .before .before
 
 abbrev slice-known3→at-loop : tie.After-slice-known3 Inv-loop μ-loop → tie.At-loop Inv-loop μ-loop
 slice-known3→at-loop c = independent→at-loop (c .before .before)
@@ -62,7 +53,7 @@ slice-write-rows c = omega (arith, same (odd-part→at-loop c))
 
 loop-again : tie.Need-loop-again Inv-loop μ-loop
 loop-again c =
-    let rows₀ = odd-part→start c .args .rows .now in
+    let rows₀ = at-loop→start (c .before .before .before) .args .rows .now in
     let l = odd-part→at-loop c .loop in
     let f : ℕ → ℕ = λ j. oddPart (getD rows₀ j 0) in
     let e = ap (λ (x : List ℕ). oddPart (getD x (l .i) 0)) (l .inv .1) ∙ ap oddPart (filled-at f 0 (l .i) rows₀ (omega arith)) in
@@ -73,7 +64,7 @@ same-length c = c .before .before .independent .kept .0 ∙ same (slice-known3�
 
 returns : tie.Need-returns Inv-loop μ-loop
 returns c =
-    let rows₀ = slice-known3→start c .args .rows .now in
+    let rows₀ = independent→start (c .before .before) .args .rows .now in
     let l = slice-known3→at-loop c .loop in
     let f : ℕ → ℕ = λ j. oddPart (getD rows₀ j 0) in
     let e : l .rows ≡ listFrom f 0 (length rows₀) = l .inv .1 ∙ fill-whole f 0 (l .i) rows₀ (omega arith) in

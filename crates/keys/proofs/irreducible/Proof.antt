@@ -25,9 +25,6 @@ use Rattle.keys.proofs.irreducible.Tie as tie
 abbrev rows→square-rows : tie.After-rows → tie.After-square-rows
 rows→square-rows c = c .before .before
 
-abbrev then1→square-rows : tie.Then1 → tie.After-square-rows
-then1→square-rows c = rows→square-rows (c .before .before .before)
-
 abbrev else1→square-rows : tie.Else1 → tie.After-square-rows
 else1→square-rows c = rows→square-rows (c .before .before .before)
 
@@ -37,14 +34,8 @@ else1→independent-squares c = c .before .before
 abbrev squares3→square-rows : tie.After-squares3 → tie.After-square-rows
 squares3→square-rows c = else1→square-rows (c .before)
 
-abbrev squares4→square-rows : tie.After-squares4 → tie.After-square-rows
-squares4→square-rows c = squares3→square-rows (c .before .before)
-
 abbrev squares4→independent-squares : tie.After-squares4 → tie.After-independent-squares
 squares4→independent-squares c = else1→independent-squares (c .before .before .before)
-
-abbrev squares4→else1 : tie.After-squares4 → tie.Else1
-squares4→else1 c = c .before .before .before
 
 -- the polynomial and its degree
 record Known (key k : ℕ) : Type 0 where
@@ -121,7 +112,7 @@ slice-aggregate-independent-squares c = sym (length-take-le _ (made (c .before .
 
 returns : tie.Need-returns
 returns c =
-    let m = then1→square-rows c in
+    let m = rows→square-rows (c .before .before .before) in
     let d = known (m .before .before) in
     let no = not-true (c .before .before .independent-squares .result) (c .if1 .taken) in
     by-test (reducible (key m)) false (λ f. absurd (false≢true f))
@@ -140,9 +131,9 @@ independent-differences-requires c κs =
 
 returns-2 : tie.Need-returns-2
 returns-2 c =
-    let m = squares4→square-rows c in
+    let m = squares3→square-rows (c .before .before) in
     let d = known (m .before .before) in
-    let yes = not-false (squares4→independent-squares c .independent-squares .result) (squares4→else1 c .if1 .left) in
+    let yes = not-false (squares4→independent-squares c .independent-squares .result) (c .before .before .before .if1 .left) in
     let one = first m (squares4→independent-squares c .independent-squares .ensures) .0 yes in
     let two = second m (c .before .independent-differences .ensures) in
     by-test (reducible (key m)) (c .before .independent-differences .result)

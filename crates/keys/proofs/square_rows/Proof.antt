@@ -36,14 +36,11 @@ loop→start c = at-loop→start (c .before)
 abbrev step→start : tie.After-step Inv-loop μ-loop → tie.Start Inv-loop μ-loop
 step→start c = in-loop→start (c .before)
 
-abbrev step→at-loop : tie.After-step Inv-loop μ-loop → tie.At-loop Inv-loop μ-loop
-step→at-loop c = c .before .before
-
 abbrev step2→start : tie.After-step2 Inv-loop μ-loop → tie.Start Inv-loop μ-loop
 step2→start c = step→start (c .before)
 
 abbrev step2→at-loop : tie.After-step2 Inv-loop μ-loop → tie.At-loop Inv-loop μ-loop
-step2→at-loop c = step→at-loop (c .before)
+step2→at-loop c = c .before .before .before
 
 -- the square of t^(h - 1) is below t^k
 first : (c : tie.After-slice-known Inv-loop μ-loop) → let a = c .before .args in

@@ -24,12 +24,6 @@ use Rattle.keys.proofs.test.Tie as tie
 abbrev else2→modulus-of : tie.Else2 → tie.After-modulus-of
 else2→modulus-of c = c .before .before
 
-abbrev then3→modulus-of : tie.Then3 → tie.After-modulus-of
-then3→modulus-of c = else2→modulus-of (c .before .before)
-
-abbrev else3→modulus-of : tie.Else3 → tie.After-modulus-of
-else3→modulus-of c = else2→modulus-of (c .before .before)
-
 returns : tie.Need-returns
 unfolding testKey
 returns c = rw (lt-ltb (c .before .args .key) 256 (c .if1 .taken))
@@ -77,7 +71,7 @@ irreducible-requires c κs = let m = c .before .before in (proper m, in-range m 
 returns-3 : tie.Need-returns-3
 unfolding testKey
 returns-3 c =
-    let m = then3→modulus-of c in
+    let m = else2→modulus-of (c .before .before) in
     let key = m .before .before .args .key in
     let i = c .before .irreducible in
     let e = holds (i .result) (reducible key) (i .ensures ∙ ap (λ (q : ℕ). not (reducible q)) (whole m)) (c .if3 .taken) in
@@ -85,7 +79,7 @@ returns-3 c =
 
 returns-4 : tie.Need-returns-4
 returns-4 c =
-    let m = else3→modulus-of c in
+    let m = else2→modulus-of (c .before .before) in
     let key = m .before .before .args .key in
     let i = c .before .irreducible in
     let e = fails (i .result) (reducible key) (i .ensures ∙ ap (λ (q : ℕ). not (reducible q)) (whole m)) (c .if3 .left) in

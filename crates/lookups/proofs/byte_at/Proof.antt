@@ -6,14 +6,9 @@ use Rattle.lookups.proofs.Parts.{value-one}
 use Rattle.lookups.proofs.byte_at.Statement.{statement}
 use Rattle.lookups.proofs.byte_at.Tie as tie
 
--- ---- the places: from each one to an earlier one
-
-abbrev wide→start : tie.After-wide → tie.Start
-wide→start c = c .before .before .before
-
 returns : tie.Need-returns
 returns c =
-    let s = wide→start c in
+    let s = c .before .before .before in
     c .wide .ensures .0 ∙ value-one (s .args .part .now) (s .args .i) (s .pre) (omega (arith, c .wide .ensures))
 
 pub byte-at-spec : {M : Type 1} → statement M

@@ -7,11 +7,8 @@ use Rattle.lookups.proofs.eight_at.Tie as tie
 
 -- ---- the places: from each one to an earlier one
 
-abbrev four-at→start : tie.After-four-at → tie.Start
-four-at→start c = c .before .before
-
 abbrev four-at2→start : tie.After-four-at2 → tie.Start
-four-at2→start c = four-at→start (c .before)
+four-at2→start c = c .before .before .before
 
 mul-result : tie.Need-mul-result
 mul-result c =

@@ -10,20 +10,11 @@ use Rattle.lookups.proofs.feed_four.Tie as tie
 
 -- ---- the places: from each one to an earlier one
 
-abbrev then1→start : tie.Then1 → tie.Start
-then1→start c = c .before .before
-
 abbrev low-bits2→start : tie.After-low-bits2 → tie.Start
 low-bits2→start c = c .before .before .before
 
 abbrev low-bits→start : tie.After-low-bits → tie.Start
-low-bits→start c = then1→start (c .before)
-
-abbrev look-up2→start : tie.After-look-up2 → tie.Start
-look-up2→start c = low-bits2→start (c .before)
-
-abbrev look-up→start : tie.After-look-up → tie.Start
-look-up→start c = low-bits→start (c .before)
+low-bits→start c = c .before .before .before
 
 mul-x : tie.Need-mul-x
 mul-x c =
@@ -40,7 +31,7 @@ look-up-requires c κs = let s = low-bits→start c in table-long (s .args .p) (
 
 returns : tie.Need-returns
 returns c =
-    let s = look-up→start c in
+    let s = low-bits→start (c .before) in
     let a = s .args in
     let t = s .pre .0 in
     c .look-up .ensures
@@ -65,7 +56,7 @@ look-up-requires-2 c κs = let s = low-bits2→start c in table-long (s .args .p
 
 returns-2 : tie.Need-returns-2
 returns-2 c =
-    let s = look-up2→start c in
+    let s = low-bits2→start (c .before) in
     let a = s .args in
     let t = s .pre .0 in
     c .look-up2 .ensures

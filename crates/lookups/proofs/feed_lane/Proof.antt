@@ -19,20 +19,8 @@ abbrev μ-loop : tie.MeasureT-loop
 abbrev shared-slice-known2→start : tie.After-shared-slice-known2 Inv-loop μ-loop → tie.Start Inv-loop μ-loop
 shared-slice-known2→start c = c .before .before
 
-abbrev loop→start : tie.After-loop Inv-loop μ-loop → tie.Start Inv-loop μ-loop
-loop→start c = shared-slice-known2→start (c .before .before)
-
 abbrev four-at→start : tie.After-four-at Inv-loop μ-loop → tie.Start Inv-loop μ-loop
 four-at→start c = shared-slice-known2→start (c .before .before .before)
-
-abbrev four-at→at-loop : tie.After-four-at Inv-loop μ-loop → tie.At-loop Inv-loop μ-loop
-four-at→at-loop c = c .before .before
-
-abbrev feed-four→start : tie.After-feed-four Inv-loop μ-loop → tie.Start Inv-loop μ-loop
-feed-four→start c = four-at→start (c .before)
-
-abbrev feed-four→at-loop : tie.After-feed-four Inv-loop μ-loop → tie.At-loop Inv-loop μ-loop
-feed-four→at-loop c = four-at→at-loop (c .before)
 
 loop-holds : tie.Need-loop-holds Inv-loop μ-loop
 loop-holds c = (omega arith, (c .before .before .pre .1, refl))
@@ -45,9 +33,9 @@ feed-four-requires c κs =
 
 loop-again : tie.Need-loop-again Inv-loop μ-loop
 loop-again c =
-    let s = feed-four→start c in
+    let s = four-at→start (c .before) in
     let a = s .args in
-    let l = feed-four→at-loop c .loop in
+    let l = c .before .before .before .loop in
     let v = c .before .four-at in (
       omega arith,
       going-four (a .p) (s .pre .0 .0) (a .f) (a .part .now) 0 (l .i) (l .x) (l .inv .1) (v .result) (c .feed-four .result) (omega arith) (v .ensures)
@@ -57,7 +45,7 @@ loop-again c =
 feed-tail-requires : tie.Need-feed-tail-requires Inv-loop μ-loop
 feed-tail-requires c κs =
     let l = c .before .loop in
-    (loop→start c .pre .0, l .inv .1 .0, l .inv .0)
+    (shared-slice-known2→start (c .before .before) .pre .0, l .inv .1 .0, l .inv .0)
 
 returns : tie.Need-returns Inv-loop μ-loop
 returns c = c .feed-tail .ensures ∙ c .before .before .loop .inv .1 .1

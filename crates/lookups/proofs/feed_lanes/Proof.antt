@@ -25,26 +25,17 @@ shared-slice-known2→start c = c .before .before
 abbrev shared-slice-known5→start : tie.After-shared-slice-known5 Inv-loop μ-loop → tie.Start Inv-loop μ-loop
 shared-slice-known5→start c = shared-slice-known2→start (c .before .before .before)
 
-abbrev loop→start : tie.After-loop Inv-loop μ-loop → tie.Start Inv-loop μ-loop
-loop→start c = shared-slice-known5→start (c .before .before)
-
 abbrev four-at→start : tie.After-four-at Inv-loop μ-loop → tie.Start Inv-loop μ-loop
 four-at→start c = shared-slice-known5→start (c .before .before .before)
 
-abbrev four-at→at-loop : tie.After-four-at Inv-loop μ-loop → tie.At-loop Inv-loop μ-loop
-four-at→at-loop c = c .before .before
-
 abbrev feed-four→in-loop : tie.After-feed-four Inv-loop μ-loop → tie.In-loop Inv-loop μ-loop
 feed-four→in-loop c = c .before .before
-
-abbrev feed-four→four-at : tie.After-feed-four Inv-loop μ-loop → tie.After-four-at Inv-loop μ-loop
-feed-four→four-at c = c .before
 
 abbrev four-at2→start : tie.After-four-at2 Inv-loop μ-loop → tie.Start Inv-loop μ-loop
 four-at2→start c = four-at→start (c .before .before)
 
 abbrev four-at2→at-loop : tie.After-four-at2 Inv-loop μ-loop → tie.At-loop Inv-loop μ-loop
-four-at2→at-loop c = four-at→at-loop (c .before .before)
+four-at2→at-loop c = c .before .before .before .before
 
 abbrev four-at3→start : tie.After-four-at3 Inv-loop μ-loop → tie.Start Inv-loop μ-loop
 four-at3→start c = four-at2→start (c .before .before)
@@ -56,16 +47,13 @@ abbrev four-at3→in-loop : tie.After-four-at3 Inv-loop μ-loop → tie.In-loop 
 four-at3→in-loop c = feed-four→in-loop (c .before .before .before)
 
 abbrev four-at3→four-at : tie.After-four-at3 Inv-loop μ-loop → tie.After-four-at Inv-loop μ-loop
-four-at3→four-at c = feed-four→four-at (c .before .before .before)
+four-at3→four-at c = c .before .before .before .before
 
 abbrev four-at3→feed-four : tie.After-four-at3 Inv-loop μ-loop → tie.After-feed-four Inv-loop μ-loop
 four-at3→feed-four c = c .before .before .before
 
 abbrev four-at3→four-at2 : tie.After-four-at3 Inv-loop μ-loop → tie.After-four-at2 Inv-loop μ-loop
 four-at3→four-at2 c = c .before .before
-
-abbrev four-at3→feed-four2 : tie.After-four-at3 Inv-loop μ-loop → tie.After-feed-four2 Inv-loop μ-loop
-four-at3→feed-four2 c = c .before
 
 abbrev four-at4→start : tie.After-four-at4 Inv-loop μ-loop → tie.Start Inv-loop μ-loop
 four-at4→start c = four-at3→start (c .before .before)
@@ -79,23 +67,8 @@ feed-four4→start c = four-at4→start (c .before)
 abbrev feed-four4→at-loop : tie.After-feed-four4 Inv-loop μ-loop → tie.At-loop Inv-loop μ-loop
 feed-four4→at-loop c = four-at4→at-loop (c .before)
 
-abbrev feed-four4→in-loop : tie.After-feed-four4 Inv-loop μ-loop → tie.In-loop Inv-loop μ-loop
-feed-four4→in-loop c = four-at3→in-loop (c .before .before .before)
-
-abbrev feed-four4→four-at : tie.After-feed-four4 Inv-loop μ-loop → tie.After-four-at Inv-loop μ-loop
-feed-four4→four-at c = four-at3→four-at (c .before .before .before)
-
-abbrev feed-four4→feed-four : tie.After-feed-four4 Inv-loop μ-loop → tie.After-feed-four Inv-loop μ-loop
-feed-four4→feed-four c = four-at3→feed-four (c .before .before .before)
-
-abbrev feed-four4→four-at2 : tie.After-feed-four4 Inv-loop μ-loop → tie.After-four-at2 Inv-loop μ-loop
-feed-four4→four-at2 c = four-at3→four-at2 (c .before .before .before)
-
 abbrev feed-four4→feed-four2 : tie.After-feed-four4 Inv-loop μ-loop → tie.After-feed-four2 Inv-loop μ-loop
-feed-four4→feed-four2 c = four-at3→feed-four2 (c .before .before .before)
-
-abbrev feed-four4→four-at3 : tie.After-feed-four4 Inv-loop μ-loop → tie.After-four-at3 Inv-loop μ-loop
-feed-four4→four-at3 c = c .before .before .before
+feed-four4→feed-four2 c = c .before .before .before .before
 
 -- four bytes can be fed to a lane
 feeds : (s : tie.Start Inv-loop μ-loop) (part : List ℕ) (i x v : ℕ) → x < 2 ^ s .args .p .degree → i + 4 ≤ length part
@@ -146,21 +119,22 @@ loop-again c =
     let a = s .args in
     let p = s .pre in
     let l = feed-four4→at-loop c .loop in
-    let g : l .i + 4 ≤ length (a .q .now) = omega (arith, feed-four4→in-loop c .loop-test .taken, l .inv .1, p .5) in
+    let g : l .i + 4 ≤ length (a .q .now) = omega (arith, four-at3→in-loop (c .before .before .before) .loop-test .taken, l .inv .1, p .5) in
     let more = going-four (a .p) (p .0 .0) in (
       g,
       omega (arith, l .inv .1),
-      more (a .f .a) (a .q .now) 0 (l .i) (l .a) (l .inv .2) _ _ g (feed-four4→four-at c .four-at .ensures) (feed-four4→feed-four c .feed-four .ensures),
-      more (a .f .b) (a .r .now) 0 (l .i) (l .b) (l .inv .3) _ _ (omega (arith, g, p .6)) (feed-four4→four-at2 c .four-at2 .ensures)
+      more (a .f .a) (a .q .now) 0 (l .i) (l .a) (l .inv .2) _ _ g (four-at3→four-at (c .before .before .before) .four-at .ensures)
+          (four-at3→feed-four (c .before .before .before) .feed-four .ensures),
+      more (a .f .b) (a .r .now) 0 (l .i) (l .b) (l .inv .3) _ _ (omega (arith, g, p .6)) (four-at3→four-at2 (c .before .before .before) .four-at2 .ensures)
           (feed-four4→feed-four2 c .feed-four2 .ensures),
-      more (a .f .c) (a .s .now) 0 (l .i) (l .c) (l .inv .4) _ _ (omega (arith, g, p .7)) (feed-four4→four-at3 c .four-at3 .ensures)
+      more (a .f .c) (a .s .now) 0 (l .i) (l .c) (l .inv .4) _ _ (omega (arith, g, p .7)) (c .before .before .before .four-at3 .ensures)
           (c .before .before .feed-four3 .ensures),
       more (a .f .d) (a .t .now) 0 (l .i) (l .d) (l .inv .5) _ _ (omega (arith, g, p .8)) (c .before .four-at4 .ensures) (c .feed-four4 .ensures),
     )
 
 returns : tie.Need-returns Inv-loop μ-loop
 returns c =
-    let s = loop→start c in
+    let s = shared-slice-known5→start (c .before .before) in
     let a = s .args in
     let l = c .before .loop in
     let all = going-all (a .p) (s .pre .0 .0) in (

@@ -29,32 +29,17 @@ power-of-t→start c = feed-lanes-arg4→start (c .before .before)
 abbrev times-plus→start : tie.After-times-plus → tie.Start
 times-plus→start c = power-of-t→start (c .before)
 
-abbrev times-plus→feed-lanes : tie.After-times-plus → tie.After-feed-lanes
-times-plus→feed-lanes c = c .before .before
-
 abbrev times-plus2→start : tie.After-times-plus2 → tie.Start
 times-plus2→start c = times-plus→start (c .before)
 
 abbrev times-plus2→feed-lanes : tie.After-times-plus2 → tie.After-feed-lanes
-times-plus2→feed-lanes c = times-plus→feed-lanes (c .before)
-
-abbrev times-plus2→power-of-t : tie.After-times-plus2 → tie.After-power-of-t
-times-plus2→power-of-t c = c .before .before
+times-plus2→feed-lanes c = c .before .before .before
 
 abbrev times-plus3→start : tie.After-times-plus3 → tie.Start
 times-plus3→start c = times-plus2→start (c .before)
 
-abbrev times-plus3→feed-lanes : tie.After-times-plus3 → tie.After-feed-lanes
-times-plus3→feed-lanes c = times-plus2→feed-lanes (c .before)
-
-abbrev times-plus3→power-of-t : tie.After-times-plus3 → tie.After-power-of-t
-times-plus3→power-of-t c = times-plus2→power-of-t (c .before)
-
 abbrev feed-lane-arg→start : tie.After-feed-lane-arg → tie.Start
 feed-lane-arg→start c = times-plus3→start (c .before)
-
-abbrev feed-lane→start : tie.After-feed-lane → tie.Start
-feed-lane→start c = feed-lane-arg→start (c .before)
 
 -- ---- what is known at the places
 
@@ -103,8 +88,8 @@ four-lanes : (c : tie.After-times-plus3) → let s = times-plus3→start c in Jo
 four-lanes c =
     let s = times-plus3→start c in
     let n = one (s .args .part .now) in
-    let x = times-plus3→feed-lanes c .feed-lanes in
-    let t = times-plus3→power-of-t c .power-of-t in
+    let x = times-plus2→feed-lanes (c .before) .feed-lanes in
+    let t = c .before .before .before .power-of-t in
     let abc = c .before in
     lane-joined (pos s) (s .args .f) (s .args .part .now) (3 * n) (4 * n) n (abc .times-plus2 .result) (x .result .d) (t .result) (c .times-plus3 .result)
     (omega arith) (omega arith)
@@ -161,7 +146,7 @@ feed-lane-requires c κs =
 
 returns : tie.Need-returns
 returns c =
-    let s = feed-lane→start c in
+    let s = feed-lane-arg→start (c .before) in
     let a = s .args in
     lane-rest (pos s) (a .f) (a .part .now) (4 * one (a .part .now)) (c .before .before .times-plus3 .result) (c .feed-lane .result)
     (four-lanes (c .before .before))

@@ -20,20 +20,8 @@ abbrev μ-loop : tie.MeasureT-loop
 abbrev shared-slice-known2→start : tie.After-shared-slice-known2 Inv-loop μ-loop → tie.Start Inv-loop μ-loop
 shared-slice-known2→start c = c .before .before
 
-abbrev loop→start : tie.After-loop Inv-loop μ-loop → tie.Start Inv-loop μ-loop
-loop→start c = shared-slice-known2→start (c .before .before)
-
 abbrev shared-slice-known3→start : tie.After-shared-slice-known3 Inv-loop μ-loop → tie.Start Inv-loop μ-loop
 shared-slice-known3→start c = shared-slice-known2→start (c .before .before .before)
-
-abbrev shared-slice-known3→at-loop : tie.After-shared-slice-known3 Inv-loop μ-loop → tie.At-loop Inv-loop μ-loop
-shared-slice-known3→at-loop c = c .before .before
-
-abbrev feed-one→start : tie.After-feed-one Inv-loop μ-loop → tie.Start Inv-loop μ-loop
-feed-one→start c = shared-slice-known3→start (c .before)
-
-abbrev feed-one→at-loop : tie.After-feed-one Inv-loop μ-loop → tie.At-loop Inv-loop μ-loop
-feed-one→at-loop c = shared-slice-known3→at-loop (c .before)
 
 loop-holds : tie.Need-loop-holds Inv-loop μ-loop
 loop-holds c = let p = c .before .before .pre in (p .2, (p .1, refl))
@@ -45,9 +33,9 @@ feed-one-requires c κs =
 
 loop-again : tie.Need-loop-again Inv-loop μ-loop
 loop-again c =
-    let s = feed-one→start c in
+    let s = shared-slice-known3→start (c .before) in
     let a = s .args in
-    let l = feed-one→at-loop c .loop in
+    let l = c .before .before .before .loop in
     let b = c .before .shared-slice-known3 .given (l .i) .fits in (
       omega arith,
       going-one (a .p) (s .pre .0 .0) (a .f) (a .part .now) (a .from) (l .i) (l .x) (l .inv .1) (c .feed-one .result) (omega arith) b
@@ -56,7 +44,7 @@ loop-again c =
 
 returns : tie.Need-returns Inv-loop μ-loop
 returns c =
-    let s = loop→start c in
+    let s = shared-slice-known2→start (c .before .before) in
     let a = s .args in
     let l = c .before .loop in
     going-all (a .p) (s .pre .0 .0) (a .f) (a .part .now) (a .from) (l .i) (l .x) (l .inv .1) (omega arith)

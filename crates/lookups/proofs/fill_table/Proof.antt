@@ -10,9 +10,6 @@ use Rattle.lookups.proofs.fill_table.Tie as tie
 abbrev fill-rows-arg→start : tie.After-fill-rows-arg → tie.Start
 fill-rows-arg→start c = c .before .before
 
-abbrev slice-known2→start : tie.After-slice-known2 → tie.Start
-slice-known2→start c = fill-rows-arg→start (c .before .before .before)
-
 fill-rows-requires : tie.Need-fill-rows-requires
 fill-rows-requires c κs = let p = c .before .before .pre in (p .0, p .0 .2, omega arith, omega arith, omega (arith, p .1))
 
@@ -21,7 +18,7 @@ same-length c = c .before .before .fill-rows .kept .0
 
 returns : tie.Need-returns
 returns c =
-    let s = slice-known2→start c in
+    let s = fill-rows-arg→start (c .before .before .before) in
     let r = c .before .before .fill-rows in
     table-made (s .args .p) (r .last .0) (s .pre .0) (r .kept .0 ∙ s .pre .1) (r .ensures)
 

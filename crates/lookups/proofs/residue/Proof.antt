@@ -16,26 +16,14 @@ use Rattle.lookups.proofs.residue.Tie as tie
 
 -- ---- the places: from each one to an earlier one
 
-abbrev then1→start : tie.Then1 → tie.Start
-then1→start c = c .before .before
-
 abbrev then2→start : tie.Then2 → tie.Start
 then2→start c = c .before .before .before
 
 abbrev else2→start : tie.Else2 → tie.Start
 else2→start c = c .before .before .before
 
-abbrev feed-one→start : tie.After-feed-one → tie.Start
-feed-one→start c = then1→start (c .before)
-
 abbrev feed-four2→start : tie.After-feed-four2 → tie.Start
 feed-four2→start c = else2→start (c .before)
-
-abbrev feed-four→start : tie.After-feed-four → tie.Start
-feed-four→start c = then2→start (c .before)
-
-abbrev feed-four3→start : tie.After-feed-four3 → tie.Start
-feed-four3→start c = feed-four2→start (c .before)
 
 -- the residue of the high half may stand for it
 halves : {key : ℕ} (pos : 0 < key) (x : ℕ) → rem key (rem key (0 * 2 ^ 32 + x / 4294967296) * 2 ^ 32 + x % 4294967296) ≡ rem key x
@@ -58,7 +46,7 @@ feed-one-requires c κs =
 
 returns : tie.Need-returns
 returns c =
-    let a = feed-one→start c .args in
+    let a = c .before .before .before .args in
     let e : a .x / 256 * 2 ^ 8 + a .x % 256 ≡ a .x = omega arith in
     c .feed-one .ensures ∙ ap (rem (polynomial (a .p))) e
 
@@ -70,7 +58,7 @@ feed-four-requires c κs =
 
 returns-2 : tie.Need-returns-2
 returns-2 c =
-    let a = feed-four→start c .args in
+    let a = then2→start (c .before) .args in
     let e : a .x / 4294967296 * 2 ^ 32 + a .x % 4294967296 ≡ a .x = omega arith in
     c .feed-four .ensures ∙ ap (rem (polynomial (a .p))) e
 
@@ -84,7 +72,7 @@ feed-four-requires-3 c κs =
 
 returns-3 : tie.Need-returns-3
 returns-3 c =
-    let s = feed-four3→start c in
+    let s = feed-four2→start (c .before) in
     let a = s .args in
     let key = polynomial (a .p) in
     c .feed-four3 .ensures

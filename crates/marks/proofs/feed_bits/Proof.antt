@@ -15,20 +15,11 @@ use Rattle.marks.proofs.feed_bits.Tie as tie
 
 -- ---- the places: from each one to an earlier one
 
-abbrev shared-slice-known→start : tie.After-shared-slice-known → tie.Start
-shared-slice-known→start c = c .before
-
 abbrev judge→start : tie.After-judge → tie.Start
-judge→start c = shared-slice-known→start (c .before)
+judge→start c = c .before .before
 
 abbrev enum-told→start : tie.After-enum-told → tie.Start
 enum-told→start c = judge→start (c .before .before)
-
-abbrev known-told→start : tie.After-known-told → tie.Start
-known-told→start c = judge→start (c .before .before .before)
-
-abbrev known-told→judge : tie.After-known-told → tie.After-judge
-known-told→judge c = c .before .before .before
 
 abbrev struct-known→start : tie.After-struct-known → tie.Start
 struct-known→start c = enum-told→start (c .before .before)
@@ -38,11 +29,11 @@ judge-requires c κs = c .before .pre
 
 returns : tie.Need-returns
 returns c =
-    let s = known-told→start c in
+    let s = judge→start (c .before .before .before) in
     let key = s .args .m .key in
     let m = markIn (s .args .m) in
     let part = s .args .part .now in
-    let j = known-told→judge c .judge in
+    let j = c .before .before .before .judge in
     sym (ap (fedUnder key) (judged-refused (feedTests key m (length part)) (j .result) (j .ensures) [] m (fedMark key m part) _ (c .before .r .given .1)))
 
 -- neither 7 nor 8 applies

@@ -19,23 +19,11 @@ use Rattle.marks.proofs.feed_under.Tie as tie
 
 -- ---- the places: from each one to an earlier one
 
-abbrev shared-slice-known2→start : tie.After-shared-slice-known2 → tie.Start
-shared-slice-known2→start c = c .before .before
-
 abbrev judge→start : tie.After-judge → tie.Start
-judge→start c = shared-slice-known2→start (c .before)
+judge→start c = c .before .before .before
 
 abbrev enum-told→start : tie.After-enum-told → tie.Start
 enum-told→start c = judge→start (c .before .before)
-
-abbrev known-told→start : tie.After-known-told → tie.Start
-known-told→start c = judge→start (c .before .before .before)
-
-abbrev feed-looked→start : tie.After-feed-looked → tie.Start
-feed-looked→start c = enum-told→start (c .before)
-
-abbrev known-told→judge : tie.After-known-told → tie.After-judge
-known-told→judge c = c .before .before .before
 
 -- the tests behind those of the words, and the value
 abbrev tests : tie.Start → List Test
@@ -55,9 +43,9 @@ found c =
 
 returns : tie.Need-returns
 returns c =
-    let s = known-told→start c in
+    let s = judge→start (c .before .before .before) in
     let a = s .args in
-    let j = known-told→judge c in
+    let j = c .before .before .before in
     let refused = judged-refused (tableTests (a .m .key) (a .words .now)) (j .judge .result) (found j) (tests s) (markIn (a .m)) (value s) _
     (c .before .r .given .1) in
     sym (ap (fedUnder (a .m .key)) refused)
@@ -73,7 +61,7 @@ feed-looked-requires c κs = let s = enum-told→start c in (s .pre, table-clear
 
 returns-2 : tie.Need-returns-2
 returns-2 c =
-    let s = feed-looked→start c in
+    let s = enum-told→start (c .before) in
     let a = s .args in
     c .feed-looked .ensures
     ∙ sym (ap (fedUnder (a .m .key)) (more-clear (tableTests (a .m .key) (a .words .now)) (tests s) (markIn (a .m)) (value s) (clear (c .before))))

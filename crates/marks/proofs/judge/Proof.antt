@@ -17,12 +17,6 @@ use Rattle.marks.proofs.judge.Tie as tie
 abbrev else1→start : tie.Else1 → tie.Start
 else1→start c = c .before .before
 
-abbrev then2→start : tie.Then2 → tie.Start
-then2→start c = else1→start (c .before .before)
-
-abbrev else2→start : tie.Else2 → tie.Start
-else2→start c = else1→start (c .before .before)
-
 abbrev lengths : tie.Start → List ℕ
 lengths s = s .args .m .length ∷ s .args .n ∷ (s .args .m .length + s .args .n) ∷ []
 
@@ -39,7 +33,7 @@ is-residue-requires c κs = opened-proper (c .before .before .pre)
 
 returns-2 : tie.Need-returns-2
 returns-2 c =
-    let s = then2→start c in
+    let s = else1→start (c .before .before) in
     let m = markIn (s .args .m) in
     let r = c .before .is-residue in
     let high = not-residue (s .pre) (m .fingerprint) (r .result) (r .ensures) (c .if2 .taken) in
@@ -47,7 +41,7 @@ returns-2 c =
 
 returns-3 : tie.Need-returns-3
 returns-3 c =
-    let s = else2→start c in
+    let s = else1→start (c .before .before) in
     let m = markIn (s .args .m) in
     let r = c .before .is-residue in
     let low = is-residue (s .pre) (m .fingerprint) (r .result) (r .ensures) (c .if2 .left) in

@@ -21,23 +21,14 @@ abbrev μ-loop : tie.MeasureT-loop
 abbrev at-loop→start : tie.At-loop Inv-loop μ-loop → tie.Start Inv-loop μ-loop
 at-loop→start c = c .before
 
-abbrev loop→start : tie.After-loop Inv-loop μ-loop → tie.Start Inv-loop μ-loop
-loop→start c = at-loop→start (c .before)
-
-abbrev shared-slice-known2→start : tie.After-shared-slice-known2 Inv-loop μ-loop → tie.Start Inv-loop μ-loop
-shared-slice-known2→start c = at-loop→start (c .before .before .before)
-
-abbrev shared-slice-known2→at-loop : tie.After-shared-slice-known2 Inv-loop μ-loop → tie.At-loop Inv-loop μ-loop
-shared-slice-known2→at-loop c = c .before .before .before
-
 loop-holds : tie.Need-loop-holds Inv-loop μ-loop
 loop-holds c = (omega arith, (λ e i l. absurd (omega arith), λ f. refl))
 
 loop-again : tie.Need-loop-again Inv-loop μ-loop
 unfolding _⊕_
 loop-again c =
-    let a = shared-slice-known2→start c .args in
-    let l = shared-slice-known2→at-loop c .loop in
+    let a = at-loop→start (c .before .before .before) .args in
+    let l = c .before .before .before .loop in
     let ws = a .words .now in
     let u = getD ws (a .at + a .n + l .i) 0 in
     let v = getD ws (a .at + l .i) 0 in (
@@ -48,7 +39,7 @@ loop-again c =
 returns : tie.Need-returns Inv-loop μ-loop
 returns c =
     let l = c .before .loop in
-    let e : l .i ≡ loop→start c .args .n = omega arith in
+    let e : l .i ≡ at-loop→start (c .before) .args .n = omega arith in
     (λ z m h. l .inv .1 .0 z m (rw e h), λ f. l .inv .1 .1 (λ m h. f m (rw e at h)))
 
 pub differences-spec : {M : Type 1} → statement M

@@ -16,18 +16,13 @@ Inv-loop words₀ at n y next i₀ words i =
 abbrev μ-loop : tie.MeasureT-loop
 μ-loop words₀ at n y next i₀ words i = n - i
 
--- ---- the places: from each one to an earlier one
-
-abbrev slice-known→start : tie.After-slice-known Inv-loop μ-loop → tie.Start Inv-loop μ-loop
-slice-known→start c = c .before .before .before
-
 loop-holds : tie.Need-loop-holds Inv-loop μ-loop
 loop-holds c = (omega arith, refl, λ i l. refl, λ i l. absurd (omega arith))
 
 loop-again : tie.Need-loop-again Inv-loop μ-loop
 unfolding _⊕_
 loop-again c =
-    let a = slice-known→start c .args in
+    let a = c .before .before .before .args in
     let l = c .before .before .loop in
     let v = l .inv in
     let g : a .at + a .n + l .i < length (l .words) = omega arith in

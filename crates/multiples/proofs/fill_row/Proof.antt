@@ -25,14 +25,8 @@ abbrev μ-loop : tie.MeasureT-loop
 
 -- ---- the places: from each one to an earlier one
 
-abbrev at-loop→start : tie.At-loop Inv-loop μ-loop → tie.Start Inv-loop μ-loop
-at-loop→start c = c .before .before
-
-abbrev loop→start : tie.After-loop Inv-loop μ-loop → tie.Start Inv-loop μ-loop
-loop→start c = c .before .before .before
-
 abbrev double-arg→start : tie.After-double-arg Inv-loop μ-loop → tie.Start Inv-loop μ-loop
-double-arg→start c = at-loop→start (c .before .before)
+double-arg→start c = c .before .before .before .before
 
 abbrev double-arg→at-loop : tie.After-double-arg Inv-loop μ-loop → tie.At-loop Inv-loop μ-loop
 double-arg→at-loop c = c .before .before
@@ -48,15 +42,6 @@ slice-known2→at-loop c = double-arg→at-loop (c .before .before .before)
 
 abbrev step→start : tie.After-step Inv-loop μ-loop → tie.Start Inv-loop μ-loop
 step→start c = slice-known2→start (c .before)
-
-abbrev step→at-loop : tie.After-step Inv-loop μ-loop → tie.At-loop Inv-loop μ-loop
-step→at-loop c = slice-known2→at-loop (c .before)
-
-abbrev step→in-loop : tie.After-step Inv-loop μ-loop → tie.In-loop Inv-loop μ-loop
-step→in-loop c = double→in-loop (c .before .before .before)
-
-abbrev step→double : tie.After-step Inv-loop μ-loop → tie.After-double Inv-loop μ-loop
-step→double c = c .before .before .before
 
 slice-write-words : tie.Need-slice-write-words Inv-loop μ-loop
 slice-write-words c = omega (arith, pow-pos (c .before .args .width))
@@ -93,15 +78,15 @@ step-requires c κs =
 mul-n : tie.Need-mul-n Inv-loop μ-loop
 mul-n c =
     let s = step→start c in
-    omega (arith, double-le (step→in-loop c .loop-test .taken))
+    omega (arith, double-le (double→in-loop (c .before .before .before) .loop-test .taken))
 
 loop-again : tie.Need-loop-again Inv-loop μ-loop
 loop-again c =
     let s = step→start c in
     let a = s .args in
-    let l = step→at-loop c .loop in
+    let l = slice-known2→at-loop (c .before) .loop in
     let v = l .inv in
-    let d = step→double c .double in
+    let d = c .before .before .before .double in
     let m = s .pre .0 .2 in
     let pos = monic-pos (a .p .degree) (a .p .low) m in
     let same = d .ensures .1 in (
@@ -120,7 +105,7 @@ same-length c = let l = c .before .loop in simp length-set at (l .inv .3)
 
 returns : tie.Need-returns Inv-loop μ-loop
 returns c =
-    let a = loop→start c .args in
+    let a = c .before .before .before .args in
     let l = c .before .loop in
     let e : l .b ≡ a .width = omega arith in
     (λ i h. l .inv .4 i (rw (l .inv .1, e) h), λ i h. l .inv .5 i h ∙ row-before (a .at) (a .words .now) i h)

@@ -26,20 +26,11 @@ row-size→start c = c .before .before
 abbrev in-loop→start : tie.In-loop Inv-loop μ-loop → tie.Start Inv-loop μ-loop
 in-loop→start c = row-size→start (c .before .before)
 
-abbrev loop→start : tie.After-loop Inv-loop μ-loop → tie.Start Inv-loop μ-loop
-loop→start c = row-size→start (c .before .before)
-
-abbrev in-loop→row-size : tie.In-loop Inv-loop μ-loop → tie.After-row-size Inv-loop μ-loop
-in-loop→row-size c = c .before .before
-
 abbrev fill-row-arg→start : tie.After-fill-row-arg Inv-loop μ-loop → tie.Start Inv-loop μ-loop
 fill-row-arg→start c = in-loop→start (c .before)
 
 abbrev fill-row-arg→row-size : tie.After-fill-row-arg Inv-loop μ-loop → tie.After-row-size Inv-loop μ-loop
-fill-row-arg→row-size c = in-loop→row-size (c .before)
-
-abbrev fill-row-arg→at-loop : tie.After-fill-row-arg Inv-loop μ-loop → tie.At-loop Inv-loop μ-loop
-fill-row-arg→at-loop c = c .before .before
+fill-row-arg→row-size c = c .before .before .before
 
 abbrev fill-row→start : tie.After-fill-row Inv-loop μ-loop → tie.Start Inv-loop μ-loop
 fill-row→start c = fill-row-arg→start (c .before)
@@ -48,22 +39,13 @@ abbrev fill-row→row-size : tie.After-fill-row Inv-loop μ-loop → tie.After-r
 fill-row→row-size c = fill-row-arg→row-size (c .before)
 
 abbrev fill-row→at-loop : tie.After-fill-row Inv-loop μ-loop → tie.At-loop Inv-loop μ-loop
-fill-row→at-loop c = fill-row-arg→at-loop (c .before)
-
-abbrev slice-known2→at-loop : tie.After-slice-known2 Inv-loop μ-loop → tie.At-loop Inv-loop μ-loop
-slice-known2→at-loop c = fill-row→at-loop (c .before .before)
-
-abbrev slice-known2→fill-row : tie.After-slice-known2 Inv-loop μ-loop → tie.After-fill-row Inv-loop μ-loop
-slice-known2→fill-row c = c .before .before
-
-abbrev slice-known3→start : tie.After-slice-known3 Inv-loop μ-loop → tie.Start Inv-loop μ-loop
-slice-known3→start c = fill-row→start (c .before .before .before)
+fill-row→at-loop c = c .before .before .before
 
 abbrev slice-known3→fill-row : tie.After-slice-known3 Inv-loop μ-loop → tie.After-fill-row Inv-loop μ-loop
-slice-known3→fill-row c = slice-known2→fill-row (c .before)
+slice-known3→fill-row c = c .before .before .before
 
 abbrev step→at-loop : tie.After-step Inv-loop μ-loop → tie.At-loop Inv-loop μ-loop
-step→at-loop c = slice-known2→at-loop (c .before .before)
+step→at-loop c = fill-row→at-loop (c .before .before .before .before)
 
 abbrev step→fill-row : tie.After-step Inv-loop μ-loop → tie.After-fill-row Inv-loop μ-loop
 step→fill-row c = slice-known3→fill-row (c .before)
@@ -135,7 +117,7 @@ slice-read-step : tie.Need-slice-read-step Inv-loop μ-loop
 slice-read-step c = middle-within (slice-known3→fill-row c)
 
 step-requires : tie.Need-step-requires Inv-loop μ-loop
-step-requires c κs = (slice-known3→start c .pre .0, middle-lt (row (slice-known3→fill-row c)), omega arith)
+step-requires c κs = (fill-row→start (c .before .before .before) .pre .0, middle-lt (row (slice-known3→fill-row c)), omega arith)
 
 loop-again : tie.Need-loop-again Inv-loop μ-loop
 loop-again c =
@@ -150,7 +132,7 @@ same-length c = c .before .loop .inv .1
 returns : tie.Need-returns Inv-loop μ-loop
 returns c =
     let l = c .before .loop in
-    let e : l .j ≡ loop→start c .args .rows = omega arith in
+    let e : l .j ≡ row-size→start (c .before .before) .args .rows = omega arith in
     λ j h. l .inv .3 j (omega (arith, e, h))
 
 pub fill-rows-spec : {M : Type 1} → statement M

@@ -31,20 +31,11 @@ shared-slice-known2→start c = c .before .before
 abbrev in-loop→start : tie.In-loop Inv-loop μ-loop → tie.Start Inv-loop μ-loop
 in-loop→start c = shared-slice-known2→start (c .before .before)
 
-abbrev loop→start : tie.After-loop Inv-loop μ-loop → tie.Start Inv-loop μ-loop
-loop→start c = shared-slice-known2→start (c .before .before)
-
 abbrev differences→start : tie.After-differences Inv-loop μ-loop → tie.Start Inv-loop μ-loop
 differences→start c = in-loop→start (c .before)
 
-abbrev differences→at-loop : tie.After-differences Inv-loop μ-loop → tie.At-loop Inv-loop μ-loop
-differences→at-loop c = c .before .before
-
 abbrev step→start : tie.After-step Inv-loop μ-loop → tie.Start Inv-loop μ-loop
 step→start c = differences→start (c .before)
-
-abbrev step→at-loop : tie.After-step Inv-loop μ-loop → tie.At-loop Inv-loop μ-loop
-step→at-loop c = differences→at-loop (c .before)
 
 shared-slice-read-sum : tie.Need-shared-slice-read-sum Inv-loop μ-loop
 shared-slice-read-sum c = omega (arith, pow-pos (c .before .before .args .width))
@@ -82,7 +73,7 @@ loop-again : tie.Need-loop-again Inv-loop μ-loop
 loop-again c =
     let s = step→start c in
     let a = s .args in
-    let l = step→at-loop c .loop in
+    let l = c .before .before .before .loop in
     let v = l .inv in
     let d = c .before .differences in
     let pos = monic-pos (a .p .degree) (a .p .low) (s .pre .0 .2) in (
@@ -95,7 +86,7 @@ loop-again c =
 
 returns : tie.Need-returns Inv-loop μ-loop
 returns c =
-    let a = loop→start c .args in
+    let a = shared-slice-known2→start (c .before .before) .args in
     let l = c .before .loop in
     let e : 2 ^ l .b ≡ 2 ^ a .width = ap (λ (b : ℕ). 2 ^ b) (omega arith) in
     let n = l .inv .1 ∙ e in (

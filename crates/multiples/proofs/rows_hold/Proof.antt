@@ -27,44 +27,20 @@ row-size→start c = c .before .before
 abbrev in-loop→start : tie.In-loop Inv-loop μ-loop → tie.Start Inv-loop μ-loop
 in-loop→start c = row-size→start (c .before .before)
 
-abbrev loop→start : tie.After-loop Inv-loop μ-loop → tie.Start Inv-loop μ-loop
-loop→start c = row-size→start (c .before .before)
-
 abbrev in-loop→row-size : tie.In-loop Inv-loop μ-loop → tie.After-row-size Inv-loop μ-loop
 in-loop→row-size c = c .before .before
-
-abbrev then1→start : tie.Then1 Inv-loop μ-loop → tie.Start Inv-loop μ-loop
-then1→start c = in-loop→start (c .before .before)
 
 abbrev else1→start : tie.Else1 Inv-loop μ-loop → tie.Start Inv-loop μ-loop
 else1→start c = in-loop→start (c .before .before)
 
-abbrev then1→row-size : tie.Then1 Inv-loop μ-loop → tie.After-row-size Inv-loop μ-loop
-then1→row-size c = in-loop→row-size (c .before .before)
-
 abbrev else1→row-size : tie.Else1 Inv-loop μ-loop → tie.After-row-size Inv-loop μ-loop
 else1→row-size c = in-loop→row-size (c .before .before)
-
-abbrev then1→at-loop : tie.Then1 Inv-loop μ-loop → tie.At-loop Inv-loop μ-loop
-then1→at-loop c = c .before .before .before
 
 abbrev else1→at-loop : tie.Else1 Inv-loop μ-loop → tie.At-loop Inv-loop μ-loop
 else1→at-loop c = c .before .before .before
 
-abbrev else1→in-loop : tie.Else1 Inv-loop μ-loop → tie.In-loop Inv-loop μ-loop
-else1→in-loop c = c .before .before
-
 abbrev shared-slice-known2→start : tie.After-shared-slice-known2 Inv-loop μ-loop → tie.Start Inv-loop μ-loop
 shared-slice-known2→start c = else1→start (c .before)
-
-abbrev shared-slice-known2→in-loop : tie.After-shared-slice-known2 Inv-loop μ-loop → tie.In-loop Inv-loop μ-loop
-shared-slice-known2→in-loop c = else1→in-loop (c .before)
-
-abbrev step→start : tie.After-step Inv-loop μ-loop → tie.Start Inv-loop μ-loop
-step→start c = shared-slice-known2→start (c .before)
-
-abbrev step→at-loop : tie.After-step Inv-loop μ-loop → tie.At-loop Inv-loop μ-loop
-step→at-loop c = else1→at-loop (c .before .before)
 
 -- ---- what is known at the places
 
@@ -116,10 +92,10 @@ row-holds-requires c κs =
 
 returns : tie.Need-returns Inv-loop μ-loop
 returns c =
-    let s = then1→start c .args in
-    let l = then1→at-loop c .loop in
+    let s = in-loop→start (c .before .before) .args in
+    let l = c .before .before .before .loop in
     let r = c .before .row-holds in
-    let n = then1→row-size c .row-size in
+    let n = in-loop→row-size (c .before .before) .row-size in
     let taken = c .before .before .loop-test .taken in (
       λ e. absurd (true≢false (sym e)),
       λ f. absurd (rows-refused (s .p) (s .width) (s .x) (n .result) (l .j) (s .rows) (l .y) (s .words .now) (n .ensures) (l .inv .1)
@@ -133,21 +109,21 @@ mul-step : tie.Need-mul-step Inv-loop μ-loop
 mul-step c = omega (arith, middle-within (c .before .before))
 
 shared-slice-read-step : tie.Need-shared-slice-read-step Inv-loop μ-loop
-shared-slice-read-step c = middle-within (shared-slice-known2→in-loop c)
+shared-slice-read-step c = middle-within (c .before .before .before)
 
 step-requires : tie.Need-step-requires Inv-loop μ-loop
 step-requires c κs = (shared-slice-known2→start c .pre .0, middle-lt (row (c .before)), omega arith)
 
 loop-again : tie.Need-loop-again Inv-loop μ-loop
 loop-again c =
-    let l = step→at-loop c .loop in
+    let l = else1→at-loop (c .before .before) .loop in
     let t = row (c .before .before) in
-    (omega arith, start-next t _ (c .step .ensures), rows-more t (step→start c .args .words .now) (l .inv .2) (λ i h. refl))
+    (omega arith, start-next t _ (c .step .ensures), rows-more t (shared-slice-known2→start (c .before) .args .words .now) (l .inv .2) (λ i h. refl))
 
 returns-2 : tie.Need-returns-2 Inv-loop μ-loop
 returns-2 c =
     let l = c .before .loop in
-    let e : l .j ≡ loop→start c .args .rows = omega arith in
+    let e : l .j ≡ row-size→start (c .before .before) .args .rows = omega arith in
     (λ z j h. l .inv .2 j (omega (arith, e, h)), λ f. refl)
 
 pub rows-hold-spec : {M : Type 1} → statement M

@@ -13,20 +13,11 @@ use Rattle.search.proofs.search.Tie as tie
 
 -- ---- the places: from each one to an earlier one
 
-abbrev shared-slice-known→start : tie.After-shared-slice-known → tie.Start
-shared-slice-known→start c = c .before
-
 abbrev test→start : tie.After-test → tie.Start
-test→start c = shared-slice-known→start (c .before .before .before)
+test→start c = c .before .before .before .before
 
 abbrev p→start : tie.After-p → tie.Start
 p→start c = test→start (c .before .before)
-
-abbrev known-told→start : tie.After-known-told → tie.Start
-known-told→start c = test→start (c .before .before .before)
-
-abbrev known-told→test : tie.After-known-told → tie.After-test
-known-told→test c = c .before .before .before
 
 abbrev search-under-arg→start : tie.After-search-under-arg → tie.Start
 search-under-arg→start c = p→start (c .before .before)
@@ -34,17 +25,11 @@ search-under-arg→start c = p→start (c .before .before)
 abbrev search-under-arg→p : tie.After-search-under-arg → tie.After-p
 search-under-arg→p c = c .before .before
 
-abbrev slice-known2→start : tie.After-slice-known2 → tie.Start
-slice-known2→start c = search-under-arg→start (c .before .before .before)
-
-abbrev slice-known2→p : tie.After-slice-known2 → tie.After-p
-slice-known2→p c = search-under-arg→p (c .before .before .before)
-
 returns : tie.Need-returns
 unfolding answer wordsAfter
 returns c =
-    let a = known-told→start c .args in
-    let t = known-told→test c .test in
+    let a = test→start (c .before .before .before) .args in
+    let t = c .before .before .before .test in
     let e = c .before .r .given .1 in
     let tests = textTests (a .text .now) (a .pattern .now) in
     let after = written (a .text .now) (a .pattern .now) (a .places .now) in (
@@ -64,8 +49,8 @@ search-under-requires c κs = let h = key-opened (c .before .before) in (opened-
 returns-2 : tie.Need-returns-2
 unfolding answer wordsAfter
 returns-2 c =
-    let a = slice-known2→start c .args in
-    let h = key-opened (slice-known2→p c) in
+    let a = search-under-arg→start (c .before .before .before) .args in
+    let h = key-opened (search-under-arg→p (c .before .before .before)) in
     let e = c .before .before .search-under .ensures in
     let tests = textTests (a .text .now) (a .pattern .now) in
     let after = written (a .text .now) (a .pattern .now) (a .places .now) in (

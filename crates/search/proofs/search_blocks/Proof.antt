@@ -28,14 +28,8 @@ abbrev μ-loop : tie.MeasureT-loop
 
 -- ---- the places: from each one to an earlier one
 
-abbrev shared-slice-known→start : tie.After-shared-slice-known Inv-loop μ-loop → tie.Start Inv-loop μ-loop
-shared-slice-known→start c = c .before
-
 abbrev slice-known→start : tie.After-slice-known Inv-loop μ-loop → tie.Start Inv-loop μ-loop
-slice-known→start c = shared-slice-known→start (c .before .before .before)
-
-abbrev loop→start : tie.After-loop Inv-loop μ-loop → tie.Start Inv-loop μ-loop
-loop→start c = slice-known→start (c .before .before)
+slice-known→start c = c .before .before .before .before
 
 abbrev flags→start : tie.After-flags Inv-loop μ-loop → tie.Start Inv-loop μ-loop
 flags→start c = slice-known→start (c .before .before .before)
@@ -49,29 +43,14 @@ compare-arg→start c = flags→start (c .before .before .before)
 abbrev compare-arg→at-loop : tie.After-compare-arg Inv-loop μ-loop → tie.At-loop Inv-loop μ-loop
 compare-arg→at-loop c = flags→at-loop (c .before .before .before)
 
-abbrev compare-arg→flag-block : tie.After-compare-arg Inv-loop μ-loop → tie.After-flag-block Inv-loop μ-loop
-compare-arg→flag-block c = c .before .before
-
-abbrev compare→start : tie.After-compare Inv-loop μ-loop → tie.Start Inv-loop μ-loop
-compare→start c = compare-arg→start (c .before)
-
-abbrev compare→at-loop : tie.After-compare Inv-loop μ-loop → tie.At-loop Inv-loop μ-loop
-compare→at-loop c = compare-arg→at-loop (c .before)
-
 abbrev compare→flag-block : tie.After-compare Inv-loop μ-loop → tie.After-flag-block Inv-loop μ-loop
-compare→flag-block c = compare-arg→flag-block (c .before)
+compare→flag-block c = c .before .before .before
 
 abbrev struct-known→start : tie.After-struct-known Inv-loop μ-loop → tie.Start Inv-loop μ-loop
-struct-known→start c = compare→start (c .before .before .before)
+struct-known→start c = compare-arg→start (c .before .before .before .before)
 
 abbrev struct-known→at-loop : tie.After-struct-known Inv-loop μ-loop → tie.At-loop Inv-loop μ-loop
-struct-known→at-loop c = compare→at-loop (c .before .before .before)
-
-abbrev struct-known→flag-block : tie.After-struct-known Inv-loop μ-loop → tie.After-flag-block Inv-loop μ-loop
-struct-known→flag-block c = compare→flag-block (c .before .before .before)
-
-abbrev struct-known→compare : tie.After-struct-known Inv-loop μ-loop → tie.After-compare Inv-loop μ-loop
-struct-known→compare c = c .before .before .before
+struct-known→at-loop c = compare-arg→at-loop (c .before .before .before .before)
 
 loop-holds : tie.Need-loop-holds Inv-loop μ-loop
 loop-holds c =
@@ -109,10 +88,10 @@ loop-again c =
     let t = a .text .now in
     let q = a .pattern .now in
     let e = s .pre .1 in
-    let block = struct-known→flag-block c .flag-block in
+    let block = compare→flag-block (c .before .before .before) .flag-block in
     let size = block .result .size in
     let b = block .ensures in
-    let found = struct-known→compare c .compare .ensures in
+    let found = c .before .before .before .compare .ensures in
     let pos = monic-pos (a .s .modulus .degree) (a .s .modulus .low) (s .pre .0 .reduce .0 .2) in
     let fits : l .from + size + length q ≤ length t + 1 = omega (arith, b .2, e) in
     let ps = flagged-places (a .s) t q (l .from) size _ pos e (s .pre .2) fits (b .3 .flags) in
@@ -137,7 +116,7 @@ windows-is t q h = omega arith
 
 returns : tie.Need-returns Inv-loop μ-loop
 returns c =
-    let s = loop→start c in
+    let s = slice-known→start (c .before .before) in
     let a = s .args in
     let t = a .text .now in
     let q = a .pattern .now in

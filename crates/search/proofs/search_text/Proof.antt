@@ -20,11 +20,8 @@ fill-row→start c = shared-slice-known2→start (c .before .before .before)
 abbrev reduce3→start : tie.After-reduce3 → tie.Start
 reduce3→start c = fill-row→start (c .before .before)
 
-abbrev reduce3→fill-row : tie.After-reduce3 → tie.After-fill-row
-reduce3→fill-row c = c .before .before
-
 abbrev read-first→fill-row : tie.After-read-first → tie.After-fill-row
-read-first→fill-row c = reduce3→fill-row (c .before)
+read-first→fill-row c = c .before .before .before
 
 abbrev outgoing→start : tie.After-outgoing → tie.Start
 outgoing→start c = reduce3→start (c .before .before)
@@ -38,20 +35,8 @@ outgoing2→fill-row c = read-first→fill-row (c .before .before .before)
 abbrev outgoing2→read-first : tie.After-outgoing2 → tie.After-read-first
 outgoing2→read-first c = c .before .before .before
 
-abbrev outgoing2→fill-row2 : tie.After-outgoing2 → tie.After-fill-row2
-outgoing2→fill-row2 c = c .before
-
-abbrev search-blocks-arg→start : tie.After-search-blocks-arg → tie.Start
-search-blocks-arg→start c = outgoing2→start (c .before .before .before)
-
-abbrev search-blocks-arg→fill-row : tie.After-search-blocks-arg → tie.After-fill-row
-search-blocks-arg→fill-row c = outgoing2→fill-row (c .before .before .before)
-
-abbrev search-blocks-arg→read-first : tie.After-search-blocks-arg → tie.After-read-first
-search-blocks-arg→read-first c = outgoing2→read-first (c .before .before .before)
-
 abbrev search-blocks-arg→fill-row2 : tie.After-search-blocks-arg → tie.After-fill-row2
-search-blocks-arg→fill-row2 c = outgoing2→fill-row2 (c .before .before .before)
+search-blocks-arg→fill-row2 c = c .before .before .before .before
 
 read-first-requires : tie.Need-read-first-requires
 read-first-requires c κs =
@@ -68,11 +53,11 @@ fill-row-requires-2 c κs =
 
 search-blocks-requires : tie.Need-search-blocks-requires
 search-blocks-requires c κs =
-    let s = search-blocks-arg→start c in
+    let s = outgoing2→start (c .before .before .before) in
     let a = s .args in
-    let row = search-blocks-arg→fill-row c .fill-row in
+    let row = outgoing2→fill-row (c .before .before .before) .fill-row in
     let out = search-blocks-arg→fill-row2 c .fill-row2 in
-    let begin = search-blocks-arg→read-first c .read-first in (
+    let begin = outgoing2→read-first (c .before .before .before) .read-first in (
       record {
         some = s .pre .2;
         reduce = (s .pre .0, s .pre .1, omega arith, one-row (a .p) (s .pre .0) (row .last .0) (row .ensures .0));

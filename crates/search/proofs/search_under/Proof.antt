@@ -18,17 +18,8 @@ use Rattle.search.proofs.search_under.Tie as tie
 abbrev shared-slice-known2→start : tie.After-shared-slice-known2 → tie.Start
 shared-slice-known2→start c = c .before .before
 
-abbrev then1→start : tie.Then1 → tie.Start
-then1→start c = shared-slice-known2→start (c .before .before .before)
-
 abbrev else1→start : tie.Else1 → tie.Start
 else1→start c = shared-slice-known2→start (c .before .before .before)
-
-abbrev then2→start : tie.Then2 → tie.Start
-then2→start c = else1→start (c .before)
-
-abbrev then3→start : tie.Then3 → tie.Start
-then3→start c = else1→start (c .before .before)
 
 abbrev search-text-arg→start : tie.After-search-text-arg → tie.Start
 search-text-arg→start c = else1→start (c .before .before .before)
@@ -39,15 +30,6 @@ search-text-arg→else1 c = c .before .before .before
 abbrev search-text-arg→else2 : tie.After-search-text-arg → tie.Else2
 search-text-arg→else2 c = c .before .before
 
-abbrev slice-known2→start : tie.After-slice-known2 → tie.Start
-slice-known2→start c = search-text-arg→start (c .before .before .before)
-
-abbrev slice-known2→else1 : tie.After-slice-known2 → tie.Else1
-slice-known2→else1 c = search-text-arg→else1 (c .before .before .before)
-
-abbrev slice-known2→else2 : tie.After-slice-known2 → tie.Else2
-slice-known2→else2 c = search-text-arg→else2 (c .before .before .before)
-
 -- ---- what is known at the places
 
 short : (c : tie.Else1) → let a = else1→start c .args in passes (length (a .text .now) ∷ length (a .pattern .now) ∷ []) ≡ false
@@ -57,18 +39,18 @@ short c = fails (c .before .within .result) _ (c .before .within .ensures) (c .i
 
 returns : tie.Need-returns
 returns c =
-    let a = then1→start c .args in
+    let a = shared-slice-known2→start (c .before .before .before) .args in
     let w = c .before .within in
     call-long (polynomial (a .p)) (a .text .now) (a .pattern .now) (a .places .now) (holds (w .result) _ (w .ensures) (c .if1 .taken))
 
 returns-2 : tie.Need-returns-2
 returns-2 c =
-    let a = then2→start c .args in
+    let a = else1→start (c .before) .args in
     call-empty (polynomial (a .p)) (a .text .now) (a .pattern .now) (a .places .now) (short (c .before)) (c .if2 .taken)
 
 returns-3 : tie.Need-returns-3
 returns-3 c =
-    let a = then3→start c .args in
+    let a = else1→start (c .before .before) .args in
     call-none (polynomial (a .p)) (a .text .now) (a .pattern .now) (a .places .now) (short (c .before .before)) (c .before .if2 .left) (c .if3 .taken)
 
 search-text-requires : tie.Need-search-text-requires
@@ -80,8 +62,9 @@ search-text-requires c κs =
 
 returns-4 : tie.Need-returns-4
 returns-4 c =
-    let a = slice-known2→start c .args in
-    let d = call-done (polynomial (a .p)) (a .text .now) (a .pattern .now) (a .places .now) (short (slice-known2→else1 c)) (slice-known2→else2 c .if2 .left) in
+    let a = search-text-arg→start (c .before .before .before) .args in
+    let d = call-done (polynomial (a .p)) (a .text .now) (a .pattern .now) (a .places .now) (short (search-text-arg→else1 (c .before .before .before)))
+    (search-text-arg→else2 (c .before .before .before) .if2 .left) in
     let f = c .before .before .search-text .ensures in
     (ap Done (f .0) ∙ d .0, f .1 ∙ d .1)
 

@@ -16,11 +16,8 @@ abbrev μ-loop : tie.MeasureT-loop
 
 -- ---- the places: from each one to an earlier one
 
-abbrev shared-slice-known→start : tie.After-shared-slice-known Inv-loop μ-loop → tie.Start Inv-loop μ-loop
-shared-slice-known→start c = c .before
-
 abbrev shared-slice-known4→start : tie.After-shared-slice-known4 Inv-loop μ-loop → tie.Start Inv-loop μ-loop
-shared-slice-known4→start c = shared-slice-known→start (c .before .before .before)
+shared-slice-known4→start c = c .before .before .before .before
 
 abbrev shared-slice-known5→start : tie.After-shared-slice-known5 Inv-loop μ-loop → tie.Start Inv-loop μ-loop
 shared-slice-known5→start c = shared-slice-known4→start (c .before .before)
@@ -31,17 +28,8 @@ eight-at2→start c = shared-slice-known5→start (c .before)
 abbrev in-loop→start : tie.In-loop Inv-loop μ-loop → tie.Start Inv-loop μ-loop
 in-loop→start c = eight-at2→start (c .before .before)
 
-abbrev loop→start : tie.After-loop Inv-loop μ-loop → tie.Start Inv-loop μ-loop
-loop→start c = eight-at2→start (c .before .before)
-
 abbrev times→start : tie.After-times Inv-loop μ-loop → tie.Start Inv-loop μ-loop
 times→start c = in-loop→start (c .before)
-
-abbrev times→at-loop : tie.After-times Inv-loop μ-loop → tie.At-loop Inv-loop μ-loop
-times→at-loop c = c .before .before
-
-abbrev times→in-loop : tie.After-times Inv-loop μ-loop → tie.In-loop Inv-loop μ-loop
-times→in-loop c = c .before
 
 abbrev eight-at3→start : tie.After-eight-at3 Inv-loop μ-loop → tie.Start Inv-loop μ-loop
 eight-at3→start c = times→start (c .before)
@@ -50,19 +38,10 @@ abbrev times2→start : tie.After-times2 Inv-loop μ-loop → tie.Start Inv-loop
 times2→start c = eight-at3→start (c .before)
 
 abbrev times2→at-loop : tie.After-times2 Inv-loop μ-loop → tie.At-loop Inv-loop μ-loop
-times2→at-loop c = times→at-loop (c .before .before)
+times2→at-loop c = c .before .before .before .before
 
 abbrev times2→in-loop : tie.After-times2 Inv-loop μ-loop → tie.In-loop Inv-loop μ-loop
-times2→in-loop c = times→in-loop (c .before .before)
-
-abbrev eight-at4→start : tie.After-eight-at4 Inv-loop μ-loop → tie.Start Inv-loop μ-loop
-eight-at4→start c = times2→start (c .before)
-
-abbrev eight-at4→at-loop : tie.After-eight-at4 Inv-loop μ-loop → tie.At-loop Inv-loop μ-loop
-eight-at4→at-loop c = times2→at-loop (c .before)
-
-abbrev eight-at4→in-loop : tie.After-eight-at4 Inv-loop μ-loop → tie.In-loop Inv-loop μ-loop
-eight-at4→in-loop c = times2→in-loop (c .before)
+times2→in-loop c = c .before .before .before
 
 abbrev eight-at4→times : tie.After-eight-at4 Inv-loop μ-loop → tie.After-times Inv-loop μ-loop
 eight-at4→times c = c .before .before .before
@@ -106,10 +85,10 @@ eight-at-requires-4 c κs = omega (arith, times2→at-loop c .loop .inv .1, time
 loop-again : tie.Need-loop-again Inv-loop μ-loop
 unfolding _⊕_
 loop-again c =
-    let s = eight-at4→start c in
+    let s = times2→start (c .before) in
     let a = s .args in
-    let l = eight-at4→at-loop c .loop in
-    let fits : l .i + 8 ≤ length (a .q .now) = omega (arith, l .inv .1, eight-at4→in-loop c .loop-test .taken, s .pre .2) in
+    let l = times2→at-loop (c .before) .loop in
+    let fits : l .i + 8 ≤ length (a .q .now) = omega (arith, l .inv .1, times2→in-loop (c .before) .loop-test .taken, s .pre .2) in
     let eight = next-eight (a .words .now) in (
       fits,
       omega (arith, l .inv .1),
@@ -121,7 +100,7 @@ loop-again c =
 
 returns : tie.Need-returns Inv-loop μ-loop
 returns c =
-    let s = loop→start c in
+    let s = eight-at2→start (c .before .before) in
     let a = s .args in
     let l = c .before .loop in
     let all = all-eights (a .words .now) in

@@ -16,14 +16,8 @@ use Rattle.shifts.proofs.fill.Tie as tie
 abbrev fill-rows-arg→start : tie.After-fill-rows-arg → tie.Start
 fill-rows-arg→start c = c .before .before .before
 
-abbrev fill-rows-arg→power-of-t : tie.After-fill-rows-arg → tie.After-power-of-t
-fill-rows-arg→power-of-t c = c .before
-
-abbrev slice-known2→start : tie.After-slice-known2 → tie.Start
-slice-known2→start c = fill-rows-arg→start (c .before .before .before)
-
 abbrev slice-known2→power-of-t : tie.After-slice-known2 → tie.After-power-of-t
-slice-known2→power-of-t c = fill-rows-arg→power-of-t (c .before .before .before)
+slice-known2→power-of-t c = c .before .before .before .before
 
 power-of-t-requires : tie.Need-power-of-t-requires
 power-of-t-requires c κs = c .before .pre .0
@@ -39,7 +33,7 @@ same-length c = c .before .before .fill-rows .kept .0
 
 returns : tie.Need-returns
 returns c =
-    let s = slice-known2→start c in
+    let s = fill-rows-arg→start (c .before .before .before) in
     let x = slice-known2→power-of-t c .power-of-t in
     let r = c .before .before .fill-rows in
     let key = polynomial (s .args .p) in

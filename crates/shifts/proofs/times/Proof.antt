@@ -15,18 +15,13 @@ Inv-loop words f sum₀ rest₀ j₀ sum rest j = (j ≤ 8) × (sum ⊕ looked 8
 abbrev μ-loop : tie.MeasureT-loop
 μ-loop words f sum₀ rest₀ j₀ sum rest j = 8 - j
 
--- ---- the places: from each one to an earlier one
-
-abbrev shared-slice-known→start : tie.After-shared-slice-known Inv-loop μ-loop → tie.Start Inv-loop μ-loop
-shared-slice-known→start c = c .before .before .before
-
 loop-holds : tie.Need-loop-holds Inv-loop μ-loop
 loop-holds c = (omega arith, zero-⊕ (looked 8 (c .args .words .now) 8 0 (c .args .f)))
 
 loop-again : tie.Need-loop-again Inv-loop μ-loop
 unfolding _⊕_
 loop-again c =
-    let a = shared-slice-known→start c .args in
+    let a = c .before .before .before .args in
     let l = c .before .before .loop in
     let e : 8 - (l .j + 1) ≡ 8 - l .j - 1 = omega arith in
     (omega arith, rw e (sym (look-next (a .words .now) (l .sum) (l .rest) (8 - l .j) (l .j) (omega arith)) ∙ l .inv .1))

@@ -15,12 +15,6 @@ use Rattle.tables.proofs.judge.Tie as tie
 abbrev else1→start : tie.Else1 → tie.Start
 else1→start c = c .before .before
 
-abbrev then2→start : tie.Then2 → tie.Start
-then2→start c = else1→start (c .before .before)
-
-abbrev else2→start : tie.Else2 → tie.Start
-else2→start c = else1→start (c .before .before)
-
 returns : tie.Need-returns
 returns c =
     let a = c .before .before .args in
@@ -31,13 +25,13 @@ table-holds-requires c κs = (c .before .before .pre, c .if1 .left)
 
 returns-2 : tie.Need-returns-2
 returns-2 c =
-    let a = then2→start c .args in
+    let a = else1→start (c .before .before) .args in
     let h = c .before .table-holds in
     sym (word-refused (a .words .now) (polynomial (a .p)) (c .before .before .if1 .left) (holds (h .result) _ (h .ensures) (c .if2 .taken)))
 
 returns-3 : tie.Need-returns-3
 returns-3 c =
-    let a = else2→start c .args in
+    let a = else1→start (c .before .before) .args in
     let h = c .before .table-holds in
     sym (table-passed (a .words .now) (polynomial (a .p)) (c .before .before .if1 .left) (fails (h .result) _ (h .ensures) (c .if2 .left)))
 

@@ -22,23 +22,11 @@ test→start c = c .before .before
 abbrev p→start : tie.After-p → tie.Start
 p→start c = test→start (c .before .before)
 
-abbrev known-told→start : tie.After-known-told → tie.Start
-known-told→start c = test→start (c .before .before .before)
-
-abbrev known-told→test : tie.After-known-told → tie.After-test
-known-told→test c = c .before .before .before
-
 abbrev make-under-arg→start : tie.After-make-under-arg → tie.Start
 make-under-arg→start c = p→start (c .before .before)
 
 abbrev make-under-arg→p : tie.After-make-under-arg → tie.After-p
 make-under-arg→p c = c .before .before
-
-abbrev slice-known2→start : tie.After-slice-known2 → tie.Start
-slice-known2→start c = make-under-arg→start (c .before .before .before)
-
-abbrev slice-known2→p : tie.After-slice-known2 → tie.After-p
-slice-known2→p c = make-under-arg→p (c .before .before .before)
 
 -- the table that the call makes
 abbrev table : ℕ → List ℕ
@@ -53,16 +41,16 @@ make-under-requires c κs = opened-proper (key-opened (c .before .before))
 returns : tie.Need-returns
 unfolding makeTable
 returns c =
-    let a = known-told→start c .args in
-    let t = known-told→test c .test in
+    let a = test→start (c .before .before .before) .args in
+    let t = c .before .before .before .test in
     sym (refused (t .result) (a .key) (t .ensures) (sizeTest (a .words .now) ∷ []) (a .words .now) (table (a .key)) _ (c .before .r .given .1))
 
 returns-2 : tie.Need-returns-2
 unfolding makeTable
 returns-2 c =
-    let a = slice-known2→start c .args in
+    let a = make-under-arg→start (c .before .before .before) .args in
     let words = a .words .now in
-    let h = key-opened (slice-known2→p c) in
+    let h = key-opened (make-under-arg→p (c .before .before .before)) in
     c .before .before .make-under .ensures
     ∙ ap (λ (q : ℕ). firstOf (sizeTest words ∷ []) words (table q)) (opened-whole h)
     ∙ sym (opened-first h (sizeTest words ∷ []) words (table (a .key)))

@@ -15,21 +15,15 @@ use Rattle.tables.proofs.make_under.Tie as tie
 abbrev fill-table-arg→start : tie.After-fill-table-arg → tie.Start
 fill-table-arg→start c = c .before .before .before
 
-abbrev fill-table-arg→then1 : tie.After-fill-table-arg → tie.Then1
-fill-table-arg→then1 c = c .before
-
-abbrev slice-known2→start : tie.After-slice-known2 → tie.Start
-slice-known2→start c = fill-table-arg→start (c .before .before .before)
-
 abbrev slice-known2→then1 : tie.After-slice-known2 → tie.Then1
-slice-known2→then1 c = fill-table-arg→then1 (c .before .before .before)
+slice-known2→then1 c = c .before .before .before .before
 
 fill-table-requires : tie.Need-fill-table-requires
 fill-table-requires c κs = (fill-table-arg→start c .pre, c .before .if1 .taken)
 
 returns : tie.Need-returns
 returns c =
-    let a = slice-known2→start c .args in
+    let a = fill-table-arg→start (c .before .before .before) .args in
     ap Done (c .before .before .fill-table .ensures)
     ∙ sym (size-passed (a .words .now) [] (a .words .now) (listFrom (word 8 (polynomial (a .p))) 0 1024) (slice-known2→then1 c .if1 .taken))
 

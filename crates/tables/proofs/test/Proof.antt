@@ -20,21 +20,6 @@ test→start c = c .before .before
 abbrev p→start : tie.After-p → tie.Start
 p→start c = test→start (c .before .before)
 
-abbrev known-told→start : tie.After-known-told → tie.Start
-known-told→start c = test→start (c .before .before .before)
-
-abbrev known-told→test : tie.After-known-told → tie.After-test
-known-told→test c = c .before .before .before
-
-abbrev known-told2→p : tie.After-known-told2 → tie.After-p
-known-told2→p c = c .before
-
-abbrev judge→start : tie.After-judge → tie.Start
-judge→start c = p→start (c .before .before)
-
-abbrev judge→p : tie.After-judge → tie.After-p
-judge→p c = known-told2→p (c .before)
-
 key-opened : (c : tie.After-p) → Opened (p→start c .args .key) (c .p .given .0 .0)
 key-opened c = let t = c .before .before .test in opened (t .result) (p→start c .args .key) (t .ensures) _ (omega arith) (c .p .given .1)
 
@@ -44,16 +29,16 @@ judge-requires c κs = opened-proper (key-opened (c .before))
 returns : tie.Need-returns
 unfolding testTable
 returns c =
-    let a = known-told→start c .args in
-    let t = known-told→test c .test in
+    let a = test→start (c .before .before .before) .args in
+    let t = c .before .before .before .test in
     sym (refused (t .result) (a .key) (t .ensures) (tableTests (a .key) (a .words .now)) tt tt _ (c .before .r .given .1))
 
 returns-2 : tie.Need-returns-2
 unfolding testTable
 returns-2 c =
-    let a = judge→start c .args in
+    let a = p→start (c .before .before) .args in
     let words = a .words .now in
-    let h = key-opened (judge→p c) in
+    let h = key-opened (c .before .before) in
     c .judge .ensures ∙ ap (λ (q : ℕ). judged (tableTests q words)) (opened-whole h) ∙ sym (opened-first h (tableTests (a .key) words) tt tt)
 
 pub test-spec : {M : Type 1} → statement M

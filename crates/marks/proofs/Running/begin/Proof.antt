@@ -17,26 +17,17 @@ use Rattle.marks.proofs.Running.begin.Tie as tie
 abbrev test→start : tie.After-test → tie.Start
 test→start c = c .before
 
-abbrev enum-told→start : tie.After-enum-told → tie.Start
-enum-told→start c = test→start (c .before .before)
-
-abbrev known-told→start : tie.After-known-told → tie.Start
-known-told→start c = test→start (c .before .before .before)
-
-abbrev known-told→test : tie.After-known-told → tie.After-test
-known-told→test c = c .before .before .before
-
 returns : tie.Need-returns
 unfolding begin
 returns c =
-    let key = known-told→start c .args .key in
-    let t = known-told→test c .test in
+    let key = test→start (c .before .before .before) .args .key in
+    let t = c .before .before .before .test in
     sym (ap (begunUnder key) (refused (t .result) key (t .ensures) [] tt (markOf key []) _ (c .before .r .given .1)))
 
 returns-2 : tie.Need-returns-2
 unfolding begin
 returns-2 c =
-    let key = enum-told→start c .args .key in
+    let key = test→start (c .before .before) .args .key in
     let t = c .before .before .test in
     let h = opened (t .result) key (t .ensures) _ (omega arith) (c .enum-told .given .1) in
     sym (ap (begunUnder key) (opened-first h [] tt (markOf key []) ∙ ap Done (empty-mark key (omega (arith, opened-from h)))))

@@ -23,41 +23,23 @@ use Rattle.marks.proofs.Running.feed_house.Tie as tie
 abbrev words→start : tie.After-words → tie.Start
 words→start c = c .before .before
 
-abbrev struct-known→start : tie.After-struct-known → tie.Start
-struct-known→start c = words→start (c .before)
-
-abbrev struct-known→words : tie.After-struct-known → tie.After-words
-struct-known→words c = c .before
-
-abbrev then1→words : tie.Then1 → tie.After-words
-then1→words c = c .before .before
-
 abbrev modulus-of→start : tie.After-modulus-of → tie.Start
 modulus-of→start c = words→start (c .before .before .before)
-
-abbrev modulus-of→then1 : tie.After-modulus-of → tie.Then1
-modulus-of→then1 c = c .before
 
 abbrev words2→start : tie.After-words2 → tie.Start
 words2→start c = modulus-of→start (c .before)
 
 abbrev feed-table→start : tie.After-feed-table → tie.Start
-feed-table→start c = struct-known→start (c .before .before .before)
+feed-table→start c = words→start (c .before .before .before .before)
 
 abbrev words2→words : tie.After-words2 → tie.After-words
-words2→words c = then1→words (c .before .before)
+words2→words c = c .before .before .before .before
 
 abbrev feed-table→words : tie.After-feed-table → tie.After-words
-feed-table→words c = struct-known→words (c .before .before .before)
+feed-table→words c = c .before .before .before .before
 
 abbrev words2→then1 : tie.After-words2 → tie.Then1
-words2→then1 c = modulus-of→then1 (c .before)
-
-abbrev feed-looked→start : tie.After-feed-looked → tie.Start
-feed-looked→start c = words2→start (c .before)
-
-abbrev feed-looked→then1 : tie.After-feed-looked → tie.Then1
-feed-looked→then1 c = words2→then1 (c .before)
+words2→then1 c = c .before .before
 
 at-house : (key : ℕ) (m : Mark) (part : List ℕ) → key ≡ houseKey → firstOf (feedTests key m (length part)) m (fedMark key m part) ≡ feedHouse key m part
 at-house key m part e = rw e (sym (house-first m part))
@@ -74,11 +56,11 @@ feed-looked-requires c κs =
 
 returns : tie.Need-returns
 returns c =
-    let s = feed-looked→start c in
+    let s = words2→start (c .before) in
     let key = s .args .self .key in
     let m = markIn (s .args .self) in
     let part = s .args .part .now in
-    let is : key ≡ houseKey = feed-looked→then1 c .if1 .taken in
+    let is : key ≡ houseKey = words2→then1 (c .before) .if1 .taken in
     c .feed-looked .ensures ∙ ap (fedUnder key) (at-house key m part is)
 
 returns-2 : tie.Need-returns-2

@@ -23,21 +23,6 @@ test→start c = c .before .before .before
 abbrev p→start : tie.After-p → tie.Start
 p→start c = test→start (c .before .before)
 
-abbrev known-told→start : tie.After-known-told → tie.Start
-known-told→start c = test→start (c .before .before .before)
-
-abbrev known-told→test : tie.After-known-told → tie.After-test
-known-told→test c = c .before .before .before
-
-abbrev known-told2→p : tie.After-known-told2 → tie.After-p
-known-told2→p c = c .before
-
-abbrev feed-under→start : tie.After-feed-under → tie.Start
-feed-under→start c = p→start (c .before .before)
-
-abbrev feed-under→p : tie.After-feed-under → tie.After-p
-feed-under→p c = known-told2→p (c .before)
-
 -- the tests behind those of the key, and the value
 abbrev tests : tie.Start → List Test
 tests s = tableTests (s .args .self .key) (s .args .words .now) ++ feedTests (s .args .self .key) (markIn (s .args .self)) (length (s .args .part .now))
@@ -48,9 +33,9 @@ value s = fedMark (s .args .self .key) (markIn (s .args .self)) (s .args .part .
 returns : tie.Need-returns
 unfolding feedTable
 returns c =
-    let s = known-told→start c in
+    let s = test→start (c .before .before .before) in
     let key = s .args .self .key in
-    let t = known-told→test c .test in
+    let t = c .before .before .before .test in
     sym (ap (fedUnder key) (refused (t .result) key (t .ensures) (tests s) (markIn (s .args .self)) (value s) _ (c .before .r .given .1)))
 
 -- the accepted key
@@ -65,8 +50,9 @@ feed-under-requires c κs = key-opened (c .before)
 returns-2 : tie.Need-returns-2
 unfolding feedTable
 returns-2 c =
-    let s = feed-under→start c in
-    c .feed-under .ensures ∙ sym (ap (fedUnder (s .args .self .key)) (opened-first (key-opened (feed-under→p c)) (tests s) (markIn (s .args .self)) (value s)))
+    let s = p→start (c .before .before) in
+    c .feed-under .ensures ∙ sym (ap (fedUnder (s .args .self .key))
+    (opened-first (key-opened (c .before .before)) (tests s) (markIn (s .args .self)) (value s)))
 
 pub feed-table-spec : {M : Type 1} → statement M
 feed-table-spec = tie.close (tie.spec (λ c κs. search needs) (λ c. search needs) (λ c. search needs) feed-under-requires returns returns-2)

@@ -40,26 +40,14 @@ abbrev μ-windows : tie.MeasureT-windows
 
 -- ---- the places: from each one to an earlier one
 
-abbrev shared-slice-known→start : tie.After-shared-slice-known Inv-loop μ-loop Inv-windows μ-windows → tie.Start Inv-loop μ-loop Inv-windows μ-windows
-shared-slice-known→start c = c .before
-
 abbrev next-flagged→start : tie.After-next-flagged Inv-loop μ-loop Inv-windows μ-windows → tie.Start Inv-loop μ-loop Inv-windows μ-windows
-next-flagged→start c = shared-slice-known→start (c .before .before .before)
+next-flagged→start c = c .before .before .before .before
 
 abbrev in-windows→start : tie.In-windows Inv-loop μ-loop Inv-windows μ-windows → tie.Start Inv-loop μ-loop Inv-windows μ-windows
 in-windows→start c = next-flagged→start (c .before .before)
 
 abbrev in-windows→at-windows : tie.In-windows Inv-loop μ-loop Inv-windows μ-windows → tie.At-windows Inv-loop μ-loop Inv-windows μ-windows
 in-windows→at-windows c = c .before
-
-abbrev next-flagged2→start : tie.After-next-flagged2 Inv-loop μ-loop Inv-windows μ-windows → tie.Start Inv-loop μ-loop Inv-windows μ-windows
-next-flagged2→start c = in-windows→start (c .before)
-
-abbrev next-flagged2→at-windows : tie.After-next-flagged2 Inv-loop μ-loop Inv-windows μ-windows → tie.At-windows Inv-loop μ-loop Inv-windows μ-windows
-next-flagged2→at-windows c = in-windows→at-windows (c .before)
-
-abbrev next-flagged2→in-windows : tie.After-next-flagged2 Inv-loop μ-loop Inv-windows μ-windows → tie.In-windows Inv-loop μ-loop Inv-windows μ-windows
-next-flagged2→in-windows c = c .before
 
 abbrev in-loop→start : tie.In-loop Inv-loop μ-loop Inv-windows μ-windows → tie.Start Inv-loop μ-loop Inv-windows μ-windows
 in-loop→start c = in-windows→start (c .before .before .before)
@@ -77,40 +65,19 @@ abbrev in-loop→at-loop : tie.In-loop Inv-loop μ-loop Inv-windows μ-windows �
 in-loop→at-loop c = c .before
 
 abbrev joined2→start : tie.Joined2 Inv-loop μ-loop Inv-windows μ-windows → tie.Start Inv-loop μ-loop Inv-windows μ-windows
-joined2→start c = next-flagged2→start (c .before .before .before)
+joined2→start c = in-windows→start (c .before .before .before .before)
 
 abbrev joined2→at-windows : tie.Joined2 Inv-loop μ-loop Inv-windows μ-windows → tie.At-windows Inv-loop μ-loop Inv-windows μ-windows
-joined2→at-windows c = next-flagged2→at-windows (c .before .before .before)
+joined2→at-windows c = in-windows→at-windows (c .before .before .before .before)
 
 abbrev joined2→in-windows : tie.Joined2 Inv-loop μ-loop Inv-windows μ-windows → tie.In-windows Inv-loop μ-loop Inv-windows μ-windows
-joined2→in-windows c = next-flagged2→in-windows (c .before .before .before)
+joined2→in-windows c = c .before .before .before .before
 
 abbrev joined2→next-flagged2 : tie.Joined2 Inv-loop μ-loop Inv-windows μ-windows → tie.After-next-flagged2 Inv-loop μ-loop Inv-windows μ-windows
 joined2→next-flagged2 c = c .before .before .before
 
-abbrev then1→start : tie.Then1 Inv-loop μ-loop Inv-windows μ-windows → tie.Start Inv-loop μ-loop Inv-windows μ-windows
-then1→start c = in-loop→start (c .before .before .before)
-
-abbrev else1→start : tie.Else1 Inv-loop μ-loop Inv-windows μ-windows → tie.Start Inv-loop μ-loop Inv-windows μ-windows
-else1→start c = in-loop→start (c .before .before .before)
-
-abbrev then1→at-windows : tie.Then1 Inv-loop μ-loop Inv-windows μ-windows → tie.At-windows Inv-loop μ-loop Inv-windows μ-windows
-then1→at-windows c = in-loop→at-windows (c .before .before .before)
-
-abbrev else1→at-windows : tie.Else1 Inv-loop μ-loop Inv-windows μ-windows → tie.At-windows Inv-loop μ-loop Inv-windows μ-windows
-else1→at-windows c = in-loop→at-windows (c .before .before .before)
-
-abbrev then1→in-windows : tie.Then1 Inv-loop μ-loop Inv-windows μ-windows → tie.In-windows Inv-loop μ-loop Inv-windows μ-windows
-then1→in-windows c = in-loop→in-windows (c .before .before .before)
-
 abbrev then1→next-flagged2 : tie.Then1 Inv-loop μ-loop Inv-windows μ-windows → tie.After-next-flagged2 Inv-loop μ-loop Inv-windows μ-windows
 then1→next-flagged2 c = in-loop→next-flagged2 (c .before .before .before)
-
-abbrev then1→at-loop : tie.Then1 Inv-loop μ-loop Inv-windows μ-windows → tie.At-loop Inv-loop μ-loop Inv-windows μ-windows
-then1→at-loop c = in-loop→at-loop (c .before .before .before)
-
-abbrev else1→at-loop : tie.Else1 Inv-loop μ-loop Inv-windows μ-windows → tie.At-loop Inv-loop μ-loop Inv-windows μ-windows
-else1→at-loop c = in-loop→at-loop (c .before .before .before)
 
 next-flagged-requires : tie.Need-next-flagged-requires Inv-loop μ-loop Inv-windows μ-windows
 next-flagged-requires c κs = (omega arith, omega arith)
@@ -139,16 +106,16 @@ windows-less c = let f = then1→next-flagged2 c .next-flagged2 .ensures in omeg
 
 windows-again : tie.Need-windows-again Inv-loop μ-loop Inv-windows μ-windows
 windows-again c =
-    let a = then1→start c .args in
-    let w = then1→at-windows c .windows in
-    let l = then1→at-loop c .loop in
+    let a = in-loop→start (c .before .before .before) .args in
+    let w = in-loop→at-windows (c .before .before .before) .windows in
+    let l = in-loop→at-loop (c .before .before .before) .loop in
     let t = a .text .now in
     let q = a .pattern .now in
     let at = a .from + w .i in
     let long = window-length (length q) t at (omega arith) in
     let byte = window-at (length q) t at (l .j) (omega arith) in
     let z = l .inv .2 ∙ same-differs (window (length q) t at) q (l .j) (omega arith) (omega arith) (λ e. c .if1 .taken (sym byte ∙ e)) in
-    let taken = then1→in-windows c .windows-test .taken in
+    let taken = in-loop→in-windows (c .before .before .before) .windows-test .taken in
     let n = then1→next-flagged2 c .next-flagged2 in
     let f = n .ensures in
     let done = alarm-next (a .flags .now) t q (a .from) (a .size) (w .inv .4) taken (w .inv .3 taken) (n .result) (l .alarms) (l .inv .0) f z in
@@ -156,9 +123,9 @@ windows-again c =
 
 loop-again : tie.Need-loop-again Inv-loop μ-loop Inv-windows μ-windows
 loop-again c =
-    let a = else1→start c .args in
-    let w = else1→at-windows c .windows in
-    let l = else1→at-loop c .loop in
+    let a = in-loop→start (c .before .before .before) .args in
+    let w = in-loop→at-windows (c .before .before .before) .windows in
+    let l = in-loop→at-loop (c .before .before .before) .loop in
     let t = a .text .now in
     let q = a .pattern .now in
     let at = a .from + w .i in

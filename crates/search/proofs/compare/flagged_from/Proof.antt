@@ -14,30 +14,21 @@ abbrev μ-loop : tie.MeasureT-loop
 
 -- ---- the places: from each one to an earlier one
 
-abbrev at-loop→start : tie.At-loop Inv-loop μ-loop → tie.Start Inv-loop μ-loop
-at-loop→start c = c .before
-
 abbrev else1→start : tie.Else1 Inv-loop μ-loop → tie.Start Inv-loop μ-loop
-else1→start c = at-loop→start (c .before .before .before)
-
-abbrev then1→at-loop : tie.Then1 Inv-loop μ-loop → tie.At-loop Inv-loop μ-loop
-then1→at-loop c = c .before .before .before
-
-abbrev else1→at-loop : tie.Else1 Inv-loop μ-loop → tie.At-loop Inv-loop μ-loop
-else1→at-loop c = c .before .before .before
+else1→start c = c .before .before .before .before
 
 loop-holds : tie.Need-loop-holds Inv-loop μ-loop
 loop-holds c = (omega arith, omega arith, λ j a b. absurd (omega arith))
 
 returns : tie.Need-returns Inv-loop μ-loop
 returns c =
-    let l = then1→at-loop c .loop in
+    let l = c .before .before .before .loop in
     record { low = l .inv .0; high = l .inv .1; none = l .inv .2; flagged = λ h. c .if1 .taken }
 
 loop-again : tie.Need-loop-again Inv-loop μ-loop
 loop-again c =
     let a = else1→start c .args in
-    let l = else1→at-loop c .loop in
+    let l = c .before .before .before .loop in
     (omega arith, omega arith, none-more (a .flags .now) (a .first) (l .i) (l .i + 1) (omega arith) (l .inv .2) (c .if1 .left))
 
 returns-2 : tie.Need-returns-2 Inv-loop μ-loop

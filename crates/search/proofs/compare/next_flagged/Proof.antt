@@ -17,26 +17,11 @@ abbrev μ-loop : tie.MeasureT-loop
 abbrev at-loop→start : tie.At-loop Inv-loop μ-loop → tie.Start Inv-loop μ-loop
 at-loop→start c = c .before
 
-abbrev in-loop→start : tie.In-loop Inv-loop μ-loop → tie.Start Inv-loop μ-loop
-in-loop→start c = at-loop→start (c .before)
-
-abbrev in-loop→at-loop : tie.In-loop Inv-loop μ-loop → tie.At-loop Inv-loop μ-loop
-in-loop→at-loop c = c .before
-
-abbrev flagged-from2→start : tie.After-flagged-from2 Inv-loop μ-loop → tie.Start Inv-loop μ-loop
-flagged-from2→start c = at-loop→start (c .before .before)
-
-abbrev else1→start : tie.Else1 Inv-loop μ-loop → tie.Start Inv-loop μ-loop
-else1→start c = at-loop→start (c .before .before .before)
-
-abbrev else1→at-loop : tie.Else1 Inv-loop μ-loop → tie.At-loop Inv-loop μ-loop
-else1→at-loop c = c .before .before .before
-
 abbrev flagged-from→start : tie.After-flagged-from Inv-loop μ-loop → tie.Start Inv-loop μ-loop
-flagged-from→start c = in-loop→start (c .before .before .before)
+flagged-from→start c = at-loop→start (c .before .before .before .before)
 
 abbrev flagged-from→at-loop : tie.After-flagged-from Inv-loop μ-loop → tie.At-loop Inv-loop μ-loop
-flagged-from→at-loop c = in-loop→at-loop (c .before .before .before)
+flagged-from→at-loop c = c .before .before .before .before
 
 loop-holds : tie.Need-loop-holds Inv-loop μ-loop
 loop-holds c = (omega arith, omega arith, λ j a b. absurd (omega arith))
@@ -52,8 +37,8 @@ returns c =
 
 loop-again : tie.Need-loop-again Inv-loop μ-loop
 loop-again c =
-    let a = else1→start c .args in
-    let l = else1→at-loop c .loop in
+    let a = at-loop→start (c .before .before .before) .args in
+    let l = c .before .before .before .loop in
     (omega arith, omega arith, none-join (a .flags .now) (a .first) (l .i) (l .i + 8) (l .inv .2) (c .before .one-of-eight .ensures (c .if1 .left)))
 
 flagged-from-requires-2 : tie.Need-flagged-from-requires-2 Inv-loop μ-loop
@@ -61,7 +46,7 @@ flagged-from-requires-2 c κs = (omega arith, omega arith)
 
 returns-2 : tie.Need-returns-2 Inv-loop μ-loop
 returns-2 c =
-    let a = flagged-from2→start c .args in
+    let a = at-loop→start (c .before .before) .args in
     let l = c .before .before .loop in
     next-further (a .flags .now) (a .first) (l .i) (a .size) (c .flagged-from2 .result) (l .inv .0) (l .inv .2) (c .flagged-from2 .ensures)
 

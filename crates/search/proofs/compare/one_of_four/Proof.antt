@@ -6,11 +6,8 @@ use Rattle.search.proofs.compare.one_of_four.Tie as tie
 
 -- ---- the places: from each one to an earlier one
 
-abbrev result→start : tie.After-result → tie.Start
-result→start c = c .before
-
 abbrev result4→start : tie.After-result4 → tie.Start
-result4→start c = result→start (c .before .before .before)
+result4→start c = c .before .before .before .before
 
 returns : tie.Need-returns
 returns c = let a = result4→start c .args in none-four (a .flags .now) (a .i)

@@ -24,35 +24,23 @@ abbrev μ-loop : tie.MeasureT-loop
 
 -- ---- the places: from each one to an earlier one
 
-abbrev shared-slice-known2→start : tie.After-shared-slice-known2 Inv-loop μ-loop → tie.Start Inv-loop μ-loop
-shared-slice-known2→start c = c .before .before
-
 abbrev start-lanes→start : tie.After-start-lanes Inv-loop μ-loop → tie.Start Inv-loop μ-loop
-start-lanes→start c = shared-slice-known2→start (c .before)
+start-lanes→start c = c .before .before .before
 
 abbrev in-loop→start : tie.In-loop Inv-loop μ-loop → tie.Start Inv-loop μ-loop
 in-loop→start c = start-lanes→start (c .before .before)
 
-abbrev loop→start : tie.After-loop Inv-loop μ-loop → tie.Start Inv-loop μ-loop
-loop→start c = start-lanes→start (c .before .before)
-
-abbrev struct-known→start : tie.After-struct-known Inv-loop μ-loop → tie.Start Inv-loop μ-loop
-struct-known→start c = in-loop→start (c .before)
-
 abbrev struct-known→at-loop : tie.After-struct-known Inv-loop μ-loop → tie.At-loop Inv-loop μ-loop
 struct-known→at-loop c = c .before .before
 
-abbrev struct-known→in-loop : tie.After-struct-known Inv-loop μ-loop → tie.In-loop Inv-loop μ-loop
-struct-known→in-loop c = c .before
-
 abbrev struct-known4→start : tie.After-struct-known4 Inv-loop μ-loop → tie.Start Inv-loop μ-loop
-struct-known4→start c = struct-known→start (c .before .before .before)
+struct-known4→start c = in-loop→start (c .before .before .before .before)
 
 abbrev struct-known4→at-loop : tie.After-struct-known4 Inv-loop μ-loop → tie.At-loop Inv-loop μ-loop
 struct-known4→at-loop c = struct-known→at-loop (c .before .before .before)
 
 abbrev struct-known4→in-loop : tie.After-struct-known4 Inv-loop μ-loop → tie.In-loop Inv-loop μ-loop
-struct-known4→in-loop c = struct-known→in-loop (c .before .before .before)
+struct-known4→in-loop c = c .before .before .before .before
 
 abbrev roll→start : tie.After-roll Inv-loop μ-loop → tie.Start Inv-loop μ-loop
 roll→start c = struct-known4→start (c .before)
@@ -80,18 +68,6 @@ roll3→at-loop c = roll2→at-loop (c .before)
 
 abbrev roll3→in-loop : tie.After-roll3 Inv-loop μ-loop → tie.In-loop Inv-loop μ-loop
 roll3→in-loop c = roll2→in-loop (c .before)
-
-abbrev roll4→start : tie.After-roll4 Inv-loop μ-loop → tie.Start Inv-loop μ-loop
-roll4→start c = roll3→start (c .before)
-
-abbrev roll4→at-loop : tie.After-roll4 Inv-loop μ-loop → tie.At-loop Inv-loop μ-loop
-roll4→at-loop c = roll3→at-loop (c .before)
-
-abbrev roll4→in-loop : tie.After-roll4 Inv-loop μ-loop → tie.In-loop Inv-loop μ-loop
-roll4→in-loop c = roll3→in-loop (c .before)
-
-abbrev roll4→roll : tie.After-roll4 Inv-loop μ-loop → tie.After-roll Inv-loop μ-loop
-roll4→roll c = c .before .before .before
 
 -- ---- one lane, n places behind the first
 
@@ -151,14 +127,14 @@ roll-requires-4 c κs = let l = roll3→at-loop c .loop in rolls (roll3→in-loo
 
 loop-again : tie.Need-loop-again Inv-loop μ-loop
 loop-again c =
-    let s = roll4→start c in
+    let s = roll3→start (c .before) in
     let a = s .args in
-    let l = roll4→at-loop c .loop in
+    let l = roll3→at-loop (c .before) .loop in
     let on = rolled s (l .j) in
     let flag = hit-is (a .s) (a .text .now) (a .from) in
-    let h = roll4→in-loop c .loop-test .taken in (
+    let h = roll3→in-loop (c .before) .loop-test .taken in (
       omega arith,
-      same-place (a .s) (a .text .now) (a .from + l .j + 1) (a .from + (l .j + 1 + 0)) _ (omega arith) (roll4→roll c .roll .ensures),
+      same-place (a .s) (a .text .now) (a .from + l .j + 1) (a .from + (l .j + 1 + 0)) _ (omega arith) (c .before .before .before .roll .ensures),
       on 256 _ (c .before .before .roll2 .ensures),
       on 512 _ (c .before .roll3 .ensures),
       on 768 _ (c .roll4 .ensures),
@@ -171,7 +147,7 @@ loop-again c =
 
 returns : tie.Need-returns Inv-loop μ-loop
 returns c =
-    let a = loop→start c .args in
+    let a = start-lanes→start (c .before .before) .args in
     let l = c .before .loop in (
       same-place (a .s) (a .text .now) (a .from + (l .j + 768)) (a .from + 1024) (l .d) (omega arith) (l .inv .4),
       lanes-end false (hit (a .s) (a .text .now) (a .from)) (l .j) (l .flags) (omega arith) (l .inv .5),

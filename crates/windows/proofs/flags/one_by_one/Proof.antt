@@ -29,23 +29,8 @@ shared-slice-known2→start c = c .before .before
 abbrev in-loop→start : tie.In-loop Inv-loop μ-loop → tie.Start Inv-loop μ-loop
 in-loop→start c = shared-slice-known2→start (c .before .before)
 
-abbrev loop→start : tie.After-loop Inv-loop μ-loop → tie.Start Inv-loop μ-loop
-loop→start c = shared-slice-known2→start (c .before .before)
-
 abbrev in-loop→at-loop : tie.In-loop Inv-loop μ-loop → tie.At-loop Inv-loop μ-loop
 in-loop→at-loop c = c .before
-
-abbrev then1→start : tie.Then1 Inv-loop μ-loop → tie.Start Inv-loop μ-loop
-then1→start c = in-loop→start (c .before .before .before)
-
-abbrev joined1→start : tie.Joined1 Inv-loop μ-loop → tie.Start Inv-loop μ-loop
-joined1→start c = in-loop→start (c .before .before .before)
-
-abbrev then1→at-loop : tie.Then1 Inv-loop μ-loop → tie.At-loop Inv-loop μ-loop
-then1→at-loop c = in-loop→at-loop (c .before .before .before)
-
-abbrev joined1→at-loop : tie.Joined1 Inv-loop μ-loop → tie.At-loop Inv-loop μ-loop
-joined1→at-loop c = in-loop→at-loop (c .before .before .before)
 
 loop-holds : tie.Need-loop-holds Inv-loop μ-loop
 loop-holds c =
@@ -55,15 +40,15 @@ loop-holds c =
 
 roll-requires : tie.Need-roll-requires Inv-loop μ-loop
 roll-requires c κs =
-    let s = then1→start c in
-    let l = then1→at-loop c .loop in
+    let s = in-loop→start (c .before .before .before) in
+    let l = in-loop→at-loop (c .before .before .before) .loop in
     (s .pre .0, c .if1 .taken, l .inv .2 (omega arith))
 
 loop-again : tie.Need-loop-again Inv-loop μ-loop
 loop-again c =
-    let s = joined1→start c in
+    let s = in-loop→start (c .before .before .before) in
     let a = s .args in
-    let l = joined1→at-loop c .loop in
+    let l = in-loop→at-loop (c .before .before .before) .loop in
     let t = a .text .now in (
       omega arith,
       simp length-set (l .inv .1),
@@ -75,7 +60,7 @@ loop-again c =
 
 returns : tie.Need-returns Inv-loop μ-loop
 returns c =
-    let a = loop→start c .args in
+    let a = shared-slice-known2→start (c .before .before) .args in
     let l = c .before .loop in
     (flagged-all (a .s) (a .text .now) (a .from) (l .j) (a .size) (l .a) (l .flags) (omega arith) (l .inv .2) (l .inv .3), l .inv .1)
 

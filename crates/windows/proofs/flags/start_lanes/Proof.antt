@@ -23,14 +23,8 @@ abbrev μ-loop : tie.MeasureT-loop
 abbrev shared-slice-known2→start : tie.After-shared-slice-known2 Inv-loop μ-loop → tie.Start Inv-loop μ-loop
 shared-slice-known2→start c = c .before .before
 
-abbrev at-loop→start : tie.At-loop Inv-loop μ-loop → tie.Start Inv-loop μ-loop
-at-loop→start c = shared-slice-known2→start (c .before)
-
-abbrev else1→start : tie.Else1 Inv-loop μ-loop → tie.Start Inv-loop μ-loop
-else1→start c = shared-slice-known2→start (c .before .before .before)
-
 abbrev shared-slice-known3→start : tie.After-shared-slice-known3 Inv-loop μ-loop → tie.Start Inv-loop μ-loop
-shared-slice-known3→start c = at-loop→start (c .before .before .before)
+shared-slice-known3→start c = shared-slice-known2→start (c .before .before .before .before)
 
 abbrev shared-slice-known3→at-loop : tie.After-shared-slice-known3 Inv-loop μ-loop → tie.At-loop Inv-loop μ-loop
 shared-slice-known3→at-loop c = c .before .before .before
@@ -44,26 +38,14 @@ shared-slice-known4→at-loop c = shared-slice-known3→at-loop (c .before .befo
 abbrev shared-slice-known4→then1 : tie.After-shared-slice-known4 Inv-loop μ-loop → tie.Then1 Inv-loop μ-loop
 shared-slice-known4→then1 c = c .before .before .before
 
-abbrev shared-slice-known4→feed-one : tie.After-shared-slice-known4 Inv-loop μ-loop → tie.After-feed-one Inv-loop μ-loop
-shared-slice-known4→feed-one c = c .before
-
 abbrev shared-slice-known5→start : tie.After-shared-slice-known5 Inv-loop μ-loop → tie.Start Inv-loop μ-loop
 shared-slice-known5→start c = shared-slice-known4→start (c .before .before)
 
 abbrev shared-slice-known5→at-loop : tie.After-shared-slice-known5 Inv-loop μ-loop → tie.At-loop Inv-loop μ-loop
 shared-slice-known5→at-loop c = shared-slice-known4→at-loop (c .before .before)
 
-abbrev feed-one3→start : tie.After-feed-one3 Inv-loop μ-loop → tie.Start Inv-loop μ-loop
-feed-one3→start c = shared-slice-known5→start (c .before)
-
-abbrev feed-one3→at-loop : tie.After-feed-one3 Inv-loop μ-loop → tie.At-loop Inv-loop μ-loop
-feed-one3→at-loop c = shared-slice-known5→at-loop (c .before)
-
-abbrev feed-one3→then1 : tie.After-feed-one3 Inv-loop μ-loop → tie.Then1 Inv-loop μ-loop
-feed-one3→then1 c = shared-slice-known4→then1 (c .before .before .before)
-
 abbrev feed-one3→feed-one : tie.After-feed-one3 Inv-loop μ-loop → tie.After-feed-one Inv-loop μ-loop
-feed-one3→feed-one c = shared-slice-known4→feed-one (c .before .before .before)
+feed-one3→feed-one c = c .before .before .before .before
 
 -- ---- one lane, begun n places behind `from`
 
@@ -103,11 +85,11 @@ feed-one-requires-3 c κs = let l = shared-slice-known5→at-loop c .loop in fee
 
 loop-again : tie.Need-loop-again Inv-loop μ-loop
 loop-again c =
-    let s = feed-one3→start c in
-    let l = feed-one3→at-loop c .loop in
+    let s = shared-slice-known5→start (c .before) in
+    let l = shared-slice-known5→at-loop (c .before) .loop in
     let byte = c .before .shared-slice-known5 .given in
     let at = s .args .from + l .j in
-    let more = fed s (l .j) (feed-one3→then1 c .if1 .taken) in (
+    let more = fed s (l .j) (shared-slice-known4→then1 (c .before .before .before) .if1 .taken) in (
       omega arith,
       more 256 (l .b) _ (omega arith) (omega (arith, byte (at + 256))) (l .inv .1) (feed-one3→feed-one c .feed-one .ensures),
       more 512 (l .c) _ (omega arith) (omega (arith, byte (at + 512))) (l .inv .2) (c .before .before .feed-one2 .ensures),
@@ -116,7 +98,7 @@ loop-again c =
 
 returns : tie.Need-returns Inv-loop μ-loop
 returns c =
-    let s = else1→start c in
+    let s = shared-slice-known2→start (c .before .before .before) in
     let a = s .args in
     let l = c .before .before .loop in
     let e : l .j ≡ a .s .m = omega arith in

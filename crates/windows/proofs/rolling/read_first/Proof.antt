@@ -29,23 +29,14 @@ abbrev μ-loop : tie.MeasureT-loop
 abbrev shared-slice-known3→start : tie.After-shared-slice-known3 Inv-loop μ-loop → tie.Start Inv-loop μ-loop
 shared-slice-known3→start c = c .before .before .before
 
-abbrev loop→start : tie.After-loop Inv-loop μ-loop → tie.Start Inv-loop μ-loop
-loop→start c = shared-slice-known3→start (c .before .before)
-
 abbrev shared-slice-known4→start : tie.After-shared-slice-known4 Inv-loop μ-loop → tie.Start Inv-loop μ-loop
 shared-slice-known4→start c = shared-slice-known3→start (c .before .before .before)
-
-abbrev shared-slice-known4→at-loop : tie.After-shared-slice-known4 Inv-loop μ-loop → tie.At-loop Inv-loop μ-loop
-shared-slice-known4→at-loop c = c .before .before
-
-abbrev feed-one→shared-slice-known4 : tie.After-feed-one Inv-loop μ-loop → tie.After-shared-slice-known4 Inv-loop μ-loop
-feed-one→shared-slice-known4 c = c .before
 
 abbrev shared-slice-known5→start : tie.After-shared-slice-known5 Inv-loop μ-loop → tie.Start Inv-loop μ-loop
 shared-slice-known5→start c = shared-slice-known4→start (c .before .before)
 
 abbrev shared-slice-known5→at-loop : tie.After-shared-slice-known5 Inv-loop μ-loop → tie.At-loop Inv-loop μ-loop
-shared-slice-known5→at-loop c = shared-slice-known4→at-loop (c .before .before)
+shared-slice-known5→at-loop c = c .before .before .before .before
 
 abbrev feed-one2→start : tie.After-feed-one2 Inv-loop μ-loop → tie.Start Inv-loop μ-loop
 feed-one2→start c = shared-slice-known5→start (c .before)
@@ -53,17 +44,8 @@ feed-one2→start c = shared-slice-known5→start (c .before)
 abbrev feed-one2→at-loop : tie.After-feed-one2 Inv-loop μ-loop → tie.At-loop Inv-loop μ-loop
 feed-one2→at-loop c = shared-slice-known5→at-loop (c .before)
 
-abbrev feed-one3→start : tie.After-feed-one3 Inv-loop μ-loop → tie.Start Inv-loop μ-loop
-feed-one3→start c = feed-one2→start (c .before)
-
-abbrev feed-one3→at-loop : tie.After-feed-one3 Inv-loop μ-loop → tie.At-loop Inv-loop μ-loop
-feed-one3→at-loop c = feed-one2→at-loop (c .before)
-
 abbrev feed-one3→shared-slice-known4 : tie.After-feed-one3 Inv-loop μ-loop → tie.After-shared-slice-known4 Inv-loop μ-loop
-feed-one3→shared-slice-known4 c = feed-one→shared-slice-known4 (c .before .before .before)
-
-abbrev feed-one3→feed-one : tie.After-feed-one3 Inv-loop μ-loop → tie.After-feed-one Inv-loop μ-loop
-feed-one3→feed-one c = c .before .before .before
+feed-one3→shared-slice-known4 c = c .before .before .before .before
 
 loop-holds : tie.Need-loop-holds Inv-loop μ-loop
 loop-holds c =
@@ -94,22 +76,22 @@ feed-one-requires-3 c κs =
 
 loop-again : tie.Need-loop-again Inv-loop μ-loop
 loop-again c =
-    let s = feed-one3→start c in
+    let s = feed-one2→start (c .before) in
     let a = s .args in
-    let l = feed-one3→at-loop c .loop in
+    let l = feed-one2→at-loop (c .before) .loop in
     let more = read-more (a .p) (s .pre .0 .0) in
     let byte = feed-one3→shared-slice-known4 c .shared-slice-known4 .given (l .i) in
     let byte₂ = c .before .before .shared-slice-known5 .given (l .i) in (
       omega arith,
       more (a .text .now) 0 (l .i) (l .i) (l .first) _ (zero-add (l .i)) (omega arith) (omega (arith, byte)) (l .inv .1)
-          (feed-one3→feed-one c .feed-one .ensures),
+          (c .before .before .before .feed-one .ensures),
       more (a .pattern .now) 0 (l .i) (l .i) (l .wanted) _ (zero-add (l .i)) (omega arith) (omega (arith, byte₂)) (l .inv .2) (c .before .feed-one2 .ensures),
       shift-more (monic-pos (a .p .degree) (a .p .low) (s .pre .0 .0 .2)) (l .i) (l .shift) _ (l .inv .3) (c .feed-one3 .ensures),
     )
 
 returns : tie.Need-returns Inv-loop μ-loop
 returns c =
-    let s = loop→start c in
+    let s = shared-slice-known3→start (c .before .before) in
     let a = s .args in
     let l = c .before .loop in
     let n = length (a .pattern .now) in

@@ -12,17 +12,11 @@ use Rattle.windows.proofs.rolling.roll.Tie as tie
 
 -- ---- the places: from each one to an earlier one
 
-abbrev shared-slice-known→start : tie.After-shared-slice-known → tie.Start
-shared-slice-known→start c = c .before
-
 abbrev shared-slice-known3→start : tie.After-shared-slice-known3 → tie.Start
-shared-slice-known3→start c = shared-slice-known→start (c .before .before .before)
+shared-slice-known3→start c = c .before .before .before .before
 
 abbrev shared-slice-known4→start : tie.After-shared-slice-known4 → tie.Start
 shared-slice-known4→start c = shared-slice-known3→start (c .before .before)
-
-abbrev gone→start : tie.After-gone → tie.Start
-gone→start c = shared-slice-known4→start (c .before)
 
 feed-one-requires : tie.Need-feed-one-requires
 feed-one-requires c κs =
@@ -43,7 +37,7 @@ element-copy-out-gone c = omega (arith, c .shared-slice-known4 .given (shared-sl
 returns : tie.Need-returns
 unfolding _⊕_
 returns c =
-    let s = gone→start c in
+    let s = shared-slice-known4→start (c .before) in
     let a = s .args in
     let r = s .pre .0 in
     let byte = c .before .shared-slice-known4 .given in
