@@ -2,7 +2,7 @@
 -- polynomial of degree k over GF(2). That one is irreducible, and its roots are the k conjugates of e.
 use mathlib.Core.Path.{_≡_, sym, ap, _∙_}
 use mathlib.Core.Logic.{_≢_, ⊎-elim}
-use Prim.Native.Nat.{ℕ, zero, suc, _+_, _^_, _≤_, _<_}
+use Prim.Native.Nat.{ℕ, zero, suc, _^_, _≤_, _<_}
 use native.Mathlib.Nat.{lt-trans, two-pow-succ, le-of-suc-le-suc, not-suc-le-zero, div-self}
 use native.Mathlib.Decide.{decLt}
 use native.Mathlib.Omega.{arith}

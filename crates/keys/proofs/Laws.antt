@@ -6,7 +6,7 @@ use Prim.Native.Nat.{ℕ, _^_, _<_}
 use Rattle.gf2.specs.Moduli.{modulusOf}
 use Rattle.gf2.specs.declared.Modulus.{Modulus}
 use Rattle.refusals.specs.declared.Refusal.{Refusal}
-use Rattle.refusals.specs.Refusals.{Done, Refused, Test, firstOf}
+use Rattle.refusals.specs.Refusals.{Refused, Test, firstOf}
 use Rattle.refusals.proofs.Laws.{done-clear, more-refused}
 use Rattle.acceptance.specs.Keys.{keyTests, Opened}
 use Rattle.acceptance.proofs.Laws.{key-iff}

@@ -11,10 +11,9 @@ ghost use Prim.Native.Nat.{_+_, _*_, _≤_, _<_, _^_};
 ghost use lib.ListN.{length};
 ghost use Rattle.gf2.specs.Moduli.{polynomial};
 ghost use Rattle.refusals.specs.Refusals.{Answer};
-ghost use Rattle.files.specs.Files.{fingerprint};
 ghost use Rattle.sheets.specs.Layout.{version1, numbersAt, pageCount, contentsIn};
 ghost use Rattle.sheets.specs.Sheets.{filled, pageFingerprints, firstChange, checkSheet, checked, rangeOf, changed};
-ghost use Rattle.sheets.specs.Parts.{lastPage, agreeing, ReadAs, comparison, LastFilled};
+ghost use Rattle.sheets.specs.Parts.{agreeing, ReadAs, comparison, LastFilled};
 ghost use Rattle.sheet_pages.specs.Blocks.{PageTables};
 
 // How many of the fingerprints, from the first on, are those of the sheet from a place on.

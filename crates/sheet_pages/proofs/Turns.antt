@@ -4,7 +4,6 @@ use mathlib.Core.List.{List, _++_}
 use Prim.Native.Nat.{ℕ, _+_, _-_, _*_, _≤_, _<_}
 use native.Mathlib.Omega.{arith}
 use lib.ListN.{length, take, drop, length-drop}
-use lib.Seq.{length-take-le}
 use Rattle.sheets.specs.Layout.{pageCount}
 use Rattle.sheets.specs.Sheets.{pageFingerprints}
 use Rattle.sheets.specs.Parts.{LastFilled}
@@ -26,9 +25,6 @@ module _ (key s : ℕ) (file : List ℕ) (i : ℕ) (pos : 0 < s) (more : i * s <
 
     pub turn-some : 0 < n
     turn-some = h .some (rw (all-left file (i * s), length-drop) (omega arith))
-
-    pub turn-long : 64 ≤ length marks → length (take n marks) ≡ n
-    turn-long l = length-take-le n marks (omega (arith, h .few))
 
     pub turn-ahead : pageFingerprints key s (pageCount s (length file) - i) (drop (i * s) file)
         ≡ take n marks ++ pageFingerprints key s (pageCount s (length file) - (i + n)) (drop ((i + n) * s) file)

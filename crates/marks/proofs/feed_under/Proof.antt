@@ -4,7 +4,6 @@ use mathlib.Core.List.{List}
 use Prim.Native.Nat.{ℕ}
 use borrow.Author.Needs.{needs}
 use lib.ListN.{length}
-use Rattle.refusals.specs.declared.Reply.{Reply}
 use Rattle.refusals.specs.Refusals.{Test, told, judged}
 use Rattle.refusals.proofs.Laws.{Clear, more-clear}
 use Rattle.refusals.proofs.Replies.{judged-refused, judged-clear}

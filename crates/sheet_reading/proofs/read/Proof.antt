@@ -9,7 +9,7 @@ use Rattle.refusals.proofs.Laws.{holds, fails}
 use Rattle.acceptance.specs.Keys.{Opened}
 use Rattle.keys.specs.Testing.{testKey}
 use Rattle.keys.proofs.Laws.{opened}
-use Rattle.sheets.specs.Layout.{Key, version1, sheetLength, fieldIn}
+use Rattle.sheets.specs.Layout.{version1, sheetLength}
 use Rattle.sheets.specs.Sheets.{headWrong, sheetRead}
 use Rattle.sheets.proofs.Sound.{head-right}
 use Rattle.sheet_reading.proofs.Answers.{read-head, read-refused, read-opened}

@@ -9,7 +9,6 @@ use Rattle.gf2.specs.Moduli.{polynomial}
 use Rattle.gf2.proofs.Monics.{monic-pos, monic-degree}
 use Rattle.files.specs.Files.{fingerprint, markOf}
 use Rattle.sheets.specs.Sheets.{pageFingerprints, joinedPages}
-use Rattle.sheets.specs.Parts.{lastPage}
 use Rattle.sheets.proofs.Pages.{fingerprint-lt, fingerprints-lt, whole-fits, last-short, whole-joined, last-joined}
 use Rattle.sheets.proofs.Sound.{list-reduced}
 use borrow.Author.Needs.{needs}

@@ -1,5 +1,5 @@
 -- `write` meets its contract.
-use mathlib.Core.Path.{sym, _∙_}
+use mathlib.Core.Path.{sym}
 use Rattle.acceptance.specs.Keys.{Opened}
 use Rattle.keys.proofs.Laws.{opened}
 use Rattle.sheet_writing.proofs.Answers.{write-refused}

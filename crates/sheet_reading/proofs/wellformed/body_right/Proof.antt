@@ -18,7 +18,6 @@ use Rattle.sheets.specs.Sheets.{someUnreduced}
 use Rattle.sheets.specs.Parts.{fingerprintsPart}
 use Rattle.sheets.proofs.Pages.{count-covers, count-tight, count-small}
 use Rattle.sheet_reading.proofs.Joining.{body-is, body-joined, bits-are, joined-are, filled-is}
-use borrow.Author.Needs.{needs}
 use Rattle.sheet_reading.proofs.wellformed.body_right.Statement.{statement}
 use Rattle.sheet_reading.proofs.wellformed.body_right.Tie as tie
 
