@@ -4,7 +4,7 @@ ghost use mathlib.Core.Path.{_≡_};
 ghost use Rattle.refusals.specs.Refusals.{numberOf, stateOf, valueOr};
 ghost use Rattle.gfp_bench.specs.Places.{markAt};
 ghost use Rattle.compose.specs.Composing.{joinBehind, joinInFront, replacePage};
-ghost use Rattle.search.specs.Searching.{search, wordsAfter};
+ghost use Rattle.search.specs.Searching.{search, placesAfter};
 ghost use Rattle.sheets.specs.Sheets.{writeSheet, readSheet, sheetRead, readPages, checkSheet};
 ghost use Rattle.gfp_site.specs.Places.{countsAt, sheetAt, toldAt, toldOr};
 use files::Mark;
@@ -105,7 +105,7 @@ pub extern "C" fn gfp_search(
 ) -> u32
     ensures { λ r. ⌜
         (r ≡ numberOf (search key (now (text .entry)) (now (pattern .entry))))
-        × (now (places .exit) ≡ wordsAfter key (now (text .entry)) (now (pattern .entry)) (now (places .entry)))
+        × (now (places .exit) ≡ placesAfter key (now (text .entry)) (now (pattern .entry)) (now (places .entry)))
         × (countsAt (now (count .exit)) (now (alarms .exit)) ≡ valueOr (countsAt (now (count .entry)) (now (alarms .entry))) (search key (now (text .entry)) (now (pattern .entry))))
         ⌝ }
 {

@@ -20,7 +20,7 @@ use Rattle.tables.specs.Tables.{tableTests}
 use Rattle.tables.proofs.Laws.{clear-table}
 use Rattle.house.specs.House.{houseKey, houseWords}
 use Rattle.house.proofs.House.{house-accepted}
-use Rattle.marks.specs.Feeding.{begin, feedTests, feedTable, feedHouse, fedUnder}
+use Rattle.marks.specs.Feeding.{begin, feedTests, feedBits, feedTable, feedHouse, fedUnder}
 
 -- ---- numbers 7 and 8 in turn
 
@@ -76,3 +76,9 @@ unfolding feedHouse feedTable
 house-first m part =
     opened-first (open-accepted houseKey house-accepted) (tableTests houseKey houseWords ++ feedTests houseKey m (length part)) m (fedMark houseKey m part)
     ∙ more-clear (tableTests houseKey houseWords) (feedTests houseKey m (length part)) m (fedMark houseKey m part) (clear-table houseWords houseKey refl)
+
+-- so feeding by the house key's words, under that key, is feeding by bits
+pub house-bits : (m : Mark) (part : List ℕ) → feedHouse houseKey m part ≡ feedBits houseKey m part
+unfolding feedBits
+house-bits m part =
+    house-first m part ∙ sym (opened-first (open-accepted houseKey house-accepted) (feedTests houseKey m (length part)) m (fedMark houseKey m part))

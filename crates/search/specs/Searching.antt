@@ -65,8 +65,8 @@ unfoldable pub search : ℕ → List ℕ → List ℕ → Answer Unit Counts
 search key text pattern = firstOf (searchTests key text pattern) tt (counts key text pattern)
 
 -- the lent words after the call
-unfoldable pub wordsAfter : ℕ → List ℕ → List ℕ → List ℕ → List ℕ
-wordsAfter key text pattern words = stateOf (firstOf (searchTests key text pattern) words (written text pattern words))
+unfoldable pub placesAfter : ℕ → List ℕ → List ℕ → List ℕ → List ℕ
+placesAfter key text pattern words = stateOf (firstOf (searchTests key text pattern) words (written text pattern words))
 
 -- the answer in code
 abbrev pub searched : Searched → Answer Unit Counts

@@ -5,6 +5,7 @@ ghost use mathlib.Core.Bool.{false};
 ghost use Prim.Native.Nat.{_+_, _≤_, _<_};
 ghost use lib.ListN.{length};
 ghost use lib.Seq.{sets};
+ghost use Rattle.refusals.specs.Refusals.{longest};
 ghost use Rattle.search.specs.Flagged.{NoneFlagged, NextFlagged, flaggedPlaces, flaggedAlarms};
 
 // Whether one of four windows is flagged.
@@ -67,7 +68,7 @@ pub fn compare(
     requires { ⌜ (size ≤ 1024)
         × (from + size + length (now pattern) ≤ length (now text) + 1)
         × (0 < length (now pattern))
-        × (length (now text) ≤ 4294967295)
+        × (length (now text) ≤ longest)
         × (found .places ≤ from)
         × (found .alarms ≤ from) ⌝ }
     ensures { λ r. ⌜ (r .places ≡ found .places + length (flaggedPlaces (now (flags .entry)) (now (text .entry)) (now (pattern .entry)) from size))

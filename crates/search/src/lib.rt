@@ -12,9 +12,9 @@ ghost use mathlib.Core.Path.{_≡_};
 ghost use Prim.Native.Nat.{_≤_, _<_};
 ghost use lib.ListN.{length};
 ghost use Rattle.gf2.specs.Moduli.{polynomial, Proper};
-ghost use Rattle.refusals.specs.Refusals.{firstOf, stateOf};
+ghost use Rattle.refusals.specs.Refusals.{firstOf, stateOf, longest};
 ghost use Rattle.windows.specs.Rolling.{residue, keyOf, ResidueAt, Ready};
-ghost use Rattle.search.specs.Searching.{counts, written, textTests, search, wordsAfter, searched};
+ghost use Rattle.search.specs.Searching.{counts, written, textTests, search, placesAfter, searched};
 
 // The number of places, and the number of false alarms.
 pub struct Counts {
@@ -43,7 +43,7 @@ fn search_blocks(
         × (s .wanted ≡ residue (keyOf s) (now pattern))
         × ResidueAt s (now text) 0 first
         × (length (now pattern) ≤ length (now text))
-        × (length (now text) ≤ 4294967295) ⌝ }
+        × (length (now text) ≤ longest) ⌝ }
     ensures { λ r. ⌜ (r ≡ counts (keyOf s) (now (text .entry)) (now (pattern .entry)))
         × (now (places .exit) ≡ written (now (text .entry)) (now (pattern .entry)) (now (places .entry))) ⌝ }
 {
@@ -66,7 +66,7 @@ fn search_blocks(
 
 // The search proper, under a modulus: its tables, and the residues to begin with.
 fn search_text(p: Modulus, text: &[u8], pattern: &[u8], places: &mut [u32]) -> Counts
-    requires { ⌜ Proper p × (8 ≤ p .degree) × (0 < length (now pattern)) × (length (now pattern) ≤ length (now text)) × (length (now text) ≤ 4294967295) ⌝ }
+    requires { ⌜ Proper p × (8 ≤ p .degree) × (0 < length (now pattern)) × (length (now pattern) ≤ length (now text)) × (length (now text) ≤ longest) ⌝ }
     ensures { λ r. ⌜ (r ≡ counts (polynomial p) (now (text .entry)) (now (pattern .entry)))
         × (now (places .exit) ≡ written (now (text .entry)) (now (pattern .entry)) (now (places .entry))) ⌝ }
 {
@@ -105,11 +105,11 @@ fn search_under(p: Modulus, text: &[u8], pattern: &[u8], places: &mut [u32]) -> 
     Searched::Found(search_text(p, text, pattern, places))
 }
 
-// All places of the pattern in the text, rising, overlaps included: the first ones into the lent words, as far as they reach.
+// All places of the pattern in the text, rising, overlaps included: the first ones into the lent places, as far as they reach.
 // Numbers 1, 2, 7, 11.
 pub fn search(key: u64, text: &[u8], pattern: &[u8], places: &mut [u32]) -> Searched
     ensures { λ r. ⌜ (searched r ≡ search key (now (text .entry)) (now (pattern .entry)))
-        × (now (places .exit) ≡ wordsAfter key (now (text .entry)) (now (pattern .entry)) (now (places .entry))) ⌝ }
+        × (now (places .exit) ≡ placesAfter key (now (text .entry)) (now (pattern .entry)) (now (places .entry))) ⌝ }
 {
     match keys::test(key) {
         Tested::Refused(r) => Searched::Refused(r),

@@ -60,6 +60,7 @@ pub fn head_right(sheet: &[u8]) -> bool
     fields::number_at(sheet, VERSION_PLACE, VERSION_WIDTH) == VERSION
 }
 
+// The numbers in front of the fingerprints.
 pub fn read_head(sheet: &[u8]) -> Head
     requires { ⌜ sheetLength version1 0 ≤ length (now sheet) ⌝ }
     ensures { λ r. ⌜ HeadOf (now (sheet .entry)) r ⌝ }

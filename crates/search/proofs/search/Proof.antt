@@ -7,7 +7,7 @@ use Rattle.refusals.specs.Refusals.{stateOf, firstOf}
 use Rattle.acceptance.specs.Keys.{Opened}
 use Rattle.acceptance.proofs.Opened.{opened-first, opened-whole, opened-proper, opened-eight}
 use Rattle.keys.proofs.Laws.{opened, refused}
-use Rattle.search.specs.Searching.{counts, written, textTests, search as answer, wordsAfter}
+use Rattle.search.specs.Searching.{counts, written, textTests, search as answer, placesAfter}
 use Rattle.search.proofs.search.Statement.{statement}
 use Rattle.search.proofs.search.Tie as tie
 
@@ -26,7 +26,7 @@ abbrev search-under-arg→p : tie.After-search-under-arg → tie.After-p
 search-under-arg→p c = c .before .before
 
 returns : tie.Need-returns
-unfolding answer wordsAfter
+unfolding answer placesAfter
 returns c =
     let a = test→start (c .before .before .before) .args in
     let t = c .before .before .before .test in
@@ -47,7 +47,7 @@ search-under-requires : tie.Need-search-under-requires
 search-under-requires c κs = let h = key-opened (c .before .before) in (opened-proper h, opened-eight h)
 
 returns-2 : tie.Need-returns-2
-unfolding answer wordsAfter
+unfolding answer placesAfter
 returns-2 c =
     let a = search-under-arg→start (c .before .before .before) .args in
     let h = key-opened (search-under-arg→p (c .before .before .before)) in

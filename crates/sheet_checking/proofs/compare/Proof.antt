@@ -17,8 +17,11 @@ use Rattle.sheet_checking.proofs.compare.Statement.{statement}
 use Rattle.sheet_checking.proofs.compare.Tie as tie
 
 -- the lengths are equal, the key is opened, the tables and the last page are there
+abbrev lengths→start : tie.Else1 → tie.Start
+lengths→start c = c .before .before .before
+
 abbrev start : tie.Else2 → tie.Start
-start c = c .before .before .before .before
+start c = lengths→start (c .before)
 
 abbrev equal : tie.After-modulus-of → tie.Else2
 equal c = c .before
@@ -63,7 +66,7 @@ returns c = let s = c .before .before .before in sym (compare-long (sheet s) (fi
 
 returns-2 : tie.Need-returns-2
 returns-2 c =
-    let s = c .before .before .before .before in
+    let s = lengths→start (c .before) in
     sym (compare-other (sheet s) (file s) (omega arith) (λ e. c .if2 .taken (e ∙ sym (length-is (sheet s) (s .pre)))))
 
 modulus-of-requires : tie.Need-modulus-of-requires

@@ -13,8 +13,11 @@ use borrow.Author.Needs.{needs}
 use Rattle.sheet_pages.proofs.next_pages.Statement.{statement}
 use Rattle.sheet_pages.proofs.next_pages.Tie as tie
 
+abbrev slices→start : tie.After-shared-slice-known3 → tie.Start
+slices→start c = c .before .before .before .before
+
 abbrev start : tie.After-block → tie.Start
-start c = c .before .before .before .before .before
+start c = slices→start (c .before)
 
 abbrev block : tie.After-slice-known2 → tie.After-block
 block c = c .before .before .before .before
@@ -45,7 +48,7 @@ some s n zero l h = absurd (omega (arith, zero-mul s))
 some s n (suc m) l h = omega arith
 
 block-requires : tie.Need-block-requires
-block-requires c κs = omega (arith, c .before .before .before .before .pre .1)
+block-requires c κs = omega (arith, slices→start c .pre .1)
 
 whole-marks-requires : tie.Need-whole-marks-requires
 whole-marks-requires c κs =

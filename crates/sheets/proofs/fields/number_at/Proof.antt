@@ -17,6 +17,9 @@ Inv-loop bytes at w x₀ n₀ i₀ x n i = (n ≤ w) × (i ≡ at + n) × (x < 2
 abbrev μ-loop : tie.MeasureT-loop
 μ-loop bytes at w x₀ n₀ i₀ x n i = w - n
 
+abbrev at-loop→start : tie.At-loop Inv-loop μ-loop → tie.Start Inv-loop μ-loop
+at-loop→start c = c .before .before
+
 loop-holds : tie.Need-loop-holds Inv-loop μ-loop
 unfolding numberAt
 loop-holds c = (
@@ -44,7 +47,7 @@ add-x c =
 
 loop-again : tie.Need-loop-again Inv-loop μ-loop
 loop-again c =
-    let a = c .before .before .before .before .before .args in
+    let a = at-loop→start (c .before .before .before) .args in
     let l = c .before .before .before .loop in
     let e : a .w - (l .n + 1) ≡ a .w - l .n - 1 = omega arith in
     let b : getD (a .bytes .now) (l .i) 0 < 256 = omega arith in (
