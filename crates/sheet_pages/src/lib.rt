@@ -11,8 +11,6 @@ ghost use Rattle.sheets.specs.Sheets.{filled, pageFingerprints};
 ghost use Rattle.sheets.specs.Parts.{lastPage, LastFilled};
 ghost use Rattle.sheet_pages.specs.Blocks.{PageTables, Begun, BegunBy, Finished, NextPages};
 
-pub mod joining;
-
 // The two tables that pages are fed by: four bytes at a time, and eight.
 pub fn fill_tables(words: &mut [u64], eights: &mut [u64], p: Modulus)
     requires { ⌜ Proper p × (8 ≤ p .degree) × (length (now words) ≡ 1024) × (length (now eights) ≡ 2048) ⌝ }
@@ -134,29 +132,28 @@ pub fn last_page(words: &[u64], p: Modulus, size: usize, file: &[u8]) -> LastPag
     }
 }
 
-// The fingerprints of the next pages, at most 64, into the first places: how many. Where the file ends inside a page, its fingerprint is
-// `last`.
-pub fn next_pages(
-    marks: &mut [u64],
-    words: &[u64],
-    eights: &[u64],
-    p: Modulus,
-    size: usize,
-    last: u64,
-    rest: &[u8],
-) -> usize
-    requires { ⌜ PageTables p (now words) (now eights) × (8 ≤ size) × (size ≤ 4096) × (64 ≤ length (now marks))
-        × LastFilled (polynomial p) size (now rest) last ⌝ }
-    ensures { λ r. ⌜ NextPages (polynomial p) size (now (rest .entry)) r (now (marks .exit)) ⌝ }
+// How a file is cut into pages: the opened key, the bytes of a page, and the fingerprint of a last page that is not whole.
+pub struct Paging {
+    pub p: Modulus,
+    pub size: usize,
+    pub last: u64,
+}
+
+// The fingerprints of the next pages, at most 64, into the first places: how many.
+pub fn next_pages(marks: &mut [u64], words: &[u64], eights: &[u64], x: Paging, rest: &[u8]) -> usize
+    requires { ⌜ PageTables (x .p) (now words) (now eights) × (8 ≤ x .size) × (x .size ≤ 4096) × (64 ≤ length (now marks))
+        × LastFilled (polynomial (x .p)) (x .size) (now rest) (x .last) ⌝ }
+    ensures { λ r. ⌜ NextPages (polynomial (x .p)) (x .size) (now (rest .entry)) r (now (marks .exit)) ⌝ }
 {
+    let size = x.size;
     let n = block(rest.len(), size);
-    whole_marks(marks, words, eights, p, size, n, rest);
+    whole_marks(marks, words, eights, x.p, size, n, rest);
     if n == 64 {
         return n;
     }
     if rest.len() <= n * size {
         return n;
     }
-    marks[n] = last;
+    marks[n] = x.last;
     n + 1
 }

@@ -20,8 +20,8 @@ use Rattle.sheets.specs.Layout.{version1, numberAt, numbersAt, pagePlace, sheet
 use Rattle.sheets.specs.Sheets.{bodyWrong, someUnreduced, joinedPages}
 use Rattle.sheets.specs.Parts.{HeadOf, fingerprintsPart}
 use Rattle.sheets.proofs.Numbers.{length-numbersAt, numbers-part}
-use Rattle.sheet_pages.specs.Lanes.{BitsOf}
-use Rattle.sheet_pages.proofs.Lanes.{bits-last}
+use Rattle.sheet_joining.specs.Joining.{BitsOf}
+use Rattle.sheet_joining.proofs.Joining.{bits-last}
 
 module _ (sheet : List ℕ) (head : Head) (h : HeadOf sheet head) (count : ℕ) (ec : count ≡ pageCount (head .size) (head .length)) where
   abbrev pages : List ℕ

@@ -24,7 +24,7 @@ pub fn body_right(sheet: &[u8], head: Head, p: Modulus) -> bool
     if sheet.len() as u64 != layout::sheet_length(count) {
         return false;
     }
-    let joined = sheet_pages::joining::pages_joined(layout::page_fields(sheet), p, size, count);
+    let joined = sheet_joining::pages_joined(layout::page_fields(sheet), p, size, count);
     let file = layout::fingerprint_at(sheet, count);
     if !gf2::is_residue(p, joined.bits | file) {
         return false;

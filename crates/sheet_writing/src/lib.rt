@@ -16,48 +16,8 @@ ghost use Rattle.refusals.specs.Refusals.{reply};
 ghost use Rattle.acceptance.specs.Keys.{Opened};
 ghost use Rattle.files.specs.Files.{fingerprint};
 ghost use Rattle.sheets.specs.Layout.{version1, bytesOf, fieldsOf, numbersAt, sheetLength, pageCount, sheetBytes};
-ghost use Rattle.sheets.specs.Sheets.{filled, pageFingerprints, contentsOf, writeSheet};
-ghost use Rattle.sheets.specs.Parts.{lastPage, LastFilled};
-ghost use Rattle.sheet_pages.specs.Blocks.{PageTables};
-
-// Writes fingerprints one behind the other.
-fn put_fields(fields: &mut [u8], from: usize, marks: &[u64])
-    requires { ⌜ from + 8 * length (now marks) ≤ length (now fields) ⌝ }
-    ensures { λ r. ⌜ now (fields .exit) ≡ sets (now (fields .entry)) from (fieldsOf 8 (now (marks .entry))) ⌝ }
-{
-    let mut place = from;
-    let mut i: usize = 0;
-    while i < marks.len() {
-        fields::put(fields, place, 8, marks[i]);
-        place += 8;
-        i += 1;
-    }
-}
-
-// Writes the fingerprints of all pages, block by block.
-fn put_pages(
-    fields: &mut [u8],
-    words: &[u64],
-    eights: &[u64],
-    p: Modulus,
-    size: usize,
-    last: u64,
-    file: &[u8],
-)
-    requires { ⌜ PageTables p (now words) (now eights) × (16 ≤ size) × (size ≤ 4096) × (length (now file) < 2 ^ 32)
-        × LastFilled (polynomial p) size (now file) last × (8 * pageCount size (length (now file)) ≤ length (now fields)) ⌝ }
-    ensures { λ r. ⌜ now (fields .exit) ≡ sets (now (fields .entry)) 0
-        (fieldsOf 8 (pageFingerprints (polynomial p) size (pageCount size (length (now (file .entry)))) (now (file .entry)))) ⌝ }
-{
-    let mut marks = [0u64; 64];
-    let mut i: usize = 0;
-    while i * size < file.len() {
-        let at = i * size;
-        let n = sheet_pages::next_pages(&mut marks, words, eights, p, size, last, &file[at..]);
-        put_fields(fields, 8 * i, &marks[..n]);
-        i += n;
-    }
-}
+ghost use Rattle.sheets.specs.Sheets.{pageFingerprints, contentsOf, writeSheet};
+ghost use Rattle.sheets.specs.Parts.{lastPage};
 
 // The file's fingerprint: those of its whole pages, which stand in the fields, joined, and that of what is behind them.
 fn file_mark(fields: &[u8], p: Modulus, size: u64, own: u64, file: &[u8]) -> u64
@@ -68,7 +28,7 @@ fn file_mark(fields: &[u8], p: Modulus, size: u64, own: u64, file: &[u8]) -> u64
 {
     let n = file.len() as u64;
     let whole = n / size;
-    let joined = sheet_pages::joining::pages_joined(fields, p, size, whole).mark;
+    let joined = sheet_joining::pages_joined(fields, p, size, whole).mark;
     files::joined_residue(p, joined, own, n - whole * size)
 }
 
@@ -80,12 +40,9 @@ fn put_fingerprints(fields: &mut [u8], p: Modulus, size: u64, file: &[u8])
         (fieldsOf 8 (pageFingerprints (polynomial p) size (pageCount size (length (now (file .entry)))) (now (file .entry)))
         ++ bytesOf 8 (fingerprint (polynomial p) (now (file .entry)))) ⌝ }
 {
-    let mut words = [0u64; 1024];
-    let mut eights = [0u64; 2048];
-    sheet_pages::fill_tables(&mut words, &mut eights, p);
-    let last = sheet_pages::last_page(&words, p, size as usize, file);
-    put_pages(fields, &words, &eights, p, size as usize, last.filled, file);
-    let f = file_mark(fields, p, size, last.own, file);
+    let none = [0u8; 0];
+    let pass = sheet_pass::over_pages(fields, &none, p, size as usize, file);
+    let f = file_mark(fields, p, size, pass.own, file);
     let count = fields::page_count(size, file.len() as u64);
     fields::put(fields, (8 * count) as usize, 8, f);
 }

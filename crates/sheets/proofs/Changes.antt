@@ -3,7 +3,7 @@ use mathlib.Core.Path.{_≡_, refl, sym, ap, ap₂, _∙_}
 use mathlib.Core.Logic.{_≢_}
 use mathlib.Core.List.{List, [], _∷_, _++_}
 use Prim.Native.Nat.{ℕ, zero, suc, _+_, _-_, _*_, _≤_, _<_}
-use native.Mathlib.Nat.{add-zero, not-suc-le-zero}
+use native.Mathlib.Nat.{add-zero, zero-add, not-suc-le-zero}
 use native.Mathlib.Decide.{ℕ-discrete}
 use native.Mathlib.Omega.{arith}
 use lib.ListN.{length, getD, drop, drop-of-length-le}
@@ -11,7 +11,7 @@ use borrow.Author.Tests.{eq-eqb, ne-eqb}
 use Rattle.lists.proofs.Lists.{drop-next}
 use Rattle.sheets.specs.Layout.{numberAt, numbersAt}
 use Rattle.sheets.specs.Parts.{agreeing}
-use Rattle.sheets.proofs.Numbers.{length-numbersAt, numbers-next, numbers-append}
+use Rattle.sheets.proofs.Numbers.{numbers-next}
 use Rattle.sheets.specs.Sheets.{Same, Page, OtherLength, firstChange}
 
 -- the lists differ at place i and at no place before it
@@ -111,7 +111,7 @@ first-page n (f ∷ fs) (g ∷ gs) (suc i) l h = go (compare-heads n f g fs gs) 
     go (alike e d) rest = d ∙ rest ∙ ap Page (omega arith)
     go (unlike e d) rest = absurd (e (h .equal 0 (omega arith)))
 
--- ---- a block of pages at once: two lists of one length and what stands behind each
+-- ---- how many numbers, from the first on, agree
 
 agree-step : (f g : ℕ) (fs gs : List ℕ) → f ≡ g → agreeing (f ∷ fs) (g ∷ gs) ≡ suc (agreeing fs gs)
 unfolding agreeing
@@ -121,66 +121,69 @@ agree-stop : (f g : ℕ) (fs gs : List ℕ) → f ≢ g → agreeing (f ∷ fs) 
 unfolding agreeing
 agree-stop f g fs gs n = rw (ne-eqb f g n)
 
+pub agree-le : (fs gs : List ℕ) → agreeing fs gs ≤ length gs
+unfolding agreeing
+agree-le [] gs = omega arith
+agree-le (f ∷ fs) [] = omega arith
+agree-le (f ∷ fs) (g ∷ gs) = go (ℕ-discrete f g) (agree-le fs gs)
+  where
+    go : Dec (f ≡ g) → agreeing fs gs ≤ length gs → agreeing (f ∷ fs) (g ∷ gs) ≤ length (g ∷ gs)
+    go (yes e) rest = omega (arith, agree-step f g fs gs e)
+    go (no e) rest = omega (arith, agree-stop f g fs gs e)
+
+pub agree-all : (fs : List ℕ) → agreeing fs fs ≡ length fs
+unfolding agreeing
+agree-all [] = refl
+agree-all (f ∷ fs) = agree-step f f fs fs refl ∙ ap suc (agree-all fs)
+
+-- two lists of one length, and what stands behind each
 module _ (xs ys : List ℕ) where
-  pub block-changed : (i : ℕ) (fs gs : List ℕ) → length fs ≡ length gs → agreeing fs gs < length gs
-      → firstChange i (fs ++ xs) (gs ++ ys) ≡ Page (i + agreeing fs gs)
-  block-changed i fs [] l h = absurd (not-suc-le-zero h)
-  block-changed i [] (g ∷ gs) l h = absurd (omega arith)
-  block-changed i (f ∷ fs) (g ∷ gs) l h = go (compare-heads i f g (fs ++ xs) (gs ++ ys)) (block-changed (suc i) fs gs (omega arith))
+  pub agree-here : (fs gs : List ℕ) → length fs ≡ length gs → agreeing fs gs < length gs → agreeing (fs ++ xs) (gs ++ ys) ≡ agreeing fs gs
+  agree-here fs [] l h = absurd (not-suc-le-zero h)
+  agree-here [] (g ∷ gs) l h = absurd (omega arith)
+  agree-here (f ∷ fs) (g ∷ gs) l h = go (ℕ-discrete f g) (agree-here fs gs (omega arith))
     where
-      go : Compared i f g (fs ++ xs) (gs ++ ys) → (agreeing fs gs < length gs → firstChange (suc i) (fs ++ xs) (gs ++ ys) ≡ Page (suc i + agreeing fs gs))
-          → firstChange i (f ∷ fs ++ xs) (g ∷ gs ++ ys) ≡ Page (i + agreeing (f ∷ fs) (g ∷ gs))
-      go (alike e d) rest = let s = agree-step f g fs gs e in d ∙ rest (omega (arith, s)) ∙ ap Page (omega (arith, s))
-      go (unlike e d) rest = d ∙ ap Page (omega (arith, agree-stop f g fs gs e))
+      go : Dec (f ≡ g) → (agreeing fs gs < length gs → agreeing (fs ++ xs) (gs ++ ys) ≡ agreeing fs gs)
+          → agreeing (f ∷ fs ++ xs) (g ∷ gs ++ ys) ≡ agreeing (f ∷ fs) (g ∷ gs)
+      go (yes e) rest =
+          let s = agree-step f g fs gs e in
+          agree-step f g (fs ++ xs) (gs ++ ys) e ∙ ap suc (rest (omega (arith, s))) ∙ sym s
+      go (no e) rest = agree-stop f g (fs ++ xs) (gs ++ ys) e ∙ sym (agree-stop f g fs gs e)
 
-  pub block-same : (i : ℕ) (fs gs : List ℕ) → length fs ≡ length gs → length gs ≤ agreeing fs gs
-      → firstChange i (fs ++ xs) (gs ++ ys) ≡ firstChange (i + length gs) xs ys
-  block-same i [] [] l h = ap (λ (n : ℕ). firstChange n xs ys) (sym (add-zero i))
-  block-same i (f ∷ fs) [] l h = absurd (omega arith)
-  block-same i [] (g ∷ gs) l h = absurd (omega arith)
-  block-same i (f ∷ fs) (g ∷ gs) l h = go (compare-heads i f g (fs ++ xs) (gs ++ ys)) (block-same (suc i) fs gs (omega arith))
+  pub agree-further : (fs gs : List ℕ) → length fs ≡ length gs → length gs ≤ agreeing fs gs
+      → agreeing (fs ++ xs) (gs ++ ys) ≡ length gs + agreeing xs ys
+  agree-further [] [] l h = sym (zero-add (agreeing xs ys))
+  agree-further (f ∷ fs) [] l h = absurd (omega arith)
+  agree-further [] (g ∷ gs) l h = absurd (omega arith)
+  agree-further (f ∷ fs) (g ∷ gs) l h = go (ℕ-discrete f g) (agree-further fs gs (omega arith))
     where
-      go : Compared i f g (fs ++ xs) (gs ++ ys)
-          → (length gs ≤ agreeing fs gs → firstChange (suc i) (fs ++ xs) (gs ++ ys) ≡ firstChange (suc i + length gs) xs ys)
-          → firstChange i (f ∷ fs ++ xs) (g ∷ gs ++ ys) ≡ firstChange (i + length (g ∷ gs)) xs ys
-      go (alike e d) rest = d ∙ rest (omega (arith, agree-step f g fs gs e)) ∙ ap (λ (n : ℕ). firstChange n xs ys) (omega arith)
-      go (unlike e d) rest = absurd (omega (arith, agree-stop f g fs gs e))
+      go : Dec (f ≡ g) → (length gs ≤ agreeing fs gs → agreeing (fs ++ xs) (gs ++ ys) ≡ length gs + agreeing xs ys)
+          → agreeing (f ∷ fs ++ xs) (g ∷ gs ++ ys) ≡ length (g ∷ gs) + agreeing xs ys
+      go (yes e) rest = omega (arith, agree-step f g (fs ++ xs) (gs ++ ys) e, rest (omega (arith, agree-step f g fs gs e)))
+      go (no e) rest = absurd (omega (arith, agree-stop f g fs gs e))
 
--- the fields of the c - i pages that are left from page i on, and their fingerprints, of which the first are us
-module _ (c i n : ℕ) (l us rest : List ℕ) (many : length us ≡ n) (fits : i + n ≤ c) where
-  abbrev first : List ℕ
-  first = numbersAt (8 * i) 8 (length us) l
+-- what differs first is behind them
+pub changed-at : (i : ℕ) (fs gs : List ℕ) → length fs ≡ length gs → agreeing fs gs < length gs → firstChange i fs gs ≡ Page (i + agreeing fs gs)
+changed-at i fs [] l h = absurd (not-suc-le-zero h)
+changed-at i [] (g ∷ gs) l h = absurd (omega arith)
+changed-at i (f ∷ fs) (g ∷ gs) l h = go (compare-heads i f g fs gs) (changed-at (suc i) fs gs (omega arith))
+  where
+    go : Compared i f g fs gs → (agreeing fs gs < length gs → firstChange (suc i) fs gs ≡ Page (suc i + agreeing fs gs))
+        → firstChange i (f ∷ fs) (g ∷ gs) ≡ Page (i + agreeing (f ∷ fs) (g ∷ gs))
+    go (alike e d) rest = let s = agree-step f g fs gs e in d ∙ rest (omega (arith, s)) ∙ ap Page (omega (arith, s))
+    go (unlike e d) rest = d ∙ ap Page (omega (arith, agree-stop f g fs gs e))
 
-  abbrev behind : List ℕ
-  behind = numbersAt (8 * (i + n)) 8 (c - (i + n)) l
+pub changed-nowhere : (i : ℕ) (fs gs : List ℕ) → length fs ≡ length gs → length gs ≤ agreeing fs gs → firstChange i fs gs ≡ Same
+unfolding firstChange
+changed-nowhere i [] gs l h = refl
+changed-nowhere i (f ∷ fs) [] l h = absurd (omega arith)
+changed-nowhere i (f ∷ fs) (g ∷ gs) l h = go (compare-heads i f g fs gs) (changed-nowhere (suc i) fs gs (omega arith))
+  where
+    go : Compared i f g fs gs → (length gs ≤ agreeing fs gs → firstChange (suc i) fs gs ≡ Same) → firstChange i (f ∷ fs) (g ∷ gs) ≡ Same
+    go (alike e d) rest = d ∙ rest (omega (arith, agree-step f g fs gs e))
+    go (unlike e d) rest = absurd (omega (arith, agree-stop f g fs gs e))
 
-  fields-split : numbersAt (8 * i) 8 (c - i) l ≡ first ++ behind
-  fields-split =
-      let e : c - i ≡ length us + (c - (i + n)) = omega arith in
-      let p : 8 * i + 8 * length us ≡ 8 * (i + n) = omega arith in
-      ap (λ (m : ℕ). numbersAt (8 * i) 8 m l) e ∙ numbers-append (8 * i) 8 (length us) (c - (i + n)) l
-      ∙ ap (λ (m : ℕ). first ++ numbersAt m 8 (c - (i + n)) l) p
-
-  pub change-here : (r : ℕ) → r ≡ agreeing (numbersAt (8 * i) 8 (length us) l) us → r < n
-      → firstChange i (numbersAt (8 * i) 8 (c - i) l) (us ++ rest) ≡ Page (i + r)
-  change-here r e h =
-      ap (λ (fs : List ℕ). firstChange i fs (us ++ rest)) fields-split
-      ∙ block-changed behind rest i first us (length-numbersAt (8 * i) 8 (length us) l) (omega (arith, e, many))
-      ∙ ap (λ (m : ℕ). Page (i + m)) (sym e)
-
-  pub change-later : (r : ℕ) → r ≡ agreeing (numbersAt (8 * i) 8 (length us) l) us → n ≤ r
-      → firstChange i (numbersAt (8 * i) 8 (c - i) l) (us ++ rest) ≡ firstChange (i + n) (numbersAt (8 * (i + n)) 8 (c - (i + n)) l) rest
-  change-later r e h =
-      ap (λ (fs : List ℕ). firstChange i fs (us ++ rest)) fields-split
-      ∙ block-same behind rest i first us (length-numbersAt (8 * i) 8 (length us) l) (omega (arith, e, many))
-      ∙ ap (λ (m : ℕ). firstChange (i + m) behind rest) many
-
--- no page is left
-pub change-none : (i m : ℕ) (l gs : List ℕ) → m ≡ 0 → firstChange i (numbersAt (8 * i) 8 m l) gs ≡ Same
-unfolding firstChange numbersAt
-change-none i m l gs e = rw e
-
--- and how the code counts them: fields of a sheet from a place on, and the numbers from the i-th on
+-- as the code counts them: fields of a sheet from a place on, and the numbers from the i-th on
 module _ (place : ℕ) (sheet gs : List ℕ) (i : ℕ) (l : i < length gs) where
   heads : agreeing (numbersAt place 8 (length gs - i) sheet) (drop i gs)
       ≡ agreeing (numberAt place 8 sheet ∷ numbersAt (place + 8) 8 (length gs - (i + 1)) sheet) (getD gs i 0 ∷ drop (i + 1) gs)

@@ -6,7 +6,7 @@ use native.Mathlib.Nat.{div-add-mod', le-div-iff-mul-le, mod-lt, mul-add-div-rig
 use native.Mathlib.Decide.{decLe}
 use native.Mathlib.Omega.{arith}
 use lib.ListN.{length, take, drop, replicate, length-append, length-replicate, length-drop, length-take, drop-of-length-le, take-append-drop, replicate-append-replicate}
-use lib.Seq.{drop-drop, length-take-le, take-add, take-all}
+use lib.Seq.{drop-drop, length-take-le, take-add, take-all, take-at, drop-at}
 use Rattle.gf2.specs.Polynomials.{_⊕_, rem, degree}
 use Rattle.lists.specs.Lists.{All}
 use Rattle.gf2.proofs.Residues.{rem-lt}
@@ -141,20 +141,17 @@ pages-split p s (suc m) n file =
     (pages-split p s m n (drop s file)
     ∙ ap (λ (l : List ℕ). pageFingerprints p s m (drop s file) ++ pageFingerprints p s n l) (drop-drop (m * s) s file ∙ ap (λ (k : ℕ). drop k file) e))
 
--- n pages of the c - i that are left from page i on, and the others
-pub pages-ahead : (p s c i n : ℕ) (file : List ℕ) → i + n ≤ c
-    → pageFingerprints p s (c - i) (drop (i * s) file)
-    ≡ pageFingerprints p s n (drop (i * s) file) ++ pageFingerprints p s (c - (i + n)) (drop ((i + n) * s) file)
-pages-ahead p s c i n file l =
-    let e : c - i ≡ n + (c - (i + n)) = omega arith in
-    ap (λ (m : ℕ). pageFingerprints p s m (drop (i * s) file)) e
-    ∙ pages-split p s n (c - (i + n)) (drop (i * s) file)
-    ∙ ap (λ (r : List ℕ). pageFingerprints p s n (drop (i * s) file) ++ pageFingerprints p s (c - (i + n)) r)
-    (drop-drop (n * s) (i * s) file ∙ ap (λ (m : ℕ). drop m file) (sym (add-mul i n s)))
-
-pub pages-none : (p s c i : ℕ) (file : List ℕ) → c ≤ i → pageFingerprints p s (c - i) (drop (i * s) file) ≡ []
-unfolding pageFingerprints
-pages-none p s c i file l = let e : c - i ≡ 0 = omega arith in rw e
+-- n of c pages, from page i on
+pub pages-from : (p s c i n : ℕ) (file : List ℕ) → i + n ≤ c
+    → take n (drop i (pageFingerprints p s c file)) ≡ pageFingerprints p s n (drop (i * s) file)
+pages-from p s c i n file l =
+    let m = c - (i + n) in
+    let e : c ≡ i + (n + m) = omega arith in
+    let left = drop (i * s) file in
+    ap (λ (k : ℕ). take n (drop i (pageFingerprints p s k file))) e
+    ∙ ap (λ (fs : List ℕ). take n (drop i fs)) (pages-split p s i (n + m) file)
+    ∙ ap (take n) (drop-at (pageFingerprints p s i file) (pageFingerprints p s (n + m) left) i (length-pages p i s file) ∙ pages-split p s n m left)
+    ∙ take-at (pageFingerprints p s n left) (pageFingerprints p s m (drop (n * s) left)) n (length-pages p n s left)
 
 -- page i begins inside the file or at most a page behind it
 pub page-begins : (s n i : ℕ) → 0 < s → i ≤ pageCount s n → i * s < n + s

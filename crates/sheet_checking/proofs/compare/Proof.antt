@@ -1,22 +1,25 @@
 -- `compare` meets its contract.
 use mathlib.Core.Path.{_≡_, refl, sym, ap, _∙_}
 use mathlib.Core.List.{List}
-use Prim.Native.Nat.{ℕ, _≤_}
+use Prim.Native.Nat.{ℕ, _*_, _≤_, _<_}
 use native.Mathlib.Omega.{arith}
 use lib.ListN.{length, length-drop}
-use Rattle.gf2.specs.Moduli.{modulusOf}
+use Rattle.gf2.specs.Moduli.{polynomial, modulusOf}
 use Rattle.refusals.specs.Refusals.{Done}
 use Rattle.acceptance.specs.Keys.{Opened}
 use Rattle.acceptance.proofs.Opened.{open-accepted, opened-from, opened-proper, opened-eight, opened-whole}
 use Rattle.sheets.specs.Layout.{version1, numbersAt, pagePlace, sheetLength, pageCount, contentsIn}
 use Rattle.sheets.specs.Sheets.{Sound, pageFingerprints, firstChange}
+use Rattle.sheets.specs.Parts.{comparison}
 use Rattle.sheets.proofs.Known.{sound}
+use Rattle.sheets.proofs.Pages.{length-pages, count-small}
+use Rattle.sheet_pass.proofs.Passes.{pass-few, pass-changed, pass-same}
 use Rattle.sheet_checking.proofs.Laws.{compare-long, compare-other, compare-pages, size-is, key-is, length-is, pages-there}
 use borrow.Author.Needs.{needs}
 use Rattle.sheet_checking.proofs.compare.Statement.{statement}
 use Rattle.sheet_checking.proofs.compare.Tie as tie
 
--- the lengths are equal, the key is opened, the tables and the last page are there
+-- the lengths are equal, the key is opened, the pages are passed over
 abbrev lengths→start : tie.Else1 → tie.Start
 lengths→start c = c .before .before .before
 
@@ -26,23 +29,23 @@ start c = lengths→start (c .before)
 abbrev equal : tie.After-modulus-of → tie.Else2
 equal c = c .before
 
-abbrev opened : tie.After-fill-tables → tie.After-modulus-of
-opened c = c .before .before .before
+abbrev opened : tie.After-page-fields → tie.After-modulus-of
+opened c = c .before .before
 
-abbrev tables : tie.After-last-page → tie.After-fill-tables
-tables c = c .before .before .before .before
+abbrev passed : tie.After-page-count → tie.After-over-pages
+passed c = c .before .before
 
-abbrev last : tie.After-eights3 → tie.After-last-page
-last c = c .before .before .before
-
-abbrev begin : tie.After-eights3 → tie.Else2
-begin c = equal (opened (tables (last c)))
+abbrev begin : tie.After-over-pages → tie.Else2
+begin c = equal (opened (c .before))
 
 abbrev sheet : tie.Start → List ℕ
 sheet s = s .args .sheet .now
 
 abbrev file : tie.Start → List ℕ
 file s = s .args .file .now
+
+abbrev count : tie.Start → ℕ
+count s = pageCount (s .args .x .size) (length (file s))
 
 fields : (s : tie.Start) → Sound (contentsIn version1 (sheet s))
 fields s = sound (sheet s) (s .pre)
@@ -51,7 +54,7 @@ size : (s : tie.Start) → (16 ≤ s .args .x .size) × (s .args .x .size ≤ 40
 size s = rw (size-is (sheet s) (s .pre)) (fields s .pageSize)
 
 -- all fingerprints stand in the sheet
-total : (c : tie.Else2) → sheetLength version1 (pageCount (start c .args .x .size) (length (file (start c)))) ≡ length (sheet (start c))
+total : (c : tie.Else2) → sheetLength version1 (count (start c)) ≡ length (sheet (start c))
 total c = let s = start c in pages-there (sheet s) (s .pre) (file s) (c .if2 .left)
 
 -- the key of a sheet that was read is accepted
@@ -72,40 +75,71 @@ returns-2 c =
 modulus-of-requires : tie.Need-modulus-of-requires
 modulus-of-requires c κs = omega (arith, opened-from (key-opened c))
 
-fill-tables-requires : tie.Need-fill-tables-requires
-fill-tables-requires c κs = let h = key-held (c .before .before) in (opened-proper h, opened-eight h, refl, refl)
-
-last-page-requires : tie.Need-last-page-requires
-last-page-requires c κs =
-    let t = c .before .before .before in
-    let z = size (start (equal (opened t))) in
-    (t .fill-tables .ensures .table, omega (arith, z .0), z .1)
-
 page-fields-requires : tie.Need-page-fields-requires
-page-fields-requires c κs = omega (arith, total (equal (opened (tables c))))
+page-fields-requires c κs = omega (arith, total (equal (c .before)))
 
-first-change-requires : tie.Need-first-change-requires
-first-change-requires c κs =
-    let l = last c in
+-- the fields of all pages are in the part of the sheet that begins with them
+part : (c : tie.After-page-fields) → 8 * count (start (equal (opened c))) ≤ length (c .page-fields .result .now)
+part c =
+    let e = equal (opened c) in
+    omega (arith, ap length (c .page-fields .ensures) ∙ length-drop (pagePlace version1 0) (sheet (start e)), total e)
+
+over-pages-requires : tie.Need-over-pages-requires
+over-pages-requires c κs =
+    let s = start (equal (opened c)) in
+    let h = key-held (opened c) in
+    let z = size s in
+    (opened-proper h, opened-eight h, z .0, z .1, omega arith, λ lent. absurd (omega (arith, lent)), λ lent. part c)
+
+page-count-requires : tie.Need-page-count-requires
+page-count-requires c κs = let z = size (start (begin (c .before))) in (omega (arith, z .0), z .1, omega arith)
+
+-- the fingerprints of the file's pages
+abbrev prints : tie.After-over-pages → List ℕ
+prints c = let s = start (begin c) in pageFingerprints (polynomial (opened (c .before) .modulus-of .result)) (s .args .x .size) (count s) (file s)
+
+long : (c : tie.After-over-pages) → length (prints c) ≡ count (start (begin c))
+long c =
+    let s = start (begin c) in
+    length-pages (polynomial (opened (c .before) .modulus-of .result)) (count s) (s .args .x .size) (file s)
+
+few : (c : tie.After-over-pages) → c .over-pages .result .same ≤ count (start (begin c))
+few c =
+    pass-few (prints c) (c .before .page-fields .result .now) _ _ (c .over-pages .result .same) (count (start (begin c))) (c .over-pages .ensures .0) (long c)
+    (part (c .before))
+
+-- what the comparison answers, where the lengths are equal
+answer : (c : tie.After-over-pages)
+    → comparison (sheet (start (begin c))) (file (start (begin c)))
+    ≡ Done (firstChange 0 (numbersAt 0 8 (count (start (begin c))) (c .before .page-fields .result .now)) (prints c))
+answer c =
     let e = begin c in
     let s = start e in
+    let x = s .args .x in
+    let fields = c .before .page-fields in
+    compare-pages (sheet s) (file s) (omega arith) (x .key) (x .size) (key-is (sheet s) (s .pre)) (size-is (sheet s) (s .pre))
+    (e .if2 .left ∙ length-is (sheet s) (s .pre)) (fields .result .now) (fields .ensures)
+    ∙ ap (λ (m : ℕ). Done (firstChange 0 (numbersAt 0 8 (count s) (fields .result .now)) (pageFingerprints m (x .size) (count s) (file s))))
+    (sym (opened-whole (key-held (opened (c .before)))))
+
+cast-page : tie.Need-cast-t19
+cast-page c =
+    let p = passed (c .before) in
+    let s = start (begin p) in
     let z = size s in
-    let part = ap length (c .before .before .page-fields .ensures) ∙ length-drop (pagePlace version1 0) (sheet s) in
-    (tables l .fill-tables .ensures, z .0, z .1, omega arith, l .last-page .ensures .1, omega (arith, part, total e))
+    omega (arith, few p, count-small (s .args .x .size) (length (file s)) (z .0) (z .1) (omega arith))
 
 returns-3 : tie.Need-returns-3
 returns-3 c =
-    let b = c .before in
-    let e = begin b in
-    let s = start e in
-    let x = s .args .x in
-    let part = b .before .before .page-fields in
-    let h = key-held (opened (tables (last b))) in
-    let count = pageCount (x .size) (length (file s)) in
-    c .first-change .ensures
-    ∙ ap (λ (m : ℕ). Done (firstChange 0 (numbersAt 0 8 count (part .result .now)) (pageFingerprints m (x .size) count (file s)))) (opened-whole h)
-    ∙ sym (compare-pages (sheet s) (file s) (omega arith) (x .key) (x .size) (key-is (sheet s) (s .pre)) (size-is (sheet s) (s .pre))
-    (e .if2 .left ∙ length-is (sheet s) (s .pre)) (part .result .now) (part .ensures))
+    let p = passed (c .before) in
+    sym (answer p ∙ ap Done (pass-changed (prints p) (p .before .page-fields .result .now) _ _ (p .over-pages .result .same) (count (start (begin p)))
+    (p .over-pages .ensures .0) (long p) (part (p .before)) (omega (arith, c .if3 .taken, c .before .page-count .ensures))))
+
+returns-4 : tie.Need-returns-4
+returns-4 c =
+    let p = passed (c .before) in
+    sym (answer p ∙ ap Done (pass-same (prints p) (p .before .page-fields .result .now) _ _ (p .over-pages .result .same) (count (start (begin p)))
+    (p .over-pages .ensures .0) (long p) (part (p .before)) (omega (arith, c .if3 .left, c .before .page-count .ensures))))
 
 pub compare-spec : {M : Type 1} → statement M
 compare-spec =
@@ -115,12 +149,9 @@ compare-spec =
     returns-2
     modulus-of-requires
     (λ c. search needs)
-    (λ c. search needs)
-    fill-tables-requires
-    (λ c. search needs)
-    last-page-requires
     page-fields-requires
-    (λ c. search needs)
-    (λ c. search needs)
-    first-change-requires
-    returns-3)
+    over-pages-requires
+    page-count-requires
+    cast-page
+    returns-3
+    returns-4)

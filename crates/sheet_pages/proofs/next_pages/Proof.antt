@@ -29,15 +29,15 @@ abbrev rest : tie.Start → List ℕ
 rest s = s .args .rest .now
 
 -- the whole pages of the block are in the file
-fits : (c : tie.After-block) → c .block .result * start c .args .size ≤ length (rest (start c))
+fits : (c : tie.After-block) → c .block .result * start c .args .x .size ≤ length (rest (start c))
 fits c =
     let s = start c in
-    let few : c .block .result ≤ length (rest s) / s .args .size = omega arith in
-    omega (arith, mul-le-mul-right (s .args .size) few, whole-fits (s .args .size) (length (rest s)))
+    let few : c .block .result ≤ length (rest s) / s .args .x .size = omega arith in
+    omega (arith, mul-le-mul-right (s .args .x .size) few, whole-fits (s .args .x .size) (length (rest s)))
 
 -- so many pages begin in the file
-begin : (c : tie.After-block) → c .block .result ≤ pageCount (start c .args .size) (length (rest (start c)))
-begin c = let s = start c in count-le (s .args .size) (length (rest s)) (c .block .result) (omega arith) (omega (arith, fits c, s .pre .1))
+begin : (c : tie.After-block) → c .block .result ≤ pageCount (start c .args .x .size) (length (rest (start c)))
+begin c = let s = start c in count-le (s .args .x .size) (length (rest s)) (c .block .result) (omega arith) (omega (arith, fits c, s .pre .1))
 
 -- the last page is among them
 one-more : (s n m : ℕ) → 0 < s → m * s < n → m + 1 ≤ pageCount s n
@@ -72,7 +72,7 @@ returns-2 c =
     record {
       few = omega arith;
       within = begin b;
-      some = some (s .args .size) (length (rest s)) (b .block .result) (c .if2 .taken);
+      some = some (s .args .x .size) (length (rest s)) (b .block .result) (c .if2 .taken);
       prints = whole-marks d .whole-marks .ensures;
     }
 
@@ -88,7 +88,7 @@ returns-3 c =
     let w = whole-marks d .whole-marks in
     let b = block d in
     let s = start b in
-    let a = s .args in
+    let a = s .args .x in
     let n = b .block .result in
     let all : n ≡ length (rest s) / a .size = omega arith in
     let whole = length (rest s) / a .size * a .size in

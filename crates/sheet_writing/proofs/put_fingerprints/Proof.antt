@@ -12,29 +12,24 @@ use Rattle.sheets.specs.Layout.{bytesOf, fieldsOf, numbersAt, pageCount}
 use Rattle.sheets.specs.Sheets.{pageFingerprints}
 use Rattle.sheets.proofs.Numbers.{length-fieldsOf, sets-behind}
 use Rattle.sheets.proofs.Pages.{length-pages, count-whole}
+use Rattle.sheet_pass.proofs.Passes.{pass-all}
 use Rattle.sheet_writing.proofs.Stores.{whole-stored}
 use borrow.Author.Needs.{needs}
 use Rattle.sheet_writing.proofs.put_fingerprints.Statement.{statement}
 use Rattle.sheet_writing.proofs.put_fingerprints.Tie as tie
 
--- the tables, the last page, all pages' fields, the file's fingerprint
-abbrev start : tie.After-eights → tie.Start
+-- the pass over all pages, the file's fingerprint
+abbrev start : tie.After-none → tie.Start
 start c = c .before .before .before .before
 
-abbrev tables : tie.After-last-page → tie.After-fill-tables
-tables c = c .before .before .before .before
-
-abbrev last : tie.After-put-pages → tie.After-last-page
-last c = c .before .before .before .before
-
-abbrev pages : tie.After-file-mark → tie.After-put-pages
+abbrev pages : tie.After-file-mark → tie.After-over-pages
 pages c = c .before .before .before .before
 
 abbrev marked : tie.After-put → tie.After-file-mark
 marked c = c .before .before .before
 
-abbrev begin : tie.After-put-pages → tie.Start
-begin c = start (tables (last c) .before)
+abbrev begin : tie.After-over-pages → tie.Start
+begin c = start (c .before)
 
 abbrev key : tie.Start → ℕ
 key s = polynomial (s .args .p)
@@ -46,26 +41,17 @@ abbrev count : tie.Start → ℕ
 count s = pageCount (s .args .size) (length (file s))
 
 -- the fields after all pages' fingerprints
-prints : (c : tie.After-put-pages)
-    → c .put-pages .last .0
+prints : (c : tie.After-over-pages)
+    → c .over-pages .last .0
     ≡ sets (begin c .args .fields .now) 0 (fieldsOf 8 (pageFingerprints (key (begin c)) (begin c .args .size) (count (begin c)) (file (begin c))))
-prints c = c .put-pages .ensures
+prints c =
+    let s = begin c in
+    pass-all (pageFingerprints (key s) (s .args .size) (count s) (file s)) (s .args .fields .now) _ (c .over-pages .result .same) (c .over-pages .ensures .0)
 
-fill-tables-requires : tie.Need-fill-tables-requires
-fill-tables-requires c κs = let s = start c in (s .pre .0, s .pre .1, refl, refl)
-
-last-page-requires : tie.Need-last-page-requires
-last-page-requires c κs =
-    let t = c .before .before .before in
-    let s = start (t .before) in
-    (t .fill-tables .ensures .table, omega (arith, s .pre .3), s .pre .4)
-
-put-pages-requires : tie.Need-put-pages-requires
-put-pages-requires c κs =
-    let l = c .before .before .before in
-    let t = tables l in
-    let s = start (t .before) in
-    (t .fill-tables .ensures, s .pre .3, s .pre .4, s .pre .5, l .last-page .ensures .1, omega (arith, s .pre .6))
+over-pages-requires : tie.Need-over-pages-requires
+over-pages-requires c κs =
+    let s = start c in
+    (s .pre .0, s .pre .1, s .pre .3, s .pre .4, s .pre .5, λ lent. omega (arith, s .pre .6), λ lent. absurd (omega (arith, lent)))
 
 file-mark-requires : tie.Need-file-mark-requires
 file-mark-requires c κs =
@@ -79,8 +65,8 @@ file-mark-requires c κs =
       s .pre .3,
       s .pre .4,
       s .pre .5,
-      last p .last-page .ensures .0,
-      omega (arith, p .put-pages .kept .0, whole, s .pre .6),
+      p .over-pages .ensures .1,
+      omega (arith, p .over-pages .kept .0, whole, s .pre .6),
       ap (numbersAt 0 8 (length (file s) / a .size)) (prints p)
           ∙ whole-stored (a .p) (s .pre .0) (a .size) (file s) (a .fields .now) pos (omega (arith, s .pre .6)),
     )
@@ -94,7 +80,7 @@ mul-put c = let s = begin (pages (c .before .before)) in omega (arith, c .before
 put-requires : tie.Need-put-requires
 put-requires c κs =
     let p = pages (c .before .before) in
-    (omega arith, omega (arith, c .before .page-count .ensures, p .put-pages .kept .0, begin p .pre .6))
+    (omega arith, omega (arith, c .before .page-count .ensures, p .over-pages .kept .0, begin p .pre .6))
 
 returns : tie.Need-returns
 returns c =
@@ -108,7 +94,7 @@ returns c =
     sym (zero-add (length fields) ∙ length-fieldsOf 8 (pageFingerprints (key s) (a .size) (count s) (file s))
     ∙ ap (λ (n : ℕ). 8 * n) (length-pages (key s) (count s) (a .size) (file s))) in
     q .put .ensures
-    ∙ ap₂ (λ (n f : ℕ). sets (p .put-pages .last .0) (8 * n) (bytesOf 8 f)) (q .before .before .page-count .ensures) (m .file-mark .ensures)
+    ∙ ap₂ (λ (n f : ℕ). sets (p .over-pages .last .0) (8 * n) (bytesOf 8 f)) (q .before .before .page-count .ensures) (m .file-mark .ensures)
     ∙ ap (λ (b : List ℕ). sets b (8 * count s) (bytesOf 8 (fingerprint (key s) (file s)))) (prints p)
     ∙ sets-behind fields (bytesOf 8 (fingerprint (key s) (file s))) (a .fields .now) 0 (8 * count s) long
 
@@ -117,13 +103,7 @@ put-fingerprints-spec =
     tie.close
     (tie.spec
     (λ c. search needs)
-    (λ c. search needs)
-    fill-tables-requires
-    (λ c. search needs)
-    last-page-requires
-    (λ c. search needs)
-    (λ c. search needs)
-    put-pages-requires
+    over-pages-requires
     file-mark-requires
     page-count-requires
     mul-put

@@ -7,10 +7,10 @@ use lib.ListN.{length}
 use Rattle.sheets.specs.Layout.{numberAt, numbersAt}
 use Rattle.sheets.specs.Sheets.{someUnreduced}
 use Rattle.sheets.proofs.Numbers.{numbers-done}
-use Rattle.sheet_pages.specs.Lanes.{looping}
-use Rattle.sheet_pages.proofs.Lanes.{looping-next, looping-done, bits-next, bits-done}
-use Rattle.sheet_pages.proofs.joining.join_lane.Statement.{statement}
-use Rattle.sheet_pages.proofs.joining.join_lane.Tie as tie
+use Rattle.sheet_joining.specs.Joining.{looping}
+use Rattle.sheet_joining.proofs.Joining.{looping-next, looping-done, bits-next, bits-done}
+use Rattle.sheet_joining.proofs.join_lane.Statement.{statement}
+use Rattle.sheet_joining.proofs.join_lane.Tie as tie
 
 abbrev Inv-loop : tie.InvT-loop
 Inv-loop shift l from n f before x₀ bits₀ place₀ left₀ x bits place left =

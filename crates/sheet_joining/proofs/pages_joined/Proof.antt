@@ -5,10 +5,10 @@ use native.Mathlib.Nat.{mul-le-mul-right, mod-lt}
 use native.Mathlib.Omega.{arith}
 use lib.Pow.{pow-pos}
 use Rattle.gf2.proofs.Steps.{residue-lt}
-use Rattle.sheet_pages.proofs.Lanes.{bits-none, bits-all, few-joined, times-low, all-joined}
+use Rattle.sheet_joining.proofs.Joining.{bits-none, bits-all, few-joined, times-low, all-joined}
 use borrow.Author.Needs.{needs}
-use Rattle.sheet_pages.proofs.joining.pages_joined.Statement.{statement}
-use Rattle.sheet_pages.proofs.joining.pages_joined.Tie as tie
+use Rattle.sheet_joining.proofs.pages_joined.Statement.{statement}
+use Rattle.sheet_joining.proofs.pages_joined.Tie as tie
 
 -- the table of the shift by a page
 abbrev table : tie.After-shift2 → tie.After-fill

@@ -8,10 +8,10 @@ use Rattle.gf2.specs.Polynomials.{_⊕_}
 use Rattle.lookups.specs.Groups.{looked}
 use Rattle.sheets.specs.Layout.{numberAt, numbersAt}
 use Rattle.sheets.specs.Sheets.{someUnreduced}
-use Rattle.sheet_pages.specs.Lanes.{looping}
-use Rattle.sheet_pages.proofs.Lanes.{looping-next, looping-done, fourLanes, bits-four, bits-four-done}
-use Rattle.sheet_pages.proofs.joining.join_lanes.Statement.{statement}
-use Rattle.sheet_pages.proofs.joining.join_lanes.Tie as tie
+use Rattle.sheet_joining.specs.Joining.{looping}
+use Rattle.sheet_joining.proofs.Joining.{looping-next, looping-done, fourLanes, bits-four, bits-four-done}
+use Rattle.sheet_joining.proofs.join_lanes.Statement.{statement}
+use Rattle.sheet_joining.proofs.join_lanes.Tie as tie
 
 abbrev Inv-loop : tie.InvT-loop
 Inv-loop shift l q lane a₀ b₀ c₀ d₀ bits₀ place₀ left₀ a b c d bits place left =

@@ -1,20 +1,16 @@
--- One turn of a loop over the pages of a file: what the next pages are, from page i on.
+-- One turn of the loop over the pages of a file: what the next pages are, from page i on.
 use mathlib.Core.Path.{_≡_, sym, ap, _∙_}
-use mathlib.Core.List.{List, _++_}
+use mathlib.Core.List.{List}
 use Prim.Native.Nat.{ℕ, _+_, _-_, _*_, _≤_, _<_}
 use native.Mathlib.Omega.{arith}
 use lib.ListN.{length, take, drop, length-drop}
 use Rattle.sheets.specs.Layout.{pageCount}
 use Rattle.sheets.specs.Sheets.{pageFingerprints}
 use Rattle.sheets.specs.Parts.{LastFilled}
-use Rattle.sheets.proofs.Pages.{block-within, pages-ahead, last-after, all-left}
+use Rattle.sheets.proofs.Pages.{block-within, pages-from, last-after, all-left}
 use Rattle.sheet_pages.specs.Blocks.{NextPages}
 
 module _ (key s : ℕ) (file : List ℕ) (i : ℕ) (pos : 0 < s) (more : i * s < length file) where
-  -- what is left, as the code lends it
-  abbrev left : List ℕ
-  left = take (length file - i * s) (drop (i * s) file)
-
   pub turn-last : (last : ℕ) → LastFilled key s file last → LastFilled key s (take (length file - i * s) (drop (i * s) file)) last
   turn-last last e = rw (all-left file (i * s), last-after s i file pos (omega arith)) e
 
@@ -26,9 +22,8 @@ module _ (key s : ℕ) (file : List ℕ) (i : ℕ) (pos : 0 < s) (more : i * s <
     pub turn-some : 0 < n
     turn-some = h .some (rw (all-left file (i * s), length-drop) (omega arith))
 
-    pub turn-ahead : pageFingerprints key s (pageCount s (length file) - i) (drop (i * s) file)
-        ≡ take n marks ++ pageFingerprints key s (pageCount s (length file) - (i + n)) (drop ((i + n) * s) file)
-    turn-ahead =
-        pages-ahead key s (pageCount s (length file)) i n file turn-within
-        ∙ ap (λ (us : List ℕ). us ++ pageFingerprints key s (pageCount s (length file) - (i + n)) (drop ((i + n) * s) file))
-        (ap (pageFingerprints key s n) (sym (all-left file (i * s))) ∙ sym (h .prints))
+    pub turn-marks : take n marks ≡ take n (drop i (pageFingerprints key s (pageCount s (length file)) file))
+    turn-marks =
+        h .prints
+        ∙ ap (pageFingerprints key s n) (all-left file (i * s))
+        ∙ sym (pages-from key s (pageCount s (length file)) i n file turn-within)

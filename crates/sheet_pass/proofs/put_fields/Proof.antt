@@ -8,19 +8,20 @@ use lib.Seq.{sets}
 use Rattle.lists.proofs.Lists.{drop-next}
 use Rattle.sheets.specs.Layout.{fieldsOf}
 use Rattle.sheets.proofs.Numbers.{fields-behind}
-use Rattle.sheet_writing.proofs.put_fields.Statement.{statement}
-use Rattle.sheet_writing.proofs.put_fields.Tie as tie
+use Rattle.sheet_pass.proofs.Passes.{sets-none}
+use Rattle.sheet_pass.proofs.put_fields.Statement.{statement}
+use Rattle.sheet_pass.proofs.put_fields.Tie as tie
 
 abbrev Inv-loop : tie.InvT-loop
-Inv-loop fields₀ from marks place₀ i₀ fields place i =
-    (i ≤ length marks) × (place ≡ from + 8 * i) × (length fields ≡ length fields₀)
-    × (sets fields place (fieldsOf 8 (drop i marks)) ≡ sets fields₀ from (fieldsOf 8 marks))
+Inv-loop out₀ from marks place₀ i₀ out place i =
+    (i ≤ length marks) × (place ≡ from + 8 * i) × (length out ≡ length out₀)
+    × (sets out place (fieldsOf 8 (drop i marks)) ≡ sets out₀ from (fieldsOf 8 marks))
 
 abbrev μ-loop : tie.MeasureT-loop
-μ-loop fields₀ from marks place₀ i₀ fields place i = length marks - i
+μ-loop out₀ from marks place₀ i₀ out place i = length marks - i
 
 abbrev start : tie.At-loop Inv-loop μ-loop → tie.Start Inv-loop μ-loop
-start c = c .before .before .before
+start c = c .before .before .before .before
 
 abbrev loop : tie.After-shared-slice-known2 Inv-loop μ-loop → tie.At-loop Inv-loop μ-loop
 loop c = c .before .before .before
@@ -28,14 +29,21 @@ loop c = c .before .before .before
 abbrev stored : tie.After-slice-known2 Inv-loop μ-loop → tie.After-put Inv-loop μ-loop
 stored c = c .before .before
 
+-- room is lent, and for all of them
+room : (c : tie.At-loop Inv-loop μ-loop) → start c .args .from + 8 * length (start c .args .marks .now) ≤ length (start c .args .out .now)
+room c = start c .pre (omega (arith, c .before .if1 .left))
+
+returns : tie.Need-returns Inv-loop μ-loop
+returns c = let a = c .before .before .before .args in sets-none (fieldsOf 8 (a .marks .now)) (a .out .now) (a .from) (c .if1 .taken)
+
 loop-holds : tie.Need-loop-holds Inv-loop μ-loop
 loop-holds c = (omega arith, omega arith, refl, refl)
 
 put-requires : tie.Need-put-requires Inv-loop μ-loop
-put-requires c κs = (omega arith, omega (arith, start (loop c) .pre, loop c .loop .inv .1))
+put-requires c κs = (omega arith, omega (arith, room (loop c), loop c .loop .inv .1, loop c .loop .inv .2))
 
 add-place : tie.Need-add-place Inv-loop μ-loop
-add-place c = let l = loop (stored c .before) in omega (arith, start l .pre, l .loop .inv .1)
+add-place c = let l = loop (stored c .before) in omega (arith, room l, l .loop .inv .1)
 
 loop-again : tie.Need-loop-again Inv-loop μ-loop
 loop-again c =
@@ -47,20 +55,20 @@ loop-again c =
       omega (arith, l .inv .1),
       p .put .kept .0 ∙ l .inv .2,
       ap (λ (b : List ℕ). sets b (l .place + 8) (fieldsOf 8 rest)) (p .put .ensures)
-          ∙ fields-behind 8 (getD marks (l .i) 0) rest (l .fields) (l .place)
-          ∙ ap (λ (fs : List ℕ). sets (l .fields) (l .place) (fieldsOf 8 fs)) (sym (drop-next marks (l .i) 0 (omega arith)))
+          ∙ fields-behind 8 (getD marks (l .i) 0) rest (l .out) (l .place)
+          ∙ ap (λ (fs : List ℕ). sets (l .out) (l .place) (fieldsOf 8 fs)) (sym (drop-next marks (l .i) 0 (omega arith)))
           ∙ l .inv .3,
     )
 
 same-length : tie.Need-same-length Inv-loop μ-loop
 same-length c = c .before .loop .inv .2
 
-returns : tie.Need-returns Inv-loop μ-loop
+returns-2 : tie.Need-returns-2 Inv-loop μ-loop
 unfolding fieldsOf
-returns c =
+returns-2 c =
     let l = c .before .loop in
     let none = drop-of-length-le (start (c .before) .args .marks .now) {i = l .i} (omega arith) in
-    sym (ap (λ (fs : List ℕ). sets (l .fields) (l .place) (fieldsOf 8 fs)) none) ∙ l .inv .3
+    sym (ap (λ (fs : List ℕ). sets (l .out) (l .place) (fieldsOf 8 fs)) none) ∙ l .inv .3
 
 pub put-fields-spec : {M : Type 1} → statement M
 put-fields-spec =
@@ -68,6 +76,7 @@ put-fields-spec =
     (tie.spec
     Inv-loop
     μ-loop
+    returns
     loop-holds
     (λ c. omega arith)
     (λ c. omega arith)
@@ -77,4 +86,4 @@ put-fields-spec =
     (λ c. omega arith)
     loop-again
     same-length
-    returns)
+    returns-2)

@@ -28,8 +28,8 @@ use Rattle.shifts.proofs.Products.{joined-by-table}
 use Rattle.sheets.specs.Layout.{numberAt, numbersAt}
 use Rattle.sheets.specs.Sheets.{someUnreduced, joinedPages}
 use Rattle.sheets.proofs.Numbers.{numbers-next, numbers-done, numbers-append, length-numbersAt}
-use Rattle.sheet_pages.specs.declared.joining.Lanes.{Lanes}
-use Rattle.sheet_pages.specs.Lanes.{chained, looping, BitsOf, LanesJoined}
+use Rattle.sheet_joining.specs.declared.Lanes.{Lanes}
+use Rattle.sheet_joining.specs.Joining.{chained, looping, BitsOf, LanesJoined}
 
 -- ---- as the code goes: one field a turn
 

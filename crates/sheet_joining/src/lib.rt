@@ -9,7 +9,7 @@ ghost use Rattle.gf2.specs.Moduli.{polynomial, Proper};
 ghost use Rattle.files.specs.Files.{markOf};
 ghost use Rattle.sheets.specs.Layout.{numbersAt};
 ghost use Rattle.sheets.specs.Sheets.{someUnreduced, joinedPages};
-ghost use Rattle.sheet_pages.specs.Lanes.{looping, BitsOf, LanesJoined};
+ghost use Rattle.sheet_joining.specs.Joining.{looping, BitsOf, LanesJoined};
 
 // Marks joined, and the bits that stand in any of their fields: all fields are below 2^k exactly where these bits are.
 pub struct Joined {

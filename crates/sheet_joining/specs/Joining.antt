@@ -8,7 +8,7 @@ use Rattle.gf2.specs.Polynomials.{_⊕_, rem}
 use Rattle.lookups.specs.Groups.{looked}
 use Rattle.sheets.specs.Layout.{numbersAt}
 use Rattle.sheets.specs.Sheets.{someUnreduced}
-use Rattle.sheet_pages.specs.declared.joining.Lanes.{Lanes}
+use Rattle.sheet_joining.specs.declared.Lanes.{Lanes}
 
 -- page marks joined behind the residue f, each page shifting by t^e; and the same by the table of that shift
 unfoldable pub chained : ℕ → ℕ → ℕ → List ℕ → ℕ

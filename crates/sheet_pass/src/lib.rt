@@ -1,0 +1,114 @@
+// One pass over the pages of a file: their fingerprints are compared with those that are known, and written where room is lent. These
+// functions are for the project's own crates: what they require, every caller proves.
+use gf2::Modulus;
+use sheet_pages::Paging;
+use sheets::fields;
+ghost use mathlib.Core.Path.{_≡_};
+ghost use Prim.Native.Nat.{_+_, _*_, _≤_, _<_, _^_};
+ghost use lib.ListN.{length};
+ghost use lib.Seq.{sets};
+ghost use Rattle.gf2.specs.Moduli.{polynomial, Proper};
+ghost use Rattle.files.specs.Files.{fingerprint};
+ghost use Rattle.sheets.specs.Layout.{fieldsOf, pageCount};
+ghost use Rattle.sheets.specs.Sheets.{pageFingerprints};
+ghost use Rattle.sheets.specs.Parts.{agreeing, lastPage, LastFilled};
+ghost use Rattle.sheet_pages.specs.Blocks.{PageTables};
+ghost use Rattle.sheet_pass.specs.Passes.{Room, expected, Passed};
+
+// How many of the fingerprints, from the first on, are those in the known fields from a place on: all of them where nothing is known.
+fn agreeing(known: &[u8], from: usize, marks: &[u64]) -> usize
+    requires { ⌜ Room (from + 8 * length (now marks)) (now known) ⌝ }
+    ensures { λ r. ⌜ r ≡ agreeing (expected (now (known .entry)) from (now (marks .entry))) (now (marks .entry)) ⌝ }
+{
+    if known.len() == 0 {
+        return marks.len();
+    }
+    let mut place = from;
+    let mut i: usize = 0;
+    while i < marks.len() {
+        if lookups::eight_at(known, place) != marks[i] {
+            return i;
+        }
+        place += 8;
+        i += 1;
+    }
+    i
+}
+
+// Writes fingerprints one behind the other from a place on, where room is lent.
+fn put_fields(out: &mut [u8], from: usize, marks: &[u64])
+    requires { ⌜ Room (from + 8 * length (now marks)) (now out) ⌝ }
+    ensures { λ r. ⌜ now (out .exit) ≡ sets (now (out .entry)) from (fieldsOf 8 (now (marks .entry))) ⌝ }
+{
+    if out.len() == 0 {
+        return;
+    }
+    let mut place = from;
+    let mut i: usize = 0;
+    while i < marks.len() {
+        fields::put(out, place, 8, marks[i]);
+        place += 8;
+        i += 1;
+    }
+}
+
+// The pass, block by block: it ends with the first page whose fingerprint is not the expected one.
+fn over_blocks(
+    out: &mut [u8],
+    known: &[u8],
+    words: &[u64],
+    eights: &[u64],
+    x: Paging,
+    file: &[u8],
+) -> usize
+    requires { ⌜ PageTables (x .p) (now words) (now eights) × (16 ≤ x .size) × (x .size ≤ 4096) × (length (now file) < 2 ^ 32)
+        × LastFilled (polynomial (x .p)) (x .size) (now file) (x .last)
+        × Room (8 * pageCount (x .size) (length (now file))) (now out) × Room (8 * pageCount (x .size) (length (now file))) (now known) ⌝ }
+    ensures { λ r. ⌜ Passed (pageFingerprints (polynomial (x .p)) (x .size) (pageCount (x .size) (length (now (file .entry)))) (now (file .entry)))
+        (now (known .entry)) (now (out .entry)) (now (out .exit)) r ⌝ }
+{
+    let size = x.size;
+    let mut marks = [0u64; 64];
+    let mut i: usize = 0;
+    while i * size < file.len() {
+        let at = i * size;
+        let n = sheet_pages::next_pages(&mut marks, words, eights, x, &file[at..]);
+        let same = agreeing(known, 8 * i, &marks[..n]);
+        put_fields(out, 8 * i, &marks[..same]);
+        i += same;
+        if same < n {
+            return i;
+        }
+    }
+    i
+}
+
+// How many pages, from the first on, have the expected fingerprints, and the fingerprint of what the file has behind its whole pages.
+pub struct Pass {
+    pub same: usize,
+    pub own: u64,
+}
+
+// The pass under an opened key. An empty `known` means that nothing is known, an empty `out` that nothing is to be written.
+pub fn over_pages(out: &mut [u8], known: &[u8], p: Modulus, size: usize, file: &[u8]) -> Pass
+    requires { ⌜ Proper p × (8 ≤ p .degree) × (16 ≤ size) × (size ≤ 4096) × (length (now file) < 2 ^ 32)
+        × Room (8 * pageCount size (length (now file))) (now out) × Room (8 * pageCount size (length (now file))) (now known) ⌝ }
+    ensures { λ r. ⌜ Passed (pageFingerprints (polynomial p) size (pageCount size (length (now (file .entry)))) (now (file .entry)))
+        (now (known .entry)) (now (out .entry)) (now (out .exit)) (r .same)
+        × (r .own ≡ fingerprint (polynomial p) (lastPage size (now (file .entry)))) ⌝ }
+{
+    let mut words = [0u64; 1024];
+    let mut eights = [0u64; 2048];
+    sheet_pages::fill_tables(&mut words, &mut eights, p);
+    let last = sheet_pages::last_page(&words, p, size, file);
+    let x = Paging {
+        p: p,
+        size: size,
+        last: last.filled,
+    };
+    let same = over_blocks(out, known, &words, &eights, x, file);
+    Pass {
+        same: same,
+        own: last.own,
+    }
+}
