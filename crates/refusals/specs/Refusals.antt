@@ -7,7 +7,9 @@ use lib.Dec.{ltb}
 use Rattle.refusals.specs.declared.Refusal.{Refusal}
 use Rattle.refusals.specs.declared.Reply.{Reply}
 use Rattle.refusals.specs.declared.Reply.the-variants as reply-cases
-use Rattle.refusals.specs.declared.Refusal.the-variants.{KeyBelow256, KeyReducible, DegreeNotListed, ElementOutOfRange, TableSize, TableWord, TooLong, MarkNotReduced, PageLengthsDiffer, PagePastEnd, EmptyPattern, PageSize, BufferShort, SheetMalformed}
+use Rattle.refusals.specs.declared.Refusal.the-variants.{KeyBelow256, KeyReducible, DegreeNotListed, ElementOutOfRange, TableSize, TableWord}
+use Rattle.refusals.specs.declared.Refusal.the-variants.{TooLong, MarkNotReduced, PageLengthsDiffer, PagePastEnd, EmptyPattern, PageSize}
+use Rattle.refusals.specs.declared.Refusal.the-variants.{BufferShort, SheetMalformed}
 
 abbrev pub number : Refusal → ℕ
 number KeyBelow256 = 1

@@ -12,7 +12,8 @@ use Rattle.refusals.specs.declared.Refusal.the-variants.{TooLong}
 use Rattle.refusals.specs.Refusals.{Done, Refused, _⇒_, passes, longest}
 use Rattle.sheets.specs.declared.Sheet.{Sheet}
 use Rattle.sheets.specs.Layout.{PageSize, version1, numbersAt, pagePlace, sheetLength, pageCount, fieldIn, contentsIn}
-use Rattle.sheets.specs.Sheets.{pageFingerprints, contentsOf, readTests, readSheet, sheetRead, Page, OtherLength, firstChange, compared, checkSheet, FromTo, rangeOf}
+use Rattle.sheets.specs.Sheets.{pageFingerprints, contentsOf, readTests, readSheet, sheetRead, Page, OtherLength, firstChange, compared, checkSheet}
+use Rattle.sheets.specs.Sheets.{FromTo, rangeOf}
 use Rattle.sheets.specs.Parts.{ReadAs, comparison, fingerprintsPart}
 use Rattle.refusals.proofs.Laws.{Clear, done-clear, more-refused, more-clear}
 use Rattle.sheets.proofs.Numbers.{numbers-part}

@@ -2,7 +2,7 @@
 use mathlib.Core.Path.{_≡_, refl, sym, ap, ap₂, _∙_}
 use mathlib.Core.List.{List, [], _∷_, _++_}
 use Prim.Native.Nat.{ℕ, suc, _+_, _-_, _*_, _≤_, _<_}
-use native.Mathlib.Nat.{mul-add, zero-add}
+use native.Mathlib.Nat.{zero-add}
 use native.Mathlib.Omega.{arith}
 use lib.ListN.{length, take, drop, length-append, length-drop, take-append-drop}
 use lib.Seq.{sets, drop-drop, length-take-le, take-add, take-take, take-length}
@@ -11,7 +11,7 @@ use Rattle.sheets.specs.Sheets.{Same, Page, firstChange}
 use Rattle.sheets.specs.Parts.{agreeing}
 use Rattle.sheets.proofs.Numbers.{length-fieldsOf, length-numbersAt, numbers-append, fields-append, sets-behind}
 use Rattle.sheets.proofs.Changes.{agree-le, agree-all, agree-here, agree-further, changed-at, changed-nowhere}
-use Rattle.sheet_pass.specs.Passes.{Room, expected, Passed}
+use Rattle.sheet_pass.specs.Passes.{expected, Passed}
 
 -- ---- the expected fingerprints
 

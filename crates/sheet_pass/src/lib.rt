@@ -69,18 +69,18 @@ fn over_blocks(
 {
     let size = x.size;
     let mut marks = [0u64; 64];
-    let mut i: usize = 0;
-    while i * size < file.len() {
-        let at = i * size;
+    let mut page: usize = 0;
+    while page * size < file.len() {
+        let at = page * size;
         let n = sheet_pages::next_pages(&mut marks, words, eights, x, &file[at..]);
-        let same = agreeing(known, 8 * i, &marks[..n]);
-        put_fields(out, 8 * i, &marks[..same]);
-        i += same;
+        let same = agreeing(known, 8 * page, &marks[..n]);
+        put_fields(out, 8 * page, &marks[..same]);
+        page += same;
         if same < n {
-            return i;
+            return page;
         }
     }
-    i
+    page
 }
 
 // How many pages, from the first on, have the expected fingerprints, and the fingerprint of what the file has behind its whole pages.

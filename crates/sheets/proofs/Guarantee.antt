@@ -18,7 +18,8 @@ use Rattle.lists.proofs.Truth.{or-neither}
 use Rattle.acceptance.proofs.Laws.{key-iff}
 use Rattle.files.specs.Files.{Bytes, fingerprint}
 use Rattle.sheets.specs.Layout.{version1, numberAt, pagePlace, sheetLength, pageCount, pagesIn, Contents, sheetBytes, contentsIn}
-use Rattle.sheets.specs.Sheets.{contentsOf, writeTests, writeSheet, readTests, readSheet, readPages, Sound, WellFormed, Same, Page, OtherLength, firstChange, pagesNow, compared, checkSheet, numbersOf, pageAt}
+use Rattle.sheets.specs.Sheets.{contentsOf, writeTests, writeSheet, readTests, readSheet, readPages, Sound, WellFormed, Same, Page, OtherLength}
+use Rattle.sheets.specs.Sheets.{firstChange, pagesNow, compared, checkSheet, numbersOf, pageAt}
 use Rattle.sheets.proofs.Numbers.{length-numbersAt, numbers-one}
 use Rattle.sheets.proofs.Layouts.{length-sheet, fingerprint-back}
 use Rattle.sheets.proofs.Pages.{length-pages}

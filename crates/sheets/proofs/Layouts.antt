@@ -10,7 +10,9 @@ use lib.Seq.{take-add, take-all, drop-drop}
 use borrow.Author.Tests.{eq-eqb, eqb-true}
 use Rattle.lists.specs.Lists.{All}
 use Rattle.files.specs.Files.{Bytes}
-use Rattle.sheets.specs.Layout.{bytesOf, fieldsOf, numberAt, numbersAt, Name, Letters, Version, Key, Length, PageSize, order, sameName, Field, _bytes_, Layout, placeOf, widthOf, width, pagePlace, sheetLength, pageCount, Contents, letters, valueOf, bytesIn, sheetBytes, fieldIn, pagesIn, contentsIn}
+use Rattle.sheets.specs.Layout.{bytesOf, fieldsOf, numberAt, numbersAt, Name, Letters, Version, Key, Length, PageSize, order, sameName, Field}
+use Rattle.sheets.specs.Layout.{_bytes_, Layout, placeOf, widthOf, width, pagePlace, sheetLength, pageCount, Contents, letters, valueOf, bytesIn}
+use Rattle.sheets.specs.Layout.{sheetBytes, fieldIn, pagesIn, contentsIn}
 use Rattle.sheets.proofs.Numbers.{length-bytesOf, length-fieldsOf, number-seam, number-behind, numbers-seam, bytes-number, fields-numbers}
 
 pub contents-eq : {k k' n n' s s' f f' : ℕ} {g g' : List ℕ} → k ≡ k' → n ≡ n' → s ≡ s' → g ≡ g' → f ≡ f'

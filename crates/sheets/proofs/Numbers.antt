@@ -2,7 +2,8 @@
 use mathlib.Core.Path.{_≡_, refl, sym, ap, ap₂, _∙_}
 use mathlib.Core.List.{List, [], _∷_, _++_, append-assoc}
 use Prim.Native.Nat.{ℕ, zero, suc, _+_, _-_, _*_, _/_, _%_, _^_, _≤_, _<_}
-use native.Mathlib.Nat.{suc-add, add-suc, mul-one, zero-mul, mul-zero, mul-assoc, zero-add, mul-add-div-right, mul-add-mod-self-right, add-zero, mod-one, mod-mod, mod-eq-of-lt, mul-suc, mul-add, add-assoc, add-comm, mul-comm}
+use native.Mathlib.Nat.{suc-add, add-suc, mul-one, zero-mul, mul-zero, mul-assoc, zero-add, mul-add-div-right, mul-add-mod-self-right, add-zero, mod-one}
+use native.Mathlib.Nat.{mod-mod, mod-eq-of-lt, mul-suc, add-assoc, add-comm, mul-comm}
 use native.Mathlib.Numerals.{add-one}
 use native.Mathlib.Omega.{arith}
 use lib.Arith.{digits-lt, digits-div}
@@ -240,14 +241,6 @@ store-field fields value w name place l l' after e d =
 pub store-none : (value : Name → ℕ) (place : ℕ) (l : List ℕ) → l ≡ sets l place (bytesIn [] value)
 unfolding bytesIn
 store-none value place l = refl
-
--- m fields from the i-th on are stored, and the others behind them
-pub fields-block : (w i m : ℕ) (us vs l : List ℕ) → length us ≡ m
-    → sets (sets l (w * i) (fieldsOf w us)) (w * (i + m)) (fieldsOf w vs) ≡ sets l (w * i) (fieldsOf w (us ++ vs))
-fields-block w i m us vs l e =
-    sets-behind (fieldsOf w us) (fieldsOf w vs) l (w * i) (w * (i + m)) (mul-add w i m ∙ ap (λ (n : ℕ). w * i + n)
-    (ap (λ (n : ℕ). w * n) (sym e) ∙ sym (length-fieldsOf w us)))
-    ∙ ap (sets l (w * i)) (sym (fields-append w us vs))
 
 -- one of the numbers
 pub numbers-one : (c place w i : ℕ) (l : List ℕ) → i < c → getD (numbersAt place w c l) i 0 ≡ numberAt (place + w * i) w l

@@ -18,7 +18,8 @@ use Rattle.acceptance.specs.Keys.{accepted}
 use Rattle.lists.proofs.Truth.{or-neither}
 use Rattle.acceptance.proofs.Laws.{accepted-iff, accepted-pos, accepted-small, key-iff}
 use Rattle.files.specs.Files.{Bytes, fingerprint}
-use Rattle.sheets.specs.Layout.{Letters, Version, Key, Length, version1, placeOf, widthOf, pagePlace, sheetLength, pageCount, Contents, letters, sheetBytes, fieldIn, pagesIn, contentsIn}
+use Rattle.sheets.specs.Layout.{Letters, Version, Key, Length, version1, placeOf, widthOf, pagePlace, sheetLength, pageCount, Contents, letters}
+use Rattle.sheets.specs.Layout.{sheetBytes, fieldIn, pagesIn, contentsIn}
 use Rattle.sheets.specs.Sheets.{contentsOf, someUnreduced, pagesJoined, fileFilled, headWrong, readTests, Sound, WellFormed}
 use Rattle.sheets.proofs.Numbers.{number-lt, length-numbersAt}
 use Rattle.sheets.proofs.Layouts.{Fits, length-sheet, field-back, read-back, write-back}

@@ -13,7 +13,8 @@ use Rattle.refusals.specs.Refusals.{Answer, Done, Refused, Test, _⇒_, firstOf
 use Rattle.acceptance.specs.Keys.{accepted, keyTests}
 use Rattle.files.specs.declared.Mark.{Mark}
 use Rattle.files.specs.Files.{fingerprint, markOf, joined}
-use Rattle.sheets.specs.Layout.{Letters, Version, Layout, version1, pagePlace, sheetLength, pageCount, numberAt, Contents, letters, sheetBytes, fieldIn, contentsIn}
+use Rattle.sheets.specs.Layout.{Letters, Version, Layout, version1, pagePlace, sheetLength, pageCount, numberAt, Contents, letters, sheetBytes}
+use Rattle.sheets.specs.Layout.{fieldIn, contentsIn}
 use Rattle.sheets.specs.declared.Sheet.{Sheet}
 use Rattle.sheets.specs.declared.Reading.{Reading}
 use Rattle.sheets.specs.declared.Reading.the-variants as reading-cases

@@ -1,7 +1,7 @@
 -- `agreeing` meets its contract: the first i numbers agree.
 use mathlib.Core.Path.{_≡_, sym, ap, _∙_}
 use mathlib.Core.List.{List}
-use Prim.Native.Nat.{_+_, _-_, _*_, _≤_}
+use Prim.Native.Nat.{ℕ, _+_, _-_, _*_, _≤_}
 use native.Mathlib.Nat.{zero-add, sub-zero}
 use native.Mathlib.Omega.{arith}
 use lib.ListN.{length, drop}
@@ -37,7 +37,8 @@ room c = begun c .pre (omega (arith, c .before .if1 .left))
 returns : tie.Need-returns Inv-loop μ-loop
 returns c =
     let a = c .before .before .before .args in
-    sym (ap (λ (fs : List _). agreeing fs (a .marks .now)) (expected-none (a .known .now) (a .from) (a .marks .now) (c .if1 .taken)) ∙ agree-all (a .marks .now))
+    let own = expected-none (a .known .now) (a .from) (a .marks .now) (c .if1 .taken) in
+    sym (ap (λ (fs : List ℕ). agreeing fs (a .marks .now)) own ∙ agree-all (a .marks .now))
 
 loop-holds : tie.Need-loop-holds Inv-loop μ-loop
 loop-holds c =

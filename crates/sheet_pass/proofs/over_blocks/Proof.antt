@@ -1,4 +1,4 @@
--- `over_blocks` meets its contract: the first i pages have the expected fingerprints, and these are written.
+-- `over_blocks` meets its contract: the first pages have the expected fingerprints, and these are written.
 use mathlib.Core.Path.{_≡_, refl, sym, ap, _∙_}
 use mathlib.Core.List.{List, []}
 use Prim.Native.Nat.{ℕ, _+_, _-_, _*_, _^_, _≤_, _<_}
@@ -19,14 +19,14 @@ use Rattle.sheet_pass.proofs.over_blocks.Statement.{statement}
 use Rattle.sheet_pass.proofs.over_blocks.Tie as tie
 
 abbrev Inv-loop : tie.InvT-loop
-Inv-loop out₀ known words eights x file size marks₀ i₀ out marks i =
+Inv-loop out₀ known words eights x file size marks₀ page₀ out marks page =
     let count = pageCount (x .size) (length file) in
     let fs = pageFingerprints (polynomial (x .p)) (x .size) count file in
-    (i ≤ count) × (length marks ≡ 64) × (length out ≡ length out₀) × (out ≡ sets out₀ 0 (fieldsOf 8 (take i fs)))
-    × (i + agreeing (expected known (8 * i) (drop i fs)) (drop i fs) ≡ agreeing (expected known 0 fs) fs)
+    (page ≤ count) × (length marks ≡ 64) × (length out ≡ length out₀) × (out ≡ sets out₀ 0 (fieldsOf 8 (take page fs)))
+    × (page + agreeing (expected known (8 * page) (drop page fs)) (drop page fs) ≡ agreeing (expected known 0 fs) fs)
 
 abbrev μ-loop : tie.MeasureT-loop
-μ-loop out₀ known words eights x file size marks₀ i₀ out marks i = pageCount (x .size) (length file) - i
+μ-loop out₀ known words eights x file size marks₀ page₀ out marks page = pageCount (x .size) (length file) - page
 
 -- the start, the loop, the next pages, those that agree and their fields
 abbrev start : tie.At-loop Inv-loop μ-loop → tie.Start Inv-loop μ-loop
@@ -68,37 +68,37 @@ small s = count-small (s .args .x .size) (length (file s)) (s .pre .1) (s .pre .
 many : (s : tie.Start Inv-loop μ-loop) → length (prints s) ≡ count s
 many s = length-pages (key s) (count s) (s .args .x .size) (file s)
 
-more : (c : tie.After-marks Inv-loop μ-loop) → loop c .loop .i * start (loop c) .args .x .size < length (file (start (loop c)))
+more : (c : tie.After-marks Inv-loop μ-loop) → loop c .loop .page * start (loop c) .args .x .size < length (file (start (loop c)))
 more c = c .before .loop-test .taken
 
 -- the pages of the block are pages of the file, at least one
-within : (c : tie.After-next-pages Inv-loop μ-loop) → begun c .loop .i + c .next-pages .result ≤ count (start (begun c))
+within : (c : tie.After-next-pages Inv-loop μ-loop) → begun c .loop .page + c .next-pages .result ≤ count (start (begun c))
 within c =
     let s = start (begun c) in
-    turn-within (key s) (s .args .x .size) (file s) (begun c .loop .i) (positive s) (more (c .before .before)) (c .next-pages .result) _
+    turn-within (key s) (s .args .x .size) (file s) (begun c .loop .page) (positive s) (more (c .before .before)) (c .next-pages .result) _
     (c .next-pages .ensures)
 
 some : (c : tie.After-next-pages Inv-loop μ-loop) → 0 < c .next-pages .result
 some c =
     let s = start (begun c) in
-    turn-some (key s) (s .args .x .size) (file s) (begun c .loop .i) (positive s) (more (c .before .before)) (c .next-pages .result) _
+    turn-some (key s) (s .args .x .size) (file s) (begun c .loop .page) (positive s) (more (c .before .before)) (c .next-pages .result) _
     (c .next-pages .ensures)
 
 -- the marks of the block, as they are lent
 abbrev block : tie.After-next-pages Inv-loop μ-loop → List ℕ
 block c = take (c .next-pages .result) (c .next-pages .last .0)
 
-marks : (c : tie.After-next-pages Inv-loop μ-loop) → block c ≡ take (c .next-pages .result) (drop (begun c .loop .i) (prints (start (begun c))))
+marks : (c : tie.After-next-pages Inv-loop μ-loop) → block c ≡ take (c .next-pages .result) (drop (begun c .loop .page) (prints (start (begun c))))
 marks c =
     let s = start (begun c) in
-    turn-marks (key s) (s .args .x .size) (file s) (begun c .loop .i) (positive s) (more (c .before .before)) (c .next-pages .result) _
+    turn-marks (key s) (s .args .x .size) (file s) (begun c .loop .page) (positive s) (more (c .before .before)) (c .next-pages .result) _
     (c .next-pages .ensures)
 
-fits : (c : tie.After-next-pages Inv-loop μ-loop) → begun c .loop .i + c .next-pages .result ≤ length (prints (start (begun c)))
+fits : (c : tie.After-next-pages Inv-loop μ-loop) → begun c .loop .page + c .next-pages .result ≤ length (prints (start (begun c)))
 fits c = omega (arith, within c, many (start (begun c)))
 
 long : (c : tie.After-next-pages Inv-loop μ-loop) → length (block c) ≡ c .next-pages .result
-long c = block-long (start (begun c) .args .known .now) (prints (start (begun c))) (block c) (begun c .loop .i) (c .next-pages .result) (marks c) (fits c)
+long c = block-long (start (begun c) .args .known .now) (prints (start (begun c))) (block c) (begun c .loop .page) (c .next-pages .result) (marks c) (fits c)
 
 all-marks : (c : tie.After-next-pages Inv-loop μ-loop) → c .next-pages .result ≤ length (c .next-pages .last .0)
 all-marks c = omega (arith, c .next-pages .ensures .few, c .next-pages .kept .0, begun c .loop .inv .1)
@@ -107,7 +107,7 @@ few : (c : tie.After-agreeing Inv-loop μ-loop) → c .agreeing .result ≤ next
 few c =
     let n = next c in
     let s = start (begun n) in
-    block-few (s .args .known .now) (prints s) (block n) (begun n .loop .i) (n .next-pages .result) (marks n) (fits n) (c .agreeing .result)
+    block-few (s .args .known .now) (prints s) (block n) (begun n .loop .page) (n .next-pages .result) (marks n) (fits n) (c .agreeing .result)
     (c .agreeing .ensures)
 
 taken : (c : tie.After-agreeing Inv-loop μ-loop) → length (take (c .agreeing .result) (next c .next-pages .last .0)) ≡ c .agreeing .result
@@ -117,15 +117,15 @@ taken c = length-take-le (c .agreeing .result) (next c .next-pages .last .0) (om
 written : (c : tie.After-put-fields Inv-loop μ-loop)
     → c .put-fields .last .0
     ≡ sets (start (begun (next (agreed c))) .args .out .now) 0
-    (fieldsOf 8 (take (begun (next (agreed c)) .loop .i + agreed c .agreeing .result) (prints (start (begun (next (agreed c)))))))
+    (fieldsOf 8 (take (begun (next (agreed c)) .loop .page + agreed c .agreeing .result) (prints (start (begun (next (agreed c)))))))
 written c =
     let a = agreed c in
     let n = next a in
     let l = begun n .loop in
     let s = start (begun n) in
     c .put-fields .ensures
-    ∙ ap (λ (b : List ℕ). sets b (8 * l .i) (fieldsOf 8 (take (a .agreeing .result) (n .next-pages .last .0)))) (l .inv .3)
-    ∙ block-written (prints s) (n .next-pages .last .0) (s .args .out .now) (l .i) (n .next-pages .result) (a .agreeing .result) (marks n) (fits n) (few a)
+    ∙ ap (λ (b : List ℕ). sets b (8 * l .page) (fieldsOf 8 (take (a .agreeing .result) (n .next-pages .last .0)))) (l .inv .3)
+    ∙ block-written (prints s) (n .next-pages .last .0) (s .args .out .now) (l .page) (n .next-pages .result) (a .agreeing .result) (marks n) (fits n) (few a)
 
 loop-holds : tie.Need-loop-holds Inv-loop μ-loop
 unfolding fieldsOf
@@ -134,7 +134,7 @@ loop-holds c = (omega arith, refl, refl, refl, zero-add _)
 mul-loop : tie.Need-mul-loop Inv-loop μ-loop
 mul-loop c =
     let s = start c in
-    omega (arith, page-begins (s .args .x .size) (length (file s)) (c .loop .i) (positive s) (c .loop .inv .0), s .pre .2, s .pre .3)
+    omega (arith, page-begins (s .args .x .size) (length (file s)) (c .loop .page) (positive s) (c .loop .inv .0), s .pre .2, s .pre .3)
 
 slice-aggregate-next-pages : tie.Need-slice-aggregate-next-pages Inv-loop μ-loop
 slice-aggregate-next-pages c = sym (loop c .loop .inv .1)
@@ -143,7 +143,7 @@ next-pages-requires : tie.Need-next-pages-requires Inv-loop μ-loop
 next-pages-requires c κs =
     let l = loop (c .before) in
     let s = start l in
-    let last = turn-last (key s) (s .args .x .size) (file s) (l .loop .i) (positive s) (more (c .before)) (s .args .x .last) (s .pre .4) in
+    let last = turn-last (key s) (s .args .x .size) (file s) (l .loop .page) (positive s) (more (c .before)) (s .args .x .last) (s .pre .4) in
     (s .pre .0, omega (arith, s .pre .1), s .pre .2, omega (arith, l .loop .inv .1), last)
 
 mul-agreeing : tie.Need-mul-agreeing Inv-loop μ-loop
@@ -174,8 +174,8 @@ put-fields-requires c κs lent =
     let l = begun n .loop in
     omega (arith, taken a, few a, within n, l .inv .2, start (begun n) .pre .5 (omega (arith, l .inv .2)))
 
-add-i : tie.Need-add-i Inv-loop μ-loop
-add-i c = let a = agreed (put c) in omega (arith, few a, within (next a), small (start (begun (next a))))
+add-page : tie.Need-add-page Inv-loop μ-loop
+add-page c = let a = agreed (put c) in omega (arith, few a, within (next a), small (start (begun (next a))))
 
 same-length : tie.Need-same-length Inv-loop μ-loop
 same-length c = let p = put (c .before) in p .put-fields .kept .0 ∙ begun (next (agreed p)) .loop .inv .2
@@ -189,7 +189,7 @@ returns c =
     let l = begun n .loop in
     let s = start (begun n) in
     let ends =
-    block-ends (s .args .known .now) (prints s) (block n) (l .i) (n .next-pages .result) (marks n) (fits n) (a .agreeing .result) (a .agreeing .ensures)
+    block-ends (s .args .known .now) (prints s) (block n) (l .page) (n .next-pages .result) (marks n) (fits n) (a .agreeing .result) (a .agreeing .ensures)
     (c .if1 .taken) in
     record { same = omega (arith, l .inv .4, ends); written = written p }
 
@@ -204,7 +204,7 @@ loop-again c =
     let l = begun n .loop in
     let s = start (begun n) in
     let agrees =
-    block-agrees (s .args .known .now) (prints s) (block n) (l .i) (n .next-pages .result) (marks n) (fits n) (a .agreeing .result) (a .agreeing .ensures)
+    block-agrees (s .args .known .now) (prints s) (block n) (l .page) (n .next-pages .result) (marks n) (fits n) (a .agreeing .result) (a .agreeing .ensures)
     (c .if1 .left) in (
       omega (arith, few a, within n),
       n .next-pages .kept .0 ∙ l .inv .1,
@@ -221,9 +221,9 @@ returns-2 c =
     let l = c .before .loop in
     let s = start (c .before) in
     let known = s .args .known .now in
-    let reached = count-reached (s .args .x .size) (length (file s)) (l .i) (positive s) (omega arith) in
-    let none : drop (l .i) (prints s) ≡ [] = drop-of-length-le (prints s) {i = l .i} (omega (arith, many s)) in
-    let least = agree-le (expected known (8 * l .i) (drop (l .i) (prints s))) (drop (l .i) (prints s)) in
+    let reached = count-reached (s .args .x .size) (length (file s)) (l .page) (positive s) (omega arith) in
+    let none : drop (l .page) (prints s) ≡ [] = drop-of-length-le (prints s) {i = l .page} (omega (arith, many s)) in
+    let least = agree-le (expected known (8 * l .page) (drop (l .page) (prints s))) (drop (l .page) (prints s)) in
     record { same = omega (arith, l .inv .4, least, ap length none); written = l .inv .3 }
 
 pub over-blocks-spec : {M : Type 1} → statement M
@@ -248,7 +248,7 @@ over-blocks-spec =
     array-share-prefix-marks-2
     slice-aggregate-put-fields
     put-fields-requires
-    add-i
+    add-page
     same-length
     returns
     loop-less
