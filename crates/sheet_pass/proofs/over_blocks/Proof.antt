@@ -29,8 +29,11 @@ abbrev μ-loop : tie.MeasureT-loop
 μ-loop out₀ known words eights x file size marks₀ page₀ out marks page = pageCount (x .size) (length file) - page
 
 -- the start, the loop, the next pages, those that agree and their fields
+abbrev slices→start : tie.After-shared-slice-known4 Inv-loop μ-loop → tie.Start Inv-loop μ-loop
+slices→start c = c .before .before .before .before .before
+
 abbrev start : tie.At-loop Inv-loop μ-loop → tie.Start Inv-loop μ-loop
-start c = c .before .before .before .before .before .before
+start c = slices→start (c .before)
 
 abbrev loop : tie.After-marks Inv-loop μ-loop → tie.At-loop Inv-loop μ-loop
 loop c = c .before .before
