@@ -1,6 +1,6 @@
 -- The loop's invariant is `Kept`. The measure is the number of rows that are left.
 use mathlib.Core.Path.{_≡_}
-use Prim.Native.Nat.{_-_, _*_, _%_, _^_}
+use Prim.Native.Nat.{_-_, _*_, _%_, _^_, _<_}
 use native.Mathlib.Omega.{arith}
 use borrow.Author.Needs.{needs}
 use lib.ListN.{length-take, length-drop}
@@ -47,7 +47,9 @@ loop-again c =
     let one = one-at (cleared-at c .before) .lowest-one in
     let l = turn (one-at (cleared-at c .before)) .loop in
     let s = turn (one-at (cleared-at c .before)) .before in
-    kept-turn (s .args .rows) (s .args .k) (s .pre .0) (l .i) (l .work) (l .sums) (l .inv) (omega arith) (one .result) (one .ensures .2)
+    let below = s .pre .0 in
+    let taken = one-at (cleared-at c .before) .before .loop-test .taken in
+    kept-turn (s .args .rows) (s .args .k) below (l .i) (l .work) (l .sums) (l .inv) taken (one .result) (one .ensures .2)
     (clear .last .0) (clear .last .1 .0) (clear .ensures .0) (rw (shifted-one (l .i) (omega arith)) at (clear .ensures .1))
 
 returns : tie.Need-returns Inv-loop μ-loop
@@ -55,9 +57,15 @@ unfolding _⊕_
 returns c =
     let s = c .before .before in
     let l = c .before .loop in
+    let reached = l .inv .reached in
+    let left = c .loop-test .left in
     let e : l .i ≡ s .args .k = omega arith in
     relation-found (s .args .rows) (s .args .k) (s .pre .0) (l .work) (l .sums) (rw e at (l .inv)) (1 * 2 ^ (s .args .k) % 2 ^ 64)
     (shifted-one (s .args .k) (s .pre .0))
+
+-- what the arithmetic of a turn rests on
+in-turn : (c : tie.In-loop Inv-loop μ-loop) → (c .before .loop .i < c .before .before .args .k) × (c .before .before .args .k < 64)
+in-turn c = (c .loop-test .taken, c .before .before .pre .0)
 
 pub relation-spec : {M : Type 1} → statement M
 relation-spec =
@@ -65,28 +73,28 @@ relation-spec =
     (tie.spec
     Inv-loop
     μ-loop
-    (λ c. omega arith)
+    (λ c. omega (arith, c .pre .0))
     loop-holds
-    (λ c. omega arith)
-    (λ c. omega arith)
+    (λ c. omega (arith, in-turn c))
+    (λ c. omega (arith, in-turn c))
     lowest-one-requires
-    (λ c. omega arith)
-    (λ c. omega arith)
-    (λ c. omega arith)
-    (λ c. omega arith)
-    (λ c. omega arith)
-    (λ c. omega arith)
-    (λ c. omega arith)
-    (λ c. omega arith)
-    (λ c. omega arith)
-    (λ c. omega arith)
-    (λ c. omega arith)
-    (λ c. omega arith)
+    (λ c. omega (arith, in-turn (c .before)))
+    (λ c. omega (arith, in-turn (c .before)))
+    (λ c. omega (arith, in-turn (c .before)))
+    (λ c. omega (arith, in-turn (c .before)))
+    (λ c. omega (arith, in-turn (c .before)))
+    (λ c. omega (arith, in-turn (c .before)))
+    (λ c. omega (arith, in-turn (c .before)))
+    (λ c. omega (arith, in-turn (c .before)))
+    (λ c. omega (arith, in-turn (c .before .before)))
+    (λ c. omega (arith, in-turn (c .before .before)))
+    (λ c. omega (arith, in-turn (c .before .before)))
+    (λ c. omega (arith, in-turn (c .before .before)))
     clear-with-sums-requires
-    (λ c. omega arith)
-    (λ c. omega arith)
+    (λ c. omega (arith, in-turn (one-at (cleared-at c .before) .before)))
+    (λ c. omega (arith, in-turn (one-at (cleared-at c .before) .before)))
     loop-again
-    (λ c. omega arith)
-    (λ c. omega arith)
-    (λ c. omega arith)
+    (λ c. omega (arith, c .before .before .pre .0))
+    (λ c. omega (arith, c .before .before .pre .0))
+    (λ c. omega (arith, c .before .before .pre .0))
     returns)
