@@ -100,6 +100,9 @@ loop-holds c =
     let z = c .start-lanes .ensures in
     (omega arith, z .0, z .1, z .2, z .3, lanes-begin false (hit (a .s) (a .text .now) (a .from)) (a .flags .now) (s .pre .1))
 
+add-i : tie.Need-add-i Inv-loop μ-loop
+add-i c = let s = struct-known4→start c in omega (arith, s .pre .2, s .good .1 .1 .1 .0 .0, struct-known4→in-loop c .loop-test .taken)
+
 roll-requires : tie.Need-roll-requires Inv-loop μ-loop
 roll-requires c κs =
     let l = struct-known4→at-loop c .loop in
@@ -108,19 +111,19 @@ roll-requires c κs =
     (r .0, omega (arith, r .1), same-place (a .s) (a .text .now) (a .from + l .j + 0) (a .from + l .j) (l .a) (omega arith) (r .2))
 
 add-roll : tie.Need-add-roll Inv-loop μ-loop
-add-roll c = let s = roll→start c in omega (arith, s .pre .2, s .good .1 .1 .1 .0 .0)
+add-roll c = let s = roll→start c in omega (arith, s .pre .2, s .good .1 .1 .1 .0 .0, roll→in-loop c .loop-test .taken)
 
 roll-requires-2 : tie.Need-roll-requires-2 Inv-loop μ-loop
 roll-requires-2 c κs = let l = roll→at-loop c .loop in rolls (roll→in-loop c) 256 (l .b) (omega arith) (l .inv .2)
 
 add-roll-2 : tie.Need-add-roll-2 Inv-loop μ-loop
-add-roll-2 c = let s = roll2→start c in omega (arith, s .pre .2, s .good .1 .1 .1 .0 .0)
+add-roll-2 c = let s = roll2→start c in omega (arith, s .pre .2, s .good .1 .1 .1 .0 .0, roll2→in-loop c .loop-test .taken)
 
 roll-requires-3 : tie.Need-roll-requires-3 Inv-loop μ-loop
 roll-requires-3 c κs = let l = roll2→at-loop c .loop in rolls (roll2→in-loop c) 512 (l .c) (omega arith) (l .inv .3)
 
 add-roll-3 : tie.Need-add-roll-3 Inv-loop μ-loop
-add-roll-3 c = let s = roll3→start c in omega (arith, s .pre .2, s .good .1 .1 .1 .0 .0)
+add-roll-3 c = let s = roll3→start c in omega (arith, s .pre .2, s .good .1 .1 .1 .0 .0, roll3→in-loop c .loop-test .taken)
 
 roll-requires-4 : tie.Need-roll-requires-4 Inv-loop μ-loop
 roll-requires-4 c κs = let l = roll3→at-loop c .loop in rolls (roll3→in-loop c) 768 (l .d) (omega arith) (l .inv .4)
@@ -148,7 +151,9 @@ loop-again c =
 returns : tie.Need-returns Inv-loop μ-loop
 returns c =
     let a = start-lanes→start (c .before .before) .args in
-    let l = c .before .loop in (
+    let l = c .before .loop in
+    let most = l .inv .0 in
+    let left = c .loop-test .left in (
       same-place (a .s) (a .text .now) (a .from + (l .j + 768)) (a .from + 1024) (l .d) (omega arith) (l .inv .4),
       lanes-end false (hit (a .s) (a .text .now) (a .from)) (l .j) (l .flags) (omega arith) (l .inv .5),
       l .inv .5 .0,
@@ -162,14 +167,14 @@ four-lanes-spec =
     μ-loop
     start-lanes-requires
     loop-holds
-    (λ c. omega arith)
-    (λ c. omega arith)
-    (λ c. omega arith)
-    (λ c. omega arith)
-    (λ c. omega arith)
-    (λ c. omega arith)
-    (λ c. omega arith)
-    (λ c. omega arith)
+    (λ c. omega (arith, c .before .loop-test .taken))
+    (λ c. omega (arith, c .before .before .loop-test .taken))
+    (λ c. omega (arith, c .before .before .loop-test .taken))
+    (λ c. omega (arith, c .before .before .before .loop-test .taken))
+    (λ c. omega (arith, c .before .before .before .loop-test .taken))
+    (λ c. omega (arith, struct-known4→in-loop c .loop-test .taken))
+    (λ c. omega (arith, struct-known4→in-loop c .loop-test .taken))
+    add-i
     roll-requires
     add-roll
     roll-requires-2
@@ -177,7 +182,7 @@ four-lanes-spec =
     roll-requires-3
     add-roll-3
     roll-requires-4
-    (λ c. omega arith)
-    (λ c. omega arith)
+    (λ c. omega (arith, roll3→in-loop (c .before) .loop-test .taken))
+    (λ c. omega (arith, roll3→in-loop (c .before) .loop-test .taken))
     loop-again
     returns)
