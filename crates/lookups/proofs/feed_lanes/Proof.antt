@@ -25,8 +25,11 @@ shared-slice-known2→start c = c .before .before
 abbrev shared-slice-known5→start : tie.After-shared-slice-known5 Inv-loop μ-loop → tie.Start Inv-loop μ-loop
 shared-slice-known5→start c = shared-slice-known2→start (c .before .before .before)
 
+abbrev in-loop→start : tie.In-loop Inv-loop μ-loop → tie.Start Inv-loop μ-loop
+in-loop→start c = shared-slice-known5→start (c .before .before)
+
 abbrev four-at→start : tie.After-four-at Inv-loop μ-loop → tie.Start Inv-loop μ-loop
-four-at→start c = shared-slice-known5→start (c .before .before .before)
+four-at→start c = in-loop→start (c .before)
 
 abbrev feed-four→in-loop : tie.After-feed-four Inv-loop μ-loop → tie.In-loop Inv-loop μ-loop
 feed-four→in-loop c = c .before .before
@@ -70,6 +73,15 @@ feed-four4→at-loop c = four-at4→at-loop (c .before)
 abbrev feed-four4→feed-four2 : tie.After-feed-four4 Inv-loop μ-loop → tie.After-feed-four2 Inv-loop μ-loop
 feed-four4→feed-four2 c = c .before .before .before .before
 
+-- four bytes are left in each lane
+left-four : (c : tie.In-loop Inv-loop μ-loop) → let a = in-loop→start c .args in let i = c .before .loop .i in
+    (i + 4 ≤ length (a .q .now)) × (i + 4 ≤ length (a .r .now)) × (i + 4 ≤ length (a .s .now)) × (i + 4 ≤ length (a .t .now))
+left-four c =
+    let p = in-loop→start c .pre in
+    let l = c .before .loop in
+    let g : l .i + 4 ≤ length (in-loop→start c .args .q .now) = omega (arith, c .loop-test .taken, l .inv .1, p .5) in
+    (g, omega (arith, p .6), omega (arith, p .7), omega (arith, p .8))
+
 -- four bytes can be fed to a lane
 feeds : (s : tie.Start Inv-loop μ-loop) (part : List ℕ) (i x v : ℕ) → x < 2 ^ s .args .p .degree → i + 4 ≤ length part
     → v ≡ valueFrom 0 (bits (take 4 (drop i part)))
@@ -87,25 +99,25 @@ feed-four-requires : tie.Need-feed-four-requires Inv-loop μ-loop
 feed-four-requires c κs =
     let s = four-at→start c in
     let l = c .before .before .loop in
-    feeds s (s .args .q .now) (l .i) (l .a) (c .four-at .result) (l .inv .2 .0) (omega arith) (c .four-at .ensures)
+    feeds s (s .args .q .now) (l .i) (l .a) (c .four-at .result) (l .inv .2 .0) (left-four (c .before) .0) (c .four-at .ensures)
 
 feed-four-requires-2 : tie.Need-feed-four-requires-2 Inv-loop μ-loop
 feed-four-requires-2 c κs =
     let s = four-at2→start c in
     let l = four-at2→at-loop c .loop in
-    feeds s (s .args .r .now) (l .i) (l .b) (c .four-at2 .result) (l .inv .3 .0) (omega arith) (c .four-at2 .ensures)
+    feeds s (s .args .r .now) (l .i) (l .b) (c .four-at2 .result) (l .inv .3 .0) (left-four (feed-four→in-loop (c .before)) .1) (c .four-at2 .ensures)
 
 feed-four-requires-3 : tie.Need-feed-four-requires-3 Inv-loop μ-loop
 feed-four-requires-3 c κs =
     let s = four-at3→start c in
     let l = four-at3→at-loop c .loop in
-    feeds s (s .args .s .now) (l .i) (l .c) (c .four-at3 .result) (l .inv .4 .0) (omega arith) (c .four-at3 .ensures)
+    feeds s (s .args .s .now) (l .i) (l .c) (c .four-at3 .result) (l .inv .4 .0) (left-four (four-at3→in-loop c) .2) (c .four-at3 .ensures)
 
 feed-four-requires-4 : tie.Need-feed-four-requires-4 Inv-loop μ-loop
 feed-four-requires-4 c κs =
     let s = four-at4→start c in
     let l = four-at4→at-loop c .loop in
-    feeds s (s .args .t .now) (l .i) (l .d) (c .four-at4 .result) (l .inv .5 .0) (omega arith) (c .four-at4 .ensures)
+    feeds s (s .args .t .now) (l .i) (l .d) (c .four-at4 .result) (l .inv .5 .0) (left-four (four-at3→in-loop (c .before .before)) .3) (c .four-at4 .ensures)
 
 add-i : tie.Need-add-i Inv-loop μ-loop
 add-i c =
@@ -119,17 +131,17 @@ loop-again c =
     let a = s .args in
     let p = s .pre in
     let l = feed-four4→at-loop c .loop in
-    let g : l .i + 4 ≤ length (a .q .now) = omega (arith, four-at3→in-loop (c .before .before .before) .loop-test .taken, l .inv .1, p .5) in
+    let g = left-four (four-at3→in-loop (c .before .before .before)) in
     let more = going-four (a .p) (p .0 .0) in (
-      g,
+      g .0,
       omega (arith, l .inv .1),
-      more (a .f .a) (a .q .now) 0 (l .i) (l .a) (l .inv .2) _ _ g (four-at3→four-at (c .before .before .before) .four-at .ensures)
+      more (a .f .a) (a .q .now) 0 (l .i) (l .a) (l .inv .2) _ _ (g .0) (four-at3→four-at (c .before .before .before) .four-at .ensures)
           (four-at3→feed-four (c .before .before .before) .feed-four .ensures),
-      more (a .f .b) (a .r .now) 0 (l .i) (l .b) (l .inv .3) _ _ (omega (arith, g, p .6)) (four-at3→four-at2 (c .before .before .before) .four-at2 .ensures)
+      more (a .f .b) (a .r .now) 0 (l .i) (l .b) (l .inv .3) _ _ (g .1) (four-at3→four-at2 (c .before .before .before) .four-at2 .ensures)
           (feed-four4→feed-four2 c .feed-four2 .ensures),
-      more (a .f .c) (a .s .now) 0 (l .i) (l .c) (l .inv .4) _ _ (omega (arith, g, p .7)) (c .before .before .before .four-at3 .ensures)
+      more (a .f .c) (a .s .now) 0 (l .i) (l .c) (l .inv .4) _ _ (g .2) (c .before .before .before .four-at3 .ensures)
           (c .before .before .feed-four3 .ensures),
-      more (a .f .d) (a .t .now) 0 (l .i) (l .d) (l .inv .5) _ _ (omega (arith, g, p .8)) (c .before .four-at4 .ensures) (c .feed-four4 .ensures),
+      more (a .f .d) (a .t .now) 0 (l .i) (l .d) (l .inv .5) _ _ (g .3) (c .before .four-at4 .ensures) (c .feed-four4 .ensures),
     )
 
 returns : tie.Need-returns Inv-loop μ-loop
@@ -137,11 +149,13 @@ returns c =
     let s = shared-slice-known5→start (c .before .before) in
     let a = s .args in
     let l = c .before .loop in
-    let all = going-all (a .p) (s .pre .0 .0) in (
-      all (a .f .a) (a .q .now) 0 (l .i) (l .a) (l .inv .2) (omega arith),
-      all (a .f .b) (a .r .now) 0 (l .i) (l .b) (l .inv .3) (omega arith),
-      all (a .f .c) (a .s .now) 0 (l .i) (l .c) (l .inv .4) (omega arith),
-      all (a .f .d) (a .t .now) 0 (l .i) (l .d) (l .inv .5) (omega arith),
+    let p = s .pre in
+    let left = c .loop-test .left in
+    let all = going-all (a .p) (p .0 .0) in (
+      all (a .f .a) (a .q .now) 0 (l .i) (l .a) (l .inv .2) left,
+      all (a .f .b) (a .r .now) 0 (l .i) (l .b) (l .inv .3) (omega (arith, p .6)),
+      all (a .f .c) (a .s .now) 0 (l .i) (l .c) (l .inv .4) (omega (arith, p .7)),
+      all (a .f .d) (a .t .now) 0 (l .i) (l .d) (l .inv .5) (omega (arith, p .8)),
     )
 
 pub feed-lanes-spec : {M : Type 1} → statement M
@@ -151,15 +165,15 @@ feed-lanes-spec =
     Inv-loop
     μ-loop
     loop-holds
-    (λ c κs. omega arith)
+    (λ c κs. left-four c .0)
     feed-four-requires
-    (λ c κs. omega arith)
+    (λ c κs. left-four (feed-four→in-loop c) .1)
     feed-four-requires-2
-    (λ c κs. omega arith)
+    (λ c κs. left-four (feed-four→in-loop (c .before .before)) .2)
     feed-four-requires-3
-    (λ c κs. omega arith)
+    (λ c κs. left-four (four-at3→in-loop (c .before)) .3)
     feed-four-requires-4
     add-i
-    (λ c. omega arith)
+    (λ c. omega (arith, left-four (four-at3→in-loop (c .before .before .before)) .0))
     loop-again
     returns)

@@ -171,8 +171,8 @@ feed-long-spec =
     (λ c. omega arith)
     (λ c. omega arith)
     feed-lanes-requires
-    (λ c. omega arith)
-    (λ c κs. omega arith)
+    (λ c. omega (arith, feed-lanes-arg4→start (c .before) .good .1 .1 .1 .0 .0))
+    (λ c κs. feed-lanes-arg4→start (c .before) .pre .0 .0)
     times-plus-requires
     times-plus-requires-2
     times-plus-requires-3
