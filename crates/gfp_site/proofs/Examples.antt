@@ -40,11 +40,13 @@ unfolding calls run bookStep bookTests written bench-level.bookTests bench-level
 the-book = refl
 
 pub the-list : run (step 0x11B) (mark 0x01 0) calls ≡ (mark (fingerprint 0x11B (0x41 ∷ 0x00 ∷ 0x00 ∷ [])) 3, 0 ∷ 5 ∷ 0 ∷ 8 ∷ 7 ∷ 0 ∷ 9 ∷ 10 ∷ 0 ∷ [])
-unfolding calls run step bench-level.step feedBits feedTable fedMark joinBehind joinInFront joined replacePage replaced reducible anyBelow fingerprint value valueFrom bits lowBits rem longDivision reduce degree halvings _⊕_ differs
+unfolding calls run step bench-level.step feedBits feedTable fedMark joinBehind joinInFront joined replacePage replaced
+    reducible anyBelow fingerprint value valueFrom bits lowBits rem longDivision reduce degree halvings _⊕_ differs
 the-list = refl
 
 pub the-list-is-honest : Honest site 0x11B [] calls
-unfolding calls bookStep bookTests written bench-level.bookTests bench-level.written reducible anyBelow fingerprint value valueFrom bits lowBits markOf rem longDivision reduce degree halvings _⊕_ differs
+unfolding calls bookStep bookTests written bench-level.bookTests bench-level.written
+    reducible anyBelow fingerprint value valueFrom bits lowBits markOf rem longDivision reduce degree halvings _⊕_ differs
 the-list-is-honest = (
   λ e. tt,
   (

@@ -12,7 +12,9 @@ use Rattle.lists.specs.Lists.{All}
 use Rattle.lists.proofs.Truth.{and-left, and-right}
 use Rattle.lists.proofs.Lists.{all-map, rising}
 use Rattle.refusals.specs.declared.Refusal.{Refusal}
-use Rattle.refusals.specs.declared.Refusal.the-variants.{KeyBelow256, KeyReducible, DegreeNotListed, ElementOutOfRange, TableSize, TableWord, TooLong, MarkNotReduced, PageLengthsDiffer, PagePastEnd, EmptyPattern, PageSize, BufferShort, SheetMalformed}
+use Rattle.refusals.specs.declared.Refusal.the-variants.{KeyBelow256, KeyReducible, DegreeNotListed, ElementOutOfRange, TableSize}
+use Rattle.refusals.specs.declared.Refusal.the-variants.{TableWord, TooLong, MarkNotReduced, PageLengthsDiffer, PagePastEnd}
+use Rattle.refusals.specs.declared.Refusal.the-variants.{EmptyPattern, PageSize, BufferShort, SheetMalformed}
 use Rattle.refusals.specs.Refusals.{number, Done, Refused, numberOf, stateOf, Test, _⇒_, firstOf, numbers, applying, least, lowest}
 
 -- ---- the lowest number that applies

@@ -80,4 +80,5 @@ returns-3 c =
     ∙ halves (monic-pos (a .p .degree) (a .p .low) (s .pre .0 .2)) (a .x)
 
 pub residue-spec : {M : Type 1} → statement M
-residue-spec = tie.close (tie.spec (λ c. omega arith) feed-one-requires returns feed-four-requires returns-2 feed-four-requires-2 feed-four-requires-3 returns-3)
+residue-spec =
+    tie.close (tie.spec (λ c. omega arith) feed-one-requires returns feed-four-requires returns-2 feed-four-requires-2 feed-four-requires-3 returns-3)
