@@ -78,7 +78,7 @@ compare-requires c κs =
     let block = c .before .before .flag-block .ensures in
     let e = s .pre .1 in
     let some = s .pre .0 .some in
-    (block .1, omega arith, omega arith, s .pre .5, l .inv .2, l .inv .3)
+    (block .1, omega (arith, block .2), omega arith, s .pre .5, l .inv .2, l .inv .3)
 
 loop-again : tie.Need-loop-again Inv-loop μ-loop
 loop-again c =
@@ -123,7 +123,7 @@ returns c =
     let l = c .before .loop in
     let n = length t - length q + 1 in
     all-found (keyOf (a .s)) t q (a .places .now) (l .places) (l .found) n (windows-is t q (s .pre .4))
-    (tally-end (l .inv .5) (omega arith))
+    (tally-end (l .inv .5) (omega (arith, l .inv .0, c .loop-test .left)))
 
 pub search-blocks-spec : {M : Type 1} → statement M
 search-blocks-spec =
