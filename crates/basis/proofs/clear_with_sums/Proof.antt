@@ -33,6 +33,9 @@ read-at c = c .before .before .before
 abbrev turn : tie.After-slice-known4 Inv-loop μ-loop → tie.At-loop Inv-loop μ-loop
 turn c = read-at (c .before .before)
 
+abbrev in-turn : tie.After-slice-known4 Inv-loop μ-loop → tie.In-loop Inv-loop μ-loop
+in-turn c = c .before .before .before .before
+
 -- the buffers keep their lengths
 rows-same : (l : tie.At-loop Inv-loop μ-loop) → length (l .loop .rows) ≡ length (start l .args .rows .now)
 rows-same l = let a = start l .args in mapped-length (clear (a .c) (a .v)) (l .loop .j) (a .rows .now) (l .loop .inv .1)
@@ -41,16 +44,16 @@ sums-same : (l : tie.At-loop Inv-loop μ-loop) → length (l .loop .sums) ≡ le
 sums-same l = let a = start l .args in added-length (a .c) (a .w) (l .loop .j) (a .rows .now) (a .sums .now) (l .loop .inv .2)
 
 slice-read-r : tie.Need-slice-read-r Inv-loop μ-loop
-slice-read-r c = omega (arith, rows-same (c .before .before))
+slice-read-r c = omega (arith, rows-same (c .before .before), c .before .loop-test .taken)
 
 slice-write-rows : tie.Need-slice-write-rows Inv-loop μ-loop
-slice-write-rows c = omega (arith, rows-same (read-at c))
+slice-write-rows c = omega (arith, rows-same (read-at c), c .before .before .loop-test .taken)
 
 slice-read-sums : tie.Need-slice-read-sums Inv-loop μ-loop
-slice-read-sums c = omega (arith, sums-same (turn c))
+slice-read-sums c = omega (arith, sums-same (turn c), start (turn c) .pre .1, in-turn c .loop-test .taken)
 
 slice-write-sums : tie.Need-slice-write-sums Inv-loop μ-loop
-slice-write-sums c = omega (arith, sums-same (turn c))
+slice-write-sums c = omega (arith, sums-same (turn c), start (turn c) .pre .1, in-turn c .loop-test .taken)
 
 loop-again : tie.Need-loop-again Inv-loop μ-loop
 unfolding clear _⊕_
@@ -58,6 +61,8 @@ loop-again c =
     let a = start (turn c) .args in
     let l = turn c .loop in
     let f = clear (a .c) (a .v) in
+    let taken = in-turn c .loop-test .taken in
+    let same = start (turn c) .pre .1 in
     let row = ap (λ (x : ℕ). bitXor x (getD (l .rows) (l .j) 0)) (c .before .before .chosen .ensures) in
     let sum = ap (λ (x : ℕ). bitXor x (getD (l .sums) (l .j) 0)) (c .before .chosen2 .ensures) in
     let at = mapped-at f (l .j) (a .rows .now) (l .inv .1) in (
@@ -75,7 +80,9 @@ same-length-2 c = sums-same (c .before)
 returns : tie.Need-returns Inv-loop μ-loop
 returns c =
     let a = start (c .before) .args in
-    let l = c .before .loop in (
+    let l = c .before .loop in
+    let left = c .loop-test .left in
+    let same = start (c .before) .pre .1 in (
       mapped-whole (clear (a .c) (a .v)) (l .j) (a .rows .now) (l .inv .1) (omega arith),
       added-whole (a .c) (a .w) (l .j) (a .rows .now) (a .sums .now) (l .inv .2) (omega arith),
     )
