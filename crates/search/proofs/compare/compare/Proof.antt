@@ -9,6 +9,7 @@ use native.Mathlib.Omega.{arith}
 use lib.ListN.{length, drop, getD, set}
 use lib.Seq.{set-out}
 use Rattle.lists.specs.Lists.{same}
+use Rattle.refusals.specs.Refusals.{longest}
 use Rattle.search.specs.Searching.{isPlace}
 use Rattle.windows.specs.Rolling.{window}
 use Rattle.windows.proofs.Windows.{window-length, window-at}
@@ -176,6 +177,16 @@ same-length c = tally-length (c .before .windows .inv .4)
 returns : tie.Need-returns Inv-loop μ-loop Inv-windows μ-windows
 returns c = tally-end (c .before .windows .inv .4) (omega arith)
 
+-- what the arithmetic of a window and of a byte rests on
+in-window : (c : tie.In-windows Inv-loop μ-loop Inv-windows μ-windows) → let a = in-windows→start c .args in let i = c .before .windows .i in
+    (i < a .size) × (a .from + a .size + length (a .pattern .now) ≤ length (a .text .now) + 1) × (length (a .text .now) ≤ longest)
+in-window c = let p = in-windows→start c .pre in (c .windows-test .taken, p .1, p .3)
+
+in-byte : (c : tie.In-loop Inv-loop μ-loop Inv-windows μ-windows) → let a = in-loop→start c .args in
+    let i = in-loop→at-windows c .windows .i in let j = c .before .loop .j in
+    (j < length (a .pattern .now)) × (a .from + i + length (a .pattern .now) ≤ length (a .text .now)) × (length (a .text .now) ≤ longest)
+in-byte c = let w = in-window (in-loop→in-windows c) in (c .loop-test .taken, omega arith, w .2)
+
 pub compare-spec : {M : Type 1} → statement M
 compare-spec =
     tie.close
@@ -186,18 +197,18 @@ compare-spec =
     μ-windows
     next-flagged-requires
     windows-holds
-    (λ c. omega arith)
-    (λ c. omega arith)
+    (λ c. omega (arith, in-window c))
+    (λ c. omega (arith, in-window c))
     next-flagged-requires-2
     loop-holds
-    (λ c. omega arith)
-    (λ c. omega arith)
-    (λ c. omega arith)
+    (λ c. omega (arith, in-byte c))
+    (λ c. omega (arith, in-byte (c .before)))
+    (λ c. omega (arith, in-byte (c .before .before)))
     (λ c. omega arith)
     windows-less
     windows-again
-    (λ c. omega arith)
-    (λ c. omega arith)
+    (λ c. omega (arith, in-byte (c .before .before .before)))
+    (λ c. omega (arith, in-byte (c .before .before .before)))
     loop-again
     (λ c. omega arith)
     (λ c. omega arith)
