@@ -8,19 +8,24 @@ use Rattle.windows.proofs.flags.flag_block.Tie as tie
 abbrev start-of : tie.After-struct-known → tie.Start
 start-of c = c .before .before .before
 
+abbrev lanes→start : tie.After-four-lanes-arg → tie.Start
+lanes→start c = start-of (c .before .before .before .before)
+
+abbrev rest→start : tie.After-one-by-one-arg → tie.Start
+rest→start c = start-of (c .before .before .before .before)
+
 four-lanes-requires : tie.Need-four-lanes-requires
-four-lanes-requires c κs =
-    let p = start-of (c .before .before .before .before) .pre in (p .0, p .1, omega (arith, p .2, c .before .if2 .taken), p .3)
+four-lanes-requires c κs = let p = lanes→start c .pre in (p .0, p .1, omega (arith, p .2, c .before .if2 .taken), p .3)
 
 one-by-one-requires : tie.Need-one-by-one-requires
 one-by-one-requires c κs =
-    let p = start-of (c .before .before .before .before) .pre in
+    let p = rest→start c .pre in
     let l = c .before .least .ensures in
     (p .0, p .1, omega (arith, p .2, l .0), l .1, p .3)
 
 returns : tie.Need-returns
 returns c =
-    let p = start-of (c .before .before .before .before .before) .pre in
+    let p = lanes→start (c .before) .pre in
     let f = c .four-lanes .ensures in
     (omega arith, omega arith, omega (arith, p .2, c .before .before .if2 .taken), record { flags = f .1; next = λ _. f .0 }, f .2)
 
