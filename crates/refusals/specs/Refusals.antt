@@ -5,8 +5,6 @@ use mathlib.Core.List.{List, [], _∷_}
 use Prim.Native.Nat.{ℕ, min}
 use lib.Dec.{ltb}
 use Rattle.refusals.specs.declared.Refusal.{Refusal}
-use Rattle.refusals.specs.declared.Reply.{Reply}
-use Rattle.refusals.specs.declared.Reply.the-variants as reply-cases
 use Rattle.refusals.specs.declared.Refusal.the-variants.{KeyBelow256, KeyReducible, DegreeNotListed, ElementOutOfRange, TableSize, TableWord}
 use Rattle.refusals.specs.declared.Refusal.the-variants.{TooLong, MarkNotReduced, PageLengthsDiffer, PagePastEnd, EmptyPattern, PageSize}
 use Rattle.refusals.specs.declared.Refusal.the-variants.{BufferShort, SheetMalformed}
@@ -61,15 +59,6 @@ abbrev pub firstOf : {S A : Type 0} → List Test → S → A → Answer S A
 firstOf [] kept value = Done value
 firstOf (true ⇒ r ∷ ts) kept value = Refused r kept
 firstOf (false ⇒ r ∷ ts) kept value = firstOf ts kept value
-
--- the reply in code of a call that gives no value, with what it leaves: changed, or as it was handed in
-abbrev pub reply : {A : Type 0} → A → Reply → Answer A A
-reply left reply-cases.Done = Done left
-reply left (reply-cases.Refused r) = Refused r left
-
--- the same of a call that leaves nothing changed
-abbrev pub told : Reply → Answer Unit Unit
-told r = reply tt r
 
 -- tests alone
 abbrev pub judged : List Test → Answer Unit Unit
