@@ -12,7 +12,8 @@ use Rattle.gf2.specs.declared.Modulus.{Modulus}
 use Rattle.gf2.proofs.Monics.{word-proper, word-whole}
 use Rattle.refusals.specs.Refusals.{Test, firstOf}
 use Rattle.refusals.proofs.Laws.{Clear, more-clear, holds, fails}
-use Rattle.acceptance.specs.Keys.{accepted, keyTests, Opened}
+use Rattle.acceptance.specs.Keys.{accepted, keyTests}
+use Rattle.acceptance.specs.Opened.{Opened}
 use Rattle.acceptance.proofs.Laws.{accepted-iff, accepted-pos, accepted-small, key-iff}
 
 pub open-accepted : (key : ℕ) → accepted key ≡ true → Opened key (modulusOf key)

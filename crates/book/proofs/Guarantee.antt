@@ -6,7 +6,7 @@ use Prim.Native.Nat.{ℕ, _<_}
 use lib.Dec.{T}
 use lib.ListN.{length}
 use Rattle.lists.proofs.Lists.{rising, all-map}
-use Rattle.refusals.specs.Refusals.{numbers}
+use Rattle.refusals.specs.Lowest.{numbers}
 use Rattle.refusals.proofs.Laws.{first-is-lowest}
 use Rattle.acceptance.specs.Keys.{accepted}
 use Rattle.acceptance.proofs.Laws.{accepted-pos}

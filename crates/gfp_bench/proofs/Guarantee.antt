@@ -4,7 +4,8 @@ use mathlib.Core.List.{[]}
 use Prim.Native.Nat.{ℕ}
 use lib.Dec.{T}
 use Rattle.lists.proofs.Lists.{rising}
-use Rattle.refusals.specs.Refusals.{Answer, Done, valueOr, numbers}
+use Rattle.refusals.specs.Refusals.{Answer, Done, valueOr}
+use Rattle.refusals.specs.Lowest.{numbers}
 use Rattle.files.specs.declared.Mark.{Mark}
 use Rattle.files.specs.Files.{fingerprint, markOf}
 use Rattle.marks.specs.Feeding.{begin}

@@ -4,7 +4,7 @@ use mathlib.Core.List.{List, map}
 use Prim.Native.Nat.{ℕ}
 use lib.Dec.{T}
 use Rattle.lists.proofs.Lists.{rising}
-use Rattle.refusals.specs.Refusals.{numbers}
+use Rattle.refusals.specs.Lowest.{numbers}
 use Rattle.acceptance.proofs.Laws.{accepted-small}
 use Rattle.files.specs.declared.Mark.{Mark}
 use Rattle.book.specs.Runs.{run}

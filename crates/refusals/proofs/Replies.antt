@@ -5,7 +5,8 @@ use Prim.Native.Nat.{ℕ}
 use Rattle.refusals.specs.declared.Refusal.{Refusal}
 use Rattle.refusals.specs.declared.Reply.{Reply}
 use Rattle.refusals.specs.declared.Reply.the-variants as reply-cases
-use Rattle.refusals.specs.Refusals.{Answer, Refused, numberOf, stateOf, Test, firstOf, reply, told, judged}
+use Rattle.refusals.specs.Refusals.{Answer, Refused, numberOf, stateOf, Test, firstOf, judged}
+use Rattle.refusals.specs.Answers.{reply, told}
 use Rattle.refusals.proofs.Laws.{Clear, done-clear, more-refused}
 
 -- the tests that were judged, whatever stands behind them

@@ -7,7 +7,8 @@ ghost use mathlib.Core.Path.{_≡_};
 ghost use mathlib.Core.List.{[], _∷_};
 ghost use Rattle.gf2.specs.Moduli.{polynomial, Proper};
 ghost use Rattle.lists.specs.Lists.{listFrom};
-ghost use Rattle.refusals.specs.Refusals.{firstOf, reply, told, judged};
+ghost use Rattle.refusals.specs.Refusals.{firstOf, judged};
+ghost use Rattle.refusals.specs.Answers.{reply, told};
 ghost use Rattle.lookups.specs.Rule.{word};
 ghost use Rattle.tables.specs.Tables.{sizeTest, tableTests, makeTable, testTable};
 

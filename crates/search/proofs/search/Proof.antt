@@ -4,7 +4,7 @@ use Prim.Native.Nat.{ℕ}
 use native.Mathlib.Omega.{arith}
 use borrow.Author.Needs.{needs}
 use Rattle.refusals.specs.Refusals.{stateOf, firstOf}
-use Rattle.acceptance.specs.Keys.{Opened}
+use Rattle.acceptance.specs.Opened.{Opened}
 use Rattle.acceptance.proofs.Opened.{opened-first, opened-whole, opened-proper, opened-eight}
 use Rattle.keys.proofs.Laws.{opened, refused}
 use Rattle.search.specs.Searching.{counts, written, textTests, search as answer, placesAfter}

@@ -7,7 +7,7 @@ use borrow.Author.Needs.{needs}
 use Rattle.lists.specs.Lists.{listFrom}
 use Rattle.refusals.specs.Refusals.{firstOf}
 use Rattle.lookups.specs.Rule.{word}
-use Rattle.acceptance.specs.Keys.{Opened}
+use Rattle.acceptance.specs.Opened.{Opened}
 use Rattle.acceptance.proofs.Opened.{opened-whole, opened-proper, opened-first}
 use Rattle.keys.proofs.Laws.{opened, refused}
 use Rattle.tables.specs.Tables.{sizeTest, makeTable}
