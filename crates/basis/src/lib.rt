@@ -6,7 +6,7 @@ ghost use mathlib.Core.Logic.{_↔_};
 ghost use mathlib.Core.List.{map};
 ghost use Prim.Native.Nat.{_+_, _*_, _/_, _%_, _^_, _<_};
 ghost use lib.ListN.{length};
-ghost use Rattle.gf2.specs.Polynomials.{Degree};
+ghost use Rattle.gf2.specs.Degrees.{Degree};
 ghost use Rattle.basis.specs.Rows.{sumOf, Independent, NoRelation, clear, addWhere};
 
 // v where the lowest bit of x is 1, 0 where it is 0. No branch: the bits are data.

@@ -10,7 +10,8 @@ ghost use Rattle.lists.specs.Lists.{listFrom};
 ghost use Rattle.acceptance.specs.Keys.{reducible};
 ghost use Rattle.basis.specs.Rows.{Independent};
 ghost use Rattle.keys.specs.Squares.{square, evenRoot, oddPart, folded};
-ghost use Rattle.keys.specs.Testing.{testKey, tested};
+ghost use Rattle.keys.specs.Testing.{testKey};
+ghost use Rattle.keys.specs.Answers.{tested};
 use gf2::Modulus;
 use refusals::Refusal;
 
