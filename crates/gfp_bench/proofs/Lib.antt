@@ -2,4 +2,3 @@ pub mod StepLaws
 pub mod Guarantee
 pub mod Parts
 pub mod Examples
-pub mod Answers
