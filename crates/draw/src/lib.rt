@@ -86,7 +86,7 @@ pub fn draw(degree: u64, element: u64) -> Drawn
     if out_of_range(k, element) {
         return Drawn::Refused(Refusal::ElementOutOfRange);
     }
-    let stock = stock::stock_key(k);
+    let stock = stock::stock_key(degree);
     let p = gf2::modulus_of(stock);
     let key = minimal_polynomial(p, element);
     Drawn::Key(key)

@@ -115,7 +115,7 @@ pub fn test(key: u64) -> Tested
         return Tested::Refused(Refusal::KeyBelow256);
     }
     let p = gf2::modulus_of(key);
-    if key == stock::stock_key(p.degree) {
+    if key == stock::stock_key(p.degree as u64) {
         return Tested::Accepted(p);
     }
     if !irreducible(p) {

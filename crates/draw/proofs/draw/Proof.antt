@@ -88,11 +88,6 @@ element-in c =
     let r = or-neither (ltb (a .element) 2) (leb (2 ^ a .degree) (a .element)) (in-range c) in
     (ltb-false (a .element) 2 (r .0), leb-false (2 ^ a .degree) (a .element) (r .1))
 
-stock-key-requires : tie.Need-stock-key-requires
-stock-key-requires c κs =
-    let r = range (else2→start c .args .degree) (listed (c .before .before)) in
-    (omega (arith, r), omega (arith, r))
-
 modulus-of-requires : tie.Need-modulus-of-requires
 modulus-of-requires c κs = rw (c .stock-key .ensures) (field (stock-key→start c .args .degree) (listed (stock-key→else1 c)) .irreducible .proper)
 
@@ -133,7 +128,7 @@ draw-spec =
     cast-k
     out-of-range-requires
     returns-2
-    stock-key-requires
+    (λ c κs. search needs)
     modulus-of-requires
     minimal-polynomial-requires
     returns-3)
