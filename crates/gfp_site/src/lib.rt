@@ -5,13 +5,16 @@ ghost use Rattle.refusals.specs.Refusals.{numberOf, stateOf, valueOr};
 ghost use Rattle.places.specs.Places.{markAt};
 ghost use Rattle.compose.specs.Composing.{joinBehind, joinInFront, replacePage};
 ghost use Rattle.search.specs.Searching.{search, placesAfter};
-ghost use Rattle.sheets.specs.Sheets.{writeSheet, readSheet, sheetRead, readPages, checkSheet};
+ghost use Rattle.sheets.specs.Sheets.{writeSheet, readSheet, sheetRead, readPages, checkSheet, changedRange, lengthFor};
 ghost use Rattle.gfp_site.specs.Places.{countsAt, sheetAt, toldAt, toldOr};
+ghost use Rattle.gfp_site.specs.Ranges.{rangeAt, rangeOr};
 use files::Mark;
 use marks::Running;
 use search::Searched;
+use sheets::Changed;
 use sheets::Checked;
 use sheets::Reading;
+use sheets::SheetLength;
 
 // The file of the mark (other_fingerprint, other_length) goes behind the file of the mark in the two places. Numbers 1, 2, 7, 8.
 #[no_mangle]
@@ -200,5 +203,58 @@ pub extern "C" fn gfp_check_file(
             0
         }
         Checked::Refused(r) => refusals::number(r),
+    }
+}
+
+// The bytes of the first changed page of a file, from the first to before the last: outcome 0 for same, 1 for a page, 2 for another length;
+// from and to are 0 where no page is named. All of reading's numbers, then 7.
+#[no_mangle]
+pub extern "C" fn gfp_changed_range(
+    sheet: &[u8],
+    file: &[u8],
+    outcome: &mut u32,
+    from: &mut u64,
+    to: &mut u64,
+) -> u32
+    ensures { λ r. ⌜
+        (r ≡ numberOf (changedRange (now (sheet .entry)) (now (file .entry))))
+        × (rangeAt (now (outcome .exit)) (now (from .exit)) (now (to .exit))
+        ≡ rangeOr (rangeAt (now (outcome .entry)) (now (from .entry)) (now (to .entry))) (changedRange (now (sheet .entry)) (now (file .entry))))
+        ⌝ }
+{
+    match sheet_checking::first_changed_range(sheet, file) {
+        Changed::Same => {
+            *outcome = 0;
+            *from = 0;
+            *to = 0;
+            0
+        }
+        Changed::Bytes(a, b) => {
+            *outcome = 1;
+            *from = a;
+            *to = b;
+            0
+        }
+        Changed::OtherLength => {
+            *outcome = 2;
+            *from = 0;
+            *to = 0;
+            0
+        }
+        Changed::Refused(r) => refusals::number(r),
+    }
+}
+
+// The bytes that the sheet of a file of the given length has, with pages of the given size. Numbers 7, 12.
+#[no_mangle]
+pub extern "C" fn gfp_sheet_length(length: u64, size: u64, bytes: &mut u64) -> u32
+    ensures { λ r. ⌜ (r ≡ numberOf (lengthFor length size)) × (now (bytes .exit) ≡ valueOr (now (bytes .entry)) (lengthFor length size)) ⌝ }
+{
+    match sheet_writing::length(length, size) {
+        SheetLength::Bytes(n) => {
+            *bytes = n;
+            0
+        }
+        SheetLength::Refused(r) => refusals::number(r),
     }
 }

@@ -2,9 +2,10 @@
 -- listed, whether two lists are the same, what holds of every entry, of at least one entry, and that no entry stands twice.
 use mathlib.Core.Logic.{_≢_, _⊎_}
 use mathlib.Core.Bool.{Bool, true, false, _&&_, _||_, cond}
-use mathlib.Core.List.{List, [], _∷_}
+use mathlib.Core.List.{List, [], _∷_, _++_}
 use Prim.Native.Nat.{ℕ, zero, suc}
 use lib.Dec.{eqb}
+use lib.ListN.{length, take, drop}
 
 -- f i, f (i + 1), ..: n of them
 unfoldable pub listFrom : (ℕ → ℕ) → ℕ → ℕ → List ℕ
@@ -37,6 +38,10 @@ same [] [] = true
 same [] (y ∷ ys) = false
 same (x ∷ xs) [] = false
 same (x ∷ xs) (y ∷ ys) = eqb x y && same xs ys
+
+-- numbers written to a lent list: the first ones, as far as it reaches; its further entries keep their value
+unfoldable pub overlay : List ℕ → List ℕ → List ℕ
+overlay ns lent = take (length lent) ns ++ drop (length ns) lent
 
 abbrev pub All : (ℕ → Type 0) → List ℕ → Type 0
 All P [] = Unit {0}

@@ -8,17 +8,18 @@ use native.Mathlib.Omega.{arith}
 use borrow.Author.Tests.{eq-eqb}
 use lib.ListN.{length, getD, set}
 use lib.Seq.{sets}
-use Rattle.lists.specs.Lists.{passing}
+use Rattle.lists.specs.Lists.{passing, overlay}
+use Rattle.lists.proofs.Lent.{overlay-sets}
 use Rattle.files.specs.Files.{fingerprint}
 use Rattle.search.specs.declared.Counts.{Counts}
 use Rattle.windows.specs.declared.rolling.Setup.{Setup}
-use Rattle.search.specs.Searching.{windows, isPlace, alike, isAlarm, places, alarms, counts, overlay}
+use Rattle.search.specs.Searching.{windows, isPlace, alike, isAlarm, places, alarms, counts}
 use Rattle.windows.specs.Rolling.{window, residue, keyOf, Filled, hit}
 use Rattle.windows.proofs.Windows.{window-length}
 use Rattle.search.specs.Flagged.{NextFlagged, flaggedPlace, flaggedAlarm, flaggedPlaces, flaggedAlarms}
 use Rattle.search.proofs.Comparing.{same-is, unflagged-place, unflagged-alarm, flagged-place, flagged-alarm}
 use Rattle.windows.proofs.Residues.{without-one}
-use Rattle.search.proofs.Numbers.{passing-same, overlay-sets, Tally, tally-skip, tally-place, tally-alarm}
+use Rattle.search.proofs.Numbers.{passing-same, Tally, tally-skip, tally-place, tally-alarm}
 
 -- a place has the pattern's fingerprint
 place-alike : (p : ℕ) (text pattern : List ℕ) (i : ℕ) → isPlace text pattern i ≡ true → alike p text pattern i ≡ true

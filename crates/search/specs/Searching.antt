@@ -4,7 +4,7 @@ use mathlib.Core.List.{List, [], _∷_, _++_}
 use Prim.Native.Nat.{ℕ, _+_, _-_}
 use lib.Dec.{eqb}
 use lib.ListN.{length}
-use Rattle.lists.specs.Lists.{passing, same}
+use Rattle.lists.specs.Lists.{passing, same, overlay}
 use Rattle.refusals.specs.declared.Refusal.the-variants.{TooLong, EmptyPattern}
 use Rattle.refusals.specs.Refusals.{Answer, Done, Refused, stateOf, Test, _⇒_, firstOf, passes}
 use Rattle.acceptance.specs.Keys.{keyTests}
@@ -37,16 +37,6 @@ places text pattern = passing (isPlace text pattern) 0 (windows text pattern)
 unfoldable pub alarms : ℕ → List ℕ → List ℕ → List ℕ
 alarms key text pattern = passing (isAlarm key text pattern) 0 (windows text pattern)
 
--- the first ones, as far as the lent words reach; further words keep their value
-unfoldable pub overlay : List ℕ → List ℕ → List ℕ
-overlay [] words = words
-overlay (p ∷ ps) [] = []
-overlay (p ∷ ps) (w ∷ words) = p ∷ overlay ps words
-
--- the lent words with the first places
-abbrev pub written : List ℕ → List ℕ → List ℕ → List ℕ
-written text pattern words = overlay (places text pattern) words
-
 -- ---- the call
 
 -- numbers 7 and 11
@@ -64,9 +54,9 @@ counts key text pattern = record { places = length (places text pattern); alarms
 unfoldable pub search : ℕ → List ℕ → List ℕ → Answer Unit Counts
 search key text pattern = firstOf (searchTests key text pattern) tt (counts key text pattern)
 
--- the lent words after the call
+-- the lent words after the call: the first places, as far as they reach
 unfoldable pub placesAfter : ℕ → List ℕ → List ℕ → List ℕ → List ℕ
-placesAfter key text pattern words = stateOf (firstOf (searchTests key text pattern) words (written text pattern words))
+placesAfter key text pattern words = stateOf (firstOf (searchTests key text pattern) words (overlay (places text pattern) words))
 
 -- the answer in code
 abbrev pub searched : Searched → Answer Unit Counts

@@ -3,24 +3,21 @@ use mathlib.Core.Path.{_≡_, refl, sym, ap, _∙_}
 use mathlib.Core.Logic.{_≢_, _↔_}
 use mathlib.Core.Bool.{false}
 use mathlib.Core.List.{List, [], _∷_, _++_}
-use mathlib.Core.Option.{some}
 use Prim.Native.Nat.{ℕ, _+_, _-_, _^_, _≤_, _<_}
 use native.Mathlib.Nat.{zero-add}
-use native.Mathlib.Omega.{arith}
 use lib.Dec.{ltb}
-use lib.ListN.{length, getD, take, drop}
+use lib.ListN.{length, take, drop}
 use lib.Seq.{take-at}
-use borrow.Author.Tests.{eq-eqb, ne-eqb, lt-ltb, le-ltb, le-leb, ltb-false}
+use borrow.Author.Tests.{eq-eqb, ne-eqb, le-ltb, ltb-false}
 use Rattle.refusals.specs.declared.Refusal.the-variants.{TooLong}
 use Rattle.refusals.specs.Refusals.{Done, _⇒_, passes, longest}
 use Rattle.refusals.proofs.Laws.{Clear, clear-done, clear-append, done-clear}
 use Rattle.lists.proofs.Truth.{or-neither}
 use Rattle.acceptance.proofs.Laws.{key-iff}
 use Rattle.files.specs.Files.{Bytes, fingerprint}
-use Rattle.sheets.specs.Layout.{version1, numberAt, pagePlace, sheetLength, pageCount, pagesIn, Contents, sheetBytes, contentsIn}
+use Rattle.sheets.specs.Layout.{version1, numberAt, pagePlace, sheetLength, pageCount, Contents, sheetBytes, contentsIn}
 use Rattle.sheets.specs.Sheets.{contentsOf, writeTests, writeSheet, readTests, readSheet, readPages, Sound, WellFormed, Same, Page, OtherLength}
-use Rattle.sheets.specs.Sheets.{firstChange, pagesNow, compared, checkSheet, numbersOf, pageAt}
-use Rattle.sheets.proofs.Numbers.{length-numbersAt, numbers-one}
+use Rattle.sheets.specs.Sheets.{firstChange, pagesNow, compared, checkSheet}
 use Rattle.sheets.proofs.Layouts.{length-sheet, fingerprint-back}
 use Rattle.sheets.proofs.Pages.{length-pages}
 use Rattle.sheets.proofs.Sound.{size-bounds, sound-fits, sound-back, sound-clear, clear-sound, file-sound}
@@ -58,20 +55,6 @@ unfolding readPages
 pages-given sheet w words =
     clear-done (readTests version1 sheet) words _ (rw (← (w .bytes)) at (sound-clear (w .contents) (w .sound)))
     ∙ ap (λ (y : Contents). Done (take (length words) (y .pages) ++ drop (length (y .pages)) words)) (contents-back sheet w)
-
--- and each page's fingerprint by its place
-pub page-given : (sheet : List ℕ) (w : WellFormed sheet) (i : ℕ) → i < length (w .contents .pages)
-    → pageAt (numbersOf (w .contents)) sheet i ≡ some (getD (w .contents .pages) i 0)
-unfolding pageAt contentsIn
-page-given sheet w i l =
-    let x = w .contents in
-    let back : contentsIn version1 sheet ≡ x = contents-back sheet w in
-    let count : pagesIn version1 sheet ≡ length (x .pages) =
-    sym (length-numbersAt (pagePlace version1 0) 8 (pagesIn version1 sheet) sheet) ∙ ap (λ (y : Contents). length (y .pages)) back in
-    let total : length sheet ≡ sheetLength version1 (length (x .pages)) = ap length (w .bytes) ∙ length-sheet version1 x in
-    let field : numberAt (pagePlace version1 i) 8 sheet ≡ getD (x .pages) i 0 =
-    sym (numbers-one (pagesIn version1 sheet) (pagePlace version1 0) 8 i sheet (rw count l)) ∙ ap (λ (y : Contents). getD (y .pages) i 0) back in
-    rw (lt-ltb i (length (x .pages)) l, le-leb (sheetLength version1 i) (length sheet) (omega arith), field)
 
 -- ---- writing, then reading
 

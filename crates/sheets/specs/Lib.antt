@@ -1,3 +1,4 @@
 pub mod Layout
 pub mod Sheets
+pub mod Answers
 pub mod Parts

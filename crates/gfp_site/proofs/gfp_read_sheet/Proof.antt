@@ -2,7 +2,7 @@
 use mathlib.Core.Path.{sym, ap, _∙_}
 use Rattle.refusals.specs.Refusals.{numberOf, valueOr}
 use Rattle.sheets.specs.declared.Reading.{Reading}
-use Rattle.sheets.specs.Sheets.{reading}
+use Rattle.sheets.specs.Answers.{reading}
 use Rattle.gfp_site.specs.Places.{sheetAt}
 use borrow.Author.Needs.{needs}
 use Rattle.gfp_site.proofs.gfp_read_sheet.Statement.{statement}

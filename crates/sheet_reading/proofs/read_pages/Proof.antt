@@ -6,7 +6,7 @@ use native.Mathlib.Omega.{arith}
 use lib.ListN.{length, take, drop, length-drop}
 use Rattle.refusals.specs.Refusals.{Done}
 use Rattle.sheets.specs.Layout.{version1, numbersAt, pagePlace, pagesIn, contentsIn}
-use Rattle.sheets.specs.Sheets.{reading}
+use Rattle.sheets.specs.Answers.{reading}
 use Rattle.sheets.specs.Parts.{ReadAs}
 use Rattle.sheets.proofs.Numbers.{numbers-part}
 use Rattle.sheets.proofs.Known.{read-as, total, pages-counted, pages-refused, pages-done}
