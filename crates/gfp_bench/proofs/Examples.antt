@@ -114,7 +114,7 @@ both-5E =
     record {
       is-accepted = accepted-11B;
       of-degree = refl;
-      left = 0x5E;
+      fingerprint = 0x5E;
       one = reaches 0x11B (0x00 ∷ 0x00 ∷ []);
       other = reaches 0x11B (0x01 ∷ 0x1B ∷ []);
     }

@@ -65,4 +65,4 @@ the-list-is-honest = (
 pub both-5E : Confuses Route 8 (0x00 ∷ 0x00 ∷ []) (0x01 ∷ 0x1B ∷ []) 0x11B
 both-5E =
     let c = bench-examples.both-5E in
-    record { is-accepted = c .is-accepted; of-degree = c .of-degree; left = c .left; one = OfBench (c .one); other = OfBench (c .other) }
+    record { is-accepted = c .is-accepted; of-degree = c .of-degree; fingerprint = c .fingerprint; one = OfBench (c .one); other = OfBench (c .other) }
