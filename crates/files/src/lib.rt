@@ -30,7 +30,7 @@ fn feed_byte(p: Modulus, f: u64, b: u8) -> u64
 }
 
 // The bytes of a part behind a residue.
-fn feed_bytes(p: Modulus, f: u64, part: &[u8]) -> u64
+pub fn feed_bytes(p: Modulus, f: u64, part: &[u8]) -> u64
     requires { ⌜ Proper p × (f < 2 ^ p .degree) ⌝ }
     ensures { λ r. ⌜ r ≡ rem (polynomial p) (valueFrom f (bits (now (part .entry)))) ⌝ }
 {
