@@ -15,7 +15,7 @@ pub struct Mark {
 }
 
 // A byte behind a residue, the high bit first.
-pub fn feed_byte(p: Modulus, f: u64, b: u8) -> u64
+fn feed_byte(p: Modulus, f: u64, b: u8) -> u64
     requires { ⌜ Proper p × (f < 2 ^ p .degree) ⌝ }
     ensures { λ r. ⌜ r ≡ rem (polynomial p) (f * 256 + b) ⌝ }
 {
@@ -30,7 +30,7 @@ pub fn feed_byte(p: Modulus, f: u64, b: u8) -> u64
 }
 
 // The bytes of a part behind a residue.
-pub fn feed_bytes(p: Modulus, f: u64, part: &[u8]) -> u64
+fn feed_bytes(p: Modulus, f: u64, part: &[u8]) -> u64
     requires { ⌜ Proper p × (f < 2 ^ p .degree) ⌝ }
     ensures { λ r. ⌜ r ≡ rem (polynomial p) (valueFrom f (bits (now (part .entry)))) ⌝ }
 {

@@ -1,2 +1,4 @@
 pub mod Polynomials
+pub mod Degrees
 pub mod Moduli
+pub mod Criterion

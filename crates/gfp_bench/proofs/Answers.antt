@@ -4,7 +4,7 @@ use Prim.Native.Nat.{ℕ}
 use Rattle.refusals.specs.Refusals.{Answer, Done, Refused, numberOf, stateOf, valueOr}
 use Rattle.files.specs.declared.Mark.{Mark}
 use Rattle.marks.specs.declared.Running.{Running}
-use Rattle.marks.specs.Feeding.{markIn, begunUnder, fedUnder}
+use Rattle.marks.specs.Answers.{markIn, begunUnder, fedUnder}
 
 fed-number : (key : ℕ) (a : Answer Mark Mark) → numberOf (fedUnder key a) ≡ numberOf a
 fed-number key (Done m) = refl

@@ -12,7 +12,8 @@ use Rattle.acceptance.specs.Keys.{keyTests, Opened}
 use Rattle.acceptance.proofs.Laws.{key-iff}
 use Rattle.keys.specs.declared.Tested.{Tested}
 use Rattle.keys.specs.declared.Tested.the-variants as cases
-use Rattle.keys.specs.Testing.{testKey, tested}
+use Rattle.keys.specs.Testing.{testKey}
+use Rattle.keys.specs.Answers.{tested}
 
 module _ (t : Tested) (key : ℕ) (e : tested t ≡ testKey key) where
   -- the accepted key is opened

@@ -20,9 +20,11 @@ use Rattle.files.specs.declared.Mark.{Mark}
 use Rattle.files.specs.Files.{markOf, unreduced, fedMark}
 use Rattle.files.proofs.Marks.{true-reduced, fed-true}
 use Rattle.lookups.specs.Rule.{word}
-use Rattle.tables.specs.Tables.{sizeTest, tableTests, makeTable}
-use Rattle.tables.proofs.Laws.{size-passed, clear-table}
-use Rattle.marks.specs.Feeding.{feedTests, begin, feedTable, begunUnder, fedUnder}
+use Rattle.tables.specs.Tables.{makeTable}
+use Rattle.table_tests.specs.TableTests.{tableSizeTest, tableTests}
+use Rattle.table_tests.proofs.Laws.{size-passed, clear-table}
+use Rattle.marks.specs.Feeding.{feedTests, begin, feedTable}
+use Rattle.marks.specs.Answers.{begunUnder, fedUnder}
 use Rattle.printing.specs.declared.KeyLine.{KeyLine}
 use Rattle.printing.specs.declared.KeyLine.the-variants.{NoKey, Key}
 use Rattle.printing.specs.Printing.{keyLine, noKey, refused, answerText, markFile, printedAfter, printed}
@@ -82,7 +84,7 @@ module _ (key : ℕ) (h : Clear (keyTests key)) where
   made : (blank : List ℕ) → length blank ≡ 1024 → makeTable key blank ≡ Done table
   unfolding table makeTable
   made blank e =
-      more-clear (keyTests key) (sizeTest blank ∷ []) blank (listFrom (word 8 key) 0 1024) h
+      more-clear (keyTests key) (tableSizeTest blank ∷ []) blank (listFrom (word 8 key) 0 1024) h
       ∙ size-passed blank [] blank (listFrom (word 8 key) 0 1024) e
 
   tested : (m : Mark) (part : List ℕ) → feedTable key m table part ≡ firstOf (feedTests key m (length part)) m (fedMark key m part)

@@ -15,7 +15,7 @@ use Rattle.refusals.specs.Refusals.{Answer, Done, Refused, number, _⇒_, first
 use Rattle.acceptance.specs.Keys.{keyTests}
 use Rattle.files.specs.Files.{markOf}
 use Rattle.marks.specs.declared.Running.{Running}
-use Rattle.marks.specs.Feeding.{begunUnder}
+use Rattle.marks.specs.Answers.{begunUnder}
 use Rattle.printing.specs.declared.KeyLine.{KeyLine}
 use Rattle.printing.specs.declared.KeyLine.the-variants.{NoKey, Key}
 

@@ -15,7 +15,8 @@ ghost use Rattle.lists.specs.Lists.{overlay};
 ghost use Rattle.gf2.specs.Moduli.{polynomial, Proper};
 ghost use Rattle.refusals.specs.Refusals.{firstOf, stateOf, longest};
 ghost use Rattle.windows.specs.Rolling.{residue, keyOf, ResidueAt, Ready};
-ghost use Rattle.search.specs.Searching.{places as placesOf, counts, textTests, search, placesAfter, searched};
+ghost use Rattle.search.specs.Searching.{places as placesOf, counts, textTests, search, placesAfter};
+ghost use Rattle.search.specs.Answers.{searched};
 
 // The number of places, and the number of false alarms.
 pub struct Counts {

@@ -2,7 +2,7 @@
 use mathlib.Core.Path.{_≡_}
 use mathlib.Core.Bool.{true}
 use Prim.Native.Nat.{ℕ, _^_, _≤_}
-use Rattle.lists.specs.Lists.{firstFrom}
+use Rattle.lists.specs.Searches.{firstFrom}
 use Rattle.gf2.specs.Polynomials.{degree}
 use Rattle.acceptance.specs.Keys.{accepted}
 

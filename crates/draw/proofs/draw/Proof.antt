@@ -13,7 +13,7 @@ use Rattle.gf2.specs.declared.Modulus.{Modulus}
 use Rattle.gf2.proofs.Degrees.{deg-hi}
 use Rattle.gf2.proofs.Monics.{word-proper, word-whole}
 use Rattle.refusals.specs.Refusals.{Done}
-use Rattle.lists.specs.Lists.{among}
+use Rattle.lists.specs.Searches.{among}
 use Rattle.lists.proofs.Truth.{or-neither}
 use Rattle.fields.specs.Fields.{Field}
 use Rattle.fields.proofs.Conjugates.{field-degree}

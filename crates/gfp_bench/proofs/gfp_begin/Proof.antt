@@ -2,7 +2,8 @@
 use mathlib.Core.Path.{sym, ap, _∙_}
 use Rattle.refusals.specs.Refusals.{numberOf}
 use Rattle.marks.specs.declared.Begun.{Begun}
-use Rattle.marks.specs.Feeding.{begin, begun}
+use Rattle.marks.specs.Feeding.{begin}
+use Rattle.marks.specs.Answers.{begun}
 use Rattle.gfp_bench.specs.Places.{markAt}
 use Rattle.gfp_bench.proofs.Answers.{markOr, begun-number, begun-value}
 use borrow.Author.Needs.{needs}

@@ -2,7 +2,7 @@
 use mathlib.Core.Path.{sym, ap, _∙_}
 use Rattle.refusals.specs.Refusals.{numberOf, stateOf}
 use Rattle.marks.specs.declared.Fed.{Fed}
-use Rattle.marks.specs.Feeding.{fed, markIn}
+use Rattle.marks.specs.Answers.{fed, markIn}
 use borrow.Author.Needs.{needs}
 use Rattle.gfp_bench.proofs.store.Statement.{statement}
 use Rattle.gfp_bench.proofs.store.Tie as tie

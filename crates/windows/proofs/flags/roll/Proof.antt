@@ -1,4 +1,4 @@
--- `windows::rolling::roll` meets its contract: `rolled`.
+-- `windows::flags::roll` meets its contract: `rolled`.
 use mathlib.Core.Path.{refl, ap}
 use Prim.Native.Nat.{ℕ, _+_}
 use native.Mathlib.Omega.{arith}
@@ -7,8 +7,8 @@ use lib.ListN.{getD}
 use Rattle.gf2.specs.Polynomials.{_⊕_}
 use Rattle.gf2.proofs.Monics.{monic-pos}
 use Rattle.windows.proofs.Residues.{rolled, read-below}
-use Rattle.windows.proofs.rolling.roll.Statement.{statement}
-use Rattle.windows.proofs.rolling.roll.Tie as tie
+use Rattle.windows.proofs.flags.roll.Statement.{statement}
+use Rattle.windows.proofs.flags.roll.Tie as tie
 
 -- ---- the places: from each one to an earlier one
 

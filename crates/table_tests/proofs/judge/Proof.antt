@@ -6,9 +6,9 @@ use Rattle.refusals.specs.declared.Refusal.the-variants.{TableWord}
 use Rattle.refusals.specs.Refusals.{_⇒_}
 use Rattle.refusals.proofs.Laws.{holds, fails}
 use Rattle.lookups.specs.Rule.{word, differs}
-use Rattle.tables.proofs.Laws.{size-refused, word-refused, table-passed}
-use Rattle.tables.proofs.judge.Statement.{statement}
-use Rattle.tables.proofs.judge.Tie as tie
+use Rattle.table_tests.proofs.Laws.{size-refused, word-refused, table-passed}
+use Rattle.table_tests.proofs.judge.Statement.{statement}
+use Rattle.table_tests.proofs.judge.Tie as tie
 
 -- ---- the places: from each one to an earlier one
 

@@ -10,9 +10,10 @@ use Rattle.lists.specs.Lists.{listFrom}
 use Rattle.refusals.specs.declared.Refusal.the-variants.{TableSize, TableWord}
 use Rattle.refusals.specs.Refusals.{Done, Refused, Test, firstOf, judged}
 use Rattle.refusals.proofs.Laws.{Clear}
-use Rattle.lookups.specs.Rule.{word, differs, Table}
+use Rattle.lookups.specs.Rule.{word, differs}
+use Rattle.lookups.specs.Groups.{Table}
 use Rattle.lookups.proofs.Rule.{none-differs, table-only, table-length, table-rule}
-use Rattle.tables.specs.Tables.{sizeTest, tableTests}
+use Rattle.table_tests.specs.TableTests.{tableSizeTest, tableTests}
 
 module _ (words : List ℕ) where
   wrong-size : (length words ≡ 1024 → ⊥) → not (eqb (length words) 1024) ≡ true
@@ -22,10 +23,10 @@ module _ (words : List ℕ) where
   right-size e = ap not (eq-eqb (length words) 1024 e)
 
   module _ {S A : Type 0} (ts : List Test) (s : S) (v : A) where
-    pub size-refused : (length words ≡ 1024 → ⊥) → firstOf (sizeTest words ∷ ts) s v ≡ Refused TableSize s
+    pub size-refused : (length words ≡ 1024 → ⊥) → firstOf (tableSizeTest words ∷ ts) s v ≡ Refused TableSize s
     size-refused h = rw (wrong-size h)
 
-    pub size-passed : length words ≡ 1024 → firstOf (sizeTest words ∷ ts) s v ≡ firstOf ts s v
+    pub size-passed : length words ≡ 1024 → firstOf (tableSizeTest words ∷ ts) s v ≡ firstOf ts s v
     size-passed e = rw (right-size e)
 
   module _ (key : ℕ) where
