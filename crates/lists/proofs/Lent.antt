@@ -1,10 +1,10 @@
 -- Numbers written one after the other to a lent list; past its end nothing is written.
 use mathlib.Core.Path.{_≡_, refl, sym, ap, _∙_}
 use mathlib.Core.List.{List, [], _∷_, _++_}
-use Prim.Native.Nat.{ℕ, suc, _+_}
+use Prim.Native.Nat.{ℕ, suc, _+_, _≤_}
 use native.Mathlib.Nat.{add-zero, add-suc, suc-add}
 use lib.ListN.{length, set, take, drop}
-use lib.Seq.{sets, take-nil, length-sets}
+use lib.Seq.{sets, take-all, take-nil, length-sets}
 use Rattle.lists.specs.Lists.{overlay}
 
 pub sets-append : (l : List ℕ) (i : ℕ) (x y : List ℕ) → sets l i (x ++ y) ≡ sets (sets l i x) (i + length x) y
@@ -31,3 +31,7 @@ overlay-sets (n ∷ ns) (w ∷ l) = ap (λ (r : List ℕ). n ∷ r) (overlay-set
 
 pub overlay-length : (ns l : List ℕ) → length (overlay ns l) ≡ length l
 overlay-length ns l = ap length (overlay-sets ns l) ∙ length-sets l 0 ns
+
+pub overlay-fits : (ns l : List ℕ) → length ns ≤ length l → overlay ns l ≡ ns ++ drop (length ns) l
+unfolding overlay
+overlay-fits ns l h = ap (λ (r : List ℕ). r ++ drop (length ns) l) (take-all (length l) ns h)

@@ -1,5 +1,5 @@
 -- How writing answers, test by test.
-use mathlib.Core.Path.{_≡_, refl, sym, _∙_}
+use mathlib.Core.Path.{_≡_, refl, sym, ap, _∙_}
 use mathlib.Core.Bool.{true, false, _||_}
 use mathlib.Core.List.{List, [], _∷_, _++_}
 use Prim.Native.Nat.{ℕ, _+_, _≤_, _<_}
@@ -7,6 +7,8 @@ use lib.Dec.{ltb}
 use lib.ListN.{length, drop}
 use native.Mathlib.Omega.{arith}
 use borrow.Author.Tests.{lt-ltb, le-ltb, ltb-false}
+use Rattle.lists.specs.Lists.{overlay}
+use Rattle.lists.proofs.Lent.{overlay-fits}
 use Rattle.gf2.specs.declared.Modulus.{Modulus}
 use Rattle.refusals.specs.declared.Refusal.{Refusal}
 use Rattle.refusals.specs.declared.Refusal.the-variants.{TooLong, PageSize, BufferShort}
@@ -23,6 +25,8 @@ use Rattle.keys.specs.Answers.{tested}
 use Rattle.keys.proofs.Laws.{refused}
 use Rattle.sheets.specs.Layout.{version1, sheetLength, pageCount, sheetBytes}
 use Rattle.sheets.specs.Sheets.{contentsOf, lengthTests, lengthFor, writeSheet}
+use Rattle.sheets.proofs.Layouts.{length-sheet}
+use Rattle.sheets.proofs.Pages.{length-pages}
 use Rattle.sheets.proofs.Sound.{size-bounds}
 
 -- ---- the length of a sheet
@@ -66,7 +70,7 @@ module _ (key s : ℕ) (file buffer : List ℕ) where
   long = sheetLength version1 (pageCount s (length file))
 
   after : List ℕ
-  after = sheetBytes version1 (contentsOf key s file) ++ drop long buffer
+  after = overlay (sheetBytes version1 (contentsOf key s file)) buffer
 
   last : List Test
   last = ltb (length buffer) long ⇒ BufferShort ∷ []
@@ -97,5 +101,11 @@ module _ (key s : ℕ) (file buffer : List ℕ) where
       pub write-done : b ≤ length buffer
           → writeSheet key s file buffer
           ≡ Done (sheetBytes version1 (contentsOf key s file) ++ drop (sheetLength version1 (pageCount s (length file))) buffer)
-      unfolding last long after
-      write-done l = after-length ∙ rw (le-ltb (length buffer) long (omega (arith, m .total)))
+      unfolding last long after contentsOf
+      write-done l =
+          let x = contentsOf key s file in
+          let all : length (sheetBytes version1 x) ≡ long =
+          length-sheet version1 x ∙ ap (sheetLength version1) (length-pages key (pageCount s (length file)) s file) in
+          after-length
+          ∙ rw (le-ltb (length buffer) long (omega (arith, m .total)))
+          (ap Done (overlay-fits (sheetBytes version1 x) buffer (omega (arith, all, m .total)) ∙ ap (λ (n : ℕ). sheetBytes version1 x ++ drop n buffer) all))

@@ -1,15 +1,14 @@
 -- Writing, reading and checking a page sheet (document 01, "Page sheets"): each call is its tests, in document 01's order, and its value.
-use mathlib.Core.Path.{_≡_}
-use mathlib.Core.Bool.{Bool, true, false, _||_, not, cond}
+use mathlib.Core.Bool.{Bool, false, _||_, not, cond}
 use mathlib.Core.List.{List, [], _∷_, _++_}
-use Prim.Native.Nat.{ℕ, zero, suc, _+_, _-_, _*_, _^_, _≤_, _<_, min}
+use Prim.Native.Nat.{ℕ, zero, suc, _+_, _-_, _*_, _^_, min}
 use lib.Dec.{ltb, leb, eqb}
 use lib.ListN.{length, take, drop, replicate}
-use Rattle.lists.specs.Lists.{All}
+use Rattle.lists.specs.Lists.{overlay}
 use Rattle.gf2.specs.Polynomials.{degree, rem}
 use Rattle.refusals.specs.declared.Refusal.the-variants.{TooLong, PageSize, BufferShort, SheetMalformed}
-use Rattle.refusals.specs.Refusals.{Answer, Done, Refused, Test, _⇒_, firstOf, passes, longest}
-use Rattle.acceptance.specs.Keys.{accepted, keyTests}
+use Rattle.refusals.specs.Refusals.{Answer, Done, Refused, Test, _⇒_, firstOf, passes}
+use Rattle.acceptance.specs.Keys.{keyTests}
 use Rattle.files.specs.declared.Mark.{Mark}
 use Rattle.files.specs.Files.{fingerprint, markOf, joined}
 use Rattle.sheets.specs.Layout.{Letters, Version, Layout, version1, sheetLength, pageCount, Contents, letters, sheetBytes}
@@ -57,11 +56,9 @@ writeTests key s file buffer =
     ++ ltb (length buffer) (sheetLength version1 (pageCount s (length file))) ⇒ BufferShort
     ∷ []
 
--- what the lent buffer holds after the call: its further bytes keep their value
+-- what the lent buffer holds after the call
 unfoldable pub writeSheet : ℕ → ℕ → List ℕ → List ℕ → Answer (List ℕ) (List ℕ)
-writeSheet key s file buffer =
-    firstOf (writeTests key s file buffer) buffer
-    (sheetBytes version1 (contentsOf key s file) ++ drop (sheetLength version1 (pageCount s (length file))) buffer)
+writeSheet key s file buffer = firstOf (writeTests key s file buffer) buffer (overlay (sheetBytes version1 (contentsOf key s file)) buffer)
 
 -- ---- reading: number 14 for size, letters and version; 1, 2, 12; then the rest of 14
 
@@ -116,26 +113,9 @@ abbrev pub sheetRead : Answer Unit Contents → Answer Unit Sheet
 sheetRead (Done x) = Done (numbersOf x)
 sheetRead (Refused r s) = Refused r s
 
--- the same as a description: the bytes are a sheet's, with fields of which number 14 says nothing
-pub record Sound (x : Contents) : Type 0 where
-  pub key : accepted (x .key) ≡ true
-  pub length : x .length ≤ longest
-  pub pageSize : (16 ≤ x .pageSize) × (x .pageSize ≤ 4096)
-  pub count : lib.ListN.length (x .pages) ≡ pageCount (x .pageSize) (x .length)
-  pub pages : All (λ f. f < 2 ^ degree (x .key)) (x .pages)
-  pub fingerprint : x .fingerprint < 2 ^ degree (x .key)
-  pub joined : pagesJoined x ≡ fileFilled x
-
-pub record WellFormed (sheet : List ℕ) : Type 0 where
-  pub contents : Contents
-  pub sound : Sound contents
-  pub bytes : sheet ≡ sheetBytes version1 contents
-
--- the page fingerprints into lent places: the first ones, as far as the places reach; further places keep their value
+-- the page fingerprints into lent places
 unfoldable pub readPages : List ℕ → List ℕ → Answer (List ℕ) (List ℕ)
-readPages sheet lent =
-    let pages = contentsIn version1 sheet .pages in
-    firstOf (readTests version1 sheet) lent (take (length lent) pages ++ drop (length pages) lent)
+readPages sheet lent = firstOf (readTests version1 sheet) lent (overlay (contentsIn version1 sheet .pages) lent)
 
 -- ---- checking a file: all of reading, then 7
 
