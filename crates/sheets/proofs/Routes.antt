@@ -11,7 +11,8 @@ use Rattle.refusals.specs.Refusals.{Done}
 use Rattle.refusals.proofs.Laws.{done-clear}
 use Rattle.files.specs.Files.{Bytes, bits, valueFrom, fingerprint}
 use Rattle.sheets.specs.Layout.{version1, numberAt, pagePlace, sheetLength, pageCount, pagesIn, Contents, contentsIn}
-use Rattle.sheets.specs.Sheets.{filled, pageFingerprints, contentsOf, writeSheet, readTests, readSheet, readPages, WellFormed, Same, pagesNow}
+use Rattle.sheets.specs.Sheets.{filled, pageFingerprints, contentsOf, writeSheet, readTests, readSheet, readPages, Same, pagesNow}
+use Rattle.sheets.specs.Claims.{WellFormed}
 use Rattle.sheets.specs.Sheets.{checkSheet}
 use Rattle.sheets.proofs.Numbers.{numbers-one}
 use Rattle.sheets.proofs.Pages.{length-pages}
