@@ -11,6 +11,8 @@ use Rattle.acceptance.specs.Keys.{accepted}
 unfoldable pub stockKey : ℕ → ℕ
 stockKey k = cond (leb 8 k && leb k 63) (firstFrom accepted (2 ^ k) (2 ^ k)) 0
 
+-- ---- claims
+
 -- what it is for a degree 8 to 63, without a search: of degree k, accepted, and no accepted key of that degree is a smaller number
 pub record Smallest (k p : ℕ) : Type 0 where
   pub of-degree : degree p ≡ k

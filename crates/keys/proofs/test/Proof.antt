@@ -5,7 +5,8 @@ use Prim.Native.Nat.{ℕ, _≤_, _<_}
 use native.Mathlib.Omega.{arith}
 use borrow.Author.Needs.{needs}
 use borrow.Author.Tests.{lt-ltb, le-ltb}
-use Rattle.gf2.specs.Moduli.{polynomial, Proper, modulusOf}
+use Rattle.gf2.specs.Moduli.{polynomial, Proper}
+use Rattle.gf2.specs.Opening.{modulusOf}
 use Rattle.gf2.specs.declared.Modulus.{Modulus}
 use Rattle.gf2.proofs.Degrees.{degree-from}
 use Rattle.gf2.proofs.Monics.{word-degree, word-proper, word-whole}

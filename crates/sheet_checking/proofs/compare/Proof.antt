@@ -4,7 +4,8 @@ use mathlib.Core.List.{List}
 use Prim.Native.Nat.{ℕ, _*_, _≤_}
 use native.Mathlib.Omega.{arith}
 use lib.ListN.{length, length-drop}
-use Rattle.gf2.specs.Moduli.{polynomial, modulusOf}
+use Rattle.gf2.specs.Moduli.{polynomial}
+use Rattle.gf2.specs.Opening.{modulusOf}
 use Rattle.refusals.specs.Refusals.{Done}
 use Rattle.acceptance.specs.Opened.{Opened}
 use Rattle.acceptance.proofs.Opened.{open-accepted, opened-from, opened-proper, opened-eight, opened-whole}
