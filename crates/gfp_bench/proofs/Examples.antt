@@ -61,7 +61,8 @@ by-bits = taken 0x11B accepted-11B [] (ByBits (0x41 ∷ [])) tt (omega arith)
 too-long : bookStep bench 0x11B (0x41 ∷ []) (ByBits long) ≡ Refused TooLong (0x41 ∷ [])
 unfolding bookStep bookTests
 too-long =
-    opened-first (open-accepted 0x11B accepted-11B) (sumTest 1 (length long) ∷ []) (0x41 ∷ []) _ ∙ rw (sum-passes 1 (length long) (omega (arith, length-zeros 4294967296)))
+    opened-first (open-accepted 0x11B accepted-11B) (sumTest 1 (length long) ∷ []) (0x41 ∷ []) _
+    ∙ rw (sum-passes 1 (length long) (omega (arith, length-zeros 4294967296)))
 
 no-words : bookStep bench 0x11B (0x41 ∷ []) (ByTable [] (0x00 ∷ [])) ≡ Refused TableSize (0x41 ∷ [])
 unfolding bookStep bookTests accepted reducible anyBelow rem longDivision reduce degree halvings _⊕_
