@@ -25,7 +25,9 @@ module _ (key : ℕ) (m : Mark) (words part : List ℕ) where
   without-5 : feedHouse key m part
       ≡ firstOf (keyTests key ++ differs (word 8 key) 0 houseWords ⇒ TableWord ∷ feedTests key m (length part)) m (fedMark key m part)
   unfolding feedHouse feedTable
-  without-5 = rw (length-list (word 8 houseKey) 0 1024) (skip (keyTests key) (differs (word 8 key) 0 houseWords ⇒ TableWord ∷ feedTests key m (length part)) TableSize m (fedMark key m part))
+  without-5 =
+      rw (length-list (word 8 houseKey) 0 1024)
+      (skip (keyTests key) (differs (word 8 key) 0 houseWords ⇒ TableWord ∷ feedTests key m (length part)) TableSize m (fedMark key m part))
 
   pub each-call : EachCall key m words part
   unfolding testKey begin feedBits makeTable testTable feedTable rising
