@@ -22,12 +22,14 @@ use Rattle.files.specs.declared.Mark.{Mark}
 use Rattle.files.specs.Files.{markOf, unreduced, fedMark}
 use Rattle.files.proofs.Marks.{true-reduced, fed-true}
 use Rattle.lookups.specs.Rule.{word}
-use Rattle.tables.specs.Tables.{sizeTest, tableTests, makeTable}
+use Rattle.tables.specs.Tables.{makeTable, sizeTest}
+use Rattle.table_tests.specs.TableTests.{tableTests}
 use Rattle.tables.proofs.Laws.{size-passed, clear-table}
 use Rattle.marks.specs.declared.Running.{Running}
 use Rattle.marks.specs.declared.Fed.{Fed}
 use Rattle.marks.specs.declared.Fed.the-variants as fed-cases
-use Rattle.marks.specs.Feeding.{feedTests, begin, feedTable, markIn, running, fed, begunUnder, fedUnder}
+use Rattle.marks.specs.Feeding.{feedTests, begin, feedTable}
+use Rattle.marks.specs.Answers.{markIn, running, fed, begunUnder, fedUnder}
 use Rattle.printing.specs.declared.KeyLine.{KeyLine}
 use Rattle.printing.specs.declared.KeyLine.the-variants.{NoKey, Key}
 use Rattle.printing.specs.Printing.{keyLine, noKey, report, refused, answerText, markFile, printedAfter, printed}

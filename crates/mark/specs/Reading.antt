@@ -10,7 +10,8 @@ use Rattle.io.specs.Counts.{Counts}
 use Rattle.refusals.specs.Refusals.{Answer, Done, Refused}
 use Rattle.files.specs.declared.Mark.{Mark}
 use Rattle.marks.specs.declared.Running.{Running}
-use Rattle.marks.specs.Feeding.{feedTable, markIn, fed, fedUnder, begunUnder}
+use Rattle.marks.specs.Feeding.{feedTable}
+use Rattle.marks.specs.Answers.{markIn, fed, fedUnder, begunUnder}
 use Rattle.printing.specs.Printing.{markFile, printed}
 use Rattle.printing.specs.Buffers.{putAt}
 use Rattle.mark.specs.declared.Got.{Got}

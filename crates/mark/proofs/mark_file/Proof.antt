@@ -2,8 +2,10 @@
 use mathlib.Core.Path.{_≡_, sym, ap, _∙_}
 use mathlib.Core.List.{[]}
 use borrow.Author.Needs.{needs}
-use Rattle.refusals.specs.Refusals.{Done, reply}
-use Rattle.marks.specs.Feeding.{begin, begun, begunUnder, fed}
+use Rattle.refusals.specs.Refusals.{Done}
+use Rattle.refusals.specs.Answers.{reply}
+use Rattle.marks.specs.Feeding.{begin}
+use Rattle.marks.specs.Answers.{begun, begunUnder, fed}
 use Rattle.mark.proofs.Parts.{begun-refused, made-always, first-refused, rest-marked}
 use Rattle.mark.proofs.mark_file.Statement.{statement}
 use Rattle.mark.proofs.mark_file.Tie as tie
