@@ -22,7 +22,8 @@ use Rattle.files.specs.declared.Mark.{Mark}
 use Rattle.files.specs.Files.{markOf, unreduced, fedMark}
 use Rattle.files.proofs.Marks.{true-reduced, fed-true}
 use Rattle.lookups.specs.Rule.{word}
-use Rattle.tables.specs.Tables.{makeTable, sizeTest}
+use Rattle.tables.specs.Tables.{makeTable}
+use Rattle.table_tests.specs.TableTests.{tableSizeTest}
 use Rattle.table_tests.specs.TableTests.{tableTests}
 use Rattle.tables.proofs.Laws.{size-passed, clear-table}
 use Rattle.marks.specs.declared.Running.{Running}
@@ -142,7 +143,7 @@ module _ (key : ℕ) (h : Clear (keyTests key)) where
   made : (blank : List ℕ) → length blank ≡ 1024 → makeTable key blank ≡ Done table
   unfolding table makeTable
   made blank e =
-      more-clear (keyTests key) (sizeTest blank ∷ []) blank (listFrom (word 8 key) 0 1024) h
+      more-clear (keyTests key) (tableSizeTest blank ∷ []) blank (listFrom (word 8 key) 0 1024) h
       ∙ size-passed blank [] blank (listFrom (word 8 key) 0 1024) e
 
   tested : (m : Mark) (part : List ℕ) → feedTable key m table part ≡ firstOf (feedTests key m (length part)) m (fedMark key m part)
