@@ -136,7 +136,7 @@ uint32_t gfp_read_sheet(const uint8_t *sheet, size_t sheet_length, uint64_t *key
 
 /* The page fingerprints of a page sheet into the lent places: the first ones, as far as they reach; further ones keep
  * their value. A sheet has as many as gfp_read_sheet writes to *pages.
- * Refusals: those of gfp_read_sheet, in its order. Stack: 17,408 bytes. */
+ * Refusals, as of gfp_read_sheet: 14, 1, 2, 12, 14. Stack: 17,408 bytes. */
 uint32_t gfp_read_pages(const uint8_t *sheet, size_t sheet_length, uint64_t *fingerprints, size_t fingerprints_length);
 
 #define GFP_SAME 0
@@ -145,14 +145,14 @@ uint32_t gfp_read_pages(const uint8_t *sheet, size_t sheet_length, uint64_t *fin
 
 /* Checks a file against a page sheet: *outcome is GFP_SAME, GFP_PAGE with the first page whose fingerprint differs,
  * counted from 0, in *page, or GFP_OTHER_LENGTH. *page is 0 where the outcome is not GFP_PAGE.
- * Refusals: all of gfp_read_sheet's, then 7. Stack: 26,112 bytes. */
+ * Refusals, those of gfp_read_sheet first: 14, 1, 2, 12, 14, 7. Stack: 26,112 bytes. */
 uint32_t gfp_check_file(const uint8_t *sheet, size_t sheet_length, const uint8_t *file, size_t file_length,
                         uint32_t *outcome, uint32_t *page);
 
 /* Checks a file as gfp_check_file does, and names the bytes of the page: where *outcome is GFP_PAGE, they stand from
  * *from on, and end before *to, which is the file's end where the last page is not full. *from and *to are 0 where the
  * outcome is not GFP_PAGE.
- * Refusals: all of gfp_read_sheet's, then 7. Stack: 26,624 bytes. */
+ * Refusals, those of gfp_read_sheet first: 14, 1, 2, 12, 14, 7. Stack: 26,624 bytes. */
 uint32_t gfp_changed_range(const uint8_t *sheet, size_t sheet_length, const uint8_t *file, size_t file_length,
                            uint32_t *outcome, uint64_t *from, uint64_t *to);
 
