@@ -28,8 +28,8 @@ static void same(const char *what, uint64_t ours, uint64_t expected) {
 }
 
 /* the number, and what a mark's places hold afterwards */
-static void marked(const char *what, uint32_t number, uint32_t expected, const uint64_t *fingerprint, const uint64_t *length,
-                   uint64_t fingerprint_after, uint64_t length_after) {
+static void marked(const char *what, uint32_t number, uint32_t expected, const uint64_t *fingerprint,
+                   const uint64_t *length, uint64_t fingerprint_after, uint64_t length_after) {
     same(what, number, expected);
     same(what, *fingerprint, fingerprint_after);
     same(what, *length, length_after);
@@ -217,6 +217,33 @@ static void sheets(void) {
     same("read_sheet", gfp_read_sheet(sheet, 35, &key, &length, &size, &pages, &f), GFP_KEY_REDUCIBLE);
 }
 
+static void ranges(void) {
+    static uint8_t file[40], sheet[51];
+    uint64_t bytes = NONE, from = NONE, to = NONE;
+    uint32_t outcome = NONE32;
+    same("sheet_length", gfp_sheet_length(LONGEST + 1, 16, &bytes), GFP_TOO_LONG);
+    same("sheet_length", gfp_sheet_length(40, 4097, &bytes), GFP_PAGE_SIZE);
+    same("sheet_length", bytes, NONE);
+    same("sheet_length", gfp_sheet_length(40, 16, &bytes), GFP_OK);
+    same("sheet_length", bytes, sizeof sheet);
+    same("sheet_length", gfp_sheet_length(0, 16, &bytes), GFP_OK);
+    same("sheet_length", bytes, GFP_SHEET_BYTES);
+    same("write_sheet", gfp_write_sheet(GFP_HOUSE_KEY, 16, file, 40, sheet, 51), GFP_OK);
+    same("changed_range", gfp_changed_range(sheet, 50, file, 40, &outcome, &from, &to), GFP_SHEET_MALFORMED);
+    same("changed_range", gfp_changed_range(sheet, 51, too_long, TOO_LONG, &outcome, &from, &to), GFP_TOO_LONG);
+    same("changed_range", outcome == NONE32 && from == NONE && to == NONE, 1);
+    same("changed_range", gfp_changed_range(sheet, 51, file, 40, &outcome, &from, &to), GFP_OK);
+    same("changed_range", outcome == GFP_SAME && from == 0 && to == 0, 1);
+    file[39] = 1;
+    same("changed_range", gfp_changed_range(sheet, 51, file, 40, &outcome, &from, &to), GFP_OK);
+    same("changed_range", outcome == GFP_PAGE && from == 32 && to == 40, 1);
+    file[16] = 1;
+    same("changed_range", gfp_changed_range(sheet, 51, file, 40, &outcome, &from, &to), GFP_OK);
+    same("changed_range", outcome == GFP_PAGE && from == 16 && to == 32, 1);
+    same("changed_range", gfp_changed_range(sheet, 51, file, 39, &outcome, &from, &to), GFP_OK);
+    same("changed_range", outcome == GFP_OTHER_LENGTH && from == 0 && to == 0, 1);
+}
+
 /* ---- Keyholder */
 
 static void drawing(void) {
@@ -251,8 +278,10 @@ static void read_only(void) {
         same("read-only, join_behind", gfp_join_behind(key, u, u + 1, 1, 1), NUMBERS[i]);
         same("read-only, join_in_front", gfp_join_in_front(key, u, u + 1, 1, 1), NUMBERS[i]);
         same("read-only, replace_page", gfp_replace_page(key, u, u + 1, 0, AB, 2, CD, 2), NUMBERS[i]);
-        same("read-only, make_table", gfp_make_table(key, u, i == 2 ? 1023 : 1024), i == 2 ? GFP_TABLE_SIZE : NUMBERS[i]);
-        same("read-only, search", gfp_search(key, AB, 2, AB, i == 2 ? 0 : 1, v, 2, v + 2, v + 3), i == 2 ? GFP_EMPTY_PATTERN : NUMBERS[i]);
+        same("read-only, make_table", gfp_make_table(key, u, i == 2 ? 1023 : 1024),
+             i == 2 ? GFP_TABLE_SIZE : NUMBERS[i]);
+        same("read-only, search", gfp_search(key, AB, 2, AB, i == 2 ? 0 : 1, v, 2, v + 2, v + 3),
+             i == 2 ? GFP_EMPTY_PATTERN : NUMBERS[i]);
         same("read-only, write_sheet", gfp_write_sheet(key, 16, AB, 2, b, 34), i == 2 ? GFP_BUFFER_SHORT : NUMBERS[i]);
     }
     same("read-only, begin", gfp_begin(SMALL, u, u + 1), GFP_KEY_BELOW_256);
@@ -262,6 +291,9 @@ static void read_only(void) {
     same("read-only, read_sheet", gfp_read_sheet(AB, 2, u, u + 1, u + 2, u + 3, u + 4), GFP_SHEET_MALFORMED);
     same("read-only, read_pages", gfp_read_pages(AB, 2, u, 2), GFP_SHEET_MALFORMED);
     same("read-only, check_file", gfp_check_file(AB, 2, AB, 2, v, v + 1), GFP_SHEET_MALFORMED);
+    same("read-only, changed_range", gfp_changed_range(AB, 2, AB, 2, v, u, u + 1), GFP_SHEET_MALFORMED);
+    same("read-only, sheet_length", gfp_sheet_length(2, 15, u), GFP_PAGE_SIZE);
+    same("read-only, sheet_length", gfp_sheet_length(LONGEST + 1, 16, u), GFP_TOO_LONG);
     same("read-only, draw", gfp_draw(12, 2, u), GFP_DEGREE_NOT_LISTED);
     same("read-only, draw", gfp_draw(11, 1, u), GFP_ELEMENT_OUT_OF_RANGE);
     munmap(u, 65536);
@@ -308,17 +340,36 @@ static void run_read_pages(uint64_t key, size_t m) {
 static void run_check_file(uint64_t key, size_t m) {
     (void)key, gfp_check_file(sheet, GFP_SHEET_BYTES + 8 * ((m + 31) / 32), file, m, c, c + 1);
 }
+static void run_changed_range(uint64_t key, size_t m) {
+    (void)key, gfp_changed_range(sheet, GFP_SHEET_BYTES + 8 * ((m + 31) / 32), file, m, c, w, w + 1);
+}
+static void run_sheet_length(uint64_t key, size_t m) { (void)key, gfp_sheet_length(m, 16, w); }
 static void run_draw(uint64_t key, size_t m) { (void)m, gfp_draw(61, key >> 4, w), gfp_draw(11, 3, w); }
 
 static const struct {
     const char *name;
     void (*run)(uint64_t key, size_t m);
-} RUNS[] = {{"gfp_test_key", run_test_key},         {"gfp_stock_key", run_stock_key},     {"gfp_begin", run_begin},
-            {"gfp_feed", run_feed},                 {"gfp_make_table", run_make_table},   {"gfp_test_table", run_test_table},
-            {"gfp_feed_table", run_feed_table},     {"gfp_feed_house", run_feed_house},   {"gfp_join_behind", run_join_behind},
-            {"gfp_join_in_front", run_join_in_front}, {"gfp_replace_page", run_replace_page}, {"gfp_search", run_search},
-            {"gfp_write_sheet", run_write_sheet},   {"gfp_read_sheet", run_read_sheet},   {"gfp_read_pages", run_read_pages},
-            {"gfp_check_file", run_check_file},     {"gfp_draw", run_draw}};
+} RUNS[] = {
+    {"gfp_test_key", run_test_key},
+    {"gfp_stock_key", run_stock_key},
+    {"gfp_begin", run_begin},
+    {"gfp_feed", run_feed},
+    {"gfp_make_table", run_make_table},
+    {"gfp_test_table", run_test_table},
+    {"gfp_feed_table", run_feed_table},
+    {"gfp_feed_house", run_feed_house},
+    {"gfp_join_behind", run_join_behind},
+    {"gfp_join_in_front", run_join_in_front},
+    {"gfp_replace_page", run_replace_page},
+    {"gfp_search", run_search},
+    {"gfp_write_sheet", run_write_sheet},
+    {"gfp_read_sheet", run_read_sheet},
+    {"gfp_read_pages", run_read_pages},
+    {"gfp_check_file", run_check_file},
+    {"gfp_changed_range", run_changed_range},
+    {"gfp_sheet_length", run_sheet_length},
+    {"gfp_draw", run_draw},
+};
 
 static size_t now_running;
 static uint64_t now_key;
@@ -339,7 +390,8 @@ static size_t taken(uint8_t *stack) {
     size_t i = 0;
     memset(stack, 0xa5, STACK);
     pthread_attr_init(&attributes);
-    if (pthread_attr_setstack(&attributes, stack, STACK) != 0 || pthread_create(&thread, &attributes, on_own_stack, NULL) != 0) {
+    if (pthread_attr_setstack(&attributes, stack, STACK) != 0
+        || pthread_create(&thread, &attributes, on_own_stack, NULL) != 0) {
         fprintf(stderr, "no thread\n");
         exit(2);
     }
@@ -383,6 +435,7 @@ int main(int argc, char **argv) {
     page_change();
     searching();
     sheets();
+    ranges();
     drawing();
     read_only();
     printf("%u right, %u wrong\n", right, wrong);

@@ -271,6 +271,11 @@ pub fn write_sheet(key: u64, s: u64, file: &[u8], buffer: &[u8]) -> Answer<Vec<u
     Ok(after)
 }
 
+pub fn sheet_length(n: u64, s: u64) -> Answer<u64> {
+    refuse(&[(7, too_long(&[n.into()])), (12, !(16..=4096).contains(&s))])?;
+    Ok(27 + 8 * pages(n, s))
+}
+
 #[derive(Clone, Debug, PartialEq, Eq)]
 pub struct Sheet {
     pub key: u64,
@@ -321,6 +326,23 @@ pub fn check_file(bytes: &[u8], file: &[u8]) -> Answer<Check> {
     }
     let changed = filled_pages(file, sheet.page_size as usize).zip(&sheet.pages).position(|(page, &f)| fingerprint(sheet.key, &page) != f);
     Ok(changed.map_or(Check::Same, |i| Check::Page(i as u64)))
+}
+
+/// The bytes of the page that a check names: from its place to the next page's, or to the file's end.
+#[derive(Clone, Debug, PartialEq, Eq)]
+pub enum Changed {
+    Same,
+    Bytes(std::ops::Range<u64>),
+    OtherLength,
+}
+
+pub fn changed_range(bytes: &[u8], file: &[u8]) -> Answer<Changed> {
+    let s = read_sheet(bytes)?.page_size;
+    Ok(match check_file(bytes, file)? {
+        Check::Same => Changed::Same,
+        Check::Page(i) => Changed::Bytes(i * s..((i + 1) * s).min(file.len() as u64)),
+        Check::OtherLength => Changed::OtherLength,
+    })
 }
 
 // ---- Keyholder: drawing

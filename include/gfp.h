@@ -116,6 +116,10 @@ uint32_t gfp_search(uint64_t key, const uint8_t *text, size_t text_length, const
 /* The bytes of a sheet without pages; each page adds 8. */
 #define GFP_SHEET_BYTES 27
 
+/* The bytes of the sheet of a file of the given length, with pages of the given size, to *bytes: 27 + 8 * pages.
+ * Refusals: 7, 12. Stack: 512 bytes. */
+uint32_t gfp_sheet_length(uint64_t length, uint64_t size, uint64_t *bytes);
+
 /* Writes the page sheet of a file into the lent bytes; further bytes keep their value. The page size is 16 to 4,096
  * bytes, and the sheet takes 27 + 8 * pages bytes, pages being the file's length over the page size, rounded up: the
  * letters GFP, a version of 2 bytes, the key (8), the file's length (4), the page size (2), the fingerprint of each
@@ -132,7 +136,7 @@ uint32_t gfp_read_sheet(const uint8_t *sheet, size_t sheet_length, uint64_t *key
 
 /* The page fingerprints of a page sheet into the lent places: the first ones, as far as they reach; further ones keep
  * their value. A sheet has as many as gfp_read_sheet writes to *pages.
- * Refusals: those of gfp_read_sheet, in its order. Stack: 17,408 bytes. */
+ * Refusals, as of gfp_read_sheet: 14, 1, 2, 12, 14. Stack: 17,408 bytes. */
 uint32_t gfp_read_pages(const uint8_t *sheet, size_t sheet_length, uint64_t *fingerprints, size_t fingerprints_length);
 
 #define GFP_SAME 0
@@ -141,9 +145,16 @@ uint32_t gfp_read_pages(const uint8_t *sheet, size_t sheet_length, uint64_t *fin
 
 /* Checks a file against a page sheet: *outcome is GFP_SAME, GFP_PAGE with the first page whose fingerprint differs,
  * counted from 0, in *page, or GFP_OTHER_LENGTH. *page is 0 where the outcome is not GFP_PAGE.
- * Refusals: all of gfp_read_sheet's, then 7. Stack: 26,112 bytes. */
+ * Refusals, those of gfp_read_sheet first: 14, 1, 2, 12, 14, 7. Stack: 26,112 bytes. */
 uint32_t gfp_check_file(const uint8_t *sheet, size_t sheet_length, const uint8_t *file, size_t file_length,
                         uint32_t *outcome, uint32_t *page);
+
+/* Checks a file as gfp_check_file does, and names the bytes of the page: where *outcome is GFP_PAGE, they stand from
+ * *from on, and end before *to, which is the file's end where the last page is not full. *from and *to are 0 where the
+ * outcome is not GFP_PAGE.
+ * Refusals, those of gfp_read_sheet first: 14, 1, 2, 12, 14, 7. Stack: 26,624 bytes. */
+uint32_t gfp_changed_range(const uint8_t *sheet, size_t sheet_length, const uint8_t *file, size_t file_length,
+                           uint32_t *outcome, uint64_t *from, uint64_t *to);
 
 /* ---- Keyholder: link libgfp_keyholder.a, libgfp_site.a and libgfp_bench.a */
 

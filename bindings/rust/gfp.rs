@@ -15,10 +15,12 @@ mod raw {
         pub fn gfp_join_in_front(key: u64, fingerprint: *mut u64, length: *mut u64, other_fingerprint: u64, other_length: u64) -> u32;
         pub fn gfp_replace_page(key: u64, fingerprint: *mut u64, length: *mut u64, place: u64, old_page: *const u8, old_page_length: usize, new_page: *const u8, new_page_length: usize) -> u32;
         pub fn gfp_search(key: u64, text: *const u8, text_length: usize, pattern: *const u8, pattern_length: usize, places: *mut u32, places_length: usize, count: *mut u32, alarms: *mut u32) -> u32;
+        pub fn gfp_sheet_length(length: u64, size: u64, bytes: *mut u64) -> u32;
         pub fn gfp_write_sheet(key: u64, page_size: u64, file: *const u8, file_length: usize, sheet: *mut u8, sheet_length: usize) -> u32;
         pub fn gfp_read_sheet(sheet: *const u8, sheet_length: usize, key: *mut u64, length: *mut u64, page_size: *mut u64, pages: *mut u64, fingerprint: *mut u64) -> u32;
         pub fn gfp_read_pages(sheet: *const u8, sheet_length: usize, fingerprints: *mut u64, fingerprints_length: usize) -> u32;
         pub fn gfp_check_file(sheet: *const u8, sheet_length: usize, file: *const u8, file_length: usize, outcome: *mut u32, page: *mut u32) -> u32;
+        pub fn gfp_changed_range(sheet: *const u8, sheet_length: usize, file: *const u8, file_length: usize, outcome: *mut u32, from: *mut u64, to: *mut u64) -> u32;
         pub fn gfp_draw(degree: u64, element: u64, key: *mut u64) -> u32;
     }
 }
@@ -143,6 +145,13 @@ pub fn search(key: u64, text: &[u8], pattern: &[u8], places: &mut [u32]) -> Resu
     answer(number, counts)
 }
 
+/// The bytes of the page sheet of a file of the given length: 27 + 8 × pages.
+pub fn sheet_length(length: u64, page_size: u64) -> Result<u64, Refusal> {
+    let mut bytes = 0;
+    let number = unsafe { raw::gfp_sheet_length(length, page_size, &mut bytes) };
+    answer(number, bytes)
+}
+
 /// Writes the page sheet of a file: 27 + 8 × pages bytes.
 pub fn write_sheet(key: u64, page_size: u64, file: &[u8], sheet: &mut [u8]) -> Result<(), Refusal> {
     answer(unsafe { raw::gfp_write_sheet(key, page_size, file.as_ptr(), file.len(), sheet.as_mut_ptr(), sheet.len()) }, ())
@@ -184,6 +193,22 @@ pub fn check_file(sheet: &[u8], file: &[u8]) -> Result<Check, Refusal> {
     let (mut outcome, mut page) = (0, 0);
     let number = unsafe { raw::gfp_check_file(sheet.as_ptr(), sheet.len(), file.as_ptr(), file.len(), &mut outcome, &mut page) };
     answer(number, [Check::Same, Check::Page(page), Check::OtherLength][outcome as usize])
+}
+
+/// The answer of a check that names bytes.
+#[derive(Clone, Debug, PartialEq, Eq)]
+pub enum Changed {
+    Same,
+    /// The bytes of the first page whose fingerprint differs.
+    Bytes(std::ops::Range<u64>),
+    OtherLength,
+}
+
+/// Checks a file as `check_file` does, and names the bytes of the page.
+pub fn changed_range(sheet: &[u8], file: &[u8]) -> Result<Changed, Refusal> {
+    let (mut outcome, mut from, mut to) = (0, 0, 0);
+    let number = unsafe { raw::gfp_changed_range(sheet.as_ptr(), sheet.len(), file.as_ptr(), file.len(), &mut outcome, &mut from, &mut to) };
+    answer(number, [Changed::Same, Changed::Bytes(from..to), Changed::OtherLength][outcome as usize].clone())
 }
 
 /// The key of a degree that an element draws.

@@ -162,7 +162,8 @@ pub extern "C" fn gfp_read_sheet(
     }
 }
 
-// The page fingerprints of a sheet into lent places, the first ones as far as they reach; further places keep their value. Numbers as above.
+// The page fingerprints of a sheet into lent places, the first ones as far as they reach; further places keep their value.
+// Numbers 14, 1, 2, 12, 14, in this order, as above.
 #[no_mangle]
 pub extern "C" fn gfp_read_pages(sheet: &[u8], fingerprints: &mut [u64]) -> u32
     ensures { λ r. ⌜
@@ -173,7 +174,7 @@ pub extern "C" fn gfp_read_pages(sheet: &[u8], fingerprints: &mut [u64]) -> u32
     refusals::number_of(sheet_reading::read_pages(sheet, fingerprints))
 }
 
-// A file checked against a sheet: 0 for same, 1 for a page with its place, 2 for another length. All of reading's numbers, then 7.
+// A file checked against a sheet: 0 for same, 1 for a page with its place, 2 for another length. Numbers 14, 1, 2, 12, 14, 7, in this order.
 #[no_mangle]
 pub extern "C" fn gfp_check_file(
     sheet: &[u8],
@@ -207,7 +208,7 @@ pub extern "C" fn gfp_check_file(
 }
 
 // The bytes of the first changed page of a file, from the first to before the last: outcome 0 for same, 1 for a page, 2 for another length;
-// from and to are 0 where no page is named. All of reading's numbers, then 7.
+// from and to are 0 where no page is named. Numbers 14, 1, 2, 12, 14, 7, in this order.
 #[no_mangle]
 pub extern "C" fn gfp_changed_range(
     sheet: &[u8],
