@@ -17,7 +17,8 @@ use refusals::Reply;
 ghost use mathlib.Core.Path.{_≡_};
 ghost use Prim.Native.Nat.{_≤_};
 ghost use lib.ListN.{length, take, drop};
-ghost use Rattle.mark.specs.Reading.{outcome, InFront, Filled, Stepped, FedInParts, MarkedInParts, PrintedInParts};
+ghost use Rattle.mark.specs.Reading.{outcome, InFront, Stepped, PrintedInParts};
+ghost use Rattle.mark.specs.Marking.{Filled, FedInParts, MarkedInParts};
 
 // What a read gave.
 enum Got {
