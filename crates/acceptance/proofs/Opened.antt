@@ -7,7 +7,8 @@ use native.Mathlib.Omega.{arith}
 use lib.Dec.{leb}
 use borrow.Author.Tests.{ltb-false, leb-false}
 use Rattle.gf2.specs.Polynomials.{degree}
-use Rattle.gf2.specs.Moduli.{polynomial, Proper, modulusOf}
+use Rattle.gf2.specs.Moduli.{polynomial, Proper}
+use Rattle.gf2.specs.Opening.{modulusOf}
 use Rattle.gf2.specs.declared.Modulus.{Modulus}
 use Rattle.gf2.proofs.Monics.{word-proper, word-whole}
 use Rattle.refusals.specs.Refusals.{Test, firstOf}

@@ -11,7 +11,8 @@ use lib.ListN.{length, take, drop, getD, set, replicate, length-map, length-repl
 use lib.Pow.{pow-pos, pow-mono}
 use lib.Seq.{length-take-le, take-length, getD-take}
 use borrow.Rule.Slice.PartMut.{putMid, mid-len, same-len-mid}
-use Rattle.gf2.specs.Polynomials.{_⊕_, Degree}
+use Rattle.gf2.specs.Polynomials.{_⊕_}
+use Rattle.gf2.specs.Degrees.{Degree}
 use Rattle.gf2.proofs.Sums.{⊕-left-comm, ⊕-lt, ⊕-zero}
 use Rattle.gf2.proofs.Products.{by-bit, bit-cases}
 use Rattle.gf2.proofs.Degrees.{deg-hi, deg-pos, deg-⊕}

@@ -1,4 +1,4 @@
--- Rows over the field of two elements, as numbers: bit i is the entry in column i.
+-- For inner functions: a reader of the promises need not read this page. Rows over the field of two elements, as numbers: bit i is the entry in column i.
 use mathlib.Core.Path.{_≡_}
 use mathlib.Core.List.{List, [], _∷_}
 use Prim.Native.Nat.{ℕ, _*_, _/_, _%_, _^_, _<_}

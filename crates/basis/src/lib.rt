@@ -6,7 +6,8 @@ ghost use mathlib.Core.Logic.{_↔_};
 ghost use mathlib.Core.List.{map};
 ghost use Prim.Native.Nat.{_+_, _*_, _/_, _%_, _^_, _<_};
 ghost use lib.ListN.{length};
-ghost use Rattle.gf2.specs.Polynomials.{Degree};
+ghost use Rattle.lists.specs.Inner.{Scratch};
+ghost use Rattle.gf2.specs.Degrees.{Degree};
 ghost use Rattle.basis.specs.Rows.{sumOf, Independent, NoRelation, clear, addWhere};
 
 // v where the lowest bit of x is 1, 0 where it is 0. No branch: the bits are data.
@@ -59,9 +60,9 @@ fn lowest_one(v: u64) -> u32
 }
 
 // Are the rows independent? By elimination in place: each row, from the last, clears the column of its lowest 1 from the rows before it.
-// From the last, since then every turn's part of the buffer begins at the same place.
+// From the last, since then every turn's part of the buffer begins at the same place. What is left of the rows is free.
 pub fn independent(rows: &mut [u64]) -> bool
-    ensures { λ r. ⌜ (r ≡ true) ↔ Independent (now (rows .entry)) ⌝ }
+    ensures { λ r. ⌜ ((r ≡ true) ↔ Independent (now (rows .entry))) × Scratch (now (rows .entry)) (now (rows .exit)) ⌝ }
 {
     let mut n = rows.len();
     while 0 < n {

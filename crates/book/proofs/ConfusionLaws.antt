@@ -12,7 +12,8 @@ use Rattle.lists.specs.Lists.{passing, All, Distinct}
 use Rattle.lists.proofs.Truth.{and-both}
 use Rattle.lists.proofs.Lists.{all-map, Passes, all-passing, distinct-passing}
 use Rattle.lists.proofs.Counts.{length-passing, count-none}
-use Rattle.gf2.specs.Polynomials.{degree, Degree}
+use Rattle.gf2.specs.Polynomials.{degree}
+use Rattle.gf2.specs.Degrees.{Degree}
 use Rattle.gf2.proofs.Degrees.{degree-is, degree-eq, deg-lo, deg-hi, deg-intro}
 use Rattle.acceptance.specs.Keys.{accepted}
 use Rattle.acceptance.proofs.Laws.{accepted-pos, accepted-iff}

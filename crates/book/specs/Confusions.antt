@@ -13,14 +13,6 @@ use Rattle.files.specs.Files.{fingerprint}
 abbrev pub Routes : Type 1
 Routes = ℕ → List ℕ → ℕ → Type 0
 
--- what a route leaves is the file's fingerprint
-abbrev pub Sound : Routes → Type 0
-Sound Route = (key : ℕ) (file : List ℕ) (f : ℕ) → accepted key ≡ true → Route key file f → f ≡ fingerprint key file
-
--- and there is a route to every file
-abbrev pub Reaches : Routes → Type 0
-Reaches Route = (key : ℕ) (file : List ℕ) → Route key file (fingerprint key file)
-
 -- an accepted key of degree k under which a route to the one file and a route to the other can leave equal fingerprints
 pub record Confuses (Route : Routes) (k : ℕ) (a b : List ℕ) (key : ℕ) : Type 0 where
   pub is-accepted : accepted key ≡ true
@@ -32,3 +24,13 @@ pub record Confuses (Route : Routes) (k : ℕ) (a b : List ℕ) (key : ℕ) : Ty
 -- the same as a test (`Counted`)
 unfoldable pub confused : List ℕ → List ℕ → ℕ → Bool
 confused a b key = accepted key && eqb (fingerprint key a) (fingerprint key b)
+
+-- ---- claims
+
+-- what a route leaves is the file's fingerprint
+abbrev pub Sound : Routes → Type 0
+Sound Route = (key : ℕ) (file : List ℕ) (f : ℕ) → accepted key ≡ true → Route key file f → f ≡ fingerprint key file
+
+-- and there is a route to every file
+abbrev pub Reaches : Routes → Type 0
+Reaches Route = (key : ℕ) (file : List ℕ) → Route key file (fingerprint key file)

@@ -9,7 +9,7 @@ ghost use mathlib.Core.Path.{_≡_};
 ghost use Rattle.refusals.specs.Refusals.{firstOf};
 ghost use Rattle.acceptance.specs.Opened.{Opened};
 ghost use Rattle.files.specs.Files.{joined, replaced};
-ghost use Rattle.marks.specs.Feeding.{markIn, fed, fedUnder};
+ghost use Rattle.marks.specs.Answers.{markIn, fed, fedUnder};
 ghost use Rattle.compose.specs.Composing.{marksTests, joinTests, joinBehind, joinInFront, pageTests, replacePage};
 
 // Two marks joined, after the test of the key. The running mark m goes back where they are refused.

@@ -8,7 +8,8 @@ use native.Mathlib.Decide.{decLt}
 use native.Mathlib.Omega.{arith}
 use lib.Arith.{bin-ind}
 use lib.Pow.{pow-mono}
-use Rattle.gf2.specs.Polynomials.{_⊕_, _⊗_, Degree, degree, Divides, rem, Irreducible}
+use Rattle.gf2.specs.Polynomials.{_⊕_, _⊗_, degree, Divides, rem, Irreducible}
+use Rattle.gf2.specs.Degrees.{Degree}
 use Rattle.gf2.proofs.Sums.{⊕-zero, ⊕-lt, ⊕-bit}
 use Rattle.gf2.proofs.Products.{⊗-zero, ⊗-one, bit-cases, mod-2}
 use Rattle.gf2.proofs.Degrees.{degree-is, degree-eq, deg-lo, deg-hi, deg-pos}

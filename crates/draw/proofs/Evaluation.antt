@@ -6,7 +6,8 @@ use native.Mathlib.Nat.{pow-suc, lt-of-lt-of-le}
 use native.Mathlib.Numerals.{add-one}
 use native.Mathlib.Omega.{arith}
 use lib.Pow.{pow-mono}
-use Rattle.gf2.specs.Polynomials.{_⊗_, Degree, rem}
+use Rattle.gf2.specs.Polynomials.{_⊗_, rem}
+use Rattle.gf2.specs.Degrees.{Degree}
 use Rattle.gf2.specs.Moduli.{polynomial, Proper}
 use Rattle.gf2.specs.declared.Modulus.{Modulus}
 use Rattle.gf2.proofs.Degrees.{deg-hi, deg-pos}

@@ -4,15 +4,14 @@ use mathlib.Core.Bool.{Bool, _||_, not}
 use mathlib.Core.List.{List, [], _∷_}
 use Prim.Native.Nat.{ℕ, _-_, _^_}
 use lib.Dec.{leb, ltb, eqb}
-use Rattle.gf2.specs.Polynomials.{Degree}
+use Rattle.gf2.specs.Degrees.{Degree}
 use Rattle.fields.specs.Fields.{at}
 use Rattle.refusals.specs.declared.Refusal.the-variants.{DegreeNotListed, ElementOutOfRange}
-use Rattle.refusals.specs.Refusals.{Answer, Done, Refused, Test, _⇒_, firstOf}
-use Rattle.lists.specs.Lists.{firstFrom, among}
+use Rattle.refusals.specs.Refusals.{Answer, Test, _⇒_, firstOf}
+use Rattle.lists.specs.Searches.{firstFrom}
+use Rattle.lists.specs.Inner.{among}
 use Rattle.lists.specs.Counts.{countFrom}
 use Rattle.stock.specs.Stock.{stockKey}
-use Rattle.draw.specs.declared.Drawn.{Drawn}
-use Rattle.draw.specs.declared.Drawn.the-variants as cases
 
 -- the degrees that keys are drawn of
 abbrev pub degrees : List ℕ
@@ -36,11 +35,6 @@ drawTests k e = not (among k degrees) ⇒ DegreeNotListed ∷ (ltb e 2 || leb (2
 
 unfoldable pub draw : ℕ → ℕ → Answer Unit ℕ
 draw k e = firstOf (drawTests k e) tt (keyOf k e)
-
--- the answer in code: its number, and the key
-abbrev pub answer : Drawn → Answer Unit ℕ
-answer (cases.Key p) = Done p
-answer (cases.Refused r) = Refused r tt
 
 -- what it is to be drawn by e, without the search: of degree k, with e for a root modulo f
 pub record Draws (f k e p : ℕ) : Type 0 where

@@ -8,7 +8,8 @@ use native.Mathlib.Nat.{lt-of-lt-of-le, two-pow-succ}
 use native.Mathlib.Decide.{decLt}
 use native.Mathlib.Omega.{arith}
 use lib.Pow.{pow-lt, pow-mono}
-use Rattle.gf2.specs.Polynomials.{_⊕_, Degree, Divides, rem, Irreducible}
+use Rattle.gf2.specs.Polynomials.{_⊕_, Divides, rem, Irreducible}
+use Rattle.gf2.specs.Degrees.{Degree}
 use Rattle.gf2.proofs.Sums.{⊕-eq, ⊕-lt}
 use Rattle.gf2.proofs.Degrees.{deg-hi, deg-pos, deg-⊗, deg-⊕}
 use Rattle.gf2.proofs.Divisors.{dvd-by, dvd-refl, dvd-small}

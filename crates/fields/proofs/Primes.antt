@@ -5,7 +5,7 @@ use Prim.Native.Nat.{ℕ, _%_, _<_}
 use native.Mathlib.Omega.{arith}
 use lib.Dec.{T, eqb, eqb→eq}
 use borrow.Author.Tests.{eq-eqb}
-use Rattle.lists.specs.Lists.{firstFrom}
+use Rattle.lists.specs.Searches.{firstFrom}
 use Rattle.lists.proofs.Searches.{none-before}
 use Rattle.fields.specs.Fields.{Prime}
 

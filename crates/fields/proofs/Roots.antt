@@ -9,7 +9,8 @@ use native.Mathlib.Omega.{arith}
 use lib.Arith.{lt-one}
 use lib.ListN.{length}
 use Rattle.lists.specs.Lists.{All}
-use Rattle.gf2.specs.Polynomials.{_⊕_, _⊗_, Degree, Divides, Irreducible}
+use Rattle.gf2.specs.Polynomials.{_⊕_, _⊗_, Divides, Irreducible}
+use Rattle.gf2.specs.Degrees.{Degree}
 use Rattle.gf2.proofs.Sums.{xor}
 use Rattle.gf2.proofs.Products.{ring}
 use Rattle.gf2.proofs.Degrees.{half-lt}

@@ -2,7 +2,8 @@
 -- elements has a value at each of them.
 use mathlib.Core.Logic.{_≢_}
 use Prim.Native.Nat.{ℕ, zero, suc, _/_, _%_, _<_}
-use Rattle.gf2.specs.Polynomials.{_⊕_, _⊗_, Degree, rem, Irreducible}
+use Rattle.gf2.specs.Polynomials.{_⊕_, _⊗_, rem, Irreducible}
+use Rattle.gf2.specs.Degrees.{Degree}
 
 -- ---- the value p(e) of a polynomial p at a polynomial e: Horner's rule, from the highest coefficient down
 

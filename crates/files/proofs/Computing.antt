@@ -5,7 +5,8 @@ use Prim.Native.Nat.{ℕ, zero, suc, _+_, _-_, _*_, _/_, _%_, _^_, _<_}
 use native.Mathlib.Nat.{zero-add, zero-mul, mod-mod, mod-eq-of-lt}
 use native.Mathlib.Omega.{arith}
 use lib.ListN.{length, getD, drop, length-drop}
-use Rattle.gf2.specs.Polynomials.{_⊕_, _⊗_, monic, rem}
+use Rattle.gf2.specs.Polynomials.{_⊕_, _⊗_, rem}
+use Rattle.gf2.specs.Degrees.{monic}
 use Rattle.gf2.proofs.Sums.{⊕-self, ⊕-zero, ⊕-assoc, ⊕-append, ⊕-lt}
 use Rattle.gf2.proofs.Residues.{rem-⊕}
 use Rattle.gf2.proofs.Powers.{rem-⊗-pow}

@@ -11,7 +11,8 @@ use lib.Pow.{pow-mono}
 use Rattle.lists.specs.Lists.{All, Distinct}
 use Rattle.lists.proofs.Lists.{all-map}
 use Rattle.lists.proofs.Parts.{three-parts, outside, middles-length, other-middle}
-use Rattle.gf2.specs.Polynomials.{_⊕_, degree, Degree, Irreducible}
+use Rattle.gf2.specs.Polynomials.{_⊕_, degree, Irreducible}
+use Rattle.gf2.specs.Degrees.{Degree}
 use Rattle.gf2.proofs.Sums.{⊕-lt}
 use Rattle.gf2.proofs.Degrees.{degree-is, deg-hi}
 use Rattle.gf2.proofs.Congruences.{Congruent, Shifted, congruent-count, congruent-equal}

@@ -9,12 +9,13 @@ use lib.Arith.{digits-lt, digits-div}
 use lib.ListN.{length, getD, drop, length-append}
 use lib.Pow.{mod-pow-add}
 use lib.Seq.{drop-cons}
-use Rattle.gf2.specs.Polynomials.{_⊕_, Degree, rem}
+use Rattle.gf2.specs.Polynomials.{_⊕_, rem}
+use Rattle.gf2.specs.Degrees.{Degree}
 use Rattle.gf2.proofs.Sums.{⊕-self, ⊕-append, ⊕-shl, xor}
 use Rattle.gf2.proofs.Products.{shl-suc}
 use Rattle.gf2.proofs.Degrees.{deg-unique}
 use Rattle.gf2.proofs.Residues.{rem-lt, rem-small, rem-append}
-use Rattle.files.specs.Files.{lowBits, bits, valueFrom, value, Bytes}
+use Rattle.files.specs.Files.{lowBits, bits, valueFrom, value, Bytes, ValuesDiffer}
 
 pub value-append : (s : ℕ) (a b : List ℕ) → valueFrom s (a ++ b) ≡ valueFrom (valueFrom s a) b
 unfolding valueFrom
@@ -136,6 +137,6 @@ from-inj (x ∷ a) (y ∷ b) s t l ha hb e =
 pub value-length : (a b : List ℕ) → value a ≡ value b → length a ≡ length b
 value-length a b e = omega (arith, deg-unique (value a) (8 * length a) (8 * length b) (value-degree a) (rw e (value-degree b)))
 
-pub value-inj : (a b : List ℕ) → Bytes a → Bytes b → value a ≡ value b → a ≡ b
+pub value-inj : ValuesDiffer
 unfolding value
 value-inj a b ha hb e = from-inj a b 1 1 (value-length a b e) ha hb e .1

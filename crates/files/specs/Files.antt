@@ -28,6 +28,10 @@ valueFrom s (b ∷ bs) = valueFrom (s * 2 + b % 2) bs
 unfoldable pub value : List ℕ → ℕ
 value file = valueFrom 1 (bits file)
 
+-- every entry is a byte
+abbrev pub Bytes : List ℕ → Type 0
+Bytes file = All (λ b. b < 256) file
+
 -- Rabin's fingerprint, with Broder's order of bits and the leading 1
 unfoldable pub fingerprint : ℕ → List ℕ → ℕ
 fingerprint key file = rem key (value file)
@@ -38,10 +42,6 @@ markOf key file = record { fingerprint = fingerprint key file; length = length f
 -- the mark is true of the file under the key
 abbrev pub True : ℕ → List ℕ → Mark → Type 0
 True key file m = m ≡ markOf key file
-
--- every entry is a byte
-abbrev pub Bytes : List ℕ → Type 0
-Bytes file = All (λ b. b < 256) file
 
 -- ---- what calls make of marks, under a key: values alone, whatever is refused
 
@@ -65,3 +65,9 @@ replaced key m place old new =
       fingerprint = rem key (m .fingerprint ⊕ (fingerprint key old ⊕ fingerprint key new) * 2 ^ (8 * (m .length - (place + length old))));
       length = m .length;
     }
+
+-- ---- claims
+
+-- no two files have one value
+abbrev pub ValuesDiffer : Type 0
+ValuesDiffer = (a b : List ℕ) → Bytes a → Bytes b → value a ≡ value b → a ≡ b

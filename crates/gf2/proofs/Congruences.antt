@@ -10,7 +10,8 @@ use lib.ListN.{length}
 use lib.Pow.{pow-mono}
 use Rattle.lists.specs.Lists.{All, Distinct}
 use Rattle.lists.proofs.Lists.{all-map}
-use Rattle.gf2.specs.Polynomials.{_⊕_, degree, Degree, rem, Divides, Irreducible}
+use Rattle.gf2.specs.Polynomials.{_⊕_, degree, rem, Divides, Irreducible}
+use Rattle.gf2.specs.Degrees.{Degree}
 use Rattle.gf2.proofs.Sums.{⊕-eq, ⊕-lt, ⊕-shl}
 use Rattle.gf2.proofs.Products.{⊗-pow}
 use Rattle.gf2.proofs.Degrees.{degree-is, deg-le}

@@ -7,17 +7,13 @@ use native.Mathlib.Nat.{le-refl}
 use native.Mathlib.Decide.{ℕ-discrete, decLt}
 use native.Mathlib.Omega.{arith}
 use Rattle.gf2.specs.Polynomials.{_⊕_, _⊗_, degree, rem, Divides, Irreducible}
+use Rattle.gf2.specs.Criterion.{Rigid, RigidIrreducible, IrreducibleRigid}
 use Rattle.gf2.proofs.Sums.{⊕-eq, ⊕-lt, xor}
 use Rattle.gf2.proofs.Products.{one-⊗, ⊗-one, ⊗-comm, ring}
 use Rattle.gf2.proofs.Degrees.{degree-is, degree-eq}
 use Rattle.gf2.proofs.Divisors.{dvd-by, dvd-left, dvd-⊕, dvd-trans, dvd-small}
 use Rattle.gf2.proofs.Residues.{rem-lt, rem-dvd, rem-cong, rem-⊗, rem-of-dvd, dvd-of-rem-zero}
 use Rattle.gf2.proofs.Irreducibles.{Bezout, bezout, euclid-lemma, pos-left, pos-right, factor-lt, whole}
-
-pub record Rigid (p : ℕ) : Type 0 where
-  pub proper : 1 < p
-  pub no-nilpotent : (h : ℕ) → 0 < h → h < 2 ^ degree p → rem p (h ⊗ h) ≡ 0 → ⊥
-  pub no-idempotent : (h : ℕ) → 1 < h → h < 2 ^ degree p → rem p (h ⊗ h) ≡ h → ⊥
 
 dvd-one : (d : ℕ) → Divides d 1 → d ≡ 1
 dvd-one d h = whole d 1 h (le-refl 1) (rw (degree-eq 1 0 refl) (pos-right (h .quotient) d 1 (h .product) (le-refl 1)))
@@ -95,7 +91,7 @@ module _ (p a b g : ℕ) (r : Rigid p) (is : a ⊗ g ⊗ (b ⊗ g) ≡ p) (ne : 
           sorted : a ⊗ b ⊗ (a ⊗ g ⊗ (b ⊗ g)) ≡ a ⊗ b ⊗ g ⊗ (a ⊗ b ⊗ g)
           sorted = simp ring
 
-pub rigid-irreducible : (p : ℕ) → Rigid p → Irreducible p
+pub rigid-irreducible : RigidIrreducible
 rigid-irreducible p r = record { proper = r .proper; only = λ d h. split d h (bezout (h .quotient) d) }
   where
     split : (d : ℕ) (h : Divides d p) → Bezout (h .quotient) d → (d ≡ 1) ⊎ (d ≡ p)
@@ -107,7 +103,7 @@ rigid-irreducible p r = record { proper = r .proper; only = λ d h. split d h (b
 
 -- ---- and back
 
-pub irreducible-rigid : (p : ℕ) → Irreducible p → Rigid p
+pub irreducible-rigid : IrreducibleRigid
 irreducible-rigid p i = record { proper = i .proper; no-nilpotent = nil; no-idempotent = idem }
   where
     pos : 0 < p

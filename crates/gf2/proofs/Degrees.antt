@@ -9,7 +9,8 @@ use native.Mathlib.Decide.{decLt}
 use native.Mathlib.Omega.{arith}
 use lib.Arith.{half-le}
 use lib.Pow.{pow-pos, pow-mono}
-use Rattle.gf2.specs.Polynomials.{_⊕_, _⊗_, halvings, degree, Degree}
+use Rattle.gf2.specs.Polynomials.{_⊕_, _⊗_, halvings, degree}
+use Rattle.gf2.specs.Degrees.{Degree}
 use Rattle.gf2.proofs.Sums.{⊕-zero, ⊕-self, ⊕-shr}
 use Rattle.gf2.proofs.Products.{⊗-step, one-⊗, by-bit}
 

@@ -4,7 +4,8 @@ use Prim.Native.Nat.{ℕ, _+_, _<_, _^_}
 use native.Mathlib.Nat.{eq-zero-or-pos, le-add-left, not-le-of-lt, le-trans}
 use mathlib.Core.Logic.{_⊎_, inl, inr}
 use lib.Pow.{pow-mono}
-use Rattle.gf2.specs.Polynomials.{_⊕_, _⊗_, degree, Degree, Divides}
+use Rattle.gf2.specs.Polynomials.{_⊕_, _⊗_, degree, Divides}
+use Rattle.gf2.specs.Degrees.{Degree}
 use Rattle.gf2.proofs.Products.{zero-⊗, one-⊗, ⊕-⊗, ⊗-assoc}
 use Rattle.gf2.proofs.Degrees.{deg-⊗, deg-lo, degree-is}
 

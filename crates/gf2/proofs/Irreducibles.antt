@@ -9,7 +9,8 @@ use native.Mathlib.Omega.{arith}
 use lib.ListN.{length}
 use lib.Pow.{pow-mono}
 use Rattle.lists.specs.Lists.{All, Distinct}
-use Rattle.gf2.specs.Polynomials.{_⊕_, _⊗_, degree, Degree, rem, Divides, Irreducible}
+use Rattle.gf2.specs.Polynomials.{_⊕_, _⊗_, degree, rem, Divides, Irreducible}
+use Rattle.gf2.specs.Degrees.{Degree}
 use Rattle.lists.proofs.Lists.{all-zip}
 use Rattle.gf2.proofs.Sums.{xor}
 use Rattle.gf2.proofs.Products.{zero-⊗, one-⊗, ⊕-⊗, ⊗-assoc, ⊗-comm, ring}

@@ -4,8 +4,10 @@ use Prim.Native.Nat.{ℕ, _/_, _%_, _^_, _<_}
 use native.Mathlib.Nat.{one-mul, mod-lt, div-self}
 use native.Mathlib.Omega.{arith}
 use lib.Pow.{pow-pos, pow-lt, split}
-use Rattle.gf2.specs.Polynomials.{_⊕_, degree, Degree, monic}
-use Rattle.gf2.specs.Moduli.{polynomial, Proper, modulusOf}
+use Rattle.gf2.specs.Polynomials.{_⊕_, degree}
+use Rattle.gf2.specs.Degrees.{Degree, monic}
+use Rattle.gf2.specs.Moduli.{polynomial, Proper}
+use Rattle.gf2.specs.Opening.{modulusOf}
 use Rattle.gf2.proofs.Sums.{⊕-append}
 use Rattle.gf2.proofs.Degrees.{degree-is, degree-eq, degree-from, deg-pos, deg-le, deg-⊕}
 

@@ -7,7 +7,8 @@ use native.Mathlib.Decide.{le-ind}
 use native.Mathlib.Omega.{arith}
 use lib.Arith.{half-le, bin-ind}
 use lib.Pow.{pow-pos}
-use Rattle.gf2.specs.Polynomials.{_⊕_, _⊗_, degree, Degree, reduce, longDivision, rem, Divides}
+use Rattle.gf2.specs.Polynomials.{_⊕_, _⊗_, degree, reduce, longDivision, rem, Divides, RemIs}
+use Rattle.gf2.specs.Degrees.{Degree}
 use Rattle.gf2.proofs.Sums.{⊕-zero, zero-⊕, ⊕-bit, ⊕-append, ⊕-lt, ⊕-eq, ⊕-shl, ⊕-dbl, xor}
 use Rattle.gf2.proofs.Products.{zero-⊗, one-⊗, dbl-⊗, ⊗-pow, ⊗-comm, by-low, mod-2, bit-cases, ring}
 use Rattle.gf2.proofs.Degrees.{degree-is, deg-cancel, lt-of-high}
@@ -125,3 +126,7 @@ module _ {p : ℕ} (pos : 0 < p) where
 
   pub dvd-of-rem-zero : (a : ℕ) → rem p a ≡ 0 → Divides p a
   dvd-of-rem-zero a e = dvd-by (rem-dvd a) (rw e (⊕-zero a))
+
+-- the residue is the one number that is below 2^k and differs by a multiple of p
+pub rem-is : RemIs
+rem-is p pos a r = (λ e. rw (← e) (rem-lt pos a, rem-dvd pos a), λ h. rem-unique pos a r (h .0) (h .1))

@@ -1,2 +1,5 @@
 pub mod Polynomials
+pub mod Degrees
 pub mod Moduli
+pub mod Criterion
+pub mod Opening

@@ -1,7 +1,7 @@
 -- Polynomials over the field of two elements, as numbers: bit i is the coefficient of t^i (document 01, "Polynomials and keys").
--- So 2 is t, 2 ^ n is t^n, and the numbers below 2 ^ k are the polynomials of degree less than k.
+-- So 2 is t, 2 ^ n is t^n, x * 2 ^ n is the product of x and t^n, and the numbers below 2 ^ k are the polynomials of degree less than k.
 use mathlib.Core.Path.{_≡_}
-use mathlib.Core.Logic.{_⊎_}
+use mathlib.Core.Logic.{_⊎_, _↔_}
 use Prim.Native.Nat.{ℕ, zero, suc, _+_, _*_, _/_, _%_, _^_, _<_}
 use lib.Bits.{bitXor}
 
@@ -10,24 +10,6 @@ use lib.Bits.{bitXor}
 infixl 65 _⊕_
 unfoldable pub _⊕_ : ℕ → ℕ → ℕ
 a ⊕ b = bitXor a b
-
--- ---- the product: long multiplication without carries
-
--- by the bits of a, at most n of them
-unfoldable pub longProduct : ℕ → ℕ → ℕ → ℕ
-longProduct zero a b = 0
-longProduct (suc n) zero b = 0
-longProduct (suc n) (suc a) b = longProduct n (suc a / 2) b * 2 ⊕ suc a % 2 * b
-
-infixl 70 _⊗_
-unfoldable pub _⊗_ : ℕ → ℕ → ℕ
-a ⊗ b = longProduct a a b
-
--- the power a^n
-infixr 75 _⊗^_
-unfoldable pub _⊗^_ : ℕ → ℕ → ℕ
-a ⊗^ zero = 1
-a ⊗^ suc n = a ⊗ a ⊗^ n
 
 -- ---- the degree: the place of the highest one bit, counted from 0
 
@@ -40,14 +22,6 @@ halvings (suc n) (suc (suc a)) = suc (halvings n (suc (suc a) / 2))
 
 unfoldable pub degree : ℕ → ℕ
 degree a = halvings a a
-
--- the same as an equation: a has degree d where nothing but a 1 stands at t^d and above
-abbrev pub Degree : ℕ → ℕ → Type 0
-Degree a d = a / 2 ^ d ≡ 1
-
--- the polynomial t^k with the coefficients c below it
-unfoldable pub monic : ℕ → ℕ → ℕ
-monic k c = 2 ^ k + c
 
 -- ---- the residue modulo p: long division, the highest coefficient first
 
@@ -64,11 +38,25 @@ longDivision p k (suc n) (suc a) = reduce p k (longDivision p k n (suc a / 2) * 
 unfoldable pub rem : ℕ → ℕ → ℕ
 rem p a = longDivision p (degree p) a a
 
--- ---- divisors
+-- ---- claims: the residue by divisors
+
+-- the product: long multiplication without carries, by the bits of a, at most n of them
+unfoldable pub longProduct : ℕ → ℕ → ℕ → ℕ
+longProduct zero a b = 0
+longProduct (suc n) zero b = 0
+longProduct (suc n) (suc a) b = longProduct n (suc a / 2) b * 2 ⊕ suc a % 2 * b
+
+infixl 70 _⊗_
+unfoldable pub _⊗_ : ℕ → ℕ → ℕ
+a ⊗ b = longProduct a a b
 
 pub record Divides (d a : ℕ) : Type 0 where
   pub quotient : ℕ
   pub product : quotient ⊗ d ≡ a
+
+-- The residue of a is below 2^k, k being the degree of p, and differs from a by a multiple of p; no other number does both.
+abbrev pub RemIs : Type 0
+RemIs = (p : ℕ) → 0 < p → (a r : ℕ) → (rem p a ≡ r) ↔ ((r < 2 ^ degree p) × Divides p (a ⊕ r))
 
 -- of degree at least 1, and with no divisor but 1 and itself (over the field of two elements no other constant is left)
 pub record Irreducible (p : ℕ) : Type 0 where

@@ -4,8 +4,10 @@ ghost use mathlib.Core.Path.{_≡_};
 ghost use mathlib.Core.Bool.{not};
 ghost use Prim.Native.Nat.{_+_, _*_, _/_, _%_, _^_, _≤_, _<_};
 ghost use lib.Dec.{leb};
-ghost use Rattle.gf2.specs.Polynomials.{_⊗_, _⊗^_, degree, rem};
-ghost use Rattle.gf2.specs.Moduli.{polynomial, Proper, modulusOf};
+ghost use Rattle.gf2.specs.Polynomials.{_⊗_, degree, rem};
+ghost use Rattle.gf2.specs.Degrees.{_⊗^_};
+ghost use Rattle.gf2.specs.Moduli.{polynomial, Proper};
+ghost use Rattle.gf2.specs.Opening.{modulusOf};
 
 // A modulus: its degree, from 1 to 64, and the coefficients below t^degree, so that degree 64 fits a word.
 pub struct Modulus {
@@ -58,8 +60,8 @@ pub fn step(p: Modulus, f: u64, bit: u64) -> u64
     let cut = p.degree - 1;
     let top = (f >> cut) % 2;
     let rest = low_bits(f, cut);
-    let reduced = p.low * top;
-    (rest * 2 + bit) ^ reduced
+    let lower = p.low * top;
+    (rest * 2 + bit) ^ lower
 }
 
 // The product of two residues, by the bits of b from the lowest.

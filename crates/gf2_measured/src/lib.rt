@@ -1,7 +1,8 @@
 // The arithmetic of crate gf2 modulo the polynomial of degree 61 of the house key, exported for the benchmark alone.
 ghost use mathlib.Core.Path.{_≡_};
 ghost use Prim.Native.Nat.{_%_, _^_};
-ghost use Rattle.gf2.specs.Polynomials.{_⊗_, monic, rem};
+ghost use Rattle.gf2.specs.Polynomials.{_⊗_, rem};
+ghost use Rattle.gf2.specs.Degrees.{monic};
 use gf2::Modulus;
 
 const HOUSE: Modulus = Modulus {

@@ -6,7 +6,7 @@ use Prim.Native.Nat.{ℕ}
 use lib.ListN.{length}
 use Rattle.lists.specs.Lists.{listFrom}
 use Rattle.lists.proofs.Lists.{rising, length-list}
-use Rattle.gf2.specs.Moduli.{modulusOf}
+use Rattle.gf2.specs.Opening.{modulusOf}
 use Rattle.refusals.specs.declared.Refusal.the-variants.{TableSize, TableWord}
 use Rattle.refusals.specs.Refusals.{_⇒_, firstOf}
 use Rattle.refusals.proofs.Laws.{skip, gives-lowest}

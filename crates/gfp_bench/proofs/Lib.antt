@@ -3,4 +3,3 @@ pub mod Guarantee
 pub mod Calls
 pub mod Parts
 pub mod Examples
-pub mod Answers

@@ -13,8 +13,8 @@ use Rattle.acceptance.proofs.Opened.{open-accepted, opened-first}
 use Rattle.files.specs.declared.Mark.{Mark}
 use Rattle.files.specs.Files.{markOf}
 use Rattle.marks.specs.Feeding.{sumTest}
-use Rattle.tables.specs.Tables.{tableTests}
-use Rattle.tables.proofs.Laws.{clear-table}
+use Rattle.table_tests.specs.TableTests.{tableTests}
+use Rattle.table_tests.proofs.Laws.{clear-table}
 use Rattle.book.specs.Runs.{bookStep, run, Honest}
 use Rattle.book.proofs.RunLaws.{run-next}
 use Rattle.gfp_bench.specs.Book.{Call, ByBits, ByTable, bookTests, written, bench}

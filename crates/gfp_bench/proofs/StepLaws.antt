@@ -9,7 +9,7 @@ use Rattle.acceptance.specs.Keys.{keyTests}
 use Rattle.files.specs.declared.Mark.{Mark}
 use Rattle.files.specs.Files.{markOf, fedMark}
 use Rattle.files.proofs.Marks.{fed-true}
-use Rattle.tables.specs.Tables.{tableTests}
+use Rattle.table_tests.specs.TableTests.{tableTests}
 use Rattle.marks.specs.Feeding.{sumTest, feedTests, feedBits, feedTable}
 use Rattle.marks.proofs.Laws.{leave-out-8}
 use Rattle.book.specs.Runs.{bookStep}

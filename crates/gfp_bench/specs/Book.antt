@@ -7,7 +7,7 @@ use lib.ListN.{length, drop}
 use Rattle.refusals.specs.Refusals.{Answer, Done, Test}
 use Rattle.acceptance.specs.Keys.{keyTests}
 use Rattle.files.specs.declared.Mark.{Mark}
-use Rattle.tables.specs.Tables.{tableTests}
+use Rattle.table_tests.specs.TableTests.{tableTests}
 use Rattle.marks.specs.Feeding.{sumTest, begin, feedBits, feedTable}
 use Rattle.printing.specs.declared.KeyLine.the-variants.{Key}
 use Rattle.printing.specs.Printing.{keyLine, report, printed}

@@ -11,14 +11,15 @@ use Rattle.files.specs.declared.Mark.{Mark}
 use Rattle.lookups.specs.Rule.{word, differs}
 use Rattle.house.specs.House.{houseWords}
 use Rattle.keys.specs.Testing.{testKey}
-use Rattle.tables.specs.Tables.{sizeTest, tableTests, makeTable, testTable}
+use Rattle.table_tests.specs.TableTests.{tableSizeTest, tableTests}
+use Rattle.tables.specs.Tables.{makeTable, testTable}
 use Rattle.marks.specs.Feeding.{begin, feedTests, feedBits, feedTable, feedHouse}
 
 pub record EachCall (key : ℕ) (m : Mark) (words part : List ℕ) : Type 0 where
   pub test-key : GivesLowest (1 ∷ 2 ∷ []) (keyTests key) (testKey key)
   pub begin-mark : GivesLowest (1 ∷ 2 ∷ []) (keyTests key) (begin key)
   pub feed : GivesLowest (1 ∷ 2 ∷ 7 ∷ 8 ∷ []) (keyTests key ++ feedTests key m (length part)) (feedBits key m part)
-  pub make-table : GivesLowest (1 ∷ 2 ∷ 5 ∷ []) (keyTests key ++ sizeTest words ∷ []) (makeTable key words)
+  pub make-table : GivesLowest (1 ∷ 2 ∷ 5 ∷ []) (keyTests key ++ tableSizeTest words ∷ []) (makeTable key words)
   pub test-table : GivesLowest (1 ∷ 2 ∷ 5 ∷ 6 ∷ []) (keyTests key ++ tableTests key words) (testTable key words)
   pub feed-table : GivesLowest (1 ∷ 2 ∷ 5 ∷ 6 ∷ 7 ∷ 8 ∷ []) (keyTests key ++ tableTests key words ++ feedTests key m (length part))
       (feedTable key m words part)

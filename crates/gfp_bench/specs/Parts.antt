@@ -8,7 +8,7 @@ use Rattle.refusals.specs.Refusals.{longest}
 use Rattle.acceptance.specs.Keys.{accepted}
 use Rattle.files.specs.declared.Mark.{Mark}
 use Rattle.files.specs.Files.{markOf, True}
-use Rattle.lookups.specs.Rule.{Table}
+use Rattle.lookups.specs.Rule.{table}
 use Rattle.book.specs.Runs.{run}
 use Rattle.gfp_bench.specs.Book.{Call, ByBits, ByTable, step}
 
@@ -19,7 +19,7 @@ partOf (ByTable words part) = part
 -- the lent words are the key's table
 abbrev pub Usable : ℕ → Call → Type 0
 Usable key (ByBits part) = Unit {0}
-Usable key (ByTable words part) = Table key words
+Usable key (ByTable words part) = words ≡ table key
 
 abbrev pub AllUsable : ℕ → List Call → Type 0
 AllUsable key [] = Unit {0}

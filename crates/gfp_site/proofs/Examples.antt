@@ -12,7 +12,7 @@ use Rattle.sheets.specs.Sheets.{filled, pageFingerprints, contentsOf, writeShee
 use Rattle.sheets.proofs.Guarantee.{written-reads}
 use Rattle.lists.proofs.Lists.{all-map, every, all-by-test}
 use Rattle.gf2.specs.Polynomials.{_⊕_, halvings, degree, reduce, longDivision, rem}
-use Rattle.lists.specs.Lists.{anyBelow}
+use Rattle.lists.specs.Lists.{anyBelow, overlay}
 use Rattle.acceptance.specs.Keys.{reducible}
 use Rattle.files.specs.declared.Mark.{Mark}
 use Rattle.files.specs.Files.{lowBits, bits, valueFrom, value, fingerprint, markOf, fedMark, joined, replaced}
@@ -88,7 +88,7 @@ sheet =
     ∷ 0x00 ∷ 0x00 ∷ 0x00 ∷ 0x00 ∷ 0x00 ∷ 0x00 ∷ 0x00 ∷ 0xAC ∷ 0x00 ∷ 0x00 ∷ 0x00 ∷ 0x00 ∷ 0x00 ∷ 0x00 ∷ 0x00 ∷ 0x9D ∷ []
 
 written-sheet : writeSheet 0x11B 16 two (replicate 35 0) ≡ Done sheet
-unfolding sheet writeSheet sheetBytes bytesIn fieldsOf bytesOf contentsOf pageFingerprints filled
+unfolding sheet writeSheet overlay sheetBytes bytesIn fieldsOf bytesOf contentsOf pageFingerprints filled
     reducible anyBelow fingerprint value valueFrom bits lowBits rem longDivision reduce degree halvings _⊕_
 written-sheet = refl
 
@@ -116,7 +116,7 @@ unfolding contentsOf fingerprint value valueFrom bits lowBits rem longDivision r
 read-9D = ByReading sheet (contentsOf 0x11B 16 two) true-pages refl
 
 pub read-AC : Route 0x11B (two ++ replicate 14 0) 0xAC
-unfolding sheet filled contentsOf pageFingerprints readPages readSheet contentsIn numbersAt numberAt fingerprint value valueFrom bits lowBits
+unfolding sheet overlay filled contentsOf pageFingerprints readPages readSheet contentsIn numbersAt numberAt fingerprint value valueFrom bits lowBits
     joinedPages joined someUnreduced markOf reducible anyBelow rem longDivision reduce degree halvings _⊕_
 read-AC = ByReadingPages two sheet (0x00 ∷ []) (0xAC ∷ []) (contentsOf 0x11B 16 two) 0 true-pages refl (omega arith) (omega arith) refl refl
 

@@ -1,11 +1,10 @@
 -- The house key (document 01, "Polynomials and keys", "Tables"): the stock key of degree 61, and the words of its table.
 use mathlib.Core.List.{List}
 use Prim.Native.Nat.{ℕ}
-use Rattle.lists.specs.Lists.{listFrom}
-use Rattle.lookups.specs.Rule.{word}
+use Rattle.lookups.specs.Rule.{table}
 
 abbrev pub houseKey : ℕ
 houseKey = 0x2000000000000027
 
 abbrev pub houseWords : List ℕ
-houseWords = listFrom (word 8 houseKey) 0 1024
+houseWords = table houseKey

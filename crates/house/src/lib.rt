@@ -1,4 +1,4 @@
-// The house key, the stock key of degree 61, and its table as a constant.
+// The house key, the stock key of degree 61, and its table as a constant. They are for the project's own crates.
 mod constant;
 
 ghost use mathlib.Core.Path.{_≡_};

@@ -3,7 +3,7 @@
 use mathlib.Core.Path.{_≡_, sym, ap, _∙_}
 use mathlib.Core.List.{List, _++_}
 use Prim.Native.Nat.{ℕ, _^_, _<_}
-use Rattle.gf2.specs.Moduli.{modulusOf}
+use Rattle.gf2.specs.Opening.{modulusOf}
 use Rattle.gf2.specs.declared.Modulus.{Modulus}
 use Rattle.refusals.specs.declared.Refusal.{Refusal}
 use Rattle.refusals.specs.Refusals.{Refused, Test, firstOf}
@@ -13,7 +13,8 @@ use Rattle.acceptance.specs.Opened.{Opened}
 use Rattle.acceptance.proofs.Laws.{key-iff}
 use Rattle.keys.specs.declared.Tested.{Tested}
 use Rattle.keys.specs.declared.Tested.the-variants as cases
-use Rattle.keys.specs.Testing.{testKey, tested}
+use Rattle.keys.specs.Testing.{testKey}
+use Rattle.keys.specs.Answers.{tested}
 
 module _ (t : Tested) (key : ℕ) (e : tested t ≡ testKey key) where
   -- the accepted key is opened

@@ -1,2 +1,3 @@
 pub mod Testing
+pub mod Answers
 pub mod Squares

@@ -7,10 +7,12 @@ ghost use lib.ListN.{length, getD};
 ghost use Rattle.gf2.specs.Polynomials.{_⊕_};
 ghost use Rattle.gf2.specs.Moduli.{polynomial, Proper};
 ghost use Rattle.lists.specs.Lists.{listFrom};
+ghost use Rattle.lists.specs.Inner.{Scratch};
 ghost use Rattle.acceptance.specs.Keys.{reducible};
 ghost use Rattle.basis.specs.Rows.{Independent};
 ghost use Rattle.keys.specs.Squares.{square, evenRoot, oddPart, folded};
-ghost use Rattle.keys.specs.Testing.{testKey, tested};
+ghost use Rattle.keys.specs.Testing.{testKey};
+ghost use Rattle.keys.specs.Answers.{tested};
 use gf2::Modulus;
 use refusals::Refusal;
 
@@ -68,9 +70,10 @@ fn fold(x: u64) -> u64
     sum ^ rest
 }
 
-// Are the rows independent modulo all squares?
+// Are the rows independent modulo all squares? What is left of them is free.
 fn independent_squares(rows: &mut [u64]) -> bool
-    ensures { λ r. ⌜ (r ≡ true) ↔ Independent (listFrom (λ i. oddPart (getD (now (rows .entry)) i 0)) 0 (length (now (rows .entry)))) ⌝ }
+    ensures { λ r. ⌜ ((r ≡ true) ↔ Independent (listFrom (λ i. oddPart (getD (now (rows .entry)) i 0)) 0 (length (now (rows .entry)))))
+        × Scratch (now (rows .entry)) (now (rows .exit)) ⌝ }
 {
     for i in 0..rows.len() {
         rows[i] = odd_part(rows[i]);
@@ -78,10 +81,11 @@ fn independent_squares(rows: &mut [u64]) -> bool
     basis::independent(rows)
 }
 
-// Are the rows, each less its power of t, from t^h on, independent modulo all l² ⊕ l?
+// Are the rows, each less its power of t, from t^h on, independent modulo all l² ⊕ l? What is left of them is free.
 fn independent_differences(rows: &mut [u64], h: usize) -> bool
     requires { ⌜ h + length (now rows) ≤ 64 ⌝ }
-    ensures { λ r. ⌜ (r ≡ true) ↔ Independent (listFrom (λ i. folded 6 (getD (now (rows .entry)) i 0 ⊕ 2 ^ (h + i))) 0 (length (now (rows .entry)))) ⌝ }
+    ensures { λ r. ⌜ ((r ≡ true) ↔ Independent (listFrom (λ i. folded 6 (getD (now (rows .entry)) i 0 ⊕ 2 ^ (h + i))) 0 (length (now (rows .entry)))))
+        × Scratch (now (rows .entry)) (now (rows .exit)) ⌝ }
 {
     for i in 0..rows.len() {
         let power: u64 = 1 << (h + i);
@@ -114,7 +118,7 @@ pub fn test(key: u64) -> Tested
         return Tested::Refused(Refusal::KeyBelow256);
     }
     let p = gf2::modulus_of(key);
-    if key == stock::stock_key(p.degree) {
+    if key == stock::stock_key(p.degree as u64) {
         return Tested::Accepted(p);
     }
     if !irreducible(p) {

@@ -3,3 +3,4 @@ pub mod Lists
 pub mod Parts
 pub mod Counts
 pub mod Searches
+pub mod Lent

@@ -1,7 +1,7 @@
 -- Laws of lists of numbers, of listed values and of the numbers that pass a test, and tests of a whole list that the checker computes: of
 -- every entry, that two lists are the same, and that a list rises.
 use mathlib.Core.Path.{_≡_, refl, sym, ap, ap₂, _∙_}
-use mathlib.Core.Logic.{_≢_}
+use mathlib.Core.Logic.{_≢_, _⊎_}
 use mathlib.Core.Bool.{Bool, true, false, _&&_, cond}
 use mathlib.Core.List.{List, [], _∷_, _++_, map}
 use Prim.Native.Nat.{ℕ, zero, suc, _+_, _≤_, _<_}
@@ -22,6 +22,11 @@ all-map f (x ∷ xs) p = (f x (p .0), all-map f xs (p .1))
 pub all-zip : {P Q R : ℕ → Type 0} → ((x : ℕ) → P x → Q x → R x) → (xs : List ℕ) → All P xs → All Q xs → All R xs
 all-zip f [] p q = tt
 all-zip f (x ∷ xs) p q = (f x (p .0) (q .0), all-zip f xs (p .1) (q .1))
+
+-- something holds of at least one entry
+abbrev pub Some : (ℕ → Type 0) → List ℕ → Type 0
+Some P [] = ⊥
+Some P (x ∷ xs) = P x ⊎ Some P xs
 
 -- ---- a test at every entry
 

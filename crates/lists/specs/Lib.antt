@@ -1,2 +1,4 @@
 pub mod Lists
+pub mod Searches
 pub mod Counts
+pub mod Inner

@@ -1,10 +1,11 @@
--- Lists of numbers: the values of a function, the numbers that pass a test, whether there is one and which is the first, whether a number is
--- listed, whether two lists are the same, what holds of every entry, of at least one entry, and that no entry stands twice.
-use mathlib.Core.Logic.{_≢_, _⊎_}
+-- Lists of numbers: the values of a function, the numbers that pass a test and whether there is one, whether two lists are the same, numbers
+-- written to a lent list, what holds of every entry, and that no entry stands twice.
+use mathlib.Core.Logic.{_≢_}
 use mathlib.Core.Bool.{Bool, true, false, _&&_, _||_, cond}
-use mathlib.Core.List.{List, [], _∷_}
+use mathlib.Core.List.{List, [], _∷_, _++_}
 use Prim.Native.Nat.{ℕ, zero, suc}
 use lib.Dec.{eqb}
+use lib.ListN.{length, take, drop}
 
 -- f i, f (i + 1), ..: n of them
 unfoldable pub listFrom : (ℕ → ℕ) → ℕ → ℕ → List ℕ
@@ -21,16 +22,6 @@ unfoldable pub anyBelow : (ℕ → Bool) → ℕ → Bool
 anyBelow f zero = false
 anyBelow f (suc n) = f n || anyBelow f n
 
--- the first number from n on that passes the test, c numbers being tried; n + c where none does
-unfoldable pub firstFrom : (ℕ → Bool) → ℕ → ℕ → ℕ
-firstFrom test n zero = n
-firstFrom test n (suc c) = cond (test n) n (firstFrom test (suc n) c)
-
--- the number stands in the list
-unfoldable pub among : ℕ → List ℕ → Bool
-among n [] = false
-among n (m ∷ ms) = eqb n m || among n ms
-
 -- the same numbers in the same order
 unfoldable pub same : List ℕ → List ℕ → Bool
 same [] [] = true
@@ -38,13 +29,13 @@ same [] (y ∷ ys) = false
 same (x ∷ xs) [] = false
 same (x ∷ xs) (y ∷ ys) = eqb x y && same xs ys
 
+-- numbers written to a lent list: the first ones, as far as it reaches; its further entries keep their value
+unfoldable pub overlay : List ℕ → List ℕ → List ℕ
+overlay ns lent = take (length lent) ns ++ drop (length ns) lent
+
 abbrev pub All : (ℕ → Type 0) → List ℕ → Type 0
 All P [] = Unit {0}
 All P (x ∷ xs) = P x × All P xs
-
-abbrev pub Some : (ℕ → Type 0) → List ℕ → Type 0
-Some P [] = ⊥
-Some P (x ∷ xs) = P x ⊎ Some P xs
 
 -- no entry stands in the list twice
 abbrev pub Distinct : List ℕ → Type 0

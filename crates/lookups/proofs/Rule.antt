@@ -23,8 +23,8 @@ use Rattle.gf2.proofs.Monics.{monic-degree, monic-pos}
 use Rattle.gf2.proofs.Steps.{residue-small, residue-top}
 use Rattle.multiples.specs.Rows.{Rows}
 use Rattle.multiples.proofs.Following.{rows-same}
-use Rattle.lookups.specs.Rule.{word, differs, Table, TableOf}
-use Rattle.lookups.specs.Groups.{ReducesByte}
+use Rattle.lookups.specs.Rule.{word, differs}
+use Rattle.lookups.specs.Groups.{Table, TableOf, ReducesByte}
 
 -- the words before place e follow the rule
 abbrev pub Follows : (ℕ → ℕ) → ℕ → List ℕ → Type 0

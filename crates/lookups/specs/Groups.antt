@@ -1,4 +1,6 @@
--- Reduction by rows of words, for groups of w bits (003, section 4). No promise of a call is stated by this page: every value is the residue.
+-- For inner functions: a reader of the promises need not read this page, as every call's value is the residue. Reduction by rows of words,
+-- for groups of w bits (003, section 4).
+use mathlib.Core.Path.{_≡_}
 use mathlib.Core.List.{List}
 use Prim.Native.Nat.{ℕ, zero, suc, _+_, _*_, _/_, _%_, _^_, _≤_}
 use lib.ListN.{length, getD}
@@ -6,6 +8,7 @@ use Rattle.gf2.specs.Polynomials.{_⊕_}
 use Rattle.gf2.specs.Moduli.{polynomial, Proper}
 use Rattle.gf2.specs.declared.Modulus.{Modulus}
 use Rattle.multiples.specs.Rows.{Rows}
+use Rattle.lookups.specs.Rule.{table}
 
 -- the words of n groups of w bits in h, the lowest group looked up in row j, added up
 unfoldable pub looked : ℕ → List ℕ → ℕ → ℕ → ℕ → ℕ
@@ -15,3 +18,11 @@ looked w words (suc n) j h = getD words (j * 2 ^ w + h % 2 ^ w) 0 ⊕ looked w w
 -- the first 256 words reduce one byte modulo a polynomial of degree at least 8
 abbrev pub ReducesByte : Modulus → List ℕ → Type 0
 ReducesByte p words = Proper p × (8 ≤ p .degree) × (256 ≤ length words) × Rows 8 (polynomial p) (2 ^ p .degree) 1 words
+
+-- the words are the key's table
+abbrev pub Table : ℕ → List ℕ → Type 0
+Table key words = words ≡ table key
+
+-- the same of a modulus, of degree at least 8
+abbrev pub TableOf : Modulus → List ℕ → Type 0
+TableOf p words = Proper p × (8 ≤ p .degree) × Table (polynomial p) words

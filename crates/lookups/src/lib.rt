@@ -8,8 +8,8 @@ ghost use mathlib.Core.Bool.{not};
 ghost use Rattle.gf2.specs.Polynomials.{_⊕_, _⊗_, rem};
 ghost use Rattle.gf2.specs.Moduli.{polynomial, Proper};
 ghost use Rattle.files.specs.Files.{bits, valueFrom};
-ghost use Rattle.lookups.specs.Rule.{word, differs, Table, TableOf};
-ghost use Rattle.lookups.specs.Groups.{looked, ReducesByte};
+ghost use Rattle.lookups.specs.Rule.{word, differs};
+ghost use Rattle.lookups.specs.Groups.{Table, TableOf, looked, ReducesByte};
 
 // The table of a modulus, which is four rows of multiples: t^k is the coefficients below it.
 pub fn fill_table(words: &mut [u64], p: Modulus)

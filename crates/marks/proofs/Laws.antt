@@ -17,11 +17,12 @@ use Rattle.acceptance.proofs.Opened.{open-accepted, opened-first, opened-whole,
 use Rattle.files.specs.declared.Mark.{Mark}
 use Rattle.files.specs.Files.{bits, valueFrom, markOf, unreduced, fedMark}
 use Rattle.files.proofs.Marks.{mark-eq, true-reduced}
-use Rattle.tables.specs.Tables.{tableTests}
-use Rattle.tables.proofs.Laws.{clear-table}
+use Rattle.table_tests.specs.TableTests.{tableTests}
+use Rattle.table_tests.proofs.Laws.{clear-table}
 use Rattle.house.specs.House.{houseKey, houseWords}
 use Rattle.house.proofs.House.{house-accepted}
-use Rattle.marks.specs.Feeding.{begin, feedTests, feedBits, feedTable, feedHouse, fedUnder}
+use Rattle.marks.specs.Feeding.{begin, feedTests, feedBits, feedTable, feedHouse}
+use Rattle.marks.specs.Answers.{fedUnder}
 
 -- ---- numbers 7 and 8 in turn
 

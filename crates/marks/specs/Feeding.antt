@@ -3,17 +3,12 @@ use mathlib.Core.List.{List, [], _∷_, _++_}
 use Prim.Native.Nat.{ℕ, _+_}
 use lib.ListN.{length}
 use Rattle.refusals.specs.declared.Refusal.the-variants.{TooLong, MarkNotReduced}
-use Rattle.refusals.specs.Refusals.{Answer, Done, Refused, Test, _⇒_, firstOf, passes}
+use Rattle.refusals.specs.Refusals.{Answer, Test, _⇒_, firstOf, passes}
 use Rattle.acceptance.specs.Keys.{keyTests}
-use Rattle.tables.specs.Tables.{tableTests}
+use Rattle.table_tests.specs.TableTests.{tableTests}
 use Rattle.house.specs.House.{houseWords}
 use Rattle.files.specs.declared.Mark.{Mark}
 use Rattle.files.specs.Files.{markOf, unreduced, fedMark}
-use Rattle.marks.specs.declared.Running.{Running}
-use Rattle.marks.specs.declared.Begun.{Begun}
-use Rattle.marks.specs.declared.Begun.the-variants as begun-cases
-use Rattle.marks.specs.declared.Fed.{Fed}
-use Rattle.marks.specs.declared.Fed.the-variants as fed-cases
 
 -- number 7 of two lengths handed in that are added
 abbrev pub sumTest : ℕ → ℕ → Test
@@ -37,28 +32,3 @@ feedTable key m words part = firstOf (keyTests key ++ tableTests key words ++ fe
 -- under the house key's constant words: feeding by them, whatever the key
 unfoldable pub feedHouse : ℕ → Mark → List ℕ → Answer Mark Mark
 feedHouse key m part = feedTable key m houseWords part
-
--- ---- the answers in code: their numbers and values
-
-abbrev pub markIn : Running → Mark
-markIn r = record { fingerprint = r .fingerprint; length = r .length }
-
-abbrev pub running : ℕ → Mark → Running
-running key m = record { key = key; fingerprint = m .fingerprint; length = m .length }
-
-abbrev pub begun : Begun → Answer Unit Running
-begun (begun-cases.Started m) = Done m
-begun (begun-cases.Refused r) = Refused r tt
-
-abbrev pub fed : Fed → Answer Running Running
-fed (fed-cases.Next m) = Done m
-fed (fed-cases.Refused r m) = Refused r m
-
--- the same answer about running marks under one key
-abbrev pub begunUnder : ℕ → Answer Unit Mark → Answer Unit Running
-begunUnder key (Done m) = Done (running key m)
-begunUnder key (Refused r s) = Refused r s
-
-abbrev pub fedUnder : ℕ → Answer Mark Mark → Answer Running Running
-fedUnder key (Done m) = Done (running key m)
-fedUnder key (Refused r m) = Refused r (running key m)

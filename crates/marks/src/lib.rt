@@ -12,9 +12,10 @@ ghost use Rattle.refusals.specs.Refusals.{firstOf, judged};
 ghost use Rattle.refusals.specs.Answers.{told};
 ghost use Rattle.acceptance.specs.Opened.{Opened};
 ghost use Rattle.files.specs.Files.{fedMark};
-ghost use Rattle.lookups.specs.Rule.{Table};
-ghost use Rattle.tables.specs.Tables.{tableTests};
-ghost use Rattle.marks.specs.Feeding.{begin, feedTests, feedBits, feedTable, feedHouse, markIn, begun, begunUnder, fed, fedUnder};
+ghost use Rattle.lookups.specs.Groups.{Table};
+ghost use Rattle.table_tests.specs.TableTests.{tableTests};
+ghost use Rattle.marks.specs.Feeding.{begin, feedTests, feedBits, feedTable, feedHouse};
+ghost use Rattle.marks.specs.Answers.{markIn, begun, begunUnder, fed, fedUnder};
 
 // A running mark (document 01's term): the state of a fingerprint that is taken as the file is read. Numbers only.
 pub struct Running {
@@ -97,7 +98,7 @@ fn feed_under(p: Modulus, m: Running, words: &[u64], part: &[u8]) -> Fed
     ensures { λ r. ⌜ fed r ≡ fedUnder (m .key) (firstOf (tableTests (m .key) (now (words .entry)) ++ feedTests (m .key) (markIn m) (length (now (part .entry))))
         (markIn m) (fedMark (m .key) (markIn m) (now (part .entry)))) ⌝ }
 {
-    match tables::judge(p, words) {
+    match table_tests::judge(p, words) {
         Reply::Refused(r) => Fed::Refused(r, m),
         Reply::Done => feed_looked(p, m, words, part),
     }

@@ -13,13 +13,14 @@ use mathlib.Core.Logic.{_↔_}
 use lib.ListN.{length, getD, set}
 use lib.Pow.{pow-mono}
 use lib.Seq.{getD-set-same, getD-set-other}
-use Rattle.gf2.specs.Polynomials.{_⊕_, _⊗_, degree, monic, rem}
+use Rattle.gf2.specs.Polynomials.{_⊕_, _⊗_, degree, rem}
+use Rattle.gf2.specs.Degrees.{monic}
 use Rattle.gf2.proofs.Sums.{⊕-comm, ⊕-assoc, ⊕-self, ⊕-eq}
 use Rattle.gf2.proofs.Products.{zero-⊗, one-⊗, dbl-⊗, ⊕-⊗}
 use Rattle.gf2.proofs.Residues.{rem-zero, rem-small, rem-⊕}
 use Rattle.gf2.proofs.Powers.{rem-shl}
 use Rattle.gf2.proofs.Monics.{monic-⊕}
-use Rattle.multiples.specs.Rows.{Multiples, Shifted, SameBefore}
+use Rattle.multiples.specs.Rows.{Multiples, Shifted, SameBefore, SameFrom}
 
 module _ {key : ℕ} (pos : 0 < key) (x : ℕ) where
   pub multiple-double : (b m : ℕ) → m < 2 ^ b → rem key ((2 ^ b + m) ⊗ x) ≡ rem key (m ⊗ x) ⊕ rem key (2 ^ b ⊗ x)
@@ -76,6 +77,9 @@ module _ (a b y : ℕ) (from words : List ℕ) (i : ℕ) (l : b + i < length wor
   pub same-more : SameBefore b from words → SameBefore b from stored
   same-more s m g = getD-set-other words (b + i) m (getD words (a + i) 0 ⊕ y) 0 (λ e. omega arith) ∙ s m g
 
+  pub from-more : (n : ℕ) → i < n → SameFrom (b + n) from words → SameFrom (b + n) from stored
+  from-more n k s m g = getD-set-other words (b + i) m (getD words (a + i) 0 ⊕ y) 0 (λ e. omega arith) ∙ s m g
+
   pub shifted-more : SameBefore b from words → Shifted a b i y from words → Shifted a b (i + 1) y from stored
   shifted-more s f m g = go (ℕ-discrete m i)
     where
@@ -91,6 +95,9 @@ row-one {key} pos x a words l i h =
 
 pub row-before : (a : ℕ) (words : List ℕ) → SameBefore a words (set words a 0)
 row-before a words i l = getD-set-other words a i 0 0 (λ e. omega arith)
+
+pub row-behind : (a n : ℕ) (words : List ℕ) → 0 < n → SameFrom (a + n) words (set words a 0)
+row-behind a n words h i l = getD-set-other words a i 0 0 (λ e. omega arith)
 
 -- what a list's double keeps of a row
 pub row-kept : (key x a n : ℕ) (from words : List ℕ) → SameBefore (a + n) from words → Multiples key x a n from → Multiples key x a n words

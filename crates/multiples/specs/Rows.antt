@@ -1,7 +1,7 @@
--- What the inner functions promise of a part of the words.
+-- For inner functions: a reader of the promises need not read this page. What they promise of a part of the words.
 use mathlib.Core.Path.{_≡_}
 use mathlib.Core.List.{List}
-use Prim.Native.Nat.{ℕ, _+_, _*_, _^_, _<_}
+use Prim.Native.Nat.{ℕ, _+_, _*_, _^_, _≤_, _<_}
 use lib.ListN.{getD}
 use Rattle.gf2.specs.Polynomials.{_⊕_, _⊗_, rem}
 
@@ -20,3 +20,7 @@ Shifted a b n y from words = (i : ℕ) → i < n → getD words (b + i) 0 ≡ ge
 -- the words before place n are those of another list
 abbrev pub SameBefore : ℕ → List ℕ → List ℕ → Type 0
 SameBefore n from words = (i : ℕ) → i < n → getD words i 0 ≡ getD from i 0
+
+-- the words from place n on are
+abbrev pub SameFrom : ℕ → List ℕ → List ℕ → Type 0
+SameFrom n from words = (i : ℕ) → n ≤ i → getD words i 0 ≡ getD from i 0

@@ -8,12 +8,14 @@ ghost use mathlib.Core.Logic.{_↔_};
 ghost use Prim.Native.Nat.{_+_, _*_, _^_, _≤_, _<_};
 ghost use lib.ListN.{length};
 ghost use Rattle.gf2.specs.Moduli.{polynomial, Proper};
-ghost use Rattle.multiples.specs.Rows.{Multiples, Rows, Shifted, SameBefore};
+ghost use Rattle.multiples.specs.Rows.{Multiples, Rows, Shifted, SameBefore, SameFrom};
 
-// The n words from place `at` on, each with y added, go behind them.
+// The n words from place `at` on, each with y added, go behind them. The other words stay.
 fn double(words: &mut [u64], at: usize, n: usize, y: u64)
     requires { ⌜ at + n + n ≤ length (now words) ⌝ }
-    ensures { λ r. ⌜ Shifted at (at + n) n y (now (words .entry)) (now (words .exit)) × SameBefore (at + n) (now (words .entry)) (now (words .exit)) ⌝ }
+    ensures { λ r. ⌜ Shifted at (at + n) n y (now (words .entry)) (now (words .exit))
+        × SameBefore (at + n) (now (words .entry)) (now (words .exit))
+        × SameFrom (at + n + n) (now (words .entry)) (now (words .exit)) ⌝ }
 {
     let next = at + n;
     let mut i: usize = 0;
@@ -23,10 +25,12 @@ fn double(words: &mut [u64], at: usize, n: usize, y: u64)
     }
 }
 
-// A row: word at + i becomes the residue of i times x, for each i below 2^width.
+// A row: word at + i becomes the residue of i times x, for each i below 2^width. The other words stay.
 pub fn fill_row(words: &mut [u64], at: usize, width: u32, p: Modulus, x: u64)
     requires { ⌜ Proper p × (x < 2 ^ p .degree) × (at + 2 ^ width ≤ length (now words)) ⌝ }
-    ensures { λ r. ⌜ Multiples (polynomial p) x at (2 ^ width) (now (words .exit)) × SameBefore at (now (words .entry)) (now (words .exit)) ⌝ }
+    ensures { λ r. ⌜ Multiples (polynomial p) x at (2 ^ width) (now (words .exit))
+        × SameBefore at (now (words .entry)) (now (words .exit))
+        × SameFrom (at + 2 ^ width) (now (words .entry)) (now (words .exit)) ⌝ }
 {
     words[at] = 0;
     let mut n: usize = 1;
@@ -81,10 +85,11 @@ fn row_size(width: u32) -> usize
 }
 
 // Rows one behind the other, each with the multiples of t^width times the start of the row before it: the start of the next row is the word
-// in the middle of this one, shifted by one place.
+// in the middle of this one, shifted by one place. The words behind the rows stay.
 pub fn fill_rows(words: &mut [u64], width: u32, rows: usize, p: Modulus, x: u64)
     requires { ⌜ Proper p × (x < 2 ^ p .degree) × (0 < width) × (width < 64) × (rows * 2 ^ width ≤ length (now words)) ⌝ }
-    ensures { λ r. ⌜ Rows width (polynomial p) x rows (now (words .exit)) ⌝ }
+    ensures { λ r. ⌜ Rows width (polynomial p) x rows (now (words .exit))
+        × SameFrom (rows * 2 ^ width) (now (words .entry)) (now (words .exit)) ⌝ }
 {
     let size = row_size(width);
     let mut y = x;

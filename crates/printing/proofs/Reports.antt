@@ -20,7 +20,7 @@ use Rattle.acceptance.proofs.Opened.{open-accepted, opened-first}
 use Rattle.files.specs.declared.Mark.{Mark}
 use Rattle.files.specs.Files.{fingerprint, markOf}
 use Rattle.marks.specs.declared.Running.{Running}
-use Rattle.marks.specs.Feeding.{begunUnder}
+use Rattle.marks.specs.Answers.{begunUnder}
 use Rattle.printing.specs.declared.KeyLine.{KeyLine}
 use Rattle.printing.specs.declared.KeyLine.the-variants.{Key}
 use Rattle.printing.specs.Printing.{digit, hexFrom, ascii, digitsOf, numeral, keyLine, report, refused, answerText, markFile, printedAfter, printed}

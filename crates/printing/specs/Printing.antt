@@ -15,7 +15,7 @@ use Rattle.refusals.specs.Refusals.{Answer, Done, Refused, number, _⇒_, first
 use Rattle.acceptance.specs.Keys.{keyTests}
 use Rattle.files.specs.Files.{markOf}
 use Rattle.marks.specs.declared.Running.{Running}
-use Rattle.marks.specs.Feeding.{begunUnder}
+use Rattle.marks.specs.Answers.{begunUnder}
 use Rattle.printing.specs.declared.KeyLine.{KeyLine}
 use Rattle.printing.specs.declared.KeyLine.the-variants.{NoKey, Key}
 
@@ -85,9 +85,3 @@ printedAfter (Key key at) input = answerText (markFile key (drop at input))
 -- what the program prints on an input
 unfoldable pub printed : List ℕ → List ℕ
 printed input = printedAfter (keyLine input) input
-
--- ---- a buffer
-
--- the buffer with a text at a place
-abbrev pub putAt : List ℕ → ℕ → List ℕ → List ℕ
-putAt out at text = take at out ++ text ++ drop (at + length text) out

@@ -8,7 +8,8 @@ use native.Mathlib.Decide.{decLe}
 use native.Mathlib.Omega.{arith}
 use lib.Dec.{leb, ltb}
 use borrow.Author.Tests.{lt-ltb, le-ltb, ltb-false, le-leb, lt-leb}
-use Rattle.lists.specs.Lists.{All, Some}
+use Rattle.lists.specs.Lists.{All}
+use Rattle.lists.proofs.Lists.{Some}
 use Rattle.lists.proofs.Truth.{or-neither}
 use Rattle.refusals.specs.Refusals.{longest, passes}
 

@@ -6,23 +6,29 @@ use Prim.Native.Nat.{ℕ, _+_, _-_, _≤_, _<_}
 use native.Mathlib.Nat.{zero-add}
 use native.Mathlib.Omega.{arith}
 use borrow.Author.Tests.{eq-eqb}
+use lib.Dec.{eqb}
 use lib.ListN.{length, getD, set}
 use lib.Seq.{sets}
-use Rattle.lists.specs.Lists.{passing}
+use Rattle.lists.specs.Lists.{passing, overlay}
+use Rattle.lists.proofs.Lent.{overlay-sets}
 use Rattle.files.specs.Files.{fingerprint}
 use Rattle.search.specs.declared.Counts.{Counts}
 use Rattle.windows.specs.declared.rolling.Setup.{Setup}
-use Rattle.search.specs.Searching.{windows, isPlace, alike, isAlarm, places, alarms, counts, overlay}
+use Rattle.search.specs.Searching.{windows, isPlace, isAlarm, places, alarms, counts}
 use Rattle.windows.specs.Rolling.{window, residue, keyOf, Filled, hit}
 use Rattle.windows.proofs.Windows.{window-length}
 use Rattle.search.specs.Flagged.{NextFlagged, flaggedPlace, flaggedAlarm, flaggedPlaces, flaggedAlarms}
 use Rattle.search.proofs.Comparing.{same-is, unflagged-place, unflagged-alarm, flagged-place, flagged-alarm}
 use Rattle.windows.proofs.Residues.{without-one}
-use Rattle.search.proofs.Numbers.{passing-same, overlay-sets, Tally, tally-skip, tally-place, tally-alarm}
+use Rattle.search.proofs.Numbers.{passing-same, Tally, tally-skip, tally-place, tally-alarm}
 
--- a place has the pattern's fingerprint
+-- the window has the pattern's fingerprint
+unfoldable alike : ℕ → List ℕ → List ℕ → ℕ → Bool
+alike key text pattern i = eqb (fingerprint key (window (length pattern) text i)) (fingerprint key pattern)
+
+-- a place has it
 place-alike : (p : ℕ) (text pattern : List ℕ) (i : ℕ) → isPlace text pattern i ≡ true → alike p text pattern i ≡ true
-unfolding isPlace alike
+unfolding isPlace alike window
 place-alike p text pattern i e =
     eq-eqb (fingerprint p (window (length pattern) text i)) (fingerprint p pattern) (ap (fingerprint p) (same-is (window (length pattern) text i) pattern e))
 
@@ -51,7 +57,7 @@ module _ (s : Setup) (text pattern : List ℕ) (from size : ℕ) (flags : List B
       ∙ and-implied (alike (keyOf s) text pattern i) (isPlace text pattern i) (place-alike (keyOf s) text pattern i)))
 
   pub flagged-alarms : flaggedAlarms flags text pattern from size ≡ passing (isAlarm (keyOf s) text pattern) (0 + from) size
-  unfolding flaggedAlarm isAlarm
+  unfolding flaggedAlarm isAlarm alike window
   flagged-alarms =
       rw (zero-add from)
       (passing-same (flaggedAlarm flags text pattern from) (isAlarm (keyOf s) text pattern) from size

@@ -1,4 +1,4 @@
--- Laws of the numbers that pass a test, of the words they are written to, and of counting them.
+-- Laws of the numbers that pass a test, and of counting them.
 use mathlib.Core.Path.{_≡_, refl, sym, ap, ap₂, _∙_}
 use mathlib.Core.Bool.{Bool, true, false, cond}
 use mathlib.Core.List.{List, [], _∷_, _++_}
@@ -9,7 +9,7 @@ use native.Mathlib.Omega.{arith}
 use lib.ListN.{length, set, length-append}
 use lib.Seq.{sets, length-sets}
 use Rattle.lists.specs.Lists.{passing}
-use Rattle.search.specs.Searching.{overlay}
+use Rattle.lists.proofs.Lent.{sets-append}
 
 -- ---- the numbers that pass a test
 
@@ -87,26 +87,6 @@ passing-same t u n zero h = refl
 passing-same t u n (suc c) h =
     ap₂ (λ (b : Bool) (x : List ℕ). cond b (n ∷ x) x) (h n (le-refl n) (omega arith))
     (passing-same t u (suc n) c (λ i a b. h i (omega arith) (omega arith)))
-
--- ---- words written one after the other; past the end nothing is written
-
-pub sets-append : (l : List ℕ) (i : ℕ) (x y : List ℕ) → sets l i (x ++ y) ≡ sets (sets l i x) (i + length x) y
-sets-append l i [] y = rw add-zero
-sets-append l i (a ∷ x) y = sets-append (set l i a) (suc i) x y ∙ rw (suc-add i (length x), add-suc i (length x))
-
-sets-behind : (y : ℕ) (l : List ℕ) (i : ℕ) (ps : List ℕ) → sets (y ∷ l) (suc i) ps ≡ y ∷ sets l i ps
-sets-behind y l i [] = refl
-sets-behind y l i (p ∷ ps) = sets-behind y (set l i p) (suc i) ps
-
-sets-empty : (i : ℕ) (ps : List ℕ) → sets {A = ℕ} [] i ps ≡ []
-sets-empty i [] = refl
-sets-empty i (p ∷ ps) = sets-empty (suc i) ps
-
-pub overlay-sets : (ps l : List ℕ) → overlay ps l ≡ sets l 0 ps
-unfolding overlay
-overlay-sets [] l = refl
-overlay-sets (p ∷ ps) [] = sym (sets-empty 1 ps)
-overlay-sets (p ∷ ps) (w ∷ l) = ap (λ (r : List ℕ). p ∷ r) (overlay-sets ps l) ∙ sym (sets-behind p l 0 ps)
 
 -- ---- a count under way: what was found, and what is left to find of c numbers, make what there is to find
 -- p and a are the numbers that passed the tests P and A so far, and those of P were written to the words

@@ -8,23 +8,15 @@ use Prim.Native.Nat.{ℕ, zero, suc, _+_, _-_, _≤_, _<_}
 use native.Mathlib.Decide.{ℕ-discrete}
 use native.Mathlib.Omega.{arith}
 use borrow.Author.Tests.{eq-eqb, eqb-true, not-true}
+use lib.Dec.{eqb}
 use lib.ListN.{length, take, drop}
-use Rattle.lists.specs.Lists.{passing, All, Some}
+use Rattle.lists.specs.Lists.{passing, All}
 use Rattle.lists.proofs.Lists.{Passes, all-passing, passing-above}
 use Rattle.lists.proofs.Truth.{and-both, by-cases}
 use Rattle.files.specs.Files.{fingerprint}
-use Rattle.windows.specs.Rolling.{window}
-use Rattle.search.specs.Searching.{windows, isPlace, alike, isAlarm, places, alarms}
+use Rattle.search.specs.Searching.{windows, isPlace, isAlarm, places, alarms}
+use Rattle.search.specs.Claims.{In, Rising, PlacesIff, PlacesRising, AlarmsIff, AlarmsRising}
 use Rattle.search.proofs.Comparing.{same-is, same-refl}
-
--- i is an entry of the list
-abbrev pub In : ℕ → List ℕ → Type 0
-In i ns = Some (λ n. n ≡ i) ns
-
--- each entry is above the one before it
-abbrev pub Rising : List ℕ → Type 0
-Rising [] = Unit {0}
-Rising (n ∷ ns) = All (λ m. n < m) ns × Rising ns
 
 -- what holds of every entry holds of one
 entry : (P : ℕ → Type 0) (i : ℕ) (ns : List ℕ) → All P ns → In i ns → P i
@@ -60,23 +52,21 @@ module _ (test : ℕ → Bool) where
 -- the test of a place compares the window's bytes
 module _ (text pattern : List ℕ) (i : ℕ) where
   place-there : isPlace text pattern i ≡ true → take (length pattern) (drop i text) ≡ pattern
-  unfolding isPlace window
+  unfolding isPlace
   place-there e = same-is (take (length pattern) (drop i text)) pattern e
 
   place-back : take (length pattern) (drop i text) ≡ pattern → isPlace text pattern i ≡ true
-  unfolding isPlace window
+  unfolding isPlace
   place-back e = rw e (same-refl pattern)
 
   no-place : take (length pattern) (drop i text) ≢ pattern → isPlace text pattern i ≡ false
   no-place n = by-cases (isPlace text pattern i) (λ e. n (place-there e))
 
--- document 01: byte offsets from 0, overlaps included, rising
-pub places-rising : (text pattern : List ℕ) → Rising (places text pattern)
+pub places-rising : PlacesRising
 unfolding places
 places-rising text pattern = passing-rising (isPlace text pattern) 0 (windows text pattern)
 
-pub places-iff : (text pattern : List ℕ) (i : ℕ)
-    → In i (places text pattern) ↔ ((i + length pattern ≤ length text) × (take (length pattern) (drop i text) ≡ pattern))
+pub places-iff : PlacesIff
 unfolding places windows
 places-iff text pattern i = (
   λ s. let p = passing-in (isPlace text pattern) i 0 (length text + 1 - length pattern) s in
@@ -91,26 +81,28 @@ module _ (key : ℕ) (text pattern : List ℕ) (i : ℕ) where
   Alarm = (fingerprint key (take (length pattern) (drop i text)) ≡ fingerprint key pattern) × (take (length pattern) (drop i text) ≢ pattern)
 
   alarm-there : isAlarm key text pattern i ≡ true → Alarm
-  unfolding isAlarm alike window
+  unfolding isAlarm
   alarm-there e =
-      let h = and-both (alike key text pattern i) (not (isPlace text pattern i)) e in (
+      let h = and-both (eqb (fingerprint key (take (length pattern) (drop i text))) (fingerprint key pattern)) (not (isPlace text pattern i)) e in (
         eqb-true (fingerprint key (take (length pattern) (drop i text))) (fingerprint key pattern) (h .0),
         (λ q. true≢false (sym (place-back text pattern i q) ∙ not-true (isPlace text pattern i) (h .1))),
       )
 
   alarm-back : Alarm → isAlarm key text pattern i ≡ true
-  unfolding isAlarm alike window
+  unfolding isAlarm
   alarm-back (e, n) =
       rw (eq-eqb (fingerprint key (take (length pattern) (drop i text))) (fingerprint key pattern) e, no-place text pattern i n)
 
-  pub alarms-iff : In i (alarms key text pattern)
-      ↔ ((i + length pattern ≤ length text)
-      × (fingerprint key (take (length pattern) (drop i text)) ≡ fingerprint key pattern)
-      × (take (length pattern) (drop i text) ≢ pattern))
-  unfolding alarms windows
-  alarms-iff = (
-    λ s. let p = passing-in (isAlarm key text pattern) i 0 (length text + 1 - length pattern) s in
-        let a = alarm-there (p .holds) in
-        (omega (arith, p .below), a .0, a .1),
-    λ h. in-passing (isAlarm key text pattern) i 0 (length text + 1 - length pattern) (omega arith) (omega (arith, h .0)) (alarm-back (h .1, h .2)),
-  )
+pub alarms-iff : AlarmsIff
+unfolding alarms windows
+alarms-iff key text pattern i = (
+  λ s. let p = passing-in (isAlarm key text pattern) i 0 (length text + 1 - length pattern) s in
+      let a = alarm-there key text pattern i (p .holds) in
+      (omega (arith, p .below), a .0, a .1),
+  λ h. in-passing (isAlarm key text pattern) i 0 (length text + 1 - length pattern) (omega arith) (omega (arith, h .0))
+      (alarm-back key text pattern i (h .1, h .2)),
+)
+
+pub alarms-rising : AlarmsRising
+unfolding alarms
+alarms-rising key text pattern = passing-rising (isAlarm key text pattern) 0 (windows text pattern)

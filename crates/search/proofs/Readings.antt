@@ -6,10 +6,9 @@ use Rattle.gf2.specs.Polynomials.{_⊕_, halvings, degree, reduce, longDivision
 use Rattle.refusals.specs.Refusals.{Done}
 use Rattle.acceptance.specs.Keys.{reducible}
 use Rattle.files.specs.Files.{lowBits, bits, valueFrom, value, fingerprint}
-use Rattle.windows.specs.Rolling.{window}
-use Rattle.search.specs.Searching.{windows, isPlace, alike, isAlarm, places, alarms, counts, search}
+use Rattle.search.specs.Searching.{windows, isPlace, isAlarm, places, alarms, counts, search}
 
 pub collision-reading : search 0x11B (0x00 ∷ 0x00 ∷ []) (0x01 ∷ 0x1B ∷ []) ≡ Done (record { places = 0; alarms = 1 })
-unfolding search counts places alarms passing windows isPlace isAlarm alike same window fingerprint value valueFrom bits lowBits
+unfolding search counts places alarms passing windows isPlace isAlarm same fingerprint value valueFrom bits lowBits
     reducible anyBelow rem longDivision reduce degree halvings _⊕_
 collision-reading = refl

@@ -1,4 +1,4 @@
--- What the comparison of flagged windows with the pattern finds: for the crate's own functions.
+-- For inner functions: a reader of the promises need not read this page. What the comparison of flagged windows with the pattern finds.
 use mathlib.Core.Path.{_≡_}
 use mathlib.Core.Bool.{Bool, true, false, _&&_, not}
 use mathlib.Core.List.{List}

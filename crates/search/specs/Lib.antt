@@ -1,2 +1,4 @@
 pub mod Searching
+pub mod Claims
+pub mod Answers
 pub mod Flagged

@@ -3,16 +3,13 @@ use mathlib.Core.Bool.{Bool, _&&_, not}
 use mathlib.Core.List.{List, [], _∷_, _++_}
 use Prim.Native.Nat.{ℕ, _+_, _-_}
 use lib.Dec.{eqb}
-use lib.ListN.{length}
-use Rattle.lists.specs.Lists.{passing, same}
+use lib.ListN.{length, take, drop}
+use Rattle.lists.specs.Lists.{passing, same, overlay}
 use Rattle.refusals.specs.declared.Refusal.the-variants.{TooLong, EmptyPattern}
-use Rattle.refusals.specs.Refusals.{Answer, Done, Refused, stateOf, Test, _⇒_, firstOf, passes}
+use Rattle.refusals.specs.Refusals.{Answer, stateOf, Test, _⇒_, firstOf, passes}
 use Rattle.acceptance.specs.Keys.{keyTests}
 use Rattle.files.specs.Files.{fingerprint}
-use Rattle.windows.specs.Rolling.{window}
 use Rattle.search.specs.declared.Counts.{Counts}
-use Rattle.search.specs.declared.Searched.{Searched}
-use Rattle.search.specs.declared.Searched.the-variants as cases
 
 -- how many windows as long as the pattern the text has: none where the pattern is longer
 unfoldable pub windows : List ℕ → List ℕ → ℕ
@@ -20,15 +17,11 @@ windows text pattern = length text + 1 - length pattern
 
 -- the pattern stands at the place i
 unfoldable pub isPlace : List ℕ → List ℕ → ℕ → Bool
-isPlace text pattern i = same (window (length pattern) text i) pattern
+isPlace text pattern i = same (take (length pattern) (drop i text)) pattern
 
--- the window has the pattern's fingerprint
-unfoldable pub alike : ℕ → List ℕ → List ℕ → ℕ → Bool
-alike key text pattern i = eqb (fingerprint key (window (length pattern) text i)) (fingerprint key pattern)
-
--- a false alarm: the pattern's fingerprint, and other bytes
+-- a false alarm: the window there has the pattern's fingerprint, and other bytes
 unfoldable pub isAlarm : ℕ → List ℕ → List ℕ → ℕ → Bool
-isAlarm key text pattern i = alike key text pattern i && not (isPlace text pattern i)
+isAlarm key text pattern i = eqb (fingerprint key (take (length pattern) (drop i text))) (fingerprint key pattern) && not (isPlace text pattern i)
 
 -- the places, and the false alarms, rising
 unfoldable pub places : List ℕ → List ℕ → List ℕ
@@ -36,16 +29,6 @@ places text pattern = passing (isPlace text pattern) 0 (windows text pattern)
 
 unfoldable pub alarms : ℕ → List ℕ → List ℕ → List ℕ
 alarms key text pattern = passing (isAlarm key text pattern) 0 (windows text pattern)
-
--- the first ones, as far as the lent words reach; further words keep their value
-unfoldable pub overlay : List ℕ → List ℕ → List ℕ
-overlay [] words = words
-overlay (p ∷ ps) [] = []
-overlay (p ∷ ps) (w ∷ words) = p ∷ overlay ps words
-
--- the lent words with the first places
-abbrev pub written : List ℕ → List ℕ → List ℕ → List ℕ
-written text pattern words = overlay (places text pattern) words
 
 -- ---- the call
 
@@ -64,11 +47,6 @@ counts key text pattern = record { places = length (places text pattern); alarms
 unfoldable pub search : ℕ → List ℕ → List ℕ → Answer Unit Counts
 search key text pattern = firstOf (searchTests key text pattern) tt (counts key text pattern)
 
--- the lent words after the call
+-- the lent words after the call: the first places, as far as they reach
 unfoldable pub placesAfter : ℕ → List ℕ → List ℕ → List ℕ → List ℕ
-placesAfter key text pattern words = stateOf (firstOf (searchTests key text pattern) words (written text pattern words))
-
--- the answer in code
-abbrev pub searched : Searched → Answer Unit Counts
-searched (cases.Found c) = Done c
-searched (cases.Refused r) = Refused r tt
+placesAfter key text pattern words = stateOf (firstOf (searchTests key text pattern) words (overlay (places text pattern) words))

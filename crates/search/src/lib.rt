@@ -11,10 +11,12 @@ mod compare; // the bytes of windows against the pattern's
 ghost use mathlib.Core.Path.{_≡_};
 ghost use Prim.Native.Nat.{_≤_, _<_};
 ghost use lib.ListN.{length};
+ghost use Rattle.lists.specs.Lists.{overlay};
 ghost use Rattle.gf2.specs.Moduli.{polynomial, Proper};
 ghost use Rattle.refusals.specs.Refusals.{firstOf, stateOf, longest};
 ghost use Rattle.windows.specs.Rolling.{residue, keyOf, ResidueAt, Ready};
-ghost use Rattle.search.specs.Searching.{counts, written, textTests, search, placesAfter, searched};
+ghost use Rattle.search.specs.Searching.{places as placesOf, counts, textTests, search, placesAfter};
+ghost use Rattle.search.specs.Answers.{searched};
 
 // The number of places, and the number of false alarms.
 pub struct Counts {
@@ -45,7 +47,7 @@ fn search_blocks(
         × (length (now pattern) ≤ length (now text))
         × (length (now text) ≤ longest) ⌝ }
     ensures { λ r. ⌜ (r ≡ counts (keyOf s) (now (text .entry)) (now (pattern .entry)))
-        × (now (places .exit) ≡ written (now (text .entry)) (now (pattern .entry)) (now (places .entry))) ⌝ }
+        × (now (places .exit) ≡ overlay (placesOf (now (text .entry)) (now (pattern .entry))) (now (places .entry))) ⌝ }
 {
     let mut flags: [bool; 1024] = [false; 1024];
     let windows = text.len() - pattern.len() + 1;
@@ -68,7 +70,7 @@ fn search_blocks(
 fn search_text(p: Modulus, text: &[u8], pattern: &[u8], places: &mut [u32]) -> Counts
     requires { ⌜ Proper p × (8 ≤ p .degree) × (0 < length (now pattern)) × (length (now pattern) ≤ length (now text)) × (length (now text) ≤ longest) ⌝ }
     ensures { λ r. ⌜ (r ≡ counts (polynomial p) (now (text .entry)) (now (pattern .entry)))
-        × (now (places .exit) ≡ written (now (text .entry)) (now (pattern .entry)) (now (places .entry))) ⌝ }
+        × (now (places .exit) ≡ overlay (placesOf (now (text .entry)) (now (pattern .entry))) (now (places .entry))) ⌝ }
 {
     let mut reduce: [u64; 256] = [0; 256];
     multiples::fill_row(&mut reduce, 0, 8, p, p.low);
@@ -88,7 +90,7 @@ fn search_under(p: Modulus, text: &[u8], pattern: &[u8], places: &mut [u32]) -> 
     requires { ⌜ Proper p × (8 ≤ p .degree) ⌝ }
     ensures { λ r. ⌜ (searched r ≡ firstOf (textTests (now (text .entry)) (now (pattern .entry))) tt (counts (polynomial p) (now (text .entry)) (now (pattern .entry))))
         × (now (places .exit) ≡ stateOf (firstOf (textTests (now (text .entry)) (now (pattern .entry))) (now (places .entry))
-        (written (now (text .entry)) (now (pattern .entry)) (now (places .entry))))) ⌝ }
+        (overlay (placesOf (now (text .entry)) (now (pattern .entry))) (now (places .entry))))) ⌝ }
 {
     if !refusals::within(text.len() as u64, pattern.len() as u64, 0) {
         return Searched::Refused(Refusal::TooLong);

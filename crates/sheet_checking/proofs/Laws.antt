@@ -1,5 +1,6 @@
 -- How a check answers, by what reading answers.
-use mathlib.Core.Path.{_≡_, sym, ap, ap₂, _∙_}
+use mathlib.Core.Path.{_≡_, refl, sym, ap, ap₂, _∙_}
+use mathlib.Core.Bool.{true, false}
 use mathlib.Core.List.{List, [], _∷_, _++_}
 use Prim.Native.Nat.{ℕ, _+_, _*_, _^_, _≤_, _<_, min}
 use native.Mathlib.Nat.{mul-le-mul-left, le-of-suc-le-suc}
@@ -9,12 +10,12 @@ use lib.ListN.{length}
 use borrow.Author.Tests.{eq-eqb, ne-eqb, lt-ltb, le-ltb}
 use Rattle.refusals.specs.declared.Refusal.{Refusal}
 use Rattle.refusals.specs.declared.Refusal.the-variants.{TooLong}
-use Rattle.refusals.specs.Refusals.{Done, Refused, _⇒_, passes, longest}
+use Rattle.refusals.specs.Refusals.{Done, Refused, Test, _⇒_, firstOf, passes, longest}
 use Rattle.sheets.specs.declared.Sheet.{Sheet}
-use Rattle.sheets.specs.Layout.{PageSize, version1, numbersAt, pagePlace, sheetLength, pageCount, fieldIn, contentsIn}
+use Rattle.sheets.specs.Layout.{PageSize, version1, numbersAt, pagePlace, sheetLength, pageCount, Contents, fieldIn, contentsIn}
 use Rattle.sheets.specs.Sheets.{pageFingerprints, contentsOf, readTests, readSheet, sheetRead, Page, OtherLength, firstChange, compared, checkSheet}
-use Rattle.sheets.specs.Sheets.{FromTo, rangeOf}
-use Rattle.sheets.specs.Parts.{ReadAs, comparison, fingerprintsPart}
+use Rattle.sheets.specs.Sheets.{Outcome, checkTests, FromTo, rangeOf, changedRange}
+use Rattle.sheets.specs.Parts.{ReadAs, comparison, ranged, fingerprintsPart}
 use Rattle.refusals.proofs.Laws.{Clear, done-clear, more-refused, more-clear}
 use Rattle.sheets.proofs.Numbers.{numbers-part}
 use Rattle.sheets.proofs.Sound.{head-right}
@@ -86,6 +87,17 @@ module _ (sheet : List ℕ) {x : Sheet} (r : ReadAs sheet x) where
   unfolding contentsIn
   pages-there file e = sym (total sheet r ∙ ap₂ (λ (s n : ℕ). sheetLength version1 (pageCount s n)) (sym size-is) (sym (e ∙ length-is)))
 
+-- ---- the range is that of the check's answer
+
+first-ranged : (x : Contents) (ts : List Test) (o : Outcome) → firstOf ts tt (rangeOf x o) ≡ ranged x (firstOf ts tt o)
+first-ranged x [] o = refl
+first-ranged x (true ⇒ r ∷ ts) o = refl
+first-ranged x (false ⇒ r ∷ ts) o = first-ranged x ts o
+
+pub changed-by-check : (sheet file : List ℕ) → changedRange sheet file ≡ ranged (contentsIn version1 sheet) (checkSheet sheet file)
+unfolding changedRange checkSheet
+changed-by-check sheet file = let x = contentsIn version1 sheet in first-ranged x (checkTests sheet file) (compared x file)
+
 -- ---- the page that a check names
 
 module _ (sheet file : List ℕ) (i : ℕ) (e : checkSheet sheet file ≡ Done (Page i)) where
@@ -106,12 +118,13 @@ module _ (sheet file : List ℕ) (i : ℕ) (e : checkSheet sheet file ≡ Done (
 
   -- its bytes, by the numbers that the code has
   pub named-range : (from size end : ℕ) → size ≡ fieldIn version1 PageSize sheet → from ≡ i * size → end ≡ min (from + size) (length file)
-      → FromTo from end ≡ rangeOf (contentsIn version1 sheet) (checkSheet sheet file)
+      → Done (FromTo from end) ≡ changedRange sheet file
   unfolding contentsIn
   named-range from size end es ef ee =
-      ap₂ (λ (a b : ℕ). FromTo a b) (ef ∙ ap (λ (s : ℕ). i * s) es) (ee ∙ ap₂ (λ (a b : ℕ). min a b)
+      ap₂ (λ (a b : ℕ). Done (FromTo a b)) (ef ∙ ap (λ (s : ℕ). i * s) es) (ee ∙ ap₂ (λ (a b : ℕ). min a b)
       (ap₂ (λ (a b : ℕ). a + b) (ef ∙ ap (λ (s : ℕ). i * s) es) es) named-equal)
-      ∙ ap (rangeOf (contentsIn version1 sheet)) (sym e)
+      ∙ ap (ranged (contentsIn version1 sheet)) (sym e)
+      ∙ sym (changed-by-check sheet file)
 
 pub range-fits : (i size : ℕ) → i < 2 ^ 32 → size < 2 ^ 16 → i * size + size < 2 ^ 64
 range-fits i size a b = omega (arith, mul-le-mul-left i (le-of-suc-le-suc b))

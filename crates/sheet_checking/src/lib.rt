@@ -7,14 +7,14 @@ use sheets::Sheet;
 use sheets::fields;
 use sheets::layout;
 ghost use mathlib.Core.Path.{_≡_};
-ghost use Rattle.sheets.specs.Layout.{version1, contentsIn};
-ghost use Rattle.sheets.specs.Sheets.{checkSheet, checked, rangeOf, changed};
-ghost use Rattle.sheets.specs.Parts.{ReadAs, comparison};
+ghost use Rattle.sheets.specs.Sheets.{checkSheet, changedRange};
+ghost use Rattle.sheets.specs.Answers.{checkAnswer, changeAnswer};
+ghost use Rattle.sheets.specs.Parts.{ReadAs, comparison, NoPage, WithoutPage};
 
 // A file against a sheet that was read as x. Number 7.
 fn compare(sheet: &[u8], x: Sheet, file: &[u8]) -> Checked
     requires { ⌜ ReadAs (now sheet) x ⌝ }
-    ensures { λ r. ⌜ checked r ≡ comparison (now (sheet .entry)) (now (file .entry)) ⌝ }
+    ensures { λ r. ⌜ checkAnswer r ≡ comparison (now (sheet .entry)) (now (file .entry)) ⌝ }
 {
     let n = file.len() as u64;
     let length = x.length;
@@ -38,7 +38,7 @@ fn compare(sheet: &[u8], x: Sheet, file: &[u8]) -> Checked
 
 // Checks a file against a sheet. All of reading's numbers, then 7.
 pub fn check(sheet: &[u8], file: &[u8]) -> Checked
-    ensures { λ r. ⌜ checked r ≡ checkSheet (now (sheet .entry)) (now (file .entry)) ⌝ }
+    ensures { λ r. ⌜ checkAnswer r ≡ checkSheet (now (sheet .entry)) (now (file .entry)) ⌝ }
 {
     match sheet_reading::read(sheet) {
         Reading::Refused(r) => Checked::Refused(r),
@@ -46,12 +46,27 @@ pub fn check(sheet: &[u8], file: &[u8]) -> Checked
     }
 }
 
-// The bytes of the first changed page: from the first to before the last. Goes on only where the check names a page.
-pub fn first_changed_range(sheet: &[u8], file: &[u8]) -> Changed
-    ensures { λ r. ⌜ changed r ≡ rangeOf (contentsIn version1 (now (sheet .entry))) (checkSheet (now (sheet .entry)) (now (file .entry))) ⌝ }
+// An answer of the check that names no page, as the answer of `first_changed_range`.
+fn without_page(answer: Checked) -> Changed
+    requires { ⌜ NoPage answer ⌝ }
+    ensures { λ r. ⌜ WithoutPage answer r ⌝ }
 {
-    let Checked::Page(i) = check(sheet, file) else {
-        return Changed::None;
+    if let Checked::Same = answer {
+        return Changed::Same;
+    }
+    if let Checked::Refused(r) = answer {
+        return Changed::Refused(r);
+    }
+    Changed::OtherLength
+}
+
+// The bytes of the first changed page: from the first to before the last. Goes on only where the check names a page. The check's numbers.
+pub fn first_changed_range(sheet: &[u8], file: &[u8]) -> Changed
+    ensures { λ r. ⌜ changeAnswer r ≡ changedRange (now (sheet .entry)) (now (file .entry)) ⌝ }
+{
+    let answer = check(sheet, file);
+    let Checked::Page(i) = answer else {
+        return without_page(answer);
     };
     let size = layout::read_head(sheet).size;
     let n = file.len() as u64;

@@ -7,7 +7,7 @@ use Rattle.gf2.specs.Polynomials.{rem}
 use Rattle.gf2.specs.Moduli.{polynomial, Proper}
 use Rattle.gf2.specs.declared.Modulus.{Modulus}
 use Rattle.files.specs.Files.{bits, valueFrom, fingerprint}
-use Rattle.lookups.specs.Rule.{TableOf}
+use Rattle.lookups.specs.Groups.{TableOf}
 use Rattle.shifts.specs.Shifts.{Shifts}
 use Rattle.sheets.specs.Layout.{pageCount}
 use Rattle.sheets.specs.Sheets.{pageFingerprints}

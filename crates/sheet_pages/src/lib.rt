@@ -6,7 +6,7 @@ ghost use lib.ListN.{length, take};
 ghost use Rattle.gf2.specs.Polynomials.{rem};
 ghost use Rattle.gf2.specs.Moduli.{polynomial, Proper};
 ghost use Rattle.files.specs.Files.{bits, valueFrom, fingerprint};
-ghost use Rattle.lookups.specs.Rule.{TableOf};
+ghost use Rattle.lookups.specs.Groups.{TableOf};
 ghost use Rattle.sheets.specs.Sheets.{filled, pageFingerprints};
 ghost use Rattle.sheets.specs.Parts.{lastPage, LastFilled};
 ghost use Rattle.sheet_pages.specs.Blocks.{PageTables, Begun, BegunBy, Finished, NextPages};

@@ -1,13 +1,11 @@
 -- How the calls answer, test by test.
-use mathlib.Core.Path.{_≡_, refl, ap, _∙_}
-use mathlib.Core.Bool.{Bool, true, false, _&&_, _||_, not, cond}
-use mathlib.Core.Logic.{_⊎_, inl, inr}
-use mathlib.Core.Option.{none, some}
+use mathlib.Core.Path.{_≡_, ap, _∙_}
+use mathlib.Core.Bool.{true, false, _||_, not}
 use mathlib.Core.List.{List, [], _∷_, _++_}
-use Prim.Native.Nat.{ℕ, _≤_, _<_}
+use Prim.Native.Nat.{ℕ}
 use lib.Dec.{ltb, eqb}
 use lib.ListN.{length}
-use borrow.Author.Tests.{lt-ltb, le-ltb, le-leb, lt-leb, eqb-true, not-false}
+use borrow.Author.Tests.{eqb-true, not-false}
 use Rattle.gf2.specs.Polynomials.{degree}
 use Rattle.gf2.specs.declared.Modulus.{Modulus}
 use Rattle.refusals.specs.declared.Refusal.{Refusal}
@@ -18,12 +16,12 @@ use Rattle.acceptance.specs.Opened.{Opened}
 use Rattle.acceptance.proofs.Opened.{opened-first}
 use Rattle.keys.specs.declared.Tested.{Tested}
 use Rattle.keys.specs.declared.Tested.the-variants as tested-cases
-use Rattle.keys.specs.Testing.{testKey, tested}
+use Rattle.keys.specs.Testing.{testKey}
+use Rattle.keys.specs.Answers.{tested}
 use Rattle.keys.proofs.Laws.{refused}
-use Rattle.sheets.specs.declared.Sheet.{Sheet}
 use Rattle.sheets.specs.declared.layout.Head.{Head}
 use Rattle.sheets.specs.Layout.{Key, PageSize, version1, numberAt, pagePlace, sheetLength, pageCount, Contents, fieldIn, pagesIn, contentsIn}
-use Rattle.sheets.specs.Sheets.{someUnreduced, pagesJoined, fileFilled, sizeTest, headWrong, bodyWrong, readSheet, numbersOf, pageAt}
+use Rattle.sheets.specs.Sheets.{someUnreduced, pagesJoined, fileFilled, pageSizeTest, headWrong, bodyWrong, readSheet, numbersOf}
 use Rattle.sheets.specs.Parts.{HeadOf, readBody}
 use Rattle.sheets.proofs.Numbers.{length-numbersAt}
 use Rattle.refusals.proofs.Laws.{first-true, first-false}
@@ -54,7 +52,7 @@ module _ (sheet : List ℕ) where
   x = contentsIn version1 sheet
 
   abbrev rest : List Test
-  rest = sizeTest (x .pageSize) ∷ bodyWrong version1 (length sheet) x ⇒ SheetMalformed ∷ []
+  rest = pageSizeTest (x .pageSize) ∷ bodyWrong version1 (length sheet) x ⇒ SheetMalformed ∷ []
 
   pub read-head : headWrong version1 sheet ≡ true → readSheet sheet ≡ Refused SheetMalformed tt
   unfolding readSheet
@@ -86,19 +84,3 @@ module _ (sheet : List ℕ) where
 
     pub body-done : bodyWrong version1 (length sheet) (contentsIn version1 sheet) ≡ false → readBody sheet ≡ Done (contentsIn version1 sheet)
     body-done e = after-size ∙ first-false (bodyWrong version1 (length sheet) x) SheetMalformed [] tt x e
-
--- ---- a page's fingerprint
-
-module _ (x : Sheet) (sheet : List ℕ) (i : ℕ) where
-  pub page-none : (x .pages ≤ i) ⊎ (length sheet < sheetLength version1 i) → pageAt x sheet i ≡ none
-  unfolding pageAt
-  page-none (inl l) = rw (le-ltb i (x .pages) l)
-  page-none (inr l) = rw (lt-leb (sheetLength version1 i) (length sheet) l) (both (ltb i (x .pages)))
-    where
-      both : (b : Bool) → cond (b && false) (some (numberAt (pagePlace version1 i) 8 sheet)) none ≡ none
-      both true = refl
-      both false = refl
-
-  pub page-some : i < x .pages → sheetLength version1 i ≤ length sheet → pageAt x sheet i ≡ some (numberAt (pagePlace version1 i) 8 sheet)
-  unfolding pageAt
-  page-some l m = rw (lt-ltb i (x .pages) l, le-leb (sheetLength version1 i) (length sheet) m)

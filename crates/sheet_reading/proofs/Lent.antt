@@ -1,4 +1,4 @@
--- Laws of a fields's page fingerprints in lent places.
+-- Laws of a sheet's page fingerprints in lent places.
 use mathlib.Core.Path.{_≡_, sym, ap, ap₂, _∙_}
 use mathlib.Core.List.{List, [], _∷_, _++_}
 use Prim.Native.Nat.{ℕ, _+_, _-_, _*_, _≤_, _<_, min}
@@ -7,6 +7,7 @@ use native.Mathlib.Decide.{decLe}
 use native.Mathlib.Omega.{arith}
 use lib.ListN.{length, set, take, drop, drop-of-length-le}
 use lib.Seq.{take-all, take-append-seam}
+use Rattle.lists.specs.Lists.{overlay}
 use Rattle.lists.proofs.Lists.{written-next}
 use Rattle.sheets.specs.Layout.{numberAt, numbersAt}
 use Rattle.sheets.proofs.Numbers.{length-numbersAt, numbers-append, numbers-last}
@@ -23,7 +24,8 @@ lent-next fields before lent i v e l ev =
 
 -- as many fields as there are, or as there are places
 pub lent-are : (fields lent : List ℕ) (c m : ℕ) → m ≡ min c (length lent)
-    → numbersAt 0 8 m fields ++ drop m lent ≡ take (length lent) (numbersAt 0 8 c fields) ++ drop (length (numbersAt 0 8 c fields)) lent
+    → numbersAt 0 8 m fields ++ drop m lent ≡ overlay (numbersAt 0 8 c fields) lent
+unfolding overlay
 lent-are fields lent c m e = rw (length-numbersAt 0 8 c fields) (go (decLe c (length lent)))
   where
     go : Dec (c ≤ length lent) → numbersAt 0 8 m fields ++ drop m lent ≡ take (length lent) (numbersAt 0 8 c fields) ++ drop c lent

@@ -3,7 +3,6 @@ use gf2::Modulus;
 use keys::Tested;
 use refusals::Refusal;
 use refusals::Reply;
-use sheets::PageField;
 use sheets::Reading;
 use sheets::Sheet;
 use sheets::fields;
@@ -16,10 +15,11 @@ ghost use lib.ListN.{length, drop};
 ghost use Rattle.refusals.specs.Answers.{reply};
 ghost use Rattle.acceptance.specs.Opened.{Opened};
 ghost use Rattle.sheets.specs.Layout.{version1, numbersAt, sheetLength};
-ghost use Rattle.sheets.specs.Sheets.{readSheet, sheetRead, reading, pageAt, pageField, readPages};
+ghost use Rattle.sheets.specs.Sheets.{readSheet, sheetRead, readPages};
+ghost use Rattle.sheets.specs.Answers.{reading};
 ghost use Rattle.sheets.specs.Parts.{HeadOf, readBody};
 
-pub mod wellformed;
+mod wellformed;
 
 // What stands behind a head that is right, under its opened key. Numbers 12, 14 (total, fingerprints, joining).
 fn read_under(p: Modulus, sheet: &[u8], head: Head) -> Reading
@@ -54,19 +54,6 @@ pub fn read(sheet: &[u8]) -> Reading
         Tested::Refused(r) => Reading::Refused(r),
         Tested::Accepted(p) => read_under(p, sheet, head),
     }
-}
-
-// The fingerprint of page i of a sheet that was read as x.
-pub fn page(x: Sheet, sheet: &[u8], i: u64) -> PageField
-    ensures { λ r. ⌜ pageField r ≡ pageAt x (now (sheet .entry)) i ⌝ }
-{
-    if x.pages <= i {
-        return PageField::None;
-    }
-    if !layout::reaches(sheet, i) {
-        return PageField::None;
-    }
-    PageField::Fingerprint(layout::fingerprint_at(sheet, i))
 }
 
 // The smaller of two numbers.

@@ -3,6 +3,7 @@ use gf2::Modulus;
 use keys::Tested;
 use refusals::Refusal;
 use refusals::Reply;
+use sheets::SheetLength;
 use sheets::fields;
 use sheets::layout;
 use sheets::layout::Head;
@@ -16,7 +17,8 @@ ghost use Rattle.refusals.specs.Answers.{reply};
 ghost use Rattle.acceptance.specs.Opened.{Opened};
 ghost use Rattle.files.specs.Files.{fingerprint};
 ghost use Rattle.sheets.specs.Layout.{version1, bytesOf, fieldsOf, numbersAt, sheetLength, pageCount, sheetBytes};
-ghost use Rattle.sheets.specs.Sheets.{pageFingerprints, contentsOf, writeSheet};
+ghost use Rattle.sheets.specs.Sheets.{pageFingerprints, contentsOf, lengthFor, writeSheet};
+ghost use Rattle.sheets.specs.Answers.{lengthAnswer};
 ghost use Rattle.sheets.specs.Parts.{lastPage};
 
 // The file's fingerprint: those of its whole pages, which stand in the fields, joined, and that of what is behind them.
@@ -64,23 +66,34 @@ fn put_sheet(buffer: &mut [u8], key: u64, p: Modulus, size: u64, file: &[u8])
     put_fingerprints(&mut buffer[from..], p, size, file);
 }
 
+// The bytes of the sheet of a file of n bytes, with pages of the given size. Numbers 7, 12.
+pub fn length(n: u64, size: u64) -> SheetLength
+    ensures { λ r. ⌜ lengthAnswer r ≡ lengthFor n size ⌝ }
+{
+    if refusals::LONGEST < n {
+        return SheetLength::Refused(Refusal::TooLong);
+    }
+    if !fields::size_right(size) {
+        return SheetLength::Refused(Refusal::PageSize);
+    }
+    SheetLength::Bytes(layout::sheet_length(fields::page_count(size, n)))
+}
+
 // Writes the sheet of a file under an opened key. Numbers 7, 12, 13.
 fn write_under(key: u64, p: Modulus, size: u64, file: &[u8], buffer: &mut [u8]) -> Reply
     requires { ⌜ Opened key p ⌝ }
     ensures { λ r. ⌜ reply (now (buffer .exit)) r ≡ writeSheet key size (now (file .entry)) (now (buffer .entry)) ⌝ }
 {
-    let n = file.len() as u64;
-    if refusals::LONGEST < n {
-        return Reply::Refused(Refusal::TooLong);
+    match length(file.len() as u64, size) {
+        SheetLength::Refused(r) => Reply::Refused(r),
+        SheetLength::Bytes(needed) => {
+            if (buffer.len() as u64) < needed {
+                return Reply::Refused(Refusal::BufferShort);
+            }
+            put_sheet(buffer, key, p, size, file);
+            Reply::Done
+        }
     }
-    if !fields::size_right(size) {
-        return Reply::Refused(Refusal::PageSize);
-    }
-    if (buffer.len() as u64) < layout::sheet_length(fields::page_count(size, n)) {
-        return Reply::Refused(Refusal::BufferShort);
-    }
-    put_sheet(buffer, key, p, size, file);
-    Reply::Done
 }
 
 // Writes the sheet of a file. Numbers 1, 2, 7, 12, 13.

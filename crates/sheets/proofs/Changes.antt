@@ -10,15 +10,10 @@ use lib.ListN.{length, getD, drop, drop-of-length-le}
 use borrow.Author.Tests.{eq-eqb, ne-eqb}
 use Rattle.lists.proofs.Lists.{drop-next}
 use Rattle.sheets.specs.Layout.{numberAt, numbersAt}
+use Rattle.sheets.specs.Claims.{First}
 use Rattle.sheets.specs.Parts.{agreeing}
 use Rattle.sheets.proofs.Numbers.{numbers-next}
 use Rattle.sheets.specs.Sheets.{Same, Page, OtherLength, firstChange}
-
--- the lists differ at place i and at no place before it
-pub record First (fs gs : List ℕ) (i : ℕ) : Type 0 where
-  pub below : i < length fs
-  pub differ : getD fs i 0 ≢ getD gs i 0
-  pub equal : (j : ℕ) → j < i → getD fs j 0 ≡ getD gs j 0
 
 pub page-inj : {i j : ℕ} → Page i ≡ Page j → i ≡ j
 page-inj e = cc

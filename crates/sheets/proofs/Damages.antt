@@ -1,23 +1,20 @@
 -- A check that says same: the file has the sheet's fingerprint, so a file that differs from the sheet's own inside k neighbouring bits is
 -- never said to be the same.
 use mathlib.Core.Path.{_≡_, refl, sym, ap, ap₂, _∙_}
-use mathlib.Core.Logic.{_≢_}
-use mathlib.Core.Bool.{true}
 use mathlib.Core.List.{List, []}
 use Prim.Native.Nat.{ℕ, _-_, _*_, _^_, _≤_, _<_}
 use native.Mathlib.Decide.{ℕ-discrete}
 use native.Mathlib.Omega.{arith}
 use lib.ListN.{length}
-use Rattle.gf2.specs.Polynomials.{degree, rem}
+use Rattle.gf2.specs.Polynomials.{rem}
 use Rattle.gf2.proofs.Congruences.{shift-cancels}
 use Rattle.refusals.specs.Refusals.{Done, longest}
-use Rattle.acceptance.specs.Keys.{accepted}
 use Rattle.acceptance.proofs.Laws.{accepted-iff, accepted-pos}
-use Rattle.files.specs.Files.{Bytes, fingerprint, markOf}
-use Rattle.files.specs.Bursts.{Burst}
+use Rattle.files.specs.Files.{fingerprint, markOf}
 use Rattle.files.proofs.Confusions.{burst-differs}
 use Rattle.sheets.specs.Layout.{version1, pageCount, Contents, sheetBytes}
-use Rattle.sheets.specs.Sheets.{contentsOf, joinedPages, WellFormed, Same, pagesNow, compared, checkSheet}
+use Rattle.sheets.specs.Sheets.{contentsOf, joinedPages, Same, pagesNow, compared, checkSheet}
+use Rattle.sheets.specs.Claims.{WellFormed, NoBurstSame}
 use Rattle.sheets.proofs.Pages.{fingerprint-lt, pages-joined}
 use Rattle.sheets.proofs.Sound.{file-sound}
 use Rattle.sheets.proofs.Changes.{other-not-same}
@@ -61,9 +58,7 @@ module _ (sheet : List ℕ) (w : WellFormed sheet) (file : List ℕ) (fits : len
       pos = accepted-pos (w .contents .key) (w .sound .key)
 
 -- of a written sheet: no file that differs inside k neighbouring bits is the same
-pub no-burst-same : (key s : ℕ) (a b : List ℕ) → accepted key ≡ true → length a ≤ longest → 16 ≤ s → s ≤ 4096 → Bytes a → Bytes b → a ≢ b
-    → Burst (degree key) a b
-    → checkSheet (sheetBytes version1 (contentsOf key s a)) b ≡ Done Same → ⊥
+pub no-burst-same : NoBurstSame
 unfolding contentsOf
 no-burst-same key s a b acc n lo hi ha hb ne burst same =
     let w : WellFormed (sheetBytes version1 (contentsOf key s a)) =

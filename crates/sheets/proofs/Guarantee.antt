@@ -1,30 +1,29 @@
 -- What the calls promise together, over the definitions that their contracts cite.
 use mathlib.Core.Path.{_≡_, refl, sym, ap, _∙_}
-use mathlib.Core.Logic.{_≢_, _↔_}
 use mathlib.Core.Bool.{false}
-use mathlib.Core.List.{List, [], _∷_, _++_}
-use mathlib.Core.Option.{some}
-use Prim.Native.Nat.{ℕ, _+_, _-_, _^_, _≤_, _<_}
+use mathlib.Core.List.{List, [], _∷_}
+use Prim.Native.Nat.{ℕ, _-_, _^_, _≤_, _<_}
 use native.Mathlib.Nat.{zero-add}
-use native.Mathlib.Omega.{arith}
 use lib.Dec.{ltb}
-use lib.ListN.{length, getD, take, drop}
+use lib.ListN.{length, take, drop}
 use lib.Seq.{take-at}
-use borrow.Author.Tests.{eq-eqb, ne-eqb, lt-ltb, le-ltb, le-leb, ltb-false}
+use borrow.Author.Tests.{eq-eqb, ne-eqb, le-ltb, ltb-false}
+use Rattle.lists.specs.Lists.{overlay}
+use Rattle.lists.proofs.Lent.{overlay-fits}
 use Rattle.refusals.specs.declared.Refusal.the-variants.{TooLong}
 use Rattle.refusals.specs.Refusals.{Done, _⇒_, passes, longest}
 use Rattle.refusals.proofs.Laws.{Clear, clear-done, clear-append, done-clear}
 use Rattle.lists.proofs.Truth.{or-neither}
 use Rattle.acceptance.proofs.Laws.{key-iff}
-use Rattle.files.specs.Files.{Bytes, fingerprint}
-use Rattle.sheets.specs.Layout.{version1, numberAt, pagePlace, sheetLength, pageCount, pagesIn, Contents, sheetBytes, contentsIn}
-use Rattle.sheets.specs.Sheets.{contentsOf, writeTests, writeSheet, readTests, readSheet, readPages, Sound, WellFormed, Same, Page, OtherLength}
-use Rattle.sheets.specs.Sheets.{firstChange, pagesNow, compared, checkSheet, numbersOf, pageAt}
-use Rattle.sheets.proofs.Numbers.{length-numbersAt, numbers-one}
+use Rattle.sheets.specs.Layout.{version1, numberAt, pagePlace, sheetLength, pageCount, Contents, sheetBytes, contentsIn}
+use Rattle.sheets.specs.Sheets.{contentsOf, writeTests, writeSheet, readTests, readSheet, readPages, Page}
+use Rattle.sheets.specs.Claims.{SoundContents, WellFormed, First, ReadIff, PagesGiven, WrittenReads, WrittenFingerprint, Checks, OtherLengthTold}
+use Rattle.sheets.specs.Claims.{PageIff, SameIff}
+use Rattle.sheets.specs.Sheets.{firstChange, pagesNow, compared, checkTests, checkSheet}
 use Rattle.sheets.proofs.Layouts.{length-sheet, fingerprint-back}
 use Rattle.sheets.proofs.Pages.{length-pages}
 use Rattle.sheets.proofs.Sound.{size-bounds, sound-fits, sound-back, sound-clear, clear-sound, file-sound}
-use Rattle.sheets.proofs.Changes.{First, same-equal, equal-same, page-first, first-page}
+use Rattle.sheets.proofs.Changes.{same-equal, equal-same, page-first, first-page}
 
 -- ---- reading
 
@@ -38,7 +37,7 @@ reads sheet w =
     ∙ ap Done (sound-back (w .contents) (w .sound)))
 
 -- and nothing else is
-pub read-iff : (sheet : List ℕ) → Bytes sheet → (readSheet sheet ≡ Done (contentsIn version1 sheet)) ↔ WellFormed sheet
+pub read-iff : ReadIff
 unfolding readSheet
 read-iff sheet b = (there, back)
   where
@@ -52,81 +51,75 @@ contents-back : (sheet : List ℕ) (w : WellFormed sheet) → contentsIn version
 contents-back sheet w = ap (contentsIn version1) (w .bytes) ∙ sound-back (w .contents) (w .sound)
 
 -- its pages' fingerprints are given in lent words
-pub pages-given : (sheet : List ℕ) (w : WellFormed sheet) (words : List ℕ)
-    → readPages sheet words ≡ Done (take (length words) (w .contents .pages) ++ drop (length (w .contents .pages)) words)
+pub pages-given : PagesGiven
 unfolding readPages
 pages-given sheet w words =
     clear-done (readTests version1 sheet) words _ (rw (← (w .bytes)) at (sound-clear (w .contents) (w .sound)))
-    ∙ ap (λ (y : Contents). Done (take (length words) (y .pages) ++ drop (length (y .pages)) words)) (contents-back sheet w)
-
--- and each page's fingerprint by its place
-pub page-given : (sheet : List ℕ) (w : WellFormed sheet) (i : ℕ) → i < length (w .contents .pages)
-    → pageAt (numbersOf (w .contents)) sheet i ≡ some (getD (w .contents .pages) i 0)
-unfolding pageAt contentsIn
-page-given sheet w i l =
-    let x = w .contents in
-    let back : contentsIn version1 sheet ≡ x = contents-back sheet w in
-    let count : pagesIn version1 sheet ≡ length (x .pages) =
-    sym (length-numbersAt (pagePlace version1 0) 8 (pagesIn version1 sheet) sheet) ∙ ap (λ (y : Contents). length (y .pages)) back in
-    let total : length sheet ≡ sheetLength version1 (length (x .pages)) = ap length (w .bytes) ∙ length-sheet version1 x in
-    let field : numberAt (pagePlace version1 i) 8 sheet ≡ getD (x .pages) i 0 =
-    sym (numbers-one (pagesIn version1 sheet) (pagePlace version1 0) 8 i sheet (rw count l)) ∙ ap (λ (y : Contents). getD (y .pages) i 0) back in
-    rw (lt-ltb i (length (x .pages)) l, le-leb (sheetLength version1 i) (length sheet) (omega arith), field)
+    ∙ ap (λ (y : Contents). Done (overlay (y .pages) words)) (contents-back sheet w)
 
 -- ---- writing, then reading
 
--- what is written into a buffer reads back: key, length, page size, every page fingerprint and the file's
 module _ (key s : ℕ) (file buffer after : List ℕ) (fits : key < 2 ^ 64) (done : writeSheet key s file buffer ≡ Done after) where
-  cleared : Clear (writeTests key s file buffer)
-      × (sheetBytes version1 (contentsOf key s file) ++ drop (sheetLength version1 (pageCount s (length file))) buffer ≡ after)
+  abbrev sheet : List ℕ
+  sheet = sheetBytes version1 (contentsOf key s file)
+
+  abbrev total : ℕ
+  total = sheetLength version1 (pageCount s (length file))
+
+  length-written : length sheet ≡ total
+  unfolding contentsOf
+  length-written = length-sheet version1 (contentsOf key s file) ∙ ap (sheetLength version1) (length-pages key (pageCount s (length file)) s file)
+
+  cleared : Clear (writeTests key s file buffer) × (overlay sheet buffer ≡ after)
   unfolding writeSheet
   cleared = done-clear (writeTests key s file buffer) buffer _ after done
 
-  sound : Sound (contentsOf key s file)
+  sound : SoundContents (contentsOf key s file)
   sound =
       let c = cleared .0 in
       let p = or-neither (ltb longest (length file)) false (c .1 .1 .0) in
       let z = size-bounds s (c .1 .1 .1 .0) in
       file-sound key s file (key-iff key fits .1 (c .0, c .1 .0)) (ltb-false longest (length file) (p .0)) (z .0) (z .1)
 
-  written : take (sheetLength version1 (pageCount s (length file))) after ≡ sheetBytes version1 (contentsOf key s file)
-  unfolding contentsOf
-  written =
-      ap (take (sheetLength version1 (pageCount s (length file)))) (sym (cleared .1))
-      ∙ take-at (sheetBytes version1 (contentsOf key s file)) (drop (sheetLength version1 (pageCount s (length file))) buffer)
-      (sheetLength version1 (pageCount s (length file)))
-      (length-sheet version1 (contentsOf key s file) ∙ ap (sheetLength version1) (length-pages key (pageCount s (length file)) s file))
+  -- the buffer is as long as the sheet, or longer
+  room : total ≤ length buffer
+  room = ltb-false (length buffer) total (cleared .0 .1 .1 .1 .1 .0)
 
-  pub written-reads : readSheet (take (sheetLength version1 (pageCount s (length file))) after) ≡ Done (contentsOf key s file)
-  written-reads = rw written (reads (sheetBytes version1 (contentsOf key s file)) (record { contents = contentsOf key s file; sound = sound; bytes = refl }))
+  pub written-bytes : take (sheetLength version1 (pageCount s (length file))) after ≡ sheetBytes version1 (contentsOf key s file)
+  written-bytes =
+      ap (take total) (sym (cleared .1) ∙ overlay-fits sheet buffer (rw length-written room))
+      ∙ take-at sheet (drop (length sheet) buffer) total length-written
 
-  -- its last field is the file's fingerprint
-  pub written-fingerprint : numberAt (pagePlace version1 (pageCount s (length file))) 8 (take (sheetLength version1 (pageCount s (length file))) after)
-      ≡ fingerprint key file
-  unfolding contentsOf
-  written-fingerprint =
-      rw written
-      (ap (λ (c : ℕ). numberAt (pagePlace version1 c) 8 (sheetBytes version1 (contentsOf key s file)))
-      (sym (length-pages key (pageCount s (length file)) s file))
-      ∙ fingerprint-back version1 (contentsOf key s file) (sound-fits (contentsOf key s file) sound))
+-- what is written into a buffer reads back
+pub written-reads : WrittenReads
+written-reads key s file buffer after fits done =
+    rw (written-bytes key s file buffer after fits done)
+    (reads (sheetBytes version1 (contentsOf key s file))
+    (record { contents = contentsOf key s file; sound = sound key s file buffer after fits done; bytes = refl }))
+
+pub written-fingerprint : WrittenFingerprint
+unfolding contentsOf
+written-fingerprint key s file buffer after fits done =
+    rw (written-bytes key s file buffer after fits done)
+    (ap (λ (c : ℕ). numberAt (pagePlace version1 c) 8 (sheetBytes version1 (contentsOf key s file)))
+    (sym (length-pages key (pageCount s (length file)) s file))
+    ∙ fingerprint-back version1 (contentsOf key s file) (sound-fits (contentsOf key s file) (sound key s file buffer after fits done)))
 
 -- ---- checking a file against a well-formed sheet
 
-module _ (sheet : List ℕ) (w : WellFormed sheet) (file : List ℕ) (fits : length file ≤ longest) where
-  pub checks : checkSheet sheet file ≡ Done (compared (w .contents) file)
-  unfolding checkSheet
-  checks =
-      clear-done (readTests version1 sheet ++ passes (length file ∷ []) ⇒ TooLong ∷ []) tt (compared (contentsIn version1 sheet) file)
-      (clear-append (readTests version1 sheet) (passes (length file ∷ []) ⇒ TooLong ∷ []) (rw (← (w .bytes)) at (sound-clear (w .contents) (w .sound)))
-      (rw (le-ltb longest (length file) fits) refl, tt))
-      ∙ ap (λ (x : Contents). Done (compared x file)) (ap (contentsIn version1) (w .bytes) ∙ sound-back (w .contents) (w .sound))
+pub checks : Checks
+unfolding checkSheet
+checks sheet w file fits =
+    clear-done (checkTests sheet file) tt (compared (contentsIn version1 sheet) file)
+    (clear-append (readTests version1 sheet) (passes (length file ∷ []) ⇒ TooLong ∷ []) (rw (← (w .bytes)) at (sound-clear (w .contents) (w .sound)))
+    (rw (le-ltb longest (length file) fits) refl, tt))
+    ∙ ap (λ (x : Contents). Done (compared x file)) (contents-back sheet w)
 
--- the answer: other length where the lengths differ
-pub other-length : (x : Contents) (file : List ℕ) → length file ≢ x .length → compared x file ≡ OtherLength
+pub other-length : OtherLengthTold
 unfolding compared
 other-length x file n = rw (ne-eqb (length file) (x .length) n)
 
-module _ (x : Contents) (sound : Sound x) (file : List ℕ) (e : length file ≡ x .length) where
+module _ (x : Contents) (sound : SoundContents x) (file : List ℕ) (e : length file ≡ x .length) where
   by-pages : compared x file ≡ firstChange 0 (x .pages) (pagesNow x file)
   unfolding compared
   by-pages = rw (eq-eqb (length file) (x .length) e)
@@ -135,16 +128,17 @@ module _ (x : Contents) (sound : Sound x) (file : List ℕ) (e : length file ≡
   unfolding contentsOf
   as-many = sound .count ∙ ap (pageCount (x .pageSize)) (sym e) ∙ sym (length-pages (x .key) (pageCount (x .pageSize) (length file)) (x .pageSize) file)
 
-  -- else the first page whose fingerprint differs
-  pub page-iff : (i : ℕ) → (compared x file ≡ Page i) ↔ First (x .pages) (pagesNow x file) i
-  page-iff i = (there, back)
-    where
-      there : compared x file ≡ Page i → First (x .pages) (pagesNow x file) i
-      there h = let l = page-first 0 (x .pages) (pagesNow x file) i (sym by-pages ∙ h) in rw (l .counted, zero-add (l .place)) (l .first)
+pub page-iff : PageIff
+page-iff x sound file e i = (there, back)
+  where
+    there : compared x file ≡ Page i → First (x .pages) (pagesNow x file) i
+    there h = let l = page-first 0 (x .pages) (pagesNow x file) i (sym (by-pages x sound file e) ∙ h) in rw (l .counted, zero-add (l .place)) (l .first)
 
-      back : First (x .pages) (pagesNow x file) i → compared x file ≡ Page i
-      back h = by-pages ∙ first-page 0 (x .pages) (pagesNow x file) i as-many h ∙ ap Page (zero-add i)
+    back : First (x .pages) (pagesNow x file) i → compared x file ≡ Page i
+    back h = by-pages x sound file e ∙ first-page 0 (x .pages) (pagesNow x file) i (as-many x sound file e) h ∙ ap Page (zero-add i)
 
-  -- else same: every page fingerprint is equal
-  pub same-iff : (compared x file ≡ Same) ↔ (x .pages ≡ pagesNow x file)
-  same-iff = (λ h. same-equal 0 (x .pages) (pagesNow x file) as-many (sym by-pages ∙ h), λ h. by-pages ∙ equal-same 0 (x .pages) (pagesNow x file) h)
+pub same-iff : SameIff
+same-iff x sound file e = (
+  λ h. same-equal 0 (x .pages) (pagesNow x file) (as-many x sound file e) (sym (by-pages x sound file e) ∙ h),
+  λ h. by-pages x sound file e ∙ equal-same 0 (x .pages) (pagesNow x file) h,
+)

@@ -1,15 +1,17 @@
 -- What is known of a sheet that was read or refused.
 use mathlib.Core.Path.{_≡_, refl, sym, ap, _∙_}
-use mathlib.Core.List.{List, [], _++_, append-nil}
+use mathlib.Core.List.{List, [], append-nil}
 use Prim.Native.Nat.{ℕ}
 use native.Mathlib.Omega.{arith}
-use lib.ListN.{length, take, drop}
+use lib.ListN.{length}
+use Rattle.lists.specs.Lists.{overlay}
 use Rattle.refusals.specs.declared.Refusal.{Refusal}
 use Rattle.refusals.proofs.Laws.{Clear, clear-done, done-clear, more-refused}
 use Rattle.refusals.specs.Refusals.{Answer, Done, Refused, Test, firstOf}
 use Rattle.sheets.specs.declared.Sheet.{Sheet}
 use Rattle.sheets.specs.Layout.{version1, pagePlace, sheetLength, Contents, pagesIn, contentsIn}
-use Rattle.sheets.specs.Sheets.{readTests, readSheet, readPages, numbersOf, sheetRead, Sound}
+use Rattle.sheets.specs.Sheets.{readTests, readSheet, readPages, numbersOf, sheetRead}
+use Rattle.sheets.specs.Claims.{SoundContents}
 use Rattle.sheets.specs.Parts.{ReadAs}
 use Rattle.sheets.proofs.Numbers.{length-numbersAt}
 use Rattle.sheets.proofs.Sound.{clear-total, clear-contents}
@@ -37,7 +39,7 @@ module _ (sheet : List ℕ) {x : Sheet} (r : ReadAs sheet x) where
   unfolding readSheet
   tests-clear = done-clear (readTests version1 sheet) tt (contentsIn version1 sheet) (contentsIn version1 sheet) (r .done) .0
 
-  pub sound : Sound (contentsIn version1 sheet)
+  pub sound : SoundContents (contentsIn version1 sheet)
   sound = clear-contents sheet tests-clear
 
   pub total : length sheet ≡ sheetLength version1 (pagesIn version1 sheet)
@@ -53,12 +55,10 @@ module _ (sheet words : List ℕ) where
   pub pages-refused : (q : Refusal) → Refused q tt ≡ sheetRead (readSheet sheet) → readPages sheet words ≡ Refused q words
   unfolding readSheet readPages
   pages-refused q e =
-      let pages = contentsIn version1 sheet .pages in
-      let after = take (length words) pages ++ drop (length pages) words in
+      let after = overlay (contentsIn version1 sheet .pages) words in
       ap (λ (ts : List Test). firstOf ts words after) (sym (append-nil (readTests version1 sheet)))
       ∙ more-refused (readTests version1 sheet) [] tt words (contentsIn version1 sheet) after q (refused-inv (readSheet sheet) q (sym e))
 
-  pub pages-done : {x : Sheet} → ReadAs sheet x
-      → readPages sheet words ≡ Done (take (length words) (contentsIn version1 sheet .pages) ++ drop (length (contentsIn version1 sheet .pages)) words)
+  pub pages-done : {x : Sheet} → ReadAs sheet x → readPages sheet words ≡ Done (overlay (contentsIn version1 sheet .pages) words)
   unfolding readPages
   pages-done r = clear-done (readTests version1 sheet) words _ (tests-clear sheet r)

@@ -7,11 +7,13 @@ use native.Mathlib.Nat.{zero-mul, suc-mul}
 use native.Mathlib.Omega.{arith}
 use lib.ListN.{length, getD, take, drop, length-take, List·getD-append}
 use lib.Seq.{take-take, drop-drop, getD-take}
+use Rattle.lists.specs.Lists.{overlay}
 use Rattle.refusals.specs.Refusals.{Done}
 use Rattle.refusals.proofs.Laws.{done-clear}
 use Rattle.files.specs.Files.{Bytes, bits, valueFrom, fingerprint}
 use Rattle.sheets.specs.Layout.{version1, numberAt, pagePlace, sheetLength, pageCount, pagesIn, Contents, contentsIn}
-use Rattle.sheets.specs.Sheets.{filled, pageFingerprints, contentsOf, writeSheet, readTests, readSheet, readPages, WellFormed, Same, pagesNow}
+use Rattle.sheets.specs.Sheets.{filled, pageFingerprints, contentsOf, writeSheet, readTests, readSheet, readPages, Same, pagesNow}
+use Rattle.sheets.specs.Claims.{WellFormed}
 use Rattle.sheets.specs.Sheets.{checkSheet}
 use Rattle.sheets.proofs.Numbers.{numbers-one}
 use Rattle.sheets.proofs.Pages.{length-pages}
@@ -81,7 +83,7 @@ module _ (sheet : List ℕ) (w : WellFormed sheet) (file : List ℕ) (size : w .
 
   of-page : (words after : List ℕ) (i : ℕ) → readPages sheet words ≡ Done after → i < length (w .contents .pages) → i < length words
       → getD after i 0 ≡ fingerprint (w .contents .key) (filled (w .contents .pageSize) (take (w .contents .pageSize) (drop (i * w .contents .pageSize) file)))
-  unfolding contentsOf
+  unfolding contentsOf overlay
   of-page words after i e l m =
       let x = w .contents in
       let c : length (x .pages) ≡ pageCount (x .pageSize) (length file) =

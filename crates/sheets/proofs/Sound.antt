@@ -20,7 +20,8 @@ use Rattle.acceptance.proofs.Laws.{accepted-iff, accepted-pos, accepted-small, 
 use Rattle.files.specs.Files.{Bytes, fingerprint}
 use Rattle.sheets.specs.Layout.{Letters, Version, Key, Length, version1, placeOf, widthOf, pagePlace, sheetLength, pageCount, Contents, letters}
 use Rattle.sheets.specs.Layout.{sheetBytes, fieldIn, pagesIn, contentsIn}
-use Rattle.sheets.specs.Sheets.{contentsOf, someUnreduced, pagesJoined, fileFilled, headWrong, readTests, Sound, WellFormed}
+use Rattle.sheets.specs.Sheets.{contentsOf, someUnreduced, pagesJoined, fileFilled, headWrong, readTests}
+use Rattle.sheets.specs.Claims.{SoundContents, WellFormed}
 use Rattle.sheets.proofs.Numbers.{number-lt, length-numbersAt}
 use Rattle.sheets.proofs.Layouts.{Fits, length-sheet, field-back, read-back, write-back}
 use Rattle.sheets.proofs.Pages.{fingerprint-lt, fingerprints-lt, length-pages, pages-joined}
@@ -47,7 +48,7 @@ none-unreduced k (g ∷ fs) f e =
 
 -- ---- sound fields fit the layout
 
-pub sound-fits : (x : Contents) → Sound x → Fits version1 x
+pub sound-fits : (x : Contents) → SoundContents x → Fits version1 x
 sound-fits x h =
     record {
       fields = (lit< tt, (lit< tt, (accepted-small (x .key) (h .key), (omega (arith, h .length), (omega (arith, h .pageSize), tt)))));
@@ -59,7 +60,7 @@ sound-fits x h =
     small : 2 ^ degree (x .key) ≤ 2 ^ 64
     small = let d = accepted-iff (x .key) .0 (h .key) in pow-mono {i = degree (x .key)} {j = 64} (omega arith)
 
-pub sound-back : (x : Contents) → Sound x → contentsIn version1 (sheetBytes version1 x) ≡ x
+pub sound-back : (x : Contents) → SoundContents x → contentsIn version1 (sheetBytes version1 x) ≡ x
 sound-back x h = read-back version1 x (sound-fits x h) refl refl refl
 
 -- ---- the tests of reading
@@ -74,7 +75,7 @@ size-bounds s e = let o = or-neither (ltb s 16) (ltb 4096 s) e in (ltb-false s 1
 or-clear : {a b c : Bool} → a ≡ false → b ≡ false → c ≡ false → (a || b || c) ≡ false
 or-clear x y z = rw (x, y, z)
 
-pub sound-clear : (x : Contents) → Sound x → Clear (readTests version1 (sheetBytes version1 x))
+pub sound-clear : (x : Contents) → SoundContents x → Clear (readTests version1 (sheetBytes version1 x))
 sound-clear x h =
     let f = sound-fits x h in
     let k = key-iff (x .key) (accepted-small (x .key) (h .key)) .0 (h .key) in
@@ -141,7 +142,7 @@ module _ (sheet : List ℕ) (c : Clear (readTests version1 sheet)) where
   pub clear-total : length sheet ≡ sheetLength version1 (pagesIn version1 sheet)
   clear-total = eqb-true (length sheet) (sheetLength version1 (length (x .pages))) (not-false _ (body .0)) ∙ ap (sheetLength version1) count
 
-  pub clear-contents : Sound (contentsIn version1 sheet)
+  pub clear-contents : SoundContents (contentsIn version1 sheet)
   unfolding x contentsIn
   clear-contents =
       let long = head .long in
@@ -169,7 +170,7 @@ module _ (sheet : List ℕ) (c : Clear (readTests version1 sheet)) where
 
 -- ---- the numbers of a file's sheet are sound
 
-pub file-sound : (key s : ℕ) (file : List ℕ) → accepted key ≡ true → length file ≤ longest → 16 ≤ s → s ≤ 4096 → Sound (contentsOf key s file)
+pub file-sound : (key s : ℕ) (file : List ℕ) → accepted key ≡ true → length file ≤ longest → 16 ≤ s → s ≤ 4096 → SoundContents (contentsOf key s file)
 unfolding contentsOf
 file-sound key s file a n lo hi =
     let pos = accepted-pos key a in

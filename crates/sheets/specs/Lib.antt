@@ -1,3 +1,5 @@
 pub mod Layout
 pub mod Sheets
+pub mod Claims
+pub mod Answers
 pub mod Parts

@@ -6,12 +6,16 @@ use Prim.Native.Nat.{ℕ, suc, _*_, _/_, _^_, _<_}
 use lib.Dec.{eqb}
 use lib.ListN.{length, drop}
 use Rattle.refusals.specs.declared.Refusal.the-variants.{TooLong, SheetMalformed}
-use Rattle.refusals.specs.Refusals.{Answer, Done, _⇒_, firstOf, passes}
+use Rattle.refusals.specs.Refusals.{Answer, Done, Refused, _⇒_, firstOf, passes}
 use Rattle.files.specs.Files.{fingerprint}
 use Rattle.sheets.specs.declared.Sheet.{Sheet}
+use Rattle.sheets.specs.declared.Checked.{Checked}
+use Rattle.sheets.specs.declared.Checked.the-variants as checked-cases
+use Rattle.sheets.specs.declared.Changed.{Changed}
 use Rattle.sheets.specs.declared.layout.Head.{Head}
 use Rattle.sheets.specs.Layout.{Key, Length, PageSize, version1, pagePlace, Contents, fieldIn, contentsIn}
-use Rattle.sheets.specs.Sheets.{filled, sizeTest, bodyWrong, readSheet, numbersOf, Outcome, compared}
+use Rattle.sheets.specs.Sheets.{filled, pageSizeTest, bodyWrong, readSheet, numbersOf, Outcome, compared, Range, rangeOf}
+use Rattle.sheets.specs.Answers.{checkAnswer, changeAnswer}
 
 -- what a file has behind its whole pages, of s bytes each
 abbrev pub lastPage : ℕ → List ℕ → List ℕ
@@ -31,7 +35,7 @@ agreeing (f ∷ fs) (g ∷ gs) = cond (eqb f g) (suc (agreeing fs gs)) 0
 abbrev pub readBody : List ℕ → Answer Unit Contents
 readBody sheet =
     let x = contentsIn version1 sheet in
-    firstOf (sizeTest (x .pageSize) ∷ bodyWrong version1 (length sheet) x ⇒ SheetMalformed ∷ []) tt x
+    firstOf (pageSizeTest (x .pageSize) ∷ bodyWrong version1 (length sheet) x ⇒ SheetMalformed ∷ []) tt x
 
 -- the sheet was read, as the numbers x
 pub record ReadAs (sheet : List ℕ) (x : Sheet) : Type 0 where
@@ -41,6 +45,21 @@ pub record ReadAs (sheet : List ℕ) (x : Sheet) : Type 0 where
 -- the rest of a check, where the sheet is read
 abbrev pub comparison : List ℕ → List ℕ → Answer Unit Outcome
 comparison sheet file = firstOf (passes (length file ∷ []) ⇒ TooLong ∷ []) tt (compared (contentsIn version1 sheet) file)
+
+-- an answer of the check that names no page; and the check's answer as that of `changedRange`
+abbrev pub NoPage : Checked → Type 0
+NoPage (checked-cases.Page i) = ⊥
+NoPage checked-cases.Same = Unit {0}
+NoPage checked-cases.OtherLength = Unit {0}
+NoPage (checked-cases.Refused r) = Unit {0}
+
+abbrev pub ranged : Contents → Answer Unit Outcome → Answer Unit Range
+ranged x (Done o) = Done (rangeOf x o)
+ranged x (Refused r s) = Refused r s
+
+-- the same answer in code, whatever the sheet's numbers are
+abbrev pub WithoutPage : Checked → Changed → Type 0
+WithoutPage o r = (x : Contents) → changeAnswer r ≡ ranged x (checkAnswer o)
 
 -- the numbers in front of a sheet's fingerprints, as the code reads them
 pub record HeadOf (sheet : List ℕ) (head : Head) : Type 0 where

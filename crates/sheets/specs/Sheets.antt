@@ -1,29 +1,19 @@
 -- Writing, reading and checking a page sheet (document 01, "Page sheets"): each call is its tests, in document 01's order, and its value.
-use mathlib.Core.Path.{_≡_}
-use mathlib.Core.Bool.{Bool, true, false, _&&_, _||_, not, cond}
+use mathlib.Core.Bool.{Bool, false, _||_, not, cond}
 use mathlib.Core.List.{List, [], _∷_, _++_}
-use mathlib.Core.Option.{Option, none, some}
-use Prim.Native.Nat.{ℕ, zero, suc, _+_, _-_, _*_, _^_, _≤_, _<_, min}
+use Prim.Native.Nat.{ℕ, zero, suc, _+_, _-_, _*_, _^_, min}
 use lib.Dec.{ltb, leb, eqb}
 use lib.ListN.{length, take, drop, replicate}
-use Rattle.lists.specs.Lists.{All}
+use Rattle.lists.specs.Lists.{overlay}
 use Rattle.gf2.specs.Polynomials.{degree, rem}
 use Rattle.refusals.specs.declared.Refusal.the-variants.{TooLong, PageSize, BufferShort, SheetMalformed}
-use Rattle.refusals.specs.Refusals.{Answer, Done, Refused, Test, _⇒_, firstOf, passes, longest}
-use Rattle.acceptance.specs.Keys.{accepted, keyTests}
+use Rattle.refusals.specs.Refusals.{Answer, Done, Refused, Test, _⇒_, firstOf, passes}
+use Rattle.acceptance.specs.Keys.{keyTests}
 use Rattle.files.specs.declared.Mark.{Mark}
 use Rattle.files.specs.Files.{fingerprint, markOf, joined}
-use Rattle.sheets.specs.Layout.{Letters, Version, Layout, version1, pagePlace, sheetLength, pageCount, numberAt, Contents, letters, sheetBytes}
+use Rattle.sheets.specs.Layout.{Letters, Version, Layout, version1, sheetLength, pageCount, Contents, letters, sheetBytes}
 use Rattle.sheets.specs.Layout.{fieldIn, contentsIn}
 use Rattle.sheets.specs.declared.Sheet.{Sheet}
-use Rattle.sheets.specs.declared.Reading.{Reading}
-use Rattle.sheets.specs.declared.Reading.the-variants as reading-cases
-use Rattle.sheets.specs.declared.PageField.{PageField}
-use Rattle.sheets.specs.declared.PageField.the-variants as field-cases
-use Rattle.sheets.specs.declared.Checked.{Checked}
-use Rattle.sheets.specs.declared.Checked.the-variants as checked-cases
-use Rattle.sheets.specs.declared.Changed.{Changed}
-use Rattle.sheets.specs.declared.Changed.the-variants as changed-cases
 
 -- ---- the pages of a file
 
@@ -49,22 +39,26 @@ contentsOf key s file =
 -- ---- writing: numbers 1, 2, 7, 12, 13
 
 -- number 12
-abbrev pub sizeTest : ℕ → Test
-sizeTest s = (ltb s 16 || ltb 4096 s) ⇒ PageSize
+abbrev pub pageSizeTest : ℕ → Test
+pageSizeTest s = (ltb s 16 || ltb 4096 s) ⇒ PageSize
+
+abbrev pub lengthTests : ℕ → ℕ → List Test
+lengthTests n s = passes (n ∷ []) ⇒ TooLong ∷ pageSizeTest s ∷ []
+
+-- the bytes of the sheet of a file of n bytes: numbers 7, 12
+unfoldable pub lengthFor : ℕ → ℕ → Answer Unit ℕ
+lengthFor n s = firstOf (lengthTests n s) tt (sheetLength version1 (pageCount s n))
 
 abbrev pub writeTests : ℕ → ℕ → List ℕ → List ℕ → List Test
 writeTests key s file buffer =
     keyTests key
-    ++ passes (length file ∷ []) ⇒ TooLong
-    ∷ sizeTest s
-    ∷ ltb (length buffer) (sheetLength version1 (pageCount s (length file))) ⇒ BufferShort
+    ++ lengthTests (length file) s
+    ++ ltb (length buffer) (sheetLength version1 (pageCount s (length file))) ⇒ BufferShort
     ∷ []
 
--- what the lent buffer holds after the call: its further bytes keep their value
+-- what the lent buffer holds after the call
 unfoldable pub writeSheet : ℕ → ℕ → List ℕ → List ℕ → Answer (List ℕ) (List ℕ)
-writeSheet key s file buffer =
-    firstOf (writeTests key s file buffer) buffer
-    (sheetBytes version1 (contentsOf key s file) ++ drop (sheetLength version1 (pageCount s (length file))) buffer)
+writeSheet key s file buffer = firstOf (writeTests key s file buffer) buffer (overlay (sheetBytes version1 (contentsOf key s file)) buffer)
 
 -- ---- reading: number 14 for size, letters and version; 1, 2, 12; then the rest of 14
 
@@ -104,33 +98,24 @@ readTests v sheet =
     let x = contentsIn v sheet in
     headWrong v sheet ⇒ SheetMalformed
     ∷ keyTests (x .key)
-    ++ sizeTest (x .pageSize)
+    ++ pageSizeTest (x .pageSize)
     ∷ bodyWrong v (length sheet) x ⇒ SheetMalformed
     ∷ []
 
 unfoldable pub readSheet : List ℕ → Answer Unit Contents
 readSheet sheet = firstOf (readTests version1 sheet) tt (contentsIn version1 sheet)
 
--- the same as a description: the bytes are a sheet's, with fields of which number 14 says nothing
-pub record Sound (x : Contents) : Type 0 where
-  pub key : accepted (x .key) ≡ true
-  pub length : x .length ≤ longest
-  pub pageSize : (16 ≤ x .pageSize) × (x .pageSize ≤ 4096)
-  pub count : lib.ListN.length (x .pages) ≡ pageCount (x .pageSize) (x .length)
-  pub pages : All (λ f. f < 2 ^ degree (x .key)) (x .pages)
-  pub fingerprint : x .fingerprint < 2 ^ degree (x .key)
-  pub joined : pagesJoined x ≡ fileFilled x
+-- the numbers that a reader is given at once; the page fingerprints are given by `readPages`
+abbrev pub numbersOf : Contents → Sheet
+numbersOf x = record { key = x .key; length = x .length; size = x .pageSize; pages = length (x .pages); fingerprint = x .fingerprint }
 
-pub record WellFormed (sheet : List ℕ) : Type 0 where
-  pub contents : Contents
-  pub sound : Sound contents
-  pub bytes : sheet ≡ sheetBytes version1 contents
+abbrev pub sheetRead : Answer Unit Contents → Answer Unit Sheet
+sheetRead (Done x) = Done (numbersOf x)
+sheetRead (Refused r s) = Refused r s
 
--- the page fingerprints into lent places: the first ones, as far as the places reach; further places keep their value
+-- the page fingerprints into lent places
 unfoldable pub readPages : List ℕ → List ℕ → Answer (List ℕ) (List ℕ)
-readPages sheet lent =
-    let pages = contentsIn version1 sheet .pages in
-    firstOf (readTests version1 sheet) lent (take (length lent) pages ++ drop (length pages) lent)
+readPages sheet lent = firstOf (readTests version1 sheet) lent (overlay (contentsIn version1 sheet .pages) lent)
 
 -- ---- checking a file: all of reading, then 7
 
@@ -152,54 +137,22 @@ pagesNow x file = contentsOf (x .key) (x .pageSize) file .pages
 unfoldable pub compared : Contents → List ℕ → Outcome
 compared x file = cond (eqb (length file) (x .length)) (firstChange 0 (x .pages) (pagesNow x file)) OtherLength
 
+abbrev pub checkTests : List ℕ → List ℕ → List Test
+checkTests sheet file = readTests version1 sheet ++ passes (length file ∷ []) ⇒ TooLong ∷ []
+
 unfoldable pub checkSheet : List ℕ → List ℕ → Answer Unit Outcome
-checkSheet sheet file =
-    firstOf (readTests version1 sheet ++ passes (length file ∷ []) ⇒ TooLong ∷ []) tt (compared (contentsIn version1 sheet) file)
+checkSheet sheet file = firstOf (checkTests sheet file) tt (compared (contentsIn version1 sheet) file)
 
--- the bytes of the page that a check names, from the first to before the last: with the sheet's length and page size
+-- a check's outcome with the bytes of the page that it names, from the first to before the last
 pub data Range : Type 0 where
+  NoChange : Range
   FromTo : ℕ → ℕ → Range
-  NoRange : Range
+  NotAsLong : Range
 
-abbrev pub pageRange : Contents → Outcome → Range
-pageRange x (Page i) = FromTo (i * x .pageSize) (min (i * x .pageSize + x .pageSize) (x .length))
-pageRange x Same = NoRange
-pageRange x OtherLength = NoRange
+abbrev pub rangeOf : Contents → Outcome → Range
+rangeOf x Same = NoChange
+rangeOf x (Page i) = FromTo (i * x .pageSize) (min (i * x .pageSize + x .pageSize) (x .length))
+rangeOf x OtherLength = NotAsLong
 
-abbrev pub rangeOf : Contents → Answer Unit Outcome → Range
-rangeOf x (Done o) = pageRange x o
-rangeOf x (Refused r s) = NoRange
-
--- ---- the answers in code: their numbers and values
-
--- the numbers that a reader is given at once; each page's fingerprint is asked for by its place
-abbrev pub numbersOf : Contents → Sheet
-numbersOf x = record { key = x .key; length = x .length; size = x .pageSize; pages = length (x .pages); fingerprint = x .fingerprint }
-
-abbrev pub sheetRead : Answer Unit Contents → Answer Unit Sheet
-sheetRead (Done x) = Done (numbersOf x)
-sheetRead (Refused r s) = Refused r s
-
-abbrev pub reading : Reading → Answer Unit Sheet
-reading (reading-cases.Sheet x) = Done x
-reading (reading-cases.Refused r) = Refused r tt
-
--- the fingerprint of page i, from the bytes and the numbers that they were read as
-unfoldable pub pageAt : Sheet → List ℕ → ℕ → Option ℕ
-pageAt x sheet i =
-    cond (ltb i (x .pages) && leb (sheetLength version1 i) (length sheet))
-    (some (numberAt (pagePlace version1 i) (version1 .fingerprintWidth) sheet)) none
-
-abbrev pub pageField : PageField → Option ℕ
-pageField (field-cases.Fingerprint f) = some f
-pageField field-cases.None = none
-
-abbrev pub checked : Checked → Answer Unit Outcome
-checked checked-cases.Same = Done Same
-checked (checked-cases.Page i) = Done (Page i)
-checked checked-cases.OtherLength = Done OtherLength
-checked (checked-cases.Refused r) = Refused r tt
-
-abbrev pub changed : Changed → Range
-changed (changed-cases.Bytes a b) = FromTo a b
-changed changed-cases.None = NoRange
+unfoldable pub changedRange : List ℕ → List ℕ → Answer Unit Range
+changedRange sheet file = let x = contentsIn version1 sheet in firstOf (checkTests sheet file) tt (rangeOf x (compared x file))

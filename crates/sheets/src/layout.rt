@@ -4,7 +4,6 @@ use super::fields;
 ghost use mathlib.Core.Path.{_≡_};
 ghost use mathlib.Core.Bool.{not};
 ghost use Prim.Native.Nat.{_≤_, _<_, _^_};
-ghost use lib.Dec.{leb};
 ghost use lib.ListN.{length};
 ghost use lib.Seq.{sets};
 ghost use Rattle.sheets.specs.Layout.{version1, pagePlace, sheetLength, valueOf, bytesIn, numberAt};
@@ -98,17 +97,6 @@ pub fn sheet_length(pages: u64) -> u64
     ensures { λ r. ⌜ r ≡ sheetLength version1 pages ⌝ }
 {
     LEAST as u64 + 8 * pages
-}
-
-// Is a sheet long enough for i fingerprints and one more?
-pub fn reaches(sheet: &[u8], i: u64) -> bool
-    ensures { λ r. ⌜ r ≡ leb (sheetLength version1 i) (length (now (sheet .entry))) ⌝ }
-{
-    let n = sheet.len();
-    if n < LEAST {
-        return false;
-    }
-    i <= ((n - LEAST) / 8) as u64
 }
 
 // The fingerprint behind i others.

@@ -28,14 +28,17 @@ pub enum Checked {
     Refused(Refusal),
 }
 
-// A range of bytes, from the first to before the last.
+// The answer to the question which bytes were changed first: those of the first page whose fingerprint differs, from the first to before the
+// last; or that there is no such page, and why.
 pub enum Changed {
+    Same,
     Bytes(u64, u64),
-    None,
+    OtherLength,
+    Refused(Refusal),
 }
 
-// The fingerprint of a page of a sheet, or none where there is no such page.
-pub enum PageField {
-    Fingerprint(u64),
-    None,
+// The answer to the question how long a sheet is, in bytes.
+pub enum SheetLength {
+    Bytes(u64),
+    Refused(Refusal),
 }

@@ -19,7 +19,7 @@ pub fn fill(words: &mut [u64], p: Modulus, n: u64)
 }
 
 // The product, by the bytes of the residue.
-pub fn times(words: &[u64], f: u64) -> u64
+fn times(words: &[u64], f: u64) -> u64
     requires { ⌜ length (now words) ≡ 2048 ⌝ }
     ensures { λ r. ⌜ r ≡ looked 8 (now (words .entry)) 8 0 f ⌝ }
 {

@@ -8,7 +8,8 @@ use native.Mathlib.Nat.{le-of-eq, mul-one, pow-suc, lt-of-lt-of-le, mod-eq-of-lt
 use native.Mathlib.Omega.{arith}
 use lib.Dec.{T, eqb, eqb→eq}
 use lib.Pow.{pow-pos}
-use Rattle.gf2.specs.Polynomials.{_⊕_, _⊗_, degree, Degree, monic, rem, Irreducible}
+use Rattle.gf2.specs.Polynomials.{_⊕_, _⊗_, degree, rem, Irreducible}
+use Rattle.gf2.specs.Degrees.{Degree, monic}
 use Rattle.lists.specs.Lists.{listFrom}
 use Rattle.lists.proofs.Truth.{and-left, and-right}
 use Rattle.lists.proofs.Lists.{length-list}
@@ -22,8 +23,7 @@ use Rattle.gf2.proofs.Powers.{rem-⊗-left}
 use Rattle.gf2.proofs.Criterion.{rigid-irreducible}
 use Rattle.basis.specs.Rows.{Independent}
 use Rattle.basis.proofs.Matrices.{sum-listed}
-use Rattle.stock.proofs.Coefficients.{Word, value, plus, value-plus, size, word, digit, value-word, size-word}
-use Rattle.stock.proofs.Coefficients.{divide, divide-rem, divide-size, value-shl, modulus, modulus-deg}
+use Rattle.stock.proofs.Coefficients.{Word, value, plus, value-plus, size, word, digit, value-word, size-word, divide, divide-rem, divide-size, value-shl, modulus, modulus-deg}
 use Rattle.stock.proofs.Independence.{basis, sound, insert, empty, independent}
 
 -- ---- the test

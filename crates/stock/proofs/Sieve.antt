@@ -10,8 +10,10 @@ use native.Mathlib.Omega.{arith}
 use lib.Dec.{T, eqb, ltb, eqb→eq, ltb→lt}
 use lib.ListN.{length, getD}
 use borrow.Author.Tests.{not-false}
-use Rattle.lists.specs.Lists.{All, firstFrom}
-use Rattle.gf2.specs.Polynomials.{_⊕_, halvings, degree, Degree, reduce, longDivision, rem, Divides, Irreducible}
+use Rattle.lists.specs.Lists.{All}
+use Rattle.lists.specs.Searches.{firstFrom}
+use Rattle.gf2.specs.Polynomials.{_⊕_, halvings, degree, reduce, longDivision, rem, Divides, Irreducible}
+use Rattle.gf2.specs.Degrees.{Degree}
 use Rattle.lists.proofs.Truth.{and-left, and-right}
 use Rattle.lists.proofs.Lists.{every, all-by-test}
 use Rattle.lists.proofs.Searches.{none-before}

@@ -1,4 +1,5 @@
--- The windows of a text, and what the functions that look at them promise.
+-- For inner functions: a reader of the promises need not read this page. The windows of a text, and what the functions that look at them
+-- promise.
 use mathlib.Core.Path.{_≡_}
 use mathlib.Core.Bool.{Bool, false}
 use mathlib.Core.List.{List}
@@ -41,7 +42,9 @@ pub record Ready (s : Setup) (reduceTable outgoingTable : List ℕ) : Type 0 whe
 unfoldable pub hit : Setup → List ℕ → ℕ → ℕ → Bool
 hit s text from j = eqb (residue (keyOf s) (window (s .m) text (from + j))) (s .wanted)
 
--- the flags of `size` windows, and the residue of the next one, if there is a next one
-pub record Flagged (s : Setup) (text : List ℕ) (from size rest : ℕ) (list : List Bool) : Type 0 where
+-- the flags of `size` windows in a list of 1,024, whose other flags stay as they were before; and the residue of the next window, which is
+-- free where there is no next one
+pub record Flagged (s : Setup) (text : List ℕ) (from size rest : ℕ) (before list : List Bool) : Type 0 where
   pub flags : Filled false (hit s text from) 0 size list
+  pub behind : Filled false (λ i. getD before i false) size 1024 list
   pub next : from + size + s .m ≤ length text → ResidueAt s text (from + size) rest

@@ -1,5 +1,4 @@
 // Which windows have the pattern's residue: a flag for each window of a block.
-use super::rolling;
 use super::rolling::Setup;
 use lookups::Lanes;
 ghost use mathlib.Core.Path.{_≡_};
@@ -13,6 +12,19 @@ ghost use Rattle.windows.specs.Rolling.{ResidueAt, Ready, hit, Filled, F
 pub struct Block {
     pub size: usize,
     pub next: u64,
+}
+
+// The residue of the window at i + 1 from that of the window at i: a byte comes in behind, and the first one, times t^(8m), goes out.
+fn roll(s: Setup, reduce: &[u64], outgoing: &[u64; 256], text: &[u8], i: usize, g: u64) -> u64
+    requires { ⌜ Ready s (now reduce) (now outgoing)
+        × (i + s .m < length (now text))
+        × ResidueAt s (now text) i g ⌝ }
+    ensures { λ r. ⌜ ResidueAt s (now (text .entry)) (i + 1) r ⌝ }
+{
+    let longer = lookups::feed_one(reduce, s.modulus, g, text[i + s.m]);
+    let first = text[i] as usize;
+    let gone = outgoing[first];
+    longer ^ gone
 }
 
 // Four lanes of windows, 256 places apart: the residue of the first window is g, the other three are read.
@@ -67,10 +79,10 @@ fn four_lanes(
         flags[j + 512] = c == s.wanted;
         flags[j + 768] = d == s.wanted;
         let i = from + j;
-        a = rolling::roll(s, reduce, outgoing, text, i, a);
-        b = rolling::roll(s, reduce, outgoing, text, i + 256, b);
-        c = rolling::roll(s, reduce, outgoing, text, i + 512, c);
-        d = rolling::roll(s, reduce, outgoing, text, i + 768, d);
+        a = roll(s, reduce, outgoing, text, i, a);
+        b = roll(s, reduce, outgoing, text, i + 256, b);
+        c = roll(s, reduce, outgoing, text, i + 512, c);
+        d = roll(s, reduce, outgoing, text, i + 768, d);
         j += 1;
     }
     d
@@ -92,7 +104,7 @@ fn one_by_one(
         × (from + size + s .m ≤ length (now text) + 1)
         × (size ≤ 1024)
         × ResidueAt s (now text) from g ⌝ }
-    ensures { λ r. ⌜ Flagged s (now (text .entry)) from size r (now (flags .exit)) × (length (now (flags .exit)) ≡ 1024) ⌝ }
+    ensures { λ r. ⌜ Flagged s (now (text .entry)) from size r (now (flags .entry)) (now (flags .exit)) × (length (now (flags .exit)) ≡ 1024) ⌝ }
 {
     let mut a = g;
     let mut j: usize = 0;
@@ -100,7 +112,7 @@ fn one_by_one(
         flags[j] = a == s.wanted;
         let i = from + j;
         if i + s.m < text.len() {
-            a = rolling::roll(s, reduce, outgoing, text, i, a);
+            a = roll(s, reduce, outgoing, text, i, a);
         }
         j += 1;
     }
@@ -108,12 +120,12 @@ fn one_by_one(
 }
 
 fn least(a: usize, b: usize) -> usize
-    ensures { λ r. ⌜ (r ≤ a) × (r ≤ b) × (0 < a → 0 < b → 0 < r) ⌝ }
+    ensures { λ r. ⌜ (r ≤ a) × (r ≤ b) × (r < b → r ≡ a) × (0 < a → 0 < b → 0 < r) ⌝ }
 {
     if a < b { a } else { b }
 }
 
-// The next windows, at most 1,024. Four lanes pay off where the windows that three of them start with are not too long to read.
+// The next 1,024 windows, or all that are left. Four lanes pay off where the windows that three of them start with are not too long to read.
 pub fn flag_block(
     s: Setup,
     reduce: &[u64],
@@ -130,7 +142,8 @@ pub fn flag_block(
     ensures { λ r. ⌜ (0 < r .size)
         × (r .size ≤ 1024)
         × (from + r .size + s .m ≤ length (now (text .entry)) + 1)
-        × Flagged s (now (text .entry)) from (r .size) (r .next) (now (flags .exit))
+        × (r .size < 1024 → from + r .size + s .m ≡ length (now (text .entry)) + 1)
+        × Flagged s (now (text .entry)) from (r .size) (r .next) (now (flags .entry)) (now (flags .exit))
         × (length (now (flags .exit)) ≡ 1024) ⌝ }
 {
     let left = text.len() - s.m + 1 - from;

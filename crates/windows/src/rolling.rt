@@ -2,12 +2,12 @@
 // the fingerprint is left off: windows and pattern are equally long, and have it in common.
 use gf2::Modulus;
 ghost use mathlib.Core.Path.{_≡_};
-ghost use Prim.Native.Nat.{_+_, _*_, _^_, _≤_, _<_};
+ghost use Prim.Native.Nat.{_*_, _^_, _≤_};
 ghost use lib.ListN.{length};
 ghost use Rattle.gf2.specs.Polynomials.{rem};
 ghost use Rattle.gf2.specs.Moduli.{polynomial};
 ghost use Rattle.lookups.specs.Groups.{ReducesByte};
-ghost use Rattle.windows.specs.Rolling.{window, residue, ResidueAt, Ready};
+ghost use Rattle.windows.specs.Rolling.{window, residue};
 
 // What stays the same from window to window: the modulus, the pattern's length and its residue.
 pub struct Setup {
@@ -21,19 +21,6 @@ pub struct Start {
     pub first: u64,
     pub wanted: u64,
     pub shift: u64,
-}
-
-// The residue of the window at i + 1 from that of the window at i: a byte comes in behind, and the first one, times t^(8m), goes out.
-pub fn roll(s: Setup, reduce: &[u64], outgoing: &[u64; 256], text: &[u8], i: usize, g: u64) -> u64
-    requires { ⌜ Ready s (now reduce) (now outgoing)
-        × (i + s .m < length (now text))
-        × ResidueAt s (now text) i g ⌝ }
-    ensures { λ r. ⌜ ResidueAt s (now (text .entry)) (i + 1) r ⌝ }
-{
-    let longer = lookups::feed_one(reduce, s.modulus, g, text[i + s.m]);
-    let first = text[i] as usize;
-    let gone = outgoing[first];
-    longer ^ gone
 }
 
 // Reads the first window and the pattern.

@@ -36,8 +36,10 @@ same-length c = turn (c .before) .loop .inv .1
 
 returns : tie.Need-returns Inv-loop μ-loop
 returns c =
-    let l = turn (c .before) .loop in
-    (λ f. absurd (false≢true f), λ i. absurd (last-zero (l .n) (l .rows) (omega arith) (omega arith) (c .if1 .taken) (l .inv .2 .0 i)))
+    let l = turn (c .before) .loop in (
+      (λ f. absurd (false≢true f), λ i. absurd (last-zero (l .n) (l .rows) (omega arith) (omega arith) (c .if1 .taken) (l .inv .2 .0 i))),
+      l .inv .1,
+    )
 
 slice-aggregate-clear-column : tie.Need-slice-aggregate-clear-column Inv-loop μ-loop
 slice-aggregate-clear-column c = let l = turn (read-at (c .before)) .loop in sym (length-take-le (l .n - 1) (l .rows) (omega arith))
@@ -63,7 +65,7 @@ returns-2 : tie.Need-returns-2 Inv-loop μ-loop
 returns-2 c =
     let l = c .before .loop in
     let e : l .n ≡ 0 = omega arith in
-    (λ t. l .inv .2 .1 (rw e no-rows), λ i. refl)
+    ((λ t. l .inv .2 .1 (rw e no-rows), λ i. refl), l .inv .1)
 
 pub independent-spec : {M : Type 1} → statement M
 independent-spec =

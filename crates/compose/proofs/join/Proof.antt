@@ -6,7 +6,7 @@ use Rattle.acceptance.specs.Opened.{Opened}
 use Rattle.acceptance.proofs.Opened.{opened-first}
 use Rattle.files.specs.Files.{joined}
 use Rattle.keys.proofs.Laws.{opened, refused}
-use Rattle.marks.specs.Feeding.{markIn, fedUnder}
+use Rattle.marks.specs.Answers.{markIn, fedUnder}
 use Rattle.compose.specs.Composing.{marksTests}
 use Rattle.compose.proofs.join.Statement.{statement}
 use Rattle.compose.proofs.join.Tie as tie

@@ -4,7 +4,7 @@ use borrow.Author.Needs.{needs}
 use Rattle.refusals.specs.Refusals.{firstOf}
 use Rattle.files.specs.declared.Mark.{Mark}
 use Rattle.files.specs.Files.{joined}
-use Rattle.marks.specs.Feeding.{markIn, fedUnder}
+use Rattle.marks.specs.Answers.{markIn, fedUnder}
 use Rattle.compose.specs.Composing.{joinTests, joinBehind}
 use Rattle.compose.proofs.join_behind.Statement.{statement}
 use Rattle.compose.proofs.join_behind.Tie as tie

@@ -6,7 +6,7 @@ use Rattle.refusals.specs.Refusals.{Test, firstOf}
 use Rattle.acceptance.specs.Keys.{keyTests}
 use Rattle.files.specs.declared.Mark.{Mark}
 use Rattle.files.specs.Files.{joined}
-use Rattle.marks.specs.Feeding.{markIn, fedUnder}
+use Rattle.marks.specs.Answers.{markIn, fedUnder}
 use Rattle.compose.specs.Composing.{joinTests, joinInFront}
 use Rattle.compose.proofs.Laws.{marks-swap}
 use Rattle.compose.proofs.join_in_front.Statement.{statement}

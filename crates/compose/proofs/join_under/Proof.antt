@@ -14,7 +14,7 @@ use Rattle.acceptance.proofs.Opened.{opened-proper, opened-whole, not-residue, 
 use Rattle.files.specs.declared.Mark.{Mark}
 use Rattle.files.specs.Files.{unreduced, joined}
 use Rattle.files.proofs.Marks.{mark-eq}
-use Rattle.marks.specs.Feeding.{markIn, fedUnder}
+use Rattle.marks.specs.Answers.{markIn, fedUnder}
 use Rattle.compose.specs.Composing.{marksTests}
 use Rattle.compose.proofs.Laws.{marks-long, marks-unreduced, marks-passed}
 use Rattle.compose.proofs.join_under.Statement.{statement}

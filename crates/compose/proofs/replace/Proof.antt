@@ -14,7 +14,7 @@ use Rattle.acceptance.proofs.Opened.{opened-proper, opened-whole, not-residue, 
 use Rattle.files.specs.declared.Mark.{Mark}
 use Rattle.files.specs.Files.{fingerprint, unreduced, replaced}
 use Rattle.files.proofs.Marks.{mark-eq}
-use Rattle.marks.specs.Feeding.{markIn, fedUnder}
+use Rattle.marks.specs.Answers.{markIn, fedUnder}
 use Rattle.compose.proofs.Laws.{page-long, page-unreduced, page-lengths, page-past, page-passed}
 use Rattle.compose.proofs.replace.Statement.{statement}
 use Rattle.compose.proofs.replace.Tie as tie

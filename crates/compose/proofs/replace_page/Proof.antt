@@ -9,7 +9,7 @@ use Rattle.acceptance.proofs.Opened.{opened-first}
 use Rattle.files.specs.declared.Mark.{Mark}
 use Rattle.files.specs.Files.{replaced}
 use Rattle.keys.proofs.Laws.{opened, refused}
-use Rattle.marks.specs.Feeding.{markIn, fedUnder}
+use Rattle.marks.specs.Answers.{markIn, fedUnder}
 use Rattle.compose.specs.Composing.{pageTests, replacePage}
 use Rattle.compose.proofs.replace_page.Statement.{statement}
 use Rattle.compose.proofs.replace_page.Tie as tie

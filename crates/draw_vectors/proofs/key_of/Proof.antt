@@ -3,7 +3,8 @@ use mathlib.Core.Path.{_≡_, sym, ap, _∙_}
 use borrow.Author.Needs.{needs}
 use Rattle.refusals.specs.Refusals.{valueOr}
 use Rattle.draw.specs.declared.Drawn.{Drawn}
-use Rattle.draw.specs.Drawing.{draw, answer}
+use Rattle.draw.specs.Drawing.{draw}
+use Rattle.draw.specs.Answers.{answer}
 use Rattle.draw_vectors.proofs.key_of.Statement.{statement}
 use Rattle.draw_vectors.proofs.key_of.Tie as tie
 

@@ -5,7 +5,8 @@ use native.Mathlib.Nat.{div-one}
 use native.Mathlib.Omega.{arith}
 use lib.Count.{leading-le}
 use borrow.Author.Needs.{needs}
-use Rattle.gf2.specs.Polynomials.{_⊗_, _⊗^_, rem}
+use Rattle.gf2.specs.Polynomials.{_⊗_, rem}
+use Rattle.gf2.specs.Degrees.{_⊗^_}
 use Rattle.gf2.specs.Moduli.{polynomial}
 use Rattle.gf2.proofs.Powers.{pow-zero}
 use Rattle.gf2.proofs.Monics.{monic-pos}

@@ -20,8 +20,8 @@ struct-known2→start c = c .before .before .before
 one-bit : (k f : ℕ) → 0 < k → f < 2 ^ k → f / 2 ^ (k - 1) % 2 ≡ f / 2 ^ (k - 1)
 one-bit k f p l = mod-eq-of-lt (top-bit k f p l)
 
-mul-reduced : tie.Need-mul-reduced
-mul-reduced c =
+mul-lower : tie.Need-mul-lower
+mul-lower c =
     let a = struct-known2→start c .args in
     let p = struct-known2→start c .pre in
     record { fits = omega (arith, bit-mul-le (a .p .low) (a .f / 2 ^ (a .p .degree - 1) % 2) (mod-2 (a .f / 2 ^ (a .p .degree - 1)))) }
@@ -51,4 +51,4 @@ returns c =
     (sym (step-is (a .p .degree) (a .p .low) (a .f) (a .bit) (p .0 .0) (p .0 .2) (p .1) (p .2)))
 
 pub step-spec : {M : Type 1} → statement M
-step-spec = tie.close (tie.spec (λ c. search needs) (λ c. search needs) (λ c. search needs) (λ c κs. search needs) mul-reduced mul-result add-result returns)
+step-spec = tie.close (tie.spec (λ c. search needs) (λ c. search needs) (λ c. search needs) (λ c κs. search needs) mul-lower mul-result add-result returns)

@@ -3,7 +3,7 @@ use mathlib.Core.Path.{sym, ap, _∙_}
 use borrow.Author.Needs.{needs}
 use Rattle.refusals.specs.Refusals.{numberOf}
 use Rattle.keys.specs.declared.Tested.{Tested}
-use Rattle.keys.specs.Testing.{tested}
+use Rattle.keys.specs.Answers.{tested}
 use Rattle.gfp_bench.proofs.gfp_test_key.Statement.{statement}
 use Rattle.gfp_bench.proofs.gfp_test_key.Tie as tie
 

@@ -3,7 +3,8 @@ use mathlib.Core.Path.{sym, ap, _∙_}
 use borrow.Author.Needs.{needs}
 use Rattle.refusals.specs.Refusals.{numberOf, valueOr}
 use Rattle.draw.specs.declared.Drawn.{Drawn}
-use Rattle.draw.specs.Drawing.{draw, answer}
+use Rattle.draw.specs.Drawing.{draw}
+use Rattle.draw.specs.Answers.{answer}
 use Rattle.gfp_keyholder.proofs.gfp_draw.Statement.{statement}
 use Rattle.gfp_keyholder.proofs.gfp_draw.Tie as tie
 

@@ -2,7 +2,7 @@
 use mathlib.Core.Path.{sym, ap, _∙_}
 use Rattle.refusals.specs.Refusals.{numberOf}
 use Rattle.sheets.specs.declared.Checked.{Checked}
-use Rattle.sheets.specs.Sheets.{checked}
+use Rattle.sheets.specs.Answers.{checkAnswer}
 use Rattle.gfp_site.specs.Places.{toldAt, toldOr}
 use borrow.Author.Needs.{needs}
 use Rattle.gfp_site.proofs.gfp_check_file.Statement.{statement}
@@ -24,8 +24,8 @@ returns c =
     let s = check→start (c .before .before) .args in
     let h = c .before .before .check .ensures in
     let e = sym (c .enum-told .given .1) in (
-      ap (λ (x : Checked). numberOf (checked x)) e ∙ ap numberOf h,
-      ap (λ (x : Checked). toldOr (toldAt (s .outcome .now) (s .page .now)) (checked x)) e ∙ ap (toldOr (toldAt (s .outcome .now) (s .page .now))) h,
+      ap (λ (x : Checked). numberOf (checkAnswer x)) e ∙ ap numberOf h,
+      ap (λ (x : Checked). toldOr (toldAt (s .outcome .now) (s .page .now)) (checkAnswer x)) e ∙ ap (toldOr (toldAt (s .outcome .now) (s .page .now))) h,
     )
 
 returns-2 : tie.Need-returns-2
@@ -33,8 +33,8 @@ returns-2 c =
     let s = check→start (c .before .before .before) .args in
     let h = c .before .before .before .check .ensures in
     let e = sym (c .before .i .given .1) in (
-      ap (λ (x : Checked). numberOf (checked x)) e ∙ ap numberOf h,
-      ap (λ (x : Checked). toldOr (toldAt (s .outcome .now) (s .page .now)) (checked x)) e ∙ ap (toldOr (toldAt (s .outcome .now) (s .page .now))) h,
+      ap (λ (x : Checked). numberOf (checkAnswer x)) e ∙ ap numberOf h,
+      ap (λ (x : Checked). toldOr (toldAt (s .outcome .now) (s .page .now)) (checkAnswer x)) e ∙ ap (toldOr (toldAt (s .outcome .now) (s .page .now))) h,
     )
 
 returns-3 : tie.Need-returns-3
@@ -42,8 +42,8 @@ returns-3 c =
     let s = check→start (c .before .before) .args in
     let h = c .before .before .check .ensures in
     let e = sym (c .enum-told2 .given .1) in (
-      ap (λ (x : Checked). numberOf (checked x)) e ∙ ap numberOf h,
-      ap (λ (x : Checked). toldOr (toldAt (s .outcome .now) (s .page .now)) (checked x)) e ∙ ap (toldOr (toldAt (s .outcome .now) (s .page .now))) h,
+      ap (λ (x : Checked). numberOf (checkAnswer x)) e ∙ ap numberOf h,
+      ap (λ (x : Checked). toldOr (toldAt (s .outcome .now) (s .page .now)) (checkAnswer x)) e ∙ ap (toldOr (toldAt (s .outcome .now) (s .page .now))) h,
     )
 
 returns-4 : tie.Need-returns-4
@@ -51,8 +51,8 @@ returns-4 c =
     let s = number→start c .args in
     let h = number→check c .check .ensures in
     let e = sym (c .before .before .r .given .1) in (
-      c .number .ensures ∙ ap (λ (x : Checked). numberOf (checked x)) e ∙ ap numberOf h,
-      ap (λ (x : Checked). toldOr (toldAt (s .outcome .now) (s .page .now)) (checked x)) e ∙ ap (toldOr (toldAt (s .outcome .now) (s .page .now))) h,
+      c .number .ensures ∙ ap (λ (x : Checked). numberOf (checkAnswer x)) e ∙ ap numberOf h,
+      ap (λ (x : Checked). toldOr (toldAt (s .outcome .now) (s .page .now)) (checkAnswer x)) e ∙ ap (toldOr (toldAt (s .outcome .now) (s .page .now))) h,
     )
 
 pub gfp-check-file-spec : {M : Type 1} → statement M

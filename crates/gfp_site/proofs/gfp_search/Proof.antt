@@ -2,7 +2,7 @@
 use mathlib.Core.Path.{sym, ap, _∙_}
 use Rattle.refusals.specs.Refusals.{numberOf, valueOr}
 use Rattle.search.specs.declared.Searched.{Searched}
-use Rattle.search.specs.Searching.{searched}
+use Rattle.search.specs.Answers.{searched}
 use Rattle.gfp_site.specs.Places.{countsAt}
 use borrow.Author.Needs.{needs}
 use Rattle.gfp_site.proofs.gfp_search.Statement.{statement}

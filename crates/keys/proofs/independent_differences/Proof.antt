@@ -77,7 +77,7 @@ returns c =
     let l = slice-known3→at-loop c .loop in
     let f : ℕ → ℕ = value (a .h) (a .rows .now) in
     let e : l .rows ≡ listFrom f 0 (length (a .rows .now)) = l .inv .1 ∙ fill-whole f 0 (l .i) (a .rows .now) (omega arith) in
-    same-independent e (c .before .before .independent .ensures)
+    (same-independent e (c .before .before .independent .ensures .0), same-length c)
 
 pub independent-differences-spec : {M : Type 1} → statement M
 independent-differences-spec =

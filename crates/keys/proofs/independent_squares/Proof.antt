@@ -68,7 +68,7 @@ returns c =
     let l = slice-known3→at-loop c .loop in
     let f : ℕ → ℕ = λ j. oddPart (getD rows₀ j 0) in
     let e : l .rows ≡ listFrom f 0 (length rows₀) = l .inv .1 ∙ fill-whole f 0 (l .i) rows₀ (omega arith) in
-    same-independent e (c .before .before .independent .ensures)
+    (same-independent e (c .before .before .independent .ensures .0), same-length c)
 
 pub independent-squares-spec : {M : Type 1} → statement M
 independent-squares-spec =

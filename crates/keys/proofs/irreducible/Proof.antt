@@ -116,7 +116,7 @@ returns c =
     let d = known (m .before .before) in
     let no = not-true (c .before .before .independent-squares .result) (c .if1 .taken) in
     by-test (reducible (key m)) false (λ f. absurd (false≢true f))
-    (λ e. sym no ∙ first m (c .before .before .independent-squares .ensures) .1 (irreducible-squares (key m) (k m) (d .proper) (d .is) (d .low) (d .high) e))
+    (λ e. sym no ∙ first m (c .before .before .independent-squares .ensures .0) .1 (irreducible-squares (key m) (k m) (d .proper) (d .is) (d .low) (d .high) e))
 
 array-borrow-prefix-squares-2 : tie.Need-array-borrow-prefix-squares-2
 array-borrow-prefix-squares-2 c = within (else1→square-rows c)
@@ -134,8 +134,8 @@ returns-2 c =
     let m = squares3→square-rows (c .before .before) in
     let d = known (m .before .before) in
     let yes = not-false (squares4→independent-squares c .independent-squares .result) (c .before .before .before .if1 .left) in
-    let one = first m (squares4→independent-squares c .independent-squares .ensures) .0 yes in
-    let two = second m (c .before .independent-differences .ensures) in
+    let one = first m (squares4→independent-squares c .independent-squares .ensures .0) .0 yes in
+    let two = second m (c .before .independent-differences .ensures .0) in
     by-test (reducible (key m)) (c .before .independent-differences .result)
     (λ t. both-irreducible (key m) (k m) (d .proper) (d .is) (d .low) (d .high) one (two .0 t))
     (λ e. two .1 (irreducible-differences (key m) (k m) (d .proper) (d .is) (d .low) (d .high) e))

@@ -3,7 +3,8 @@ use mathlib.Core.Path.{_≡_, sym, ap, _∙_}
 use borrow.Author.Needs.{needs}
 use Rattle.refusals.specs.Refusals.{numberOf}
 use Rattle.keys.specs.declared.Tested.{Tested}
-use Rattle.keys.specs.Testing.{tested, testKey}
+use Rattle.keys.specs.Testing.{testKey}
+use Rattle.keys.specs.Answers.{tested}
 use Rattle.keys_vectors.proofs.number_of.Statement.{statement}
 use Rattle.keys_vectors.proofs.number_of.Tie as tie
 

@@ -5,7 +5,7 @@ use Prim.Native.Nat.{ℕ, _+_, _-_, _%_, _^_, _≤_, _<_}
 use native.Mathlib.Omega.{arith}
 use lib.ListN.{length, take, drop}
 use Rattle.files.specs.Files.{bits, valueFrom}
-use Rattle.lookups.specs.Rule.{TableOf}
+use Rattle.lookups.specs.Groups.{TableOf}
 use Rattle.lookups.proofs.Parts.{piece-lt, Going, going-four, going-all}
 use Rattle.lookups.proofs.feed_lanes.Statement.{statement}
 use Rattle.lookups.proofs.feed_lanes.Tie as tie

@@ -20,7 +20,7 @@ returns : tie.Need-returns
 returns c =
     let s = fill-rows-arg→start (c .before .before .before) in
     let r = c .before .before .fill-rows in
-    table-made (s .args .p) (r .last .0) (s .pre .0) (r .kept .0 ∙ s .pre .1) (r .ensures)
+    table-made (s .args .p) (r .last .0) (s .pre .0) (r .kept .0 ∙ s .pre .1) (r .ensures .0)
 
 pub fill-table-spec : {M : Type 1} → statement M
 fill-table-spec = tie.close (tie.spec fill-rows-requires same-length returns)

@@ -8,7 +8,8 @@ use Rattle.refusals.proofs.Laws.{Clear}
 use Rattle.refusals.proofs.Replies.{judged-refused, judged-clear}
 use Rattle.acceptance.proofs.Opened.{opened-proper}
 use Rattle.files.specs.Files.{fedMark}
-use Rattle.marks.specs.Feeding.{feedTests, markIn, fedUnder}
+use Rattle.marks.specs.Feeding.{feedTests}
+use Rattle.marks.specs.Answers.{markIn, fedUnder}
 use Rattle.marks.proofs.Laws.{clear-fits, clear-below, fed-next}
 use Rattle.marks.proofs.feed_bits.Statement.{statement}
 use Rattle.marks.proofs.feed_bits.Tie as tie

@@ -8,9 +8,10 @@ use Rattle.gf2.specs.Moduli.{polynomial}
 use Rattle.refusals.proofs.Laws.{Clear}
 use Rattle.refusals.proofs.Replies.{judged-refused, judged-clear}
 use Rattle.acceptance.proofs.Opened.{opened-whole, opened-proper, opened-eight}
-use Rattle.lookups.specs.Rule.{Table}
+use Rattle.lookups.specs.Groups.{Table}
 use Rattle.files.specs.Files.{fedMark}
-use Rattle.marks.specs.Feeding.{feedTests, markIn, fedUnder}
+use Rattle.marks.specs.Feeding.{feedTests}
+use Rattle.marks.specs.Answers.{markIn, fedUnder}
 use Rattle.marks.proofs.Laws.{clear-fits, clear-below, fed-next}
 use Rattle.marks.proofs.feed_looked.Statement.{statement}
 use Rattle.marks.proofs.feed_looked.Tie as tie

@@ -11,9 +11,10 @@ use Rattle.refusals.proofs.Replies.{judged-refused, judged-clear}
 use Rattle.acceptance.proofs.Opened.{opened-whole, opened-proper}
 use Rattle.files.specs.declared.Mark.{Mark}
 use Rattle.files.specs.Files.{fedMark}
-use Rattle.tables.specs.Tables.{tableTests}
-use Rattle.tables.proofs.Laws.{table-clear}
-use Rattle.marks.specs.Feeding.{feedTests, markIn, fedUnder}
+use Rattle.table_tests.specs.TableTests.{tableTests}
+use Rattle.table_tests.proofs.Laws.{table-clear}
+use Rattle.marks.specs.Feeding.{feedTests}
+use Rattle.marks.specs.Answers.{markIn, fedUnder}
 use Rattle.marks.proofs.feed_under.Statement.{statement}
 use Rattle.marks.proofs.feed_under.Tie as tie
 

@@ -7,7 +7,7 @@ use borrow.Author.Needs.{needs}
 use Rattle.refusals.specs.Refusals.{passes}
 use Rattle.refusals.proofs.Laws.{holds, fails}
 use Rattle.acceptance.proofs.Opened.{opened-proper, not-residue, is-residue}
-use Rattle.marks.specs.Feeding.{markIn}
+use Rattle.marks.specs.Answers.{markIn}
 use Rattle.marks.proofs.Laws.{feed-long, feed-unreduced, feed-passed}
 use Rattle.marks.proofs.judge.Statement.{statement}
 use Rattle.marks.proofs.judge.Tie as tie

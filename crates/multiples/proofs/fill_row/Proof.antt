@@ -4,8 +4,8 @@ use Prim.Native.Nat.{ℕ, _+_, _-_, _*_, _^_, _≤_, _<_}
 use native.Mathlib.Omega.{arith}
 use Rattle.gf2.specs.Polynomials.{_⊗_, rem}
 use Rattle.gf2.specs.Moduli.{polynomial}
-use Rattle.multiples.specs.Rows.{Multiples, SameBefore}
-use Rattle.multiples.proofs.Doubling.{row-more, row-one, row-before, row-kept, shifted-kept, double-le, multiple-one, multiple-next}
+use Rattle.multiples.specs.Rows.{Multiples, SameBefore, SameFrom}
+use Rattle.multiples.proofs.Doubling.{row-more, row-one, row-before, row-behind, row-kept, shifted-kept, double-le, multiple-one, multiple-next}
 use lib.ListN.{length, length-set}
 use lib.Pow.{pow-pos}
 use native.Mathlib.Nat.{pow-suc}
@@ -18,7 +18,7 @@ use Rattle.multiples.proofs.fill_row.Tie as tie
 abbrev Inv-loop : tie.InvT-loop
 Inv-loop words₀ at width p x n₀ y₀ b₀ words n y b =
     (b ≤ width) × (n ≡ 2 ^ b) × (y ≡ rem (polynomial p) (n ⊗ x)) × (length words ≡ length words₀) × Multiples (polynomial p) x at n words
-    × SameBefore at words₀ words
+    × SameBefore at words₀ words × SameFrom (at + 2 ^ width) words₀ words
 
 abbrev μ-loop : tie.MeasureT-loop
 μ-loop words₀ at width p x n₀ y₀ b₀ words n y b = width - b
@@ -59,6 +59,7 @@ loop-holds c =
       refl,
       row-one pos (a .x) (a .at) (a .words .now) l,
       λ i h. refl,
+      λ i h. refl,
     )
 
 double-requires : tie.Need-double-requires Inv-loop μ-loop
@@ -89,7 +90,8 @@ loop-again c =
     let d = c .before .before .before .double in
     let m = s .pre .0 .2 in
     let pos = monic-pos (a .p .degree) (a .p .low) m in
-    let same = d .ensures .1 in (
+    let same = d .ensures .1 in
+    let room = double-le (double→in-loop (c .before .before .before) .loop-test .taken) in (
       omega arith,
       rw (add-one, pow-suc, v .1),
       c .step .ensures ∙ ap (λ (y : ℕ). rem (polynomial (a .p)) (y * 2 + 0)) (v .2) ∙ multiple-next pos (a .x) (l .n),
@@ -98,6 +100,7 @@ loop-again c =
           (row-kept (polynomial (a .p)) (a .x) (a .at) (l .n) (l .words) (d .last .0) same (v .4))
           (shifted-kept (a .at) (l .n) (l .y) (l .words) (d .last .0) same (d .ensures .0)),
       λ i h. same i (omega arith) ∙ v .5 i h,
+      λ i h. d .ensures .2 i (omega (arith, room, v .1, h)) ∙ v .6 i h,
     )
 
 same-length : tie.Need-same-length Inv-loop μ-loop
@@ -107,8 +110,11 @@ returns : tie.Need-returns Inv-loop μ-loop
 returns c =
     let a = c .before .before .before .args in
     let l = c .before .loop in
-    let e : l .b ≡ a .width = omega arith in
-    (λ i h. l .inv .4 i (rw (l .inv .1, e) h), λ i h. l .inv .5 i h ∙ row-before (a .at) (a .words .now) i h)
+    let e : l .b ≡ a .width = omega arith in (
+      λ i h. l .inv .4 i (rw (l .inv .1, e) h),
+      λ i h. l .inv .5 i h ∙ row-before (a .at) (a .words .now) i h,
+      λ i h. l .inv .6 i h ∙ row-behind (a .at) (2 ^ a .width) (a .words .now) (pow-pos (a .width)) i h,
+    )
 
 pub fill-row-spec : {M : Type 1} → statement M
 fill-row-spec =

@@ -1,12 +1,13 @@
 -- `fill_rows` meets its contract: after j turns there are j rows, and y is the start of the next one.
 use mathlib.Core.Path.{_≡_, refl, _∙_}
 use Prim.Native.Nat.{_+_, _-_, _*_, _/_, _^_, _≤_, _<_}
+use native.Mathlib.Nat.{le-refl}
 use native.Mathlib.Omega.{arith}
 use lib.ListN.{length}
 use Rattle.gf2.specs.Polynomials.{rem}
 use Rattle.gf2.specs.Moduli.{polynomial}
 use Rattle.gf2.proofs.Steps.{residue-below}
-use Rattle.multiples.specs.Rows.{Rows}
+use Rattle.multiples.specs.Rows.{Rows, SameFrom}
 use Rattle.multiples.proofs.Following.{Row, row-le, middle-in, start-first, rows-more, middle-lt, start-next}
 use Rattle.multiples.proofs.fill_rows.Statement.{statement}
 use Rattle.multiples.proofs.fill_rows.Tie as tie
@@ -14,6 +15,7 @@ use Rattle.multiples.proofs.fill_rows.Tie as tie
 abbrev Inv-loop : tie.InvT-loop
 Inv-loop words₀ width rows p x size y₀ j₀ words y j =
     (j ≤ rows) × (length words ≡ length words₀) × (y ≡ rem (polynomial p) (x * 2 ^ (width * j))) × Rows width (polynomial p) x j words
+    × SameFrom (rows * 2 ^ width) words₀ words
 
 abbrev μ-loop : tie.MeasureT-loop
 μ-loop words₀ width rows p x size y₀ j₀ words y j = rows - j
@@ -87,7 +89,7 @@ row-size-requires c κs = c .before .pre .3
 loop-holds : tie.Need-loop-holds Inv-loop μ-loop
 loop-holds c =
     let s = c .before .before in
-    (omega arith, refl, start-first (s .args .p) (s .pre .0) (s .args .width) (s .args .x) (s .pre .1), λ j l. absurd (omega arith))
+    (omega arith, refl, start-first (s .args .p) (s .pre .0) (s .args .width) (s .args .x) (s .pre .1), λ j l. absurd (omega arith), λ i l. refl)
 
 mul-at : tie.Need-mul-at Inv-loop μ-loop
 mul-at c =
@@ -124,7 +126,16 @@ loop-again c =
     let l = step→at-loop c .loop in
     let r = step→fill-row c .fill-row in
     let t = row (step→fill-row c) in
-    (omega arith, r .kept .0 ∙ l .inv .1, start-next t _ (c .step .ensures), rows-more t (l .words) (l .inv .3) (r .ensures .1))
+    let s = fill-row→start (step→fill-row c) .args in
+    let n = fill-row→row-size (step→fill-row c) .row-size in
+    let room = row-le (s .width) (l .j) (s .rows) (n .result) (s .rows * 2 ^ s .width) (n .ensures)
+    (step→fill-row c .before .before .loop-test .taken) (le-refl (s .rows * 2 ^ s .width)) in (
+      omega arith,
+      r .kept .0 ∙ l .inv .1,
+      start-next t _ (c .step .ensures),
+      rows-more t (l .words) (l .inv .3) (r .ensures .1),
+      λ i h. r .ensures .2 i (omega (arith, room, h)) ∙ l .inv .4 i h,
+    )
 
 same-length : tie.Need-same-length Inv-loop μ-loop
 same-length c = c .before .loop .inv .1
@@ -133,7 +144,7 @@ returns : tie.Need-returns Inv-loop μ-loop
 returns c =
     let l = c .before .loop in
     let e : l .j ≡ row-size→start (c .before .before) .args .rows = omega arith in
-    λ j h. l .inv .3 j (omega (arith, e, h))
+    (λ j h. l .inv .3 j (omega (arith, e, h)), l .inv .4)
 
 pub fill-rows-spec : {M : Type 1} → statement M
 fill-rows-spec =

@@ -3,11 +3,12 @@ use mathlib.Core.Path.{sym, ap, _∙_}
 use Prim.Native.Nat.{ℕ}
 use native.Mathlib.Omega.{arith}
 use borrow.Author.Needs.{needs}
+use Rattle.lists.specs.Lists.{overlay}
 use Rattle.refusals.specs.Refusals.{stateOf, firstOf}
 use Rattle.acceptance.specs.Opened.{Opened}
 use Rattle.acceptance.proofs.Opened.{opened-first, opened-whole, opened-proper, opened-eight}
 use Rattle.keys.proofs.Laws.{opened, refused}
-use Rattle.search.specs.Searching.{counts, written, textTests, search as answer, placesAfter}
+use Rattle.search.specs.Searching.{places, counts, textTests, search as answer, placesAfter}
 use Rattle.search.proofs.search.Statement.{statement}
 use Rattle.search.proofs.search.Tie as tie
 
@@ -32,7 +33,7 @@ returns c =
     let t = c .before .before .before .test in
     let e = c .before .r .given .1 in
     let tests = textTests (a .text .now) (a .pattern .now) in
-    let after = written (a .text .now) (a .pattern .now) (a .places .now) in (
+    let after = overlay (places (a .text .now) (a .pattern .now)) (a .places .now) in (
       sym (refused (t .result) (a .key) (t .ensures) tests tt (counts (a .key) (a .text .now) (a .pattern .now)) _ e),
       sym (ap stateOf (refused (t .result) (a .key) (t .ensures) tests (a .places .now) after _ e)),
     )
@@ -53,7 +54,7 @@ returns-2 c =
     let h = key-opened (search-under-arg→p (c .before .before .before)) in
     let e = c .before .before .search-under .ensures in
     let tests = textTests (a .text .now) (a .pattern .now) in
-    let after = written (a .text .now) (a .pattern .now) (a .places .now) in (
+    let after = overlay (places (a .text .now) (a .pattern .now)) (a .places .now) in (
       e .0
           ∙ ap (λ (q : ℕ). firstOf tests tt (counts q (a .text .now) (a .pattern .now))) (opened-whole h)
           ∙ sym (opened-first h tests tt (counts (a .key) (a .text .now) (a .pattern .now))),

@@ -94,15 +94,15 @@ loop-again c =
     let found = c .before .before .before .compare .ensures in
     let pos = monic-pos (a .s .modulus .degree) (a .s .modulus .low) (s .pre .0 .reduce .0 .2) in
     let fits : l .from + size + length q ≤ length t + 1 = omega (arith, b .2, e) in
-    let ps = flagged-places (a .s) t q (l .from) size _ pos e (s .pre .2) fits (b .3 .flags) in
-    let fs = flagged-alarms (a .s) t q (l .from) size _ pos e (s .pre .2) fits (b .3 .flags) in
+    let ps = flagged-places (a .s) t q (l .from) size _ pos e (s .pre .2) fits (b .4 .flags) in
+    let fs = flagged-alarms (a .s) t q (l .from) size _ pos e (s .pre .2) fits (b .4 .flags) in
     let np = found .0 ∙ ap (λ x. l .found .places + length x) ps in
     let na = found .1 ∙ ap (λ x. l .found .alarms + length x) fs in (
       omega (arith, fits),
-      b .4,
+      b .5,
       omega (arith, np, passing-length (isPlace t q) (0 + l .from) size, l .inv .2),
       omega (arith, na, passing-length (isAlarm (keyOf (a .s)) t q) (0 + l .from) size, l .inv .3),
-      (λ h. b .3 .next (omega (arith, h, e))),
+      (λ h. b .4 .next (omega (arith, h, e))),
       tally-block (l .inv .5) _ size _ _ (omega (arith, fits)) (found .2 ∙ ap (sets (l .places) (l .found .places)) ps) np na,
     )
 

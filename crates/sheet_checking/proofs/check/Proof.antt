@@ -1,6 +1,6 @@
 -- `check` meets its contract.
 use mathlib.Core.Path.{sym, ap, _∙_}
-use Rattle.sheets.specs.Sheets.{reading}
+use Rattle.sheets.specs.Answers.{reading}
 use Rattle.sheets.specs.Parts.{ReadAs}
 use Rattle.sheets.proofs.Known.{read-as}
 use Rattle.sheet_checking.proofs.Laws.{check-refused, check-done}

@@ -4,12 +4,14 @@ use mathlib.Core.List.{List}
 use Prim.Native.Nat.{ℕ, _*_, _≤_}
 use native.Mathlib.Omega.{arith}
 use lib.ListN.{length, length-drop}
-use Rattle.gf2.specs.Moduli.{polynomial, modulusOf}
+use Rattle.gf2.specs.Moduli.{polynomial}
+use Rattle.gf2.specs.Opening.{modulusOf}
 use Rattle.refusals.specs.Refusals.{Done}
 use Rattle.acceptance.specs.Opened.{Opened}
 use Rattle.acceptance.proofs.Opened.{open-accepted, opened-from, opened-proper, opened-eight, opened-whole}
 use Rattle.sheets.specs.Layout.{version1, numbersAt, pagePlace, sheetLength, pageCount, contentsIn}
-use Rattle.sheets.specs.Sheets.{Sound, pageFingerprints, firstChange}
+use Rattle.sheets.specs.Sheets.{pageFingerprints, firstChange}
+use Rattle.sheets.specs.Claims.{SoundContents}
 use Rattle.sheets.specs.Parts.{comparison}
 use Rattle.sheets.proofs.Known.{sound}
 use Rattle.sheets.proofs.Pages.{length-pages, count-small}
@@ -47,7 +49,7 @@ file s = s .args .file .now
 abbrev count : tie.Start → ℕ
 count s = pageCount (s .args .x .size) (length (file s))
 
-fields : (s : tie.Start) → Sound (contentsIn version1 (sheet s))
+fields : (s : tie.Start) → SoundContents (contentsIn version1 (sheet s))
 fields s = sound (sheet s) (s .pre)
 
 size : (s : tie.Start) → (16 ≤ s .args .x .size) × (s .args .x .size ≤ 4096)

@@ -10,42 +10,48 @@ use Rattle.refusals.specs.Refusals.{Done}
 use Rattle.sheets.proofs.Checked as CheckedT
 use Rattle.sheets.specs.declared.Checked.{Checked}
 use Rattle.sheets.specs.declared.Checked.the-variants as cases
-use Rattle.sheets.specs.Layout.{version1, Contents, contentsIn}
-use Rattle.sheets.specs.Sheets.{Page, NoRange, checkSheet, checked, rangeOf}
-use Rattle.sheet_checking.proofs.Laws.{named-long, named-range, range-fits}
+use Rattle.sheets.specs.Layout.{version1, contentsIn}
+use Rattle.sheets.specs.Sheets.{Page, checkSheet}
+use Rattle.sheets.specs.Answers.{checkAnswer}
+use Rattle.sheets.specs.Parts.{NoPage, ranged}
+use Rattle.sheet_checking.proofs.Laws.{changed-by-check, named-long, named-range, range-fits}
 use borrow.Author.Needs.{needs}
 use Rattle.sheet_checking.proofs.first_changed_range.Statement.{statement}
 use Rattle.sheet_checking.proofs.first_changed_range.Tie as tie
 
 -- the answers that the `else` stands for
-other : (x : Contents) (o : Checked) → Run.OneOf (0 ∷ 2 ∷ 3 ∷ []) (Declared.tagOf CheckedT.the-type o) → rangeOf x (checked o) ≡ NoRange
-other x cases.Same h = refl
-other x cases.OtherLength h = refl
-other x (cases.Refused r) h = refl
-other x (cases.Page i) (inl e) = absurd (omega arith)
-other x (cases.Page i) (inr (inl e)) = absurd (omega arith)
-other x (cases.Page i) (inr (inr e)) = absurd (omega arith)
+other : (o : Checked) → Run.OneOf (0 ∷ 2 ∷ 3 ∷ []) (Declared.tagOf CheckedT.the-type o) → NoPage o
+other cases.Same h = tt
+other cases.OtherLength h = tt
+other (cases.Refused r) h = tt
+other (cases.Page i) (inl e) = absurd (omega arith)
+other (cases.Page i) (inr (inl e)) = absurd (omega arith)
+other (cases.Page i) (inr (inr e)) = absurd (omega arith)
 
 abbrev start : tie.After-check → tie.Start
 start c = c .before .before .before
 
-abbrev asked : tie.After-i → tie.After-check
+abbrev asked : tie.After-answer → tie.After-check
 asked c = c .before .before
 
-abbrev place : tie.After-read-head → tie.After-i
+abbrev place : tie.After-read-head → tie.After-answer
 place c = c .before .before
 
-page : (c : tie.After-i) → checkSheet (start (asked c) .args .sheet .now) (start (asked c) .args .file .now) ≡ Done (Page (c .i .given .0 .0))
-page c = sym (asked c .check .ensures) ∙ ap checked (c .i .given .1)
+page : (c : tie.After-answer) → checkSheet (start (asked c) .args .sheet .now) (start (asked c) .args .file .now) ≡ Done (Page (c .answer .given .0 .0))
+page c = sym (asked c .check .ensures) ∙ ap checkAnswer (c .answer .given .1)
 
-fits : (c : tie.After-read-head) → place c .i .given .0 .0 * c .read-head .result .size + c .read-head .result .size < 2 ^ 64
-fits c = range-fits (place c .i .given .0 .0) (c .read-head .result .size) (search needs) (c .read-head .ensures .size-fits)
+fits : (c : tie.After-read-head) → place c .answer .given .0 .0 * c .read-head .result .size + c .read-head .result .size < 2 ^ 64
+fits c = range-fits (place c .answer .given .0 .0) (c .read-head .result .size) (search needs) (c .read-head .ensures .size-fits)
+
+without-page-requires : tie.Need-without-page-requires
+without-page-requires c κs = other (c .before .check .result) (c .match .keys2)
 
 returns : tie.Need-returns
 returns c =
-    let k = c .before in
-    let x = contentsIn version1 (start k .args .sheet .now) in
-    sym (ap (rangeOf x) (sym (k .check .ensures)) ∙ other x (k .check .result) (c .match .keys2))
+    let k = c .before .before in
+    let a = start k .args in
+    let x = contentsIn version1 (a .sheet .now) in
+    c .without-page .ensures x ∙ ap (ranged x) (k .check .ensures) ∙ sym (changed-by-check (a .sheet .now) (a .file .now))
 
 read-head-requires : tie.Need-read-head-requires
 read-head-requires c κs = named-long _ _ _ (page (c .before))
@@ -68,6 +74,7 @@ first-changed-range-spec =
     (tie.spec
     (λ c κs. search needs)
     (λ c. search needs)
+    without-page-requires
     returns
     read-head-requires
     (λ c. search needs)

@@ -1,12 +1,13 @@
 -- `read_pages` meets its contract.
 use mathlib.Core.Path.{_≡_, sym, ap, _∙_}
-use mathlib.Core.List.{List, _++_}
+use mathlib.Core.List.{List}
 use Prim.Native.Nat.{ℕ, _≤_, min}
 use native.Mathlib.Omega.{arith}
-use lib.ListN.{length, take, drop, length-drop}
+use lib.ListN.{length, length-drop}
+use Rattle.lists.specs.Lists.{overlay}
 use Rattle.refusals.specs.Refusals.{Done}
 use Rattle.sheets.specs.Layout.{version1, numbersAt, pagePlace, pagesIn, contentsIn}
-use Rattle.sheets.specs.Sheets.{reading}
+use Rattle.sheets.specs.Answers.{reading}
 use Rattle.sheets.specs.Parts.{ReadAs}
 use Rattle.sheets.proofs.Numbers.{numbers-part}
 use Rattle.sheets.proofs.Known.{read-as, total, pages-counted, pages-refused, pages-done}
@@ -68,7 +69,7 @@ returns-2 c =
     ap Done
     (c .before .before .copy-fields .ensures
     ∙ lent-are (f .page-fields .result .now) lent (pagesIn version1 (sheet x)) n count
-    ∙ ap (λ (ps : List ℕ). take (length lent) ps ++ drop (length ps) lent) (pages (pagesIn version1 (sheet x))))
+    ∙ ap (λ (ps : List ℕ). overlay ps lent) (pages (pagesIn version1 (sheet x))))
     ∙ sym (pages-done (sheet x) lent (known x))
 
 pub read-pages-spec : {M : Type 1} → statement M

@@ -39,7 +39,7 @@ returns c =
     let key = polynomial (s .args .p) in
     let pos = monic-pos (s .args .p .degree) (s .args .p .low) (s .pre .0 .2) in
     let n = 2 ^ (8 * s .args .n) in
-    record { long = r .kept .0 ∙ s .pre .2; rows = rows-same pos 8 (x .result) n 8 (r .last .0) (ap (rem key) (x .ensures) ∙ rem-rem pos n) (r .ensures) }
+    record { long = r .kept .0 ∙ s .pre .2; rows = rows-same pos 8 (x .result) n 8 (r .last .0) (ap (rem key) (x .ensures) ∙ rem-rem pos n) (r .ensures .0) }
 
 pub fill-spec : {M : Type 1} → statement M
 fill-spec = tie.close (tie.spec (λ c. omega arith) power-of-t-requires fill-rows-requires same-length returns)

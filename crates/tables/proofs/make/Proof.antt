@@ -4,13 +4,13 @@ use mathlib.Core.List.{List, [], _∷_}
 use Prim.Native.Nat.{ℕ}
 use native.Mathlib.Omega.{arith}
 use borrow.Author.Needs.{needs}
-use Rattle.lists.specs.Lists.{listFrom}
 use Rattle.refusals.specs.Refusals.{firstOf}
-use Rattle.lookups.specs.Rule.{word}
+use Rattle.lookups.specs.Rule.{table}
 use Rattle.acceptance.specs.Opened.{Opened}
 use Rattle.acceptance.proofs.Opened.{opened-whole, opened-proper, opened-first}
 use Rattle.keys.proofs.Laws.{opened, refused}
-use Rattle.tables.specs.Tables.{sizeTest, makeTable}
+use Rattle.tables.specs.Tables.{makeTable}
+use Rattle.table_tests.specs.TableTests.{tableSizeTest}
 use Rattle.tables.proofs.make.Statement.{statement}
 use Rattle.tables.proofs.make.Tie as tie
 
@@ -28,10 +28,6 @@ make-under-arg→start c = p→start (c .before .before)
 abbrev make-under-arg→p : tie.After-make-under-arg → tie.After-p
 make-under-arg→p c = c .before .before
 
--- the table that the call makes
-abbrev table : ℕ → List ℕ
-table key = listFrom (word 8 key) 0 1024
-
 key-opened : (c : tie.After-p) → Opened (p→start c .args .key) (c .p .given .0 .0)
 key-opened c = let t = c .before .before .test in opened (t .result) (p→start c .args .key) (t .ensures) _ (omega arith) (c .p .given .1)
 
@@ -43,7 +39,7 @@ unfolding makeTable
 returns c =
     let a = test→start (c .before .before .before) .args in
     let t = c .before .before .before .test in
-    sym (refused (t .result) (a .key) (t .ensures) (sizeTest (a .words .now) ∷ []) (a .words .now) (table (a .key)) _ (c .before .r .given .1))
+    sym (refused (t .result) (a .key) (t .ensures) (tableSizeTest (a .words .now) ∷ []) (a .words .now) (table (a .key)) _ (c .before .r .given .1))
 
 returns-2 : tie.Need-returns-2
 unfolding makeTable
@@ -52,8 +48,8 @@ returns-2 c =
     let words = a .words .now in
     let h = key-opened (make-under-arg→p (c .before .before .before)) in
     c .before .before .make-under .ensures
-    ∙ ap (λ (q : ℕ). firstOf (sizeTest words ∷ []) words (table q)) (opened-whole h)
-    ∙ sym (opened-first h (sizeTest words ∷ []) words (table (a .key)))
+    ∙ ap (λ (q : ℕ). firstOf (tableSizeTest words ∷ []) words (table q)) (opened-whole h)
+    ∙ sym (opened-first h (tableSizeTest words ∷ []) words (table (a .key)))
 
 pub make-spec : {M : Type 1} → statement M
 make-spec = tie.close (tie.spec (λ c κs. search needs) (λ c. search needs) (λ c. search needs) make-under-requires returns (λ c. search needs) returns-2)

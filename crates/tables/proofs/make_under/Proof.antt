@@ -2,11 +2,10 @@
 use mathlib.Core.Path.{sym, ap, _∙_}
 use mathlib.Core.List.{[]}
 use borrow.Author.Needs.{needs}
-use Rattle.lists.specs.Lists.{listFrom}
 use Rattle.gf2.specs.Moduli.{polynomial}
 use Rattle.refusals.specs.Refusals.{Done}
-use Rattle.lookups.specs.Rule.{word}
-use Rattle.tables.proofs.Laws.{size-refused, size-passed}
+use Rattle.lookups.specs.Rule.{table}
+use Rattle.table_tests.proofs.Laws.{size-refused, size-passed}
 use Rattle.tables.proofs.make_under.Statement.{statement}
 use Rattle.tables.proofs.make_under.Tie as tie
 
@@ -25,12 +24,12 @@ returns : tie.Need-returns
 returns c =
     let a = fill-table-arg→start (c .before .before .before) .args in
     ap Done (c .before .before .fill-table .ensures)
-    ∙ sym (size-passed (a .words .now) [] (a .words .now) (listFrom (word 8 (polynomial (a .p))) 0 1024) (slice-known2→then1 c .if1 .taken))
+    ∙ sym (size-passed (a .words .now) [] (a .words .now) (table (polynomial (a .p))) (slice-known2→then1 c .if1 .taken))
 
 returns-2 : tie.Need-returns-2
 returns-2 c =
     let a = c .before .before .args in
-    sym (size-refused (a .words .now) [] (a .words .now) (listFrom (word 8 (polynomial (a .p))) 0 1024) (c .if1 .left))
+    sym (size-refused (a .words .now) [] (a .words .now) (table (polynomial (a .p))) (c .if1 .left))
 
 pub make-under-spec : {M : Type 1} → statement M
 make-under-spec = tie.close (tie.spec fill-table-requires (λ c. search needs) returns returns-2)

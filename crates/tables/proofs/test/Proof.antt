@@ -7,7 +7,8 @@ use Rattle.refusals.specs.Refusals.{judged}
 use Rattle.acceptance.specs.Opened.{Opened}
 use Rattle.acceptance.proofs.Opened.{opened-whole, opened-proper, opened-first}
 use Rattle.keys.proofs.Laws.{opened, refused}
-use Rattle.tables.specs.Tables.{tableTests, testTable}
+use Rattle.tables.specs.Tables.{testTable}
+use Rattle.table_tests.specs.TableTests.{tableTests}
 use Rattle.tables.proofs.test.Statement.{statement}
 use Rattle.tables.proofs.test.Tie as tie
 

@@ -8,7 +8,8 @@ use Rattle.files.specs.Files.{markOf}
 use Rattle.files.proofs.Marks.{empty-mark}
 use Rattle.acceptance.proofs.Opened.{opened-first, opened-from}
 use Rattle.keys.proofs.Laws.{opened, refused}
-use Rattle.marks.specs.Feeding.{begin, begunUnder}
+use Rattle.marks.specs.Feeding.{begin}
+use Rattle.marks.specs.Answers.{begunUnder}
 use Rattle.marks.proofs.Running.begin.Statement.{statement}
 use Rattle.marks.proofs.Running.begin.Tie as tie
 

@@ -5,16 +5,16 @@ use Prim.Native.Nat.{ℕ}
 use native.Mathlib.Omega.{arith}
 use borrow.Author.Needs.{needs}
 use lib.ListN.{length}
-use Rattle.lists.specs.Lists.{listFrom}
 use Rattle.refusals.specs.Refusals.{firstOf}
 use Rattle.acceptance.specs.Keys.{accepted}
 use Rattle.acceptance.specs.Opened.{Opened}
 use Rattle.files.specs.declared.Mark.{Mark}
 use Rattle.files.specs.Files.{fedMark}
-use Rattle.lookups.specs.Rule.{word}
+use Rattle.lookups.specs.Rule.{table}
 use Rattle.house.specs.House.{houseKey}
 use Rattle.house.proofs.House.{house-accepted}
-use Rattle.marks.specs.Feeding.{feedTests, feedTable, feedHouse, markIn, fedUnder}
+use Rattle.marks.specs.Feeding.{feedTests, feedTable, feedHouse}
+use Rattle.marks.specs.Answers.{markIn, fedUnder}
 use Rattle.marks.proofs.Laws.{house-first}
 use Rattle.marks.proofs.Running.feed_house.Statement.{statement}
 use Rattle.marks.proofs.Running.feed_house.Tie as tie
@@ -53,7 +53,7 @@ key-opened c =
 feed-looked-requires : tie.Need-feed-looked-requires
 feed-looked-requires c κs =
     let is : words2→start c .args .self .key ≡ houseKey = words2→then1 c .if1 .taken in
-    (key-opened (c .before), words2→words c .words .ensures ∙ ap (λ (q : ℕ). listFrom (word 8 q) 0 1024) (sym is))
+    (key-opened (c .before), words2→words c .words .ensures ∙ ap table (sym is))
 
 returns : tie.Need-returns
 returns c =

@@ -9,9 +9,10 @@ use Rattle.acceptance.specs.Opened.{Opened}
 use Rattle.acceptance.proofs.Opened.{opened-first}
 use Rattle.files.specs.declared.Mark.{Mark}
 use Rattle.files.specs.Files.{fedMark}
-use Rattle.tables.specs.Tables.{tableTests}
+use Rattle.table_tests.specs.TableTests.{tableTests}
 use Rattle.keys.proofs.Laws.{opened, refused}
-use Rattle.marks.specs.Feeding.{feedTests, feedTable, markIn, fedUnder}
+use Rattle.marks.specs.Feeding.{feedTests, feedTable}
+use Rattle.marks.specs.Answers.{markIn, fedUnder}
 use Rattle.marks.proofs.Running.feed_table.Statement.{statement}
 use Rattle.marks.proofs.Running.feed_table.Tie as tie
 

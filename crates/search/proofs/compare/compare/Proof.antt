@@ -99,7 +99,7 @@ next-flagged-requires-2 : tie.Need-next-flagged-requires-2 Inv-loop μ-loop Inv-
 next-flagged-requires-2 c κs = (omega arith, omega arith)
 
 loop-holds : tie.Need-loop-holds Inv-loop μ-loop Inv-windows μ-windows
-unfolding isPlace
+unfolding isPlace window
 loop-holds c = (refl, omega arith, refl)
 
 windows-less : tie.Need-windows-less Inv-loop μ-loop Inv-windows μ-windows

@@ -1,6 +1,7 @@
 -- `windows::flags::flag_block` meets its contract, by those of the two ways that it goes.
 use native.Mathlib.Omega.{arith}
 use borrow.Author.Needs.{needs}
+use Rattle.windows.proofs.Filling.{filled-none}
 use Rattle.windows.proofs.flags.flag_block.Statement.{statement}
 use Rattle.windows.proofs.flags.flag_block.Tie as tie
 
@@ -27,13 +28,13 @@ returns : tie.Need-returns
 returns c =
     let p = lanes→start (c .before) .pre in
     let f = c .four-lanes .ensures in
-    (omega arith, omega arith, omega (arith, p .2, c .before .before .if2 .taken), record { flags = f .1; next = λ _. f .0 }, f .2)
+    (omega arith, omega arith, omega (arith, p .2, c .before .before .if2 .taken), λ h. absurd (omega arith), record { flags = f .1; behind = filled-none 1024 _; next = λ _. f .0 }, f .2)
 
 returns-2 : tie.Need-returns-2
 returns-2 c =
     let l = c .before .before .least .ensures in
     let marked = c .one-by-one .ensures in
-    (l .2 (omega arith) (omega arith), l .1, omega arith, marked .0, marked .1)
+    (l .3 (omega arith) (omega arith), l .1, omega arith, (λ h. omega (arith, l .2 h, rest→start (c .before) .pre .2)), marked .0, marked .1)
 
 pub flag-block-spec : {M : Type 1} → statement M
 flag-block-spec =

@@ -1,13 +1,14 @@
--- `windows::flags::one_by_one` meets its contract. The loop's invariant: j windows have their flags, and the residue is that of the next one, if there is one.
-use mathlib.Core.Path.{_≡_, _∙_}
-use mathlib.Core.Logic.{⊎-elim}
+-- `windows::flags::one_by_one` meets its contract. The loop's invariant: j windows have their flags, the other flags stay, and the
+-- residue is that of the next window, if there is one.
+use mathlib.Core.Path.{_≡_, refl, _∙_}
+use mathlib.Core.Logic.{inl, ⊎-elim}
 use mathlib.Core.Bool.{false}
 use Prim.Native.Nat.{_+_, _-_, _≤_}
 use native.Mathlib.Omega.{arith}
-use lib.ListN.{length, length-set}
+use lib.ListN.{length, getD, length-set}
 use Rattle.windows.specs.Rolling.{ResidueAt, Filled, hit}
 use Rattle.windows.proofs.Residues.{same-place, hit-is, flagged-all}
-use Rattle.windows.proofs.Filling.{filled-none, filled-more}
+use Rattle.windows.proofs.Filling.{filled-none, filled-more, filled-other}
 use Rattle.windows.proofs.flags.one_by_one.Statement.{statement}
 use Rattle.windows.proofs.flags.one_by_one.Tie as tie
 
@@ -17,6 +18,7 @@ Inv-loop s reduce outgoing text from size g flags₀ a₀ j₀ flags a j =
     × (length flags ≡ 1024)
     × (from + j + s .m ≤ length text → ResidueAt s text (from + j) a)
     × Filled false (hit s text from) 0 j flags
+    × Filled false (λ i. getD flags₀ i false) size 1024 flags
 
 abbrev μ-loop : tie.MeasureT-loop
 μ-loop s reduce outgoing text from size g flags₀ a₀ j₀ flags a j = size - j
@@ -35,8 +37,13 @@ in-loop→at-loop c = c .before
 loop-holds : tie.Need-loop-holds Inv-loop μ-loop
 loop-holds c =
     let s = c .before .before in
-    let a = s .args in
-    (omega arith, s .pre .1, (λ h. same-place (a .s) (a .text .now) (a .from) (a .from + 0) (a .g) (omega arith) (s .pre .4)), filled-none 0 (a .flags .now))
+    let a = s .args in (
+      omega arith,
+      s .pre .1,
+      (λ h. same-place (a .s) (a .text .now) (a .from) (a .from + 0) (a .g) (omega arith) (s .pre .4)),
+      filled-none 0 (a .flags .now),
+      record { entry = λ i l h. refl },
+    )
 
 roll-requires : tie.Need-roll-requires Inv-loop μ-loop
 roll-requires c κs =
@@ -56,13 +63,14 @@ loop-again c =
           (λ w. absurd (omega (arith, w .0 .left)))
           (c .if1 .came)),
       filled-more 0 (l .j) (l .flags) _ (l .inv .3) (omega arith) (hit-is (a .s) t (a .from) (l .j) (l .a) (l .inv .2 (omega arith))),
+      filled-other (a .size) 1024 (l .j) (l .flags) _ (l .inv .4) (inl (omega arith)),
     )
 
 returns : tie.Need-returns Inv-loop μ-loop
 returns c =
     let a = shared-slice-known2→start (c .before .before) .args in
     let l = c .before .loop in
-    (flagged-all (a .s) (a .text .now) (a .from) (l .j) (a .size) (l .a) (l .flags) (omega arith) (l .inv .2) (l .inv .3), l .inv .1)
+    (flagged-all (a .s) (a .text .now) (a .from) (l .j) (a .size) (l .a) (a .flags .now) (l .flags) (omega arith) (l .inv .2) (l .inv .3) (l .inv .4), l .inv .1)
 
 pub one-by-one-spec : {M : Type 1} → statement M
 one-by-one-spec =

@@ -1,0 +1,54 @@
+-- The range is told in three places; on refusal nothing is.
+use mathlib.Core.Path.{_≡_, sym, ap, _∙_}
+use Rattle.refusals.specs.Refusals.{numberOf}
+use Rattle.sheets.specs.declared.Changed.{Changed}
+use Rattle.sheets.specs.Answers.{changeAnswer}
+use Rattle.sheets.specs.Sheets.{changedRange}
+use Rattle.gfp_site.specs.Ranges.{RangePlaces, rangeAt, rangeOr}
+use borrow.Author.Needs.{needs}
+use Rattle.gfp_site.proofs.gfp_changed_range.Statement.{statement}
+use Rattle.gfp_site.proofs.gfp_changed_range.Tie as tie
+
+abbrev start : tie.After-first-changed-range → tie.Start
+start c = c .before .before .before
+
+abbrev before : tie.After-first-changed-range → RangePlaces
+before c = let a = start c .args in rangeAt (a .outcome .now) (a .from .now) (a .to .now)
+
+-- what is told of the answer that the code has
+told : (c : tie.After-first-changed-range) (o : Changed) → c .first-changed-range .result ≡ o
+    → (numberOf (changeAnswer o) ≡ numberOf (changedRange (start c .args .sheet .now) (start c .args .file .now)))
+    × (rangeOr (before c) (changeAnswer o) ≡ rangeOr (before c) (changedRange (start c .args .sheet .now) (start c .args .file .now)))
+told c o e =
+    let h = ap changeAnswer (sym e) ∙ c .first-changed-range .ensures in
+    (ap numberOf h, ap (rangeOr (before c)) h)
+
+returns : tie.Need-returns
+returns c = told (c .before .before) _ (c .enum-told .given .1)
+
+returns-2 : tie.Need-returns-2
+returns-2 c = told (c .before .before .before) _ (c .before .a .given .1)
+
+returns-3 : tie.Need-returns-3
+returns-3 c = told (c .before .before) _ (c .enum-told2 .given .1)
+
+returns-4 : tie.Need-returns-4
+returns-4 c =
+    let r = c .before .before in
+    let t = told (r .before .before) _ (r .r .given .1) in
+    (c .number .ensures ∙ t .0, t .1)
+
+pub gfp-changed-range-spec : {M : Type 1} → statement M
+gfp-changed-range-spec =
+    tie.close
+    (tie.spec
+    (λ c κs. search needs)
+    (λ c. search needs)
+    (λ c. search needs)
+    (λ c. search needs)
+    (λ c. search needs)
+    (λ c κs. search needs)
+    returns
+    returns-2
+    returns-3
+    returns-4)

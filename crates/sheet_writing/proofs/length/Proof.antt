@@ -1,0 +1,53 @@
+-- `length` meets its contract.
+use mathlib.Core.Path.{_≡_, sym, ap, _∙_}
+use mathlib.Core.Bool.{false, _||_}
+use Prim.Native.Nat.{_≤_}
+use native.Mathlib.Omega.{arith}
+use lib.Dec.{ltb}
+use Rattle.refusals.specs.Refusals.{Done}
+use Rattle.refusals.proofs.Laws.{holds, fails}
+use Rattle.sheets.specs.Layout.{version1, sheetLength}
+use Rattle.sheets.proofs.Sound.{size-bounds}
+use Rattle.sheets.proofs.Pages.{count-small}
+use Rattle.sheet_writing.proofs.Answers.{length-long, length-size, length-done}
+use borrow.Author.Needs.{needs}
+use Rattle.sheet_writing.proofs.length.Statement.{statement}
+use Rattle.sheet_writing.proofs.length.Tie as tie
+
+abbrev start : tie.After-size-right → tie.Start
+start c = c .before .before
+
+right : (c : tie.Else2) → (ltb (start (c .before) .args .size) 16 || ltb 4096 (start (c .before) .args .size)) ≡ false
+right c = fails _ _ (c .before .size-right .ensures) (c .if2 .left)
+
+size : (c : tie.Else2) → (16 ≤ start (c .before) .args .size) × (start (c .before) .args .size ≤ 4096)
+size c = size-bounds (start (c .before) .args .size) (right c)
+
+returns : tie.Need-returns
+returns c = let a = c .before .args in sym (length-long (a .n) (a .size) (omega arith))
+
+returns-2 : tie.Need-returns-2
+returns-2 c =
+    let a = start (c .before) .args in
+    sym (length-size (a .n) (a .size) (omega arith) (holds _ _ (c .before .size-right .ensures) (c .if2 .taken)))
+
+page-count-requires : tie.Need-page-count-requires
+page-count-requires c κs = let b = size c in (omega (arith, b .0), b .1, omega arith)
+
+sheet-length-requires : tie.Need-sheet-length-requires
+sheet-length-requires c κs =
+    let a = start (c .before .before) .args in
+    let b = size (c .before) in
+    omega (arith, c .page-count .ensures, count-small (a .size) (a .n) (b .0) (b .1) (omega arith))
+
+returns-3 : tie.Need-returns-3
+returns-3 c =
+    let p = c .before in
+    let a = start (p .before .before) .args in
+    ap Done (c .sheet-length .ensures ∙ ap (sheetLength version1) (p .page-count .ensures))
+    ∙ sym (length-done (a .n) (a .size) (omega arith) (right (p .before)))
+
+pub length-spec : {M : Type 1} → statement M
+length-spec =
+    tie.close
+    (tie.spec returns (λ c κs. search needs) returns-2 page-count-requires sheet-length-requires returns-3)

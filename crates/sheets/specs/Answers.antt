@@ -1,0 +1,33 @@
+-- For callers in Rattle: the answers of the calls in code, as those of the definitions. A reader of the functions for C need not read this page.
+use Prim.Native.Nat.{ℕ}
+use Rattle.refusals.specs.Refusals.{Answer, Done, Refused}
+use Rattle.sheets.specs.Sheets.{Outcome, Same, Page, OtherLength, Range, NoChange, FromTo, NotAsLong}
+use Rattle.sheets.specs.declared.Sheet.{Sheet}
+use Rattle.sheets.specs.declared.Reading.{Reading}
+use Rattle.sheets.specs.declared.Reading.the-variants as reading-cases
+use Rattle.sheets.specs.declared.Checked.{Checked}
+use Rattle.sheets.specs.declared.Checked.the-variants as checked-cases
+use Rattle.sheets.specs.declared.Changed.{Changed}
+use Rattle.sheets.specs.declared.Changed.the-variants as changed-cases
+use Rattle.sheets.specs.declared.SheetLength.{SheetLength}
+use Rattle.sheets.specs.declared.SheetLength.the-variants as length-cases
+
+abbrev pub lengthAnswer : SheetLength → Answer Unit ℕ
+lengthAnswer (length-cases.Bytes n) = Done n
+lengthAnswer (length-cases.Refused r) = Refused r tt
+
+abbrev pub reading : Reading → Answer Unit Sheet
+reading (reading-cases.Sheet x) = Done x
+reading (reading-cases.Refused r) = Refused r tt
+
+abbrev pub checkAnswer : Checked → Answer Unit Outcome
+checkAnswer checked-cases.Same = Done Same
+checkAnswer (checked-cases.Page i) = Done (Page i)
+checkAnswer checked-cases.OtherLength = Done OtherLength
+checkAnswer (checked-cases.Refused r) = Refused r tt
+
+abbrev pub changeAnswer : Changed → Answer Unit Range
+changeAnswer changed-cases.Same = Done NoChange
+changeAnswer (changed-cases.Bytes a b) = Done (FromTo a b)
+changeAnswer changed-cases.OtherLength = Done NotAsLong
+changeAnswer (changed-cases.Refused r) = Refused r tt

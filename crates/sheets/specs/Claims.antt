@@ -1,0 +1,89 @@
+-- What the calls on sheets promise together: what is written reads back, which bytes are read, and what a check's answer means.
+use mathlib.Core.Path.{_≡_}
+use mathlib.Core.Logic.{_≢_, _↔_}
+use mathlib.Core.Bool.{true}
+use mathlib.Core.List.{List}
+use Prim.Native.Nat.{ℕ, _^_, _≤_, _<_}
+use lib.ListN.{length, getD, take}
+use Rattle.lists.specs.Lists.{All, overlay}
+use Rattle.gf2.specs.Polynomials.{degree}
+use Rattle.refusals.specs.Refusals.{Done, longest}
+use Rattle.acceptance.specs.Keys.{accepted}
+use Rattle.files.specs.Files.{Bytes, fingerprint}
+use Rattle.files.specs.Bursts.{Burst}
+use Rattle.sheets.specs.Layout.{version1, numberAt, pagePlace, sheetLength, pageCount, Contents, sheetBytes, contentsIn}
+use Rattle.sheets.specs.Sheets.{contentsOf, pagesJoined, fileFilled, writeSheet, readSheet, readPages, Same, Page, OtherLength}
+use Rattle.sheets.specs.Sheets.{pagesNow, compared, checkSheet}
+
+-- ---- which bytes are a sheet
+
+-- numbers of which no test of reading holds
+pub record SoundContents (x : Contents) : Type 0 where
+  pub key : accepted (x .key) ≡ true
+  pub length : x .length ≤ longest
+  pub pageSize : (16 ≤ x .pageSize) × (x .pageSize ≤ 4096)
+  pub count : lib.ListN.length (x .pages) ≡ pageCount (x .pageSize) (x .length)
+  pub pages : All (λ f. f < 2 ^ degree (x .key)) (x .pages)
+  pub fingerprint : x .fingerprint < 2 ^ degree (x .key)
+  pub joined : pagesJoined x ≡ fileFilled x
+
+-- the bytes of a sheet with such numbers
+pub record WellFormed (sheet : List ℕ) : Type 0 where
+  pub contents : Contents
+  pub sound : SoundContents contents
+  pub bytes : sheet ≡ sheetBytes version1 contents
+
+-- bytes are read exactly where they are a sheet
+abbrev pub ReadIff : Type 0
+ReadIff = (sheet : List ℕ) → Bytes sheet → (readSheet sheet ≡ Done (contentsIn version1 sheet)) ↔ WellFormed sheet
+
+-- its page fingerprints are given in lent places
+abbrev pub PagesGiven : Type 0
+PagesGiven = (sheet : List ℕ) (w : WellFormed sheet) (words : List ℕ) → readPages sheet words ≡ Done (overlay (w .contents .pages) words)
+
+-- ---- writing, then reading
+
+-- what is written reads back: key, length, page size, every page fingerprint and the file's
+abbrev pub WrittenReads : Type 0
+WrittenReads =
+    (key s : ℕ) (file buffer after : List ℕ) → key < 2 ^ 64 → writeSheet key s file buffer ≡ Done after
+    → readSheet (take (sheetLength version1 (pageCount s (length file))) after) ≡ Done (contentsOf key s file)
+
+-- its last field is the file's fingerprint
+abbrev pub WrittenFingerprint : Type 0
+WrittenFingerprint =
+    (key s : ℕ) (file buffer after : List ℕ) → key < 2 ^ 64 → writeSheet key s file buffer ≡ Done after
+    → numberAt (pagePlace version1 (pageCount s (length file))) 8 (take (sheetLength version1 (pageCount s (length file))) after) ≡ fingerprint key file
+
+-- ---- checking a file against a sheet
+
+abbrev pub Checks : Type 0
+Checks = (sheet : List ℕ) (w : WellFormed sheet) (file : List ℕ) → length file ≤ longest → checkSheet sheet file ≡ Done (compared (w .contents) file)
+
+-- other length where the lengths differ
+abbrev pub OtherLengthTold : Type 0
+OtherLengthTold = (x : Contents) (file : List ℕ) → length file ≢ x .length → compared x file ≡ OtherLength
+
+-- the lists differ at place i and at no place before it
+pub record First (fs gs : List ℕ) (i : ℕ) : Type 0 where
+  pub below : i < length fs
+  pub differ : getD fs i 0 ≢ getD gs i 0
+  pub equal : (j : ℕ) → j < i → getD fs j 0 ≡ getD gs j 0
+
+-- else the first page whose fingerprint differs
+abbrev pub PageIff : Type 0
+PageIff =
+    (x : Contents) → SoundContents x → (file : List ℕ) → length file ≡ x .length
+    → (i : ℕ) → (compared x file ≡ Page i) ↔ First (x .pages) (pagesNow x file) i
+
+-- else same: every page fingerprint is equal
+abbrev pub SameIff : Type 0
+SameIff =
+    (x : Contents) → SoundContents x → (file : List ℕ) → length file ≡ x .length
+    → (compared x file ≡ Same) ↔ (x .pages ≡ pagesNow x file)
+
+-- of a written sheet: a file that differs inside k neighbouring bits is never the same
+abbrev pub NoBurstSame : Type 0
+NoBurstSame =
+    (key s : ℕ) (a b : List ℕ) → accepted key ≡ true → length a ≤ longest → 16 ≤ s → s ≤ 4096 → Bytes a → Bytes b → a ≢ b
+    → Burst (degree key) a b → checkSheet (sheetBytes version1 (contentsOf key s a)) b ≡ Done Same → ⊥
