@@ -25,7 +25,7 @@ use Rattle.lookups.specs.Rule.{word}
 use Rattle.tables.specs.Tables.{makeTable}
 use Rattle.table_tests.specs.TableTests.{tableSizeTest}
 use Rattle.table_tests.specs.TableTests.{tableTests}
-use Rattle.tables.proofs.Laws.{size-passed, clear-table}
+use Rattle.table_tests.proofs.Laws.{size-passed, clear-table}
 use Rattle.marks.specs.declared.Running.{Running}
 use Rattle.marks.specs.declared.Fed.{Fed}
 use Rattle.marks.specs.declared.Fed.the-variants as fed-cases

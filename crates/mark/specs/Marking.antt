@@ -6,7 +6,8 @@ use Rattle.io.specs.Counts.{Counts}
 use Rattle.refusals.specs.Refusals.{Answer, Done, Refused}
 use Rattle.files.specs.declared.Mark.{Mark}
 use Rattle.marks.specs.declared.Running.{Running}
-use Rattle.marks.specs.Feeding.{feedTable, markIn, begunUnder}
+use Rattle.marks.specs.Feeding.{feedTable}
+use Rattle.marks.specs.Answers.{markIn, begunUnder}
 use Rattle.printing.specs.Printing.{markFile}
 use Rattle.mark.specs.declared.Marked.{Marked}
 use Rattle.mark.specs.declared.Marked.the-variants as marked-cases

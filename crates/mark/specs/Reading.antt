@@ -8,7 +8,8 @@ use lib.ListN.{length, take}
 use lib.IntN.{ℤ, pos, negsuc}
 use Rattle.io.specs.Counts.{Counts}
 use Rattle.marks.specs.declared.Running.{Running}
-use Rattle.marks.specs.Feeding.{feedTable, markIn, fed, fedUnder}
+use Rattle.marks.specs.Feeding.{feedTable}
+use Rattle.marks.specs.Answers.{markIn, fed, fedUnder}
 use Rattle.printing.specs.Printing.{printed}
 use Rattle.printing.specs.Buffers.{PutInFront}
 use Rattle.mark.specs.declared.Got.{Got}

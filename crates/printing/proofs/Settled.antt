@@ -15,7 +15,7 @@ use Rattle.acceptance.specs.Keys.{reducible}
 use Rattle.files.specs.declared.Mark.{Mark}
 use Rattle.files.specs.Files.{markOf}
 use Rattle.marks.specs.declared.Running.{Running}
-use Rattle.marks.specs.Feeding.{begunUnder}
+use Rattle.marks.specs.Answers.{begunUnder}
 use Rattle.printing.specs.declared.KeyLine.{KeyLine}
 use Rattle.printing.specs.declared.KeyLine.the-variants.{NoKey, Key}
 use Rattle.printing.specs.Printing.{keyLine, answerText, markFile, printedAfter, printed}
