@@ -1,4 +1,5 @@
--- The modulus as the code holds it: a degree from 1 to 64 and the coefficients below t^degree, so that degree 64 fits 64 bits.
+-- For inner functions and for callers in Rattle: the modulus as the code holds it, a degree from 1 to 64 and the coefficients below
+-- t^degree, so that degree 64 fits 64 bits.
 use Prim.Native.Nat.{ℕ, _%_, _^_, _≤_, _<_}
 use Rattle.gf2.specs.Polynomials.{degree}
 use Rattle.gf2.specs.Degrees.{monic}
