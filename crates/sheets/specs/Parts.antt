@@ -1,4 +1,4 @@
--- What the inner functions promise: a reader of the promises need not read this page.
+-- For inner functions: a reader of the promises need not read this page. What they promise.
 use mathlib.Core.Path.{_≡_}
 use mathlib.Core.Bool.{cond}
 use mathlib.Core.List.{List, [], _∷_}
