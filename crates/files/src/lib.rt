@@ -30,7 +30,7 @@ fn feed_byte(p: Modulus, f: u64, b: u8) -> u64
 }
 
 // The bytes of a part behind a residue.
-fn feed_bytes(p: Modulus, f: u64, part: &[u8]) -> u64
+pub fn feed_bytes(p: Modulus, f: u64, part: &[u8]) -> u64
     requires { ⌜ Proper p × (f < 2 ^ p .degree) ⌝ }
     ensures { λ r. ⌜ r ≡ rem (polynomial p) (valueFrom f (bits (now (part .entry)))) ⌝ }
 {
@@ -70,7 +70,8 @@ fn difference(p: Modulus, old: &[u8], new: &[u8]) -> u64
 // The residue of a file in which a page was changed: the difference of the pages' residues, times t^(8 × bytes after the page), is added.
 pub fn replaced_residue(p: Modulus, f: u64, old: &[u8], new: &[u8], after: u64) -> u64
     requires { ⌜ Proper p × (f < 2 ^ p .degree) × (length (now old) ≡ length (now new)) × (after < 2 ^ 32) ⌝ }
-    ensures { λ r. ⌜ r ≡ rem (polynomial p) (f ⊕ (fingerprint (polynomial p) (now (old .entry)) ⊕ fingerprint (polynomial p) (now (new .entry))) * 2 ^ (8 * after)) ⌝ }
+    ensures { λ r. ⌜ r ≡ rem (polynomial p)
+        (f ⊕ (fingerprint (polynomial p) (now (old .entry)) ⊕ fingerprint (polynomial p) (now (new .entry))) * 2 ^ (8 * after)) ⌝ }
 {
     let change = difference(p, old, new);
     let shift = gf2::power_of_t(p, 8 * after);
