@@ -7,7 +7,8 @@ ROUNDS = 1
 
 # The main job on an embedded sample: the printing program reads a key and a file and prints the file's mark.
 run:
-	@rt check mark > /dev/null 2>&1 || rt check mark
+	@echo 'Proving the printing program and what it stands on first: a line a crate, about two minutes in all; nothing the next time.' >&2
+	@tools/prove mark
 	@printf '2000000000000027\nGauge 7, offset -0.0125 m\n' | target/bin/mark
 
 # Proves every crate from nothing, tries the must-fail edits, runs the programs and compares the C interface with a second
@@ -25,7 +26,7 @@ target/staticlib/made: crates.txt $(shell find crates)
 
 # The libraries, the header, the Rust wrapper and the printing program, where a C or Rust project finds them.
 install: libraries
-	@rt check mark > /dev/null 2>&1 || rt check mark
+	@tools/prove mark 2> /dev/null
 	@mkdir -p $(PREFIX)/lib/pkgconfig $(PREFIX)/include $(PREFIX)/bin $(PREFIX)/share/gfp
 	@cp $(LIBRARIES:%=target/staticlib/lib%.a) $(PREFIX)/lib/
 	@cp include/gfp.h $(PREFIX)/include/

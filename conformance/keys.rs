@@ -1,4 +1,4 @@
-//! The test of a key: document 01's readings, counts, published irreducible polynomials, and random keys of every degree.
+//! The test of a key: document 01's readings, counts, published irreducible polynomials, and random keys of every degree; the stock list.
 use crate::{generator::Generator, gfp, reference, Tally};
 
 fn number(key: u64) -> u32 {
@@ -12,8 +12,11 @@ const READINGS: [(u64, u32); 10] =
 /// The number of irreducible polynomials of each degree over GF(2) (sequence A001037 of the OEIS).
 const COUNTS: [(u32, u64); 7] = [(8, 30), (9, 56), (10, 99), (11, 186), (12, 335), (13, 630), (14, 1161)];
 
-/// Low-weight irreducible polynomials of every degree, as NTL's BuildSparseIrred gives them.
+/// Low-weight irreducible polynomials of every degree, computed by NTL's BuildSparseIrred.
 const LOW_WEIGHT: &str = include_str!("low_weight.txt");
+
+/// The Conway polynomials of characteristic 2, a published list: one irreducible polynomial of each degree.
+const CONWAY: &str = include_str!("conway.txt");
 
 /// Polynomials of degree 53, and whether they are irreducible: the cases of the tests of restic's chunker.
 const RESTIC: [(u64, bool); 24] = [
@@ -54,6 +57,16 @@ pub fn run(tally: &mut Tally, rounds: u64) {
     for line in LOW_WEIGHT.lines().filter(|l| !l.starts_with('#')) {
         let key = line.split_whitespace().fold(1u64, |sum, n| sum | 1 << n.parse::<u32>().expect("an exponent"));
         tally.same(&format!("low-weight polynomial {key:#x}"), number(key), 0);
+    }
+    for (line, degree) in CONWAY.lines().filter(|l| !l.starts_with('#')).zip(8..) {
+        let (k, key) = line.split_once(" 0x").expect("a degree and a number");
+        let key = u64::from_str_radix(key, 16).expect("a number");
+        tally.same(&format!("degree of the Conway polynomial {key:#x}"), (k.parse(), reference::degree(key)), (Ok(degree), degree));
+        tally.same(&format!("Conway polynomial {key:#x}"), number(key), 0);
+    }
+    tally.same("Conway polynomials", CONWAY.lines().filter(|l| !l.starts_with('#')).count(), 56);
+    for k in (0..130).chain([1 << 32, (1 << 32) + 8, u64::MAX - 1, u64::MAX]) {
+        tally.same(&format!("stock key of degree {k}"), gfp::stock_key(k), reference::stock_key(k));
     }
     for (key, irreducible) in RESTIC {
         tally.same(&format!("restic's test, {key:#x}"), number(key), if irreducible { 0 } else { 2 });

@@ -157,11 +157,23 @@ fn sheets(tally: &mut Tally, long: &[u8]) {
             let file = if fault(6) { long } else { b"AB" };
             let number = second.err().or(if fault(6) { Some(7) } else { None });
             tally.same(&what, gfp::check_file(&sheet, file).err(), number);
+            tally.same(&what, gfp::changed_range(&sheet, file).err(), number);
         });
     }
 }
 
+/// The size of a sheet. Faults: the file's length, the page size.
+fn lengths(tally: &mut Tally) {
+    each(2, |fault| {
+        let length = if fault(0) { reference::LIMIT + 1 } else { 33 };
+        let size = if fault(1) { 4097 } else { 16 };
+        let expected = if fault(0) { Err(7) } else if fault(1) { Err(12) } else { Ok(51) };
+        tally.same(&format!("order, length {length}, page size {size}"), gfp::sheet_length(length, size), expected);
+    });
+}
+
 pub fn run(tally: &mut Tally, _rounds: u64) {
+    lengths(tally);
     let long = too_long();
     marks(tally, &long);
     compose(tally, &long);

@@ -107,6 +107,11 @@ pub fn test_key(key: u64) -> Answer<()> {
     refuse(&[(2, !irreducible(key))])
 }
 
+/// The stock list: for each degree 8 to 63 the smallest irreducible polynomial of that degree.
+pub fn stock_key(k: u64) -> Option<u64> {
+    (8..=63).contains(&k).then(|| (1u64 << k..).find(|&p| irreducible(p)).expect("one of each degree"))
+}
+
 #[derive(Clone, Copy, Debug, PartialEq, Eq)]
 pub struct Mark {
     pub fingerprint: u64,
@@ -266,6 +271,11 @@ pub fn write_sheet(key: u64, s: u64, file: &[u8], buffer: &[u8]) -> Answer<Vec<u
     Ok(after)
 }
 
+pub fn sheet_length(n: u64, s: u64) -> Answer<u64> {
+    refuse(&[(7, too_long(&[n.into()])), (12, !(16..=4096).contains(&s))])?;
+    Ok(27 + 8 * pages(n, s))
+}
+
 #[derive(Clone, Debug, PartialEq, Eq)]
 pub struct Sheet {
     pub key: u64,
@@ -318,20 +328,32 @@ pub fn check_file(bytes: &[u8], file: &[u8]) -> Answer<Check> {
     Ok(changed.map_or(Check::Same, |i| Check::Page(i as u64)))
 }
 
+/// The bytes of the page that a check names: from its place to the next page's, or to the file's end.
+#[derive(Clone, Debug, PartialEq, Eq)]
+pub enum Changed {
+    Same,
+    Bytes(std::ops::Range<u64>),
+    OtherLength,
+}
+
+pub fn changed_range(bytes: &[u8], file: &[u8]) -> Answer<Changed> {
+    let s = read_sheet(bytes)?.page_size;
+    Ok(match check_file(bytes, file)? {
+        Check::Same => Changed::Same,
+        Check::Page(i) => Changed::Bytes(i * s..((i + 1) * s).min(file.len() as u64)),
+        Check::OtherLength => Changed::OtherLength,
+    })
+}
+
 // ---- Keyholder: drawing
 
 pub const DRAWN_DEGREES: [u32; 14] = [11, 13, 17, 19, 23, 29, 31, 37, 41, 43, 47, 53, 59, 61];
-
-/// The smallest irreducible polynomial of degree k.
-pub fn stock_key(k: u32) -> u64 {
-    (1u64 << k..).find(|&p| irreducible(p)).expect("one of each degree")
-}
 
 /// The product of (x + c) over the conjugates c of the element: its minimal polynomial where the degree is prime.
 pub fn draw(k: u64, element: u64) -> Answer<u64> {
     refuse(&[(3, !DRAWN_DEGREES.contains(&(k.min(64) as u32)))])?;
     refuse(&[(4, element < 2 || element >> k != 0)])?;
-    let f = stock_key(k as u32);
+    let f = stock_key(k).expect("a degree of the stock list");
     // coefficients in the field, the lowest first
     let mut product = vec![1u64];
     let mut conjugate = element;

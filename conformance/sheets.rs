@@ -19,6 +19,14 @@ fn check(sheet: &[u8], file: &[u8]) -> Result<gfp::Check, u32> {
     })
 }
 
+fn range(sheet: &[u8], file: &[u8]) -> Result<gfp::Changed, u32> {
+    reference::changed_range(sheet, file).map(|c| match c {
+        reference::Changed::Same => gfp::Changed::Same,
+        reference::Changed::Bytes(range) => gfp::Changed::Bytes(range),
+        reference::Changed::OtherLength => gfp::Changed::OtherLength,
+    })
+}
+
 /// Writes a sheet on both sides, with room to spare or too little, and compares what was written.
 fn write(tally: &mut Tally, key: u64, size: u64, file: &[u8], room: usize) -> Vec<u8> {
     let what = format!("sheet of {} bytes, page size {size}, key {key:#x}, {room} bytes lent", file.len());
@@ -27,6 +35,7 @@ fn write(tally: &mut Tally, key: u64, size: u64, file: &[u8], room: usize) -> Ve
     let number = gfp::write_sheet(key, size, file, &mut ours).err().unwrap_or(0);
     let second = reference::write_sheet(key, size, file, &before);
     tally.same(&what, number, second.clone().err().unwrap_or(0));
+    tally.same(&format!("length, {what}"), gfp::sheet_length(file.len() as u64, size), reference::sheet_length(file.len() as u64, size));
     tally.same(&format!("bytes, {what}"), &ours, &second.unwrap_or(before));
     ours
 }
@@ -51,6 +60,7 @@ fn judge(tally: &mut Tally, what: &str, sheet: &[u8], file: &[u8]) {
         tally.same(&format!("pages into {lent} words, {what}"), (number, words), pages(sheet, lent));
     }
     tally.same(&format!("check, {what}"), gfp::check_file(sheet, file), check(sheet, file));
+    tally.same(&format!("range, {what}"), gfp::changed_range(sheet, file), range(sheet, file));
 }
 
 fn random(tally: &mut Tally, generator: &mut Generator) {
@@ -102,8 +112,21 @@ fn damage(tally: &mut Tally, key: u64, size: u64, file: &[u8]) {
     }
 }
 
+/// The lengths of sheets around the edges of lengths and page sizes.
+fn lengths(tally: &mut Tally, generator: &mut Generator) {
+    let sizes = [0, 15, 16, 17, 4095, 4096, 4097, 1 << 32, (1 << 32) + 16, u64::MAX];
+    for n in [0, 1, 15, 16, 17, reference::LIMIT - 1, reference::LIMIT, reference::LIMIT + 1, 1 << 63, u64::MAX, generator.below(1 << 32)] {
+        for size in sizes.into_iter().chain([16 + generator.below(4081)]) {
+            tally.same(&format!("length of a sheet of {n} bytes, page size {size}"), gfp::sheet_length(n, size), reference::sheet_length(n, size));
+        }
+    }
+}
+
 pub fn run(tally: &mut Tally, rounds: u64) {
     let mut generator = Generator::new(7);
+    for _ in 0..rounds * 20 {
+        lengths(tally, &mut generator);
+    }
     // document 01's sheet of 41 42, byte for byte
     let mut reading = b"GFP\x00\x01\0\0\0\0\0\0\x01\x1b\0\0\0\x02\0\x10\0\0\0\0\0\0\0\xac\0\0\0\0\0\0\0\x9d".to_vec();
     let written = write(tally, 0x11b, 16, &[0x41, 0x42], 35);

@@ -4,26 +4,51 @@
 mod raw {
     extern "C" {
         pub fn gfp_test_key(key: u64) -> u32;
+        pub fn gfp_stock_key(degree: u64) -> u64;
         pub fn gfp_begin(key: u64, fingerprint: *mut u64, length: *mut u64) -> u32;
         pub fn gfp_feed(key: u64, fingerprint: *mut u64, length: *mut u64, part: *const u8, part_length: usize) -> u32;
         pub fn gfp_make_table(key: u64, words: *mut u64, words_length: usize) -> u32;
         pub fn gfp_test_table(key: u64, words: *const u64, words_length: usize) -> u32;
         pub fn gfp_feed_table(key: u64, fingerprint: *mut u64, length: *mut u64, words: *const u64, words_length: usize, part: *const u8, part_length: usize) -> u32;
         pub fn gfp_feed_house(key: u64, fingerprint: *mut u64, length: *mut u64, part: *const u8, part_length: usize) -> u32;
-        pub fn gfp_join_behind(key: u64, fingerprint: *mut u64, length: *mut u64, other: u64, size: u64) -> u32;
-        pub fn gfp_join_in_front(key: u64, fingerprint: *mut u64, length: *mut u64, other: u64, size: u64) -> u32;
-        pub fn gfp_replace_page(key: u64, fingerprint: *mut u64, length: *mut u64, place: u64, old: *const u8, old_length: usize, new: *const u8, new_length: usize) -> u32;
-        pub fn gfp_search(key: u64, text: *const u8, text_length: usize, pattern: *const u8, pattern_length: usize, words: *mut u32, words_length: usize, places: *mut u32, alarms: *mut u32) -> u32;
+        pub fn gfp_join_behind(key: u64, fingerprint: *mut u64, length: *mut u64, other_fingerprint: u64, other_length: u64) -> u32;
+        pub fn gfp_join_in_front(key: u64, fingerprint: *mut u64, length: *mut u64, other_fingerprint: u64, other_length: u64) -> u32;
+        pub fn gfp_replace_page(key: u64, fingerprint: *mut u64, length: *mut u64, place: u64, old_page: *const u8, old_page_length: usize, new_page: *const u8, new_page_length: usize) -> u32;
+        pub fn gfp_search(key: u64, text: *const u8, text_length: usize, pattern: *const u8, pattern_length: usize, places: *mut u32, places_length: usize, count: *mut u32, alarms: *mut u32) -> u32;
+        pub fn gfp_sheet_length(length: u64, size: u64, bytes: *mut u64) -> u32;
         pub fn gfp_write_sheet(key: u64, page_size: u64, file: *const u8, file_length: usize, sheet: *mut u8, sheet_length: usize) -> u32;
         pub fn gfp_read_sheet(sheet: *const u8, sheet_length: usize, key: *mut u64, length: *mut u64, page_size: *mut u64, pages: *mut u64, fingerprint: *mut u64) -> u32;
-        pub fn gfp_read_pages(sheet: *const u8, sheet_length: usize, words: *mut u64, words_length: usize) -> u32;
+        pub fn gfp_read_pages(sheet: *const u8, sheet_length: usize, fingerprints: *mut u64, fingerprints_length: usize) -> u32;
         pub fn gfp_check_file(sheet: *const u8, sheet_length: usize, file: *const u8, file_length: usize, outcome: *mut u32, page: *mut u32) -> u32;
+        pub fn gfp_changed_range(sheet: *const u8, sheet_length: usize, file: *const u8, file_length: usize, outcome: *mut u32, from: *mut u64, to: *mut u64) -> u32;
         pub fn gfp_draw(degree: u64, element: u64, key: *mut u64) -> u32;
     }
 }
 
-/// The number of a refusal, 1 to 14.
+/// The number of a refusal, 1 to 14; `refusal` has their names.
 pub type Refusal = u32;
+
+/// The names of the refusals.
+pub mod refusal {
+    use super::Refusal;
+    pub const KEY_BELOW_256: Refusal = 1;
+    pub const KEY_REDUCIBLE: Refusal = 2;
+    pub const DEGREE_NOT_LISTED: Refusal = 3;
+    pub const ELEMENT_OUT_OF_RANGE: Refusal = 4;
+    pub const TABLE_SIZE: Refusal = 5;
+    pub const TABLE_WORD: Refusal = 6;
+    pub const TOO_LONG: Refusal = 7;
+    pub const MARK_NOT_REDUCED: Refusal = 8;
+    pub const PAGE_LENGTHS_DIFFER: Refusal = 9;
+    pub const PAGE_PAST_END: Refusal = 10;
+    pub const EMPTY_PATTERN: Refusal = 11;
+    pub const PAGE_SIZE: Refusal = 12;
+    pub const BUFFER_SHORT: Refusal = 13;
+    pub const SHEET_MALFORMED: Refusal = 14;
+}
+
+/// The version of the C interface that this wrapper is for (`GFP_INTERFACE`).
+pub const INTERFACE: u32 = 2;
 
 pub const HOUSE_KEY: u64 = 0x2000_0000_0000_0027;
 pub const TABLE_WORDS: usize = 1024;
@@ -41,6 +66,14 @@ fn answer<T>(number: u32, value: T) -> Result<T, Refusal> {
 
 pub fn test_key(key: u64) -> Result<(), Refusal> {
     answer(unsafe { raw::gfp_test_key(key) }, ())
+}
+
+/// The stock key of a degree 8 to 63: the smallest accepted key of that degree. `None` for every other number.
+pub fn stock_key(degree: u64) -> Option<u64> {
+    match unsafe { raw::gfp_stock_key(degree) } {
+        0 => None,
+        key => Some(key),
+    }
 }
 
 /// The mark of the empty file.
@@ -103,13 +136,20 @@ pub struct Counts {
     pub alarms: u32,
 }
 
-/// The places of the pattern in the text, the first ones into `words`.
-pub fn search(key: u64, text: &[u8], pattern: &[u8], words: &mut [u32]) -> Result<Counts, Refusal> {
+/// The places of the pattern in the text, the first ones into `places`, as far as they reach.
+pub fn search(key: u64, text: &[u8], pattern: &[u8], places: &mut [u32]) -> Result<Counts, Refusal> {
     let mut counts = Counts { places: 0, alarms: 0 };
     let number = unsafe {
-        raw::gfp_search(key, text.as_ptr(), text.len(), pattern.as_ptr(), pattern.len(), words.as_mut_ptr(), words.len(), &mut counts.places, &mut counts.alarms)
+        raw::gfp_search(key, text.as_ptr(), text.len(), pattern.as_ptr(), pattern.len(), places.as_mut_ptr(), places.len(), &mut counts.places, &mut counts.alarms)
     };
     answer(number, counts)
+}
+
+/// The bytes of the page sheet of a file of the given length: 27 + 8 × pages.
+pub fn sheet_length(length: u64, page_size: u64) -> Result<u64, Refusal> {
+    let mut bytes = 0;
+    let number = unsafe { raw::gfp_sheet_length(length, page_size, &mut bytes) };
+    answer(number, bytes)
 }
 
 /// Writes the page sheet of a file: 27 + 8 × pages bytes.
@@ -135,9 +175,9 @@ pub fn read_sheet(sheet: &[u8]) -> Result<Sheet, Refusal> {
     answer(number, x)
 }
 
-/// The page fingerprints of a page sheet, the first ones into `words`, as far as they reach.
-pub fn read_pages(sheet: &[u8], words: &mut [u64]) -> Result<(), Refusal> {
-    answer(unsafe { raw::gfp_read_pages(sheet.as_ptr(), sheet.len(), words.as_mut_ptr(), words.len()) }, ())
+/// The page fingerprints of a page sheet, the first ones into `fingerprints`, as far as they reach.
+pub fn read_pages(sheet: &[u8], fingerprints: &mut [u64]) -> Result<(), Refusal> {
+    answer(unsafe { raw::gfp_read_pages(sheet.as_ptr(), sheet.len(), fingerprints.as_mut_ptr(), fingerprints.len()) }, ())
 }
 
 /// The answer of a check.
@@ -153,6 +193,22 @@ pub fn check_file(sheet: &[u8], file: &[u8]) -> Result<Check, Refusal> {
     let (mut outcome, mut page) = (0, 0);
     let number = unsafe { raw::gfp_check_file(sheet.as_ptr(), sheet.len(), file.as_ptr(), file.len(), &mut outcome, &mut page) };
     answer(number, [Check::Same, Check::Page(page), Check::OtherLength][outcome as usize])
+}
+
+/// The answer of a check that names bytes.
+#[derive(Clone, Debug, PartialEq, Eq)]
+pub enum Changed {
+    Same,
+    /// The bytes of the first page whose fingerprint differs.
+    Bytes(std::ops::Range<u64>),
+    OtherLength,
+}
+
+/// Checks a file as `check_file` does, and names the bytes of the page.
+pub fn changed_range(sheet: &[u8], file: &[u8]) -> Result<Changed, Refusal> {
+    let (mut outcome, mut from, mut to) = (0, 0, 0);
+    let number = unsafe { raw::gfp_changed_range(sheet.as_ptr(), sheet.len(), file.as_ptr(), file.len(), &mut outcome, &mut from, &mut to) };
+    answer(number, [Changed::Same, Changed::Bytes(from..to), Changed::OtherLength][outcome as usize].clone())
 }
 
 /// The key of a degree that an element draws.

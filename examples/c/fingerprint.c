@@ -1,4 +1,4 @@
-/* The mark of a file as it is read: fingerprint KEY < FILE, the key in hexadecimal. Bench level. */
+/* The mark of a file as it is read: fingerprint KEY < FILE, the key in hexadecimal, or the stock key of degree 61. Bench level. */
 #include "gfp.h"
 #include <inttypes.h>
 #include <stdio.h>
@@ -7,14 +7,14 @@
 int main(int argc, char **argv) {
     static uint64_t words[GFP_TABLE_WORDS];
     static uint8_t part[65536];
-    uint64_t key = argc > 1 ? strtoull(argv[1], NULL, 16) : GFP_HOUSE_KEY;
+    uint64_t key = argc > 1 ? strtoull(argv[1], NULL, 16) : gfp_stock_key(61);
     uint64_t fingerprint, length;
     uint32_t refusal = gfp_begin(key, &fingerprint, &length);
-    if (refusal == 0)
+    if (refusal == GFP_OK)
         refusal = gfp_make_table(key, words, GFP_TABLE_WORDS);
-    for (size_t n; refusal == 0 && (n = fread(part, 1, sizeof part, stdin)) > 0;)
+    for (size_t n; refusal == GFP_OK && (n = fread(part, 1, sizeof part, stdin)) > 0;)
         refusal = gfp_feed_table(key, &fingerprint, &length, words, GFP_TABLE_WORDS, part, n);
-    if (refusal != 0) {
+    if (refusal != GFP_OK) {
         printf("refused %" PRIu32 "\n", refusal);
         return 1;
     }

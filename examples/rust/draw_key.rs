@@ -10,10 +10,12 @@ fn element(degree: u32) -> std::io::Result<u64> {
 }
 
 fn main() -> std::io::Result<()> {
-    // elements 0 and 1 have no minimal polynomial of degree 61; they are refused with 4, and another one is taken
+    // elements 0 and 1 have no minimal polynomial of degree 61; they are refused, and another one is taken
     let key = loop {
-        if let Ok(key) = gfp::draw(61, element(61)?) {
-            break key;
+        match gfp::draw(61, element(61)?) {
+            Ok(key) => break key,
+            Err(gfp::refusal::ELEMENT_OUT_OF_RANGE) => continue,
+            Err(number) => panic!("refused {number}"),
         }
     };
     println!("drew a key of degree {}, {}", 63 - key.leading_zeros(), if gfp::test_key(key).is_ok() { "accepted" } else { "refused" });

@@ -10,7 +10,7 @@ fn mark_of(key: u64, file: &[u8]) -> Result<Mark, u32> {
 }
 
 fn main() -> Result<(), u32> {
-    let key = gfp::HOUSE_KEY;
+    let key = gfp::stock_key(47).expect("a degree 8 to 63");
     let mut register = vec![("piezometer 3", mark_of(key, b"offset 183.2 kPa;")?), ("tilt 7", mark_of(key, b"offset 0.0125 mrad;")?)];
     // a day's entries arrive as a mark of their own, and go behind
     let day = mark_of(key, b" checked 2026-11-15;")?;

@@ -1,6 +1,5 @@
--- `accepted` is document 01's sentence: degree 8 to 63, and irreducible.
+-- `accepted` is document 01's sentence: degree 8 to 63, and irreducible. The claims of specs/Claims.antt, proved.
 use mathlib.Core.Path.{_≡_, sym, _∙_}
-use mathlib.Core.Logic.{_↔_}
 use mathlib.Core.Bool.{true, false, _&&_, not, true≢false}
 use Prim.Native.Nat.{ℕ, zero, suc, _^_, _≤_, _<_}
 use native.Mathlib.Nat.{le-trans, zero-lt-suc, not-suc-le-zero, lt-of-lt-of-le, le-of-suc-le-suc}
@@ -16,6 +15,7 @@ use Rattle.gf2.proofs.Monics.{word-degree}
 use Rattle.gf2.proofs.Residues.{rem-of-dvd, dvd-of-rem-zero}
 use Rattle.gf2.proofs.Irreducibles.{irreducible, no-divisor}
 use Rattle.acceptance.specs.Keys.{reducible, accepted}
+use Rattle.acceptance.specs.Claims.{AcceptedIff, AcceptedWords, KeyIff}
 
 big : (p : ℕ) → 1 ≤ degree p → 1 < p
 unfolding degree halvings
@@ -42,7 +42,7 @@ not-reducible p i = any-none (λ c. leb 2 c && eqb (rem c p) 0) (2 ^ degree p) (
         let two = leb-true 2 d (b .0) in
         no-divisor p d i two l (dvd-of-rem-zero (omega arith) p (eqb-true (rem d p) 0 (b .1)))
 
-pub accepted-iff : (p : ℕ) → (accepted p ≡ true) ↔ ((8 ≤ degree p) × (degree p ≤ 63) × Irreducible p)
+pub accepted-iff : AcceptedIff
 unfolding accepted
 accepted-iff p = (there, back)
   where
@@ -56,8 +56,7 @@ accepted-iff p = (there, back)
     back : (8 ≤ degree p) × (degree p ≤ 63) × Irreducible p → (leb 8 (degree p) && leb (degree p) 63 && not (reducible p)) ≡ true
     back h = rw (le-leb 8 (degree p) (h .0), le-leb (degree p) 63 (h .1), not-reducible p (h .2))
 
--- the same in document 01's words: no polynomial of degree 1 to k - 1 divides it
-pub accepted-words : (p : ℕ) → (accepted p ≡ true) ↔ ((8 ≤ degree p) × (degree p ≤ 63) × ((d : ℕ) → 1 ≤ degree d → degree d < degree p → Divides d p → ⊥))
+pub accepted-words : AcceptedWords
 accepted-words p = (there, back)
   where
     there : accepted p ≡ true → (8 ≤ degree p) × (degree p ≤ 63) × ((d : ℕ) → 1 ≤ degree d → degree d < degree p → Divides d p → ⊥)
@@ -85,8 +84,7 @@ accepted-small p e =
     lt-of-lt-of-le (deg-hi p (degree p) (degree-is p (accepted-pos p e)))
     (pow-mono {i = suc (degree p)} {j = 64} (omega (arith, accepted-iff p .0 e .1)))
 
--- of a key handed in, a number below 2^64: neither 1 nor 2 applies where it is accepted, and only there
-pub key-iff : (key : ℕ) → key < 2 ^ 64 → (accepted key ≡ true) ↔ ((ltb key 256 ≡ false) × (reducible key ≡ false))
+pub key-iff : KeyIff
 key-iff key lt = (there, back)
   where
     there : accepted key ≡ true → (ltb key 256 ≡ false) × (reducible key ≡ false)

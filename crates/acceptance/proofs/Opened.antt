@@ -7,12 +7,14 @@ use native.Mathlib.Omega.{arith}
 use lib.Dec.{leb}
 use borrow.Author.Tests.{ltb-false, leb-false}
 use Rattle.gf2.specs.Polynomials.{degree}
-use Rattle.gf2.specs.Moduli.{polynomial, Proper, modulusOf}
+use Rattle.gf2.specs.Moduli.{polynomial, Proper}
+use Rattle.gf2.specs.Opening.{modulusOf}
 use Rattle.gf2.specs.declared.Modulus.{Modulus}
 use Rattle.gf2.proofs.Monics.{word-proper, word-whole}
 use Rattle.refusals.specs.Refusals.{Test, firstOf}
 use Rattle.refusals.proofs.Laws.{Clear, more-clear, holds, fails}
-use Rattle.acceptance.specs.Keys.{accepted, keyTests, Opened}
+use Rattle.acceptance.specs.Keys.{accepted, keyTests}
+use Rattle.acceptance.specs.Opened.{Opened}
 use Rattle.acceptance.proofs.Laws.{accepted-iff, accepted-pos, accepted-small, key-iff}
 
 pub open-accepted : (key : ℕ) → accepted key ≡ true → Opened key (modulusOf key)

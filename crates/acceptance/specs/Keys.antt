@@ -1,13 +1,10 @@
 -- Accepted keys (document 01, "Polynomials and keys"), by trial division: plainly right, and run by nobody.
-use mathlib.Core.Path.{_≡_}
-use mathlib.Core.Bool.{Bool, true, _&&_, not}
+use mathlib.Core.Bool.{Bool, _&&_, not}
 use mathlib.Core.List.{List, [], _∷_}
 use Prim.Native.Nat.{ℕ, _^_}
 use lib.Dec.{leb, ltb, eqb}
 use Rattle.lists.specs.Lists.{anyBelow}
 use Rattle.gf2.specs.Polynomials.{degree, rem}
-use Rattle.gf2.specs.Moduli.{modulusOf}
-use Rattle.gf2.specs.declared.Modulus.{Modulus}
 use Rattle.refusals.specs.declared.Refusal.the-variants.{KeyBelow256, KeyReducible}
 use Rattle.refusals.specs.Refusals.{Test, _⇒_}
 
@@ -21,8 +18,3 @@ accepted p = leb 8 (degree p) && leb (degree p) 63 && not (reducible p)
 -- numbers 1 and 2, of a key handed in: a number below 2^64
 abbrev pub keyTests : ℕ → List Test
 keyTests key = ltb key 256 ⇒ KeyBelow256 ∷ reducible key ⇒ KeyReducible ∷ []
-
--- an opened key: it is accepted, and p is its degree with the coefficients below
-pub record Opened (key : ℕ) (p : Modulus) : Type 0 where
-  pub is-accepted : accepted key ≡ true
-  pub parts : p ≡ modulusOf key

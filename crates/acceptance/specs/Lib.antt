@@ -1,1 +1,3 @@
 pub mod Keys
+pub mod Claims
+pub mod Opened

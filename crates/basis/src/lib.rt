@@ -6,7 +6,7 @@ ghost use mathlib.Core.Logic.{_↔_};
 ghost use mathlib.Core.List.{map};
 ghost use Prim.Native.Nat.{_+_, _*_, _/_, _%_, _^_, _<_};
 ghost use lib.ListN.{length};
-ghost use Rattle.lists.specs.Lists.{Scratch};
+ghost use Rattle.lists.specs.Inner.{Scratch};
 ghost use Rattle.gf2.specs.Degrees.{Degree};
 ghost use Rattle.basis.specs.Rows.{sumOf, Independent, NoRelation, clear, addWhere};
 

@@ -6,14 +6,14 @@ use Prim.Native.Nat.{ℕ, _<_}
 use lib.Dec.{T}
 use lib.ListN.{length}
 use Rattle.lists.proofs.Lists.{rising, all-map}
-use Rattle.refusals.specs.Refusals.{numbers}
+use Rattle.refusals.specs.Lowest.{numbers}
 use Rattle.refusals.proofs.Laws.{first-is-lowest}
 use Rattle.acceptance.specs.Keys.{accepted}
 use Rattle.acceptance.proofs.Laws.{accepted-pos}
 use Rattle.files.specs.declared.Mark.{Mark}
 use Rattle.files.specs.Files.{fingerprint, markOf}
 use Rattle.book.specs.Runs.{Level, bookStep, run, Leaves}
-use Rattle.book.specs.Confusions.{Routes, Confuses}
+use Rattle.book.specs.Confusions.{Routes, Sound, Reaches, Confuses}
 use Rattle.book.specs.Claims.{Lists, Lowest, Confusions, Counted, Bursts}
 use Rattle.book.proofs.RunLaws.{Keeps, in-step}
 use Rattle.book.proofs.ConfusionLaws.{Equal, equal-iff, equal-keys, no-equal-key}
@@ -27,14 +27,6 @@ unfolding bookStep
 lowest-first L in-order key file c = first-is-lowest (L .tests key (length file) c) file (L .written file c) (in-order key (length file) c)
 
 -- ---- routes
-
--- what a route leaves is the file's fingerprint
-abbrev pub Sound : Routes → Type 0
-Sound Route = (key : ℕ) (file : List ℕ) (f : ℕ) → accepted key ≡ true → Route key file f → f ≡ fingerprint key file
-
--- and there is a route to every file
-abbrev pub Reaches : Routes → Type 0
-Reaches Route = (key : ℕ) (file : List ℕ) → Route key file (fingerprint key file)
 
 pub list-sound : (L : Level) → Lists L → Sound (Leaves L)
 unfolding markOf
@@ -54,7 +46,7 @@ module _ (Route : Routes) (sound : Sound Route) where
       record {
         is-accepted = c .is-accepted;
         of-degree = c .of-degree;
-        prints = sym (sound key a (c .left) (c .is-accepted) (c .one)) ∙ sound key b (c .left) (c .is-accepted) (c .other);
+        prints = sym (sound key a (c .fingerprint) (c .is-accepted) (c .one)) ∙ sound key b (c .fingerprint) (c .is-accepted) (c .other);
       }
 
   pub confusions : Confusions Route
@@ -69,7 +61,7 @@ module _ (Route : Routes) (sound : Sound Route) where
         record {
           is-accepted = e .is-accepted;
           of-degree = e .of-degree;
-          left = fingerprint key a;
+          fingerprint = fingerprint key a;
           one = reaches key a;
           other = rw (e .prints) (reaches key b);
         }

@@ -7,7 +7,8 @@ use mathlib.Core.List.{List}
 use Prim.Native.Nat.{ℕ, _+_, _*_, _^_, _≤_, _<_}
 use lib.ListN.{length}
 use Rattle.lists.specs.Lists.{All, Distinct}
-use Rattle.refusals.specs.Refusals.{numberOf, applying, lowest}
+use Rattle.refusals.specs.Refusals.{numberOf}
+use Rattle.refusals.specs.Lowest.{applying, lowest}
 use Rattle.acceptance.specs.Keys.{accepted}
 use Rattle.files.specs.declared.Mark.{Mark}
 use Rattle.files.specs.Files.{True, Bytes}

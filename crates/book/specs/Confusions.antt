@@ -17,10 +17,20 @@ Routes = ℕ → List ℕ → ℕ → Type 0
 pub record Confuses (Route : Routes) (k : ℕ) (a b : List ℕ) (key : ℕ) : Type 0 where
   pub is-accepted : accepted key ≡ true
   pub of-degree : degree key ≡ k
-  pub left : ℕ
-  pub one : Route key a left
-  pub other : Route key b left
+  pub fingerprint : ℕ
+  pub one : Route key a fingerprint
+  pub other : Route key b fingerprint
 
 -- the same as a test (`Counted`)
 unfoldable pub confused : List ℕ → List ℕ → ℕ → Bool
 confused a b key = accepted key && eqb (fingerprint key a) (fingerprint key b)
+
+-- ---- claims
+
+-- what a route leaves is the file's fingerprint
+abbrev pub Sound : Routes → Type 0
+Sound Route = (key : ℕ) (file : List ℕ) (f : ℕ) → accepted key ≡ true → Route key file f → f ≡ fingerprint key file
+
+-- and there is a route to every file
+abbrev pub Reaches : Routes → Type 0
+Reaches Route = (key : ℕ) (file : List ℕ) → Route key file (fingerprint key file)

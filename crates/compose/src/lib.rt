@@ -7,7 +7,7 @@ use marks::Running;
 use refusals::Refusal;
 ghost use mathlib.Core.Path.{_≡_};
 ghost use Rattle.refusals.specs.Refusals.{firstOf};
-ghost use Rattle.acceptance.specs.Keys.{Opened};
+ghost use Rattle.acceptance.specs.Opened.{Opened};
 ghost use Rattle.files.specs.Files.{joined, replaced};
 ghost use Rattle.marks.specs.Answers.{markIn, fed, fedUnder};
 ghost use Rattle.compose.specs.Composing.{marksTests, joinTests, joinBehind, joinInFront, pageTests, replacePage};

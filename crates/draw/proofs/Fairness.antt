@@ -10,7 +10,8 @@ use native.Mathlib.Omega.{arith}
 use lib.Dec.{T, leb, leb→le, eqb}
 use borrow.Author.Tests.{eqb-true, eq-eqb, ne-eqb}
 use Rattle.gf2.specs.Polynomials.{degree}
-use Rattle.lists.specs.Searches.{firstFrom, among}
+use Rattle.lists.specs.Searches.{firstFrom}
+use Rattle.lists.specs.Inner.{among}
 use Rattle.lists.proofs.Searches.{all-among}
 use Rattle.lists.proofs.Lists.{every, all-by-test}
 use Rattle.gf2.proofs.Degrees.{degree-is, degree-eq, deg-lo, deg-hi, deg-intro}

@@ -8,7 +8,8 @@ use Rattle.gf2.specs.Degrees.{Degree}
 use Rattle.fields.specs.Fields.{at}
 use Rattle.refusals.specs.declared.Refusal.the-variants.{DegreeNotListed, ElementOutOfRange}
 use Rattle.refusals.specs.Refusals.{Answer, Test, _⇒_, firstOf}
-use Rattle.lists.specs.Searches.{firstFrom, among}
+use Rattle.lists.specs.Searches.{firstFrom}
+use Rattle.lists.specs.Inner.{among}
 use Rattle.lists.specs.Counts.{countFrom}
 use Rattle.stock.specs.Stock.{stockKey}
 

@@ -3,7 +3,7 @@ ghost use mathlib.Core.Path.{_≡_};
 ghost use mathlib.Core.Bool.{_||_};
 ghost use Prim.Native.Nat.{_^_, _<_};
 ghost use lib.Dec.{leb, ltb};
-ghost use Rattle.lists.specs.Searches.{among};
+ghost use Rattle.lists.specs.Inner.{among};
 ghost use Rattle.gf2.specs.Polynomials.{_⊗_, rem};
 ghost use Rattle.gf2.specs.Moduli.{polynomial, Proper};
 ghost use Rattle.basis.specs.Rows.{Matrix};
@@ -86,7 +86,7 @@ pub fn draw(degree: u64, element: u64) -> Drawn
     if out_of_range(k, element) {
         return Drawn::Refused(Refusal::ElementOutOfRange);
     }
-    let stock = stock::stock_key(k);
+    let stock = stock::stock_key(degree);
     let p = gf2::modulus_of(stock);
     let key = minimal_polynomial(p, element);
     Drawn::Key(key)

@@ -32,10 +32,6 @@ value file = valueFrom 1 (bits file)
 abbrev pub Bytes : List ℕ → Type 0
 Bytes file = All (λ b. b < 256) file
 
--- no two files have one value
-abbrev pub ValuesDiffer : Type 0
-ValuesDiffer = (a b : List ℕ) → Bytes a → Bytes b → value a ≡ value b → a ≡ b
-
 -- Rabin's fingerprint, with Broder's order of bits and the leading 1
 unfoldable pub fingerprint : ℕ → List ℕ → ℕ
 fingerprint key file = rem key (value file)
@@ -69,3 +65,9 @@ replaced key m place old new =
       fingerprint = rem key (m .fingerprint ⊕ (fingerprint key old ⊕ fingerprint key new) * 2 ^ (8 * (m .length - (place + length old))));
       length = m .length;
     }
+
+-- ---- claims
+
+-- no two files have one value
+abbrev pub ValuesDiffer : Type 0
+ValuesDiffer = (a b : List ℕ) → Bytes a → Bytes b → value a ≡ value b → a ≡ b

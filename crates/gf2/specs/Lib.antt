@@ -2,3 +2,4 @@ pub mod Polynomials
 pub mod Degrees
 pub mod Moduli
 pub mod Criterion
+pub mod Opening

@@ -11,18 +11,6 @@ infixl 65 _⊕_
 unfoldable pub _⊕_ : ℕ → ℕ → ℕ
 a ⊕ b = bitXor a b
 
--- ---- the product: long multiplication without carries
-
--- by the bits of a, at most n of them
-unfoldable pub longProduct : ℕ → ℕ → ℕ → ℕ
-longProduct zero a b = 0
-longProduct (suc n) zero b = 0
-longProduct (suc n) (suc a) b = longProduct n (suc a / 2) b * 2 ⊕ suc a % 2 * b
-
-infixl 70 _⊗_
-unfoldable pub _⊗_ : ℕ → ℕ → ℕ
-a ⊗ b = longProduct a a b
-
 -- ---- the degree: the place of the highest one bit, counted from 0
 
 -- how often a can be halved before it is 1, at most n times
@@ -50,7 +38,17 @@ longDivision p k (suc n) (suc a) = reduce p k (longDivision p k n (suc a / 2) * 
 unfoldable pub rem : ℕ → ℕ → ℕ
 rem p a = longDivision p (degree p) a a
 
--- ---- divisors
+-- ---- claims: the residue by divisors
+
+-- the product: long multiplication without carries, by the bits of a, at most n of them
+unfoldable pub longProduct : ℕ → ℕ → ℕ → ℕ
+longProduct zero a b = 0
+longProduct (suc n) zero b = 0
+longProduct (suc n) (suc a) b = longProduct n (suc a / 2) b * 2 ⊕ suc a % 2 * b
+
+infixl 70 _⊗_
+unfoldable pub _⊗_ : ℕ → ℕ → ℕ
+a ⊗ b = longProduct a a b
 
 pub record Divides (d a : ℕ) : Type 0 where
   pub quotient : ℕ

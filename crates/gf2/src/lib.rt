@@ -6,7 +6,8 @@ ghost use Prim.Native.Nat.{_+_, _*_, _/_, _%_, _^_, _≤_, _<_};
 ghost use lib.Dec.{leb};
 ghost use Rattle.gf2.specs.Polynomials.{_⊗_, degree, rem};
 ghost use Rattle.gf2.specs.Degrees.{_⊗^_};
-ghost use Rattle.gf2.specs.Moduli.{polynomial, Proper, modulusOf};
+ghost use Rattle.gf2.specs.Moduli.{polynomial, Proper};
+ghost use Rattle.gf2.specs.Opening.{modulusOf};
 
 // A modulus: its degree, from 1 to 64, and the coefficients below t^degree, so that degree 64 fits a word.
 pub struct Modulus {

@@ -4,14 +4,17 @@ use mathlib.Core.List.{[]}
 use Prim.Native.Nat.{ℕ}
 use lib.Dec.{T}
 use Rattle.lists.proofs.Lists.{rising}
-use Rattle.refusals.specs.Refusals.{Answer, Done, valueOr, numbers}
+use Rattle.refusals.specs.Refusals.{Answer, Done, valueOr}
+use Rattle.refusals.specs.Lowest.{numbers}
 use Rattle.files.specs.declared.Mark.{Mark}
 use Rattle.files.specs.Files.{fingerprint, markOf}
 use Rattle.marks.specs.Feeding.{begin}
 use Rattle.marks.proofs.Laws.{begins}
+use Rattle.printing.proofs.Reports.{printed-fingerprint}
+use Rattle.book.specs.Confusions.{Sound, Reaches}
 use Rattle.book.specs.Claims.{Lists, Lowest, Confusions, Counted, Bursts}
 use Rattle.book.proofs.Guarantee as any-level
-use Rattle.gfp_bench.specs.Book.{Call, ByBits, ByTable, bookTests, bench, Route, ByCalls, Beginning}
+use Rattle.gfp_bench.specs.Book.{Call, ByBits, ByTable, bookTests, bench, Route, ByCalls, Beginning, Printed}
 use Rattle.gfp_bench.proofs.StepLaws.{keeps}
 
 -- the book's tests stand in the order of their numbers
@@ -35,11 +38,13 @@ begun : (key f : ℕ) → begin key ≡ Done (markOf key []) → begin key ≡ D
 unfolding markOf
 begun key f is b = ap (λ (x : Answer Unit Mark). valueOr (markOf key []) x .fingerprint) (sym b ∙ is)
 
-pub sound : any-level.Sound Route
+pub sound : Sound Route
 sound key file f a (ByCalls l) = any-level.list-sound bench lists key file f a l
 sound key file f a (Beginning e b) = begun key f (begins key a) b ∙ ap (fingerprint key) (sym e)
+sound key file f a (Printed input at line e text) =
+    printed-fingerprint input key at f a line (rw (← e) at text) ∙ ap (fingerprint key) e
 
-pub reaches : any-level.Reaches Route
+pub reaches : Reaches Route
 reaches key file = ByCalls (any-level.list-reaches bench key file)
 
 pub confusions : Confusions Route

@@ -1,5 +1,5 @@
 pub mod StepLaws
 pub mod Guarantee
+pub mod Calls
 pub mod Parts
 pub mod Examples
-pub mod Answers

@@ -3,12 +3,14 @@
 use mathlib.Core.Path.{_≡_}
 use mathlib.Core.List.{List, [], _∷_, _++_}
 use Prim.Native.Nat.{ℕ}
-use lib.ListN.{length}
+use lib.ListN.{length, drop}
 use Rattle.refusals.specs.Refusals.{Answer, Done, Test}
 use Rattle.acceptance.specs.Keys.{keyTests}
 use Rattle.files.specs.declared.Mark.{Mark}
 use Rattle.table_tests.specs.TableTests.{tableTests}
 use Rattle.marks.specs.Feeding.{sumTest, begin, feedBits, feedTable}
+use Rattle.printing.specs.declared.KeyLine.the-variants.{Key}
+use Rattle.printing.specs.Printing.{keyLine, report, printed}
 use Rattle.book.specs.Runs.{Level, Leaves}
 
 -- feeding, by bits or by tables. Feeding under the house key is feeding by its constant words (`feedHouse`).
@@ -38,8 +40,11 @@ Brings key file c = Unit {0}
 abbrev pub bench : Level
 bench = record { Call = Call; step = step; tests = bookTests; written = written; Brings = Brings }
 
--- The routes: a list of calls, and "any other call of ours that gives a file's fingerprint", as the beginning of a mark does with
--- the empty file's.
+-- The routes: a list of calls, and "any other call of ours that gives a file's fingerprint": the beginning of a mark, which gives
+-- the empty file's, and the printing program.
 pub data Route (key : ℕ) (file : List ℕ) (f : ℕ) : Type 0 where
   ByCalls : Leaves bench key file f → Route key file f
   Beginning : file ≡ [] → begin key ≡ Done (record { fingerprint = f; length = 0 }) → Route key file f
+  -- of an input whose first line is the key and whose other bytes are the file
+  Printed : (input : List ℕ) (at : ℕ) → keyLine input ≡ Key key at → drop at input ≡ file
+      → printed input ≡ report (record { key = key; fingerprint = f; length = length file }) → Route key file f

@@ -1,3 +1,3 @@
 pub mod Book
+pub mod Calls
 pub mod Parts
-pub mod Places

@@ -5,30 +5,11 @@ ghost use Rattle.refusals.specs.Refusals.{numberOf, stateOf, valueOr};
 ghost use Rattle.keys.specs.Testing.{testKey};
 ghost use Rattle.tables.specs.Tables.{makeTable, testTable};
 ghost use Rattle.marks.specs.Feeding.{begin, feedBits, feedTable, feedHouse};
-ghost use Rattle.marks.specs.Answers.{fed, markIn};
-ghost use Rattle.gfp_bench.specs.Places.{markAt};
+ghost use Rattle.stock.specs.Stock.{stockKey};
+ghost use Rattle.places.specs.Places.{markAt};
 use keys::Tested;
 use marks::Begun;
-use marks::Fed;
 use marks::Running;
-
-// The mark of an answer to the two places, and its number. On refusal the mark is the one that was handed in.
-pub fn store(answer: Fed, fingerprint: &mut u64, length: &mut u64) -> u32
-    ensures { λ r. ⌜ (r ≡ numberOf (fed answer)) × (markAt (now (fingerprint .exit)) (now (length .exit)) ≡ markIn (stateOf (fed answer))) ⌝ }
-{
-    match answer {
-        Fed::Next(m) => {
-            *fingerprint = m.fingerprint;
-            *length = m.length;
-            0
-        }
-        Fed::Refused(r, m) => {
-            *fingerprint = m.fingerprint;
-            *length = m.length;
-            refusals::number(r)
-        }
-    }
-}
 
 // Is the key accepted? Numbers 1, 2.
 #[no_mangle]
@@ -39,6 +20,14 @@ pub extern "C" fn gfp_test_key(key: u64) -> u32
         Tested::Accepted(_) => 0,
         Tested::Refused(r) => refusals::number(r),
     }
+}
+
+// The stock key of a degree 8 to 63: the smallest accepted key of that degree; 0 for every other number. No numbers.
+#[no_mangle]
+pub extern "C" fn gfp_stock_key(degree: u64) -> u64
+    ensures { λ r. ⌜ r ≡ stockKey degree ⌝ }
+{
+    stock::stock_key(degree)
 }
 
 // The mark of the empty file. Numbers 1, 2.
@@ -72,7 +61,7 @@ pub extern "C" fn gfp_feed(key: u64, fingerprint: &mut u64, length: &mut u64, pa
         fingerprint: *fingerprint,
         length: *length,
     };
-    store(m.feed(part), fingerprint, length)
+    places::store(m.feed(part), fingerprint, length)
 }
 
 // The key's table into the lent words. Numbers 1, 2, 5.
@@ -113,7 +102,7 @@ pub extern "C" fn gfp_feed_table(
         fingerprint: *fingerprint,
         length: *length,
     };
-    store(m.feed_table(words, part), fingerprint, length)
+    places::store(m.feed_table(words, part), fingerprint, length)
 }
 
 // The next part by the house key's table, which the library holds. Numbers 1, 2, 6, 7, 8.
@@ -134,5 +123,5 @@ pub extern "C" fn gfp_feed_house(
         fingerprint: *fingerprint,
         length: *length,
     };
-    store(m.feed_house(part), fingerprint, length)
+    places::store(m.feed_house(part), fingerprint, length)
 }

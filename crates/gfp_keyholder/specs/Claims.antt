@@ -13,7 +13,7 @@ use Rattle.refusals.specs.Refusals.{Done}
 use Rattle.acceptance.specs.Keys.{accepted}
 use Rattle.files.specs.Files.{Bytes}
 use Rattle.files.specs.Bursts.{Burst}
-use Rattle.lists.specs.Searches.{among}
+use Rattle.lists.specs.Inner.{among}
 use Rattle.lists.specs.Counts.{countFrom}
 use Rattle.book.specs.Confusions.{Routes, Confuses, confused}
 use Rattle.stock.specs.Stock.{stockKey}

@@ -1,11 +1,18 @@
--- A list of calls under the key 0x11B, from the empty file, with the book beside it: each kind of call refused and not, so that the
--- claims of Guarantee.antt are not empty. Both sides are computed.
-use mathlib.Core.Path.{_≡_, refl}
-use mathlib.Core.List.{List, [], _∷_}
+-- Lists of calls under the key 0x11B, from the empty file, with the book beside them: each kind of call refused and not. And a route
+-- of each kind. So the claims of Guarantee.antt are not empty.
+use mathlib.Core.Path.{_≡_, refl, _∙_}
+use mathlib.Core.List.{List, [], _∷_, _++_, map}
 use Prim.Native.Nat.{ℕ}
 use native.Mathlib.Omega.{arith}
+use lib.Dec.{ltb, ltb→lt}
+use lib.ListN.{replicate}
+use Rattle.refusals.specs.Refusals.{Done}
+use Rattle.sheets.specs.Layout.{bytesOf, fieldsOf, numberAt, numbersAt, bytesIn, sheetBytes, contentsIn}
+use Rattle.sheets.specs.Sheets.{filled, pageFingerprints, contentsOf, writeSheet, joinedPages, someUnreduced, readSheet, readPages}
+use Rattle.sheets.proofs.Guarantee.{written-reads}
+use Rattle.lists.proofs.Lists.{all-map, every, all-by-test}
 use Rattle.gf2.specs.Polynomials.{_⊕_, halvings, degree, reduce, longDivision, rem}
-use Rattle.lists.specs.Lists.{anyBelow}
+use Rattle.lists.specs.Lists.{anyBelow, overlay}
 use Rattle.acceptance.specs.Keys.{reducible}
 use Rattle.files.specs.declared.Mark.{Mark}
 use Rattle.files.specs.Files.{lowBits, bits, valueFrom, value, fingerprint, markOf, fedMark, joined, replaced}
@@ -16,10 +23,19 @@ use Rattle.book.specs.Runs.{bookStep, run, Honest}
 use Rattle.book.specs.Confusions.{Confuses}
 use Rattle.gfp_bench.specs.Book as bench-level
 use Rattle.gfp_bench.proofs.Examples as bench-examples
-use Rattle.gfp_site.specs.Book.{Call, Feeding, Behind, InFront, Page, step, bookTests, written, site, Route, OfBench}
+use Rattle.gfp_site.specs.Book.{Call, Feeding, Behind, InFront, Page, step, bookTests, written, site}
+use Rattle.gfp_site.specs.Book.{TruePages, Route, OfBench, InSheet, InPageField, ByReading, ByReadingPages}
+use Rattle.gfp_site.proofs.Guarantee.{bench-lists}
 
 abbrev mark : ℕ → ℕ → Mark
 mark f n = record { fingerprint = f; length = n }
+
+-- ---- feeding: the Bench level's list, by bits and by tables, refused and not
+
+pub the-feeding-list : run (step 0x11B) (mark 0x01 0) (map Feeding bench-examples.calls) ≡ (mark 0x9D 2, 0 ∷ 7 ∷ 5 ∷ 6 ∷ 0 ∷ [])
+the-feeding-list = bench-lists 0x11B (mark 0x01 0) bench-examples.calls ∙ bench-examples.the-list
+
+-- ---- joining and page change, refused and not, between feeding. Both sides are computed.
 
 pub calls : List Call
 calls =
@@ -61,8 +77,51 @@ the-list-is-honest = (
   ),
 )
 
--- a key that confuses two files: 00 00 and 01 1B under 0x11B
+-- ---- routes through the sheet of the file 41 42, with pages of 16 bytes
+
+abbrev two : List ℕ
+two = 0x41 ∷ 0x42 ∷ []
+
+sheet : List ℕ
+sheet =
+    0x47 ∷ 0x46 ∷ 0x50 ∷ 0x00 ∷ 0x01 ∷ 0x00 ∷ 0x00 ∷ 0x00 ∷ 0x00 ∷ 0x00 ∷ 0x00 ∷ 0x01 ∷ 0x1B ∷ 0x00 ∷ 0x00 ∷ 0x00 ∷ 0x02 ∷ 0x00 ∷ 0x10
+    ∷ 0x00 ∷ 0x00 ∷ 0x00 ∷ 0x00 ∷ 0x00 ∷ 0x00 ∷ 0x00 ∷ 0xAC ∷ 0x00 ∷ 0x00 ∷ 0x00 ∷ 0x00 ∷ 0x00 ∷ 0x00 ∷ 0x00 ∷ 0x9D ∷ []
+
+written-sheet : writeSheet 0x11B 16 two (replicate 35 0) ≡ Done sheet
+unfolding sheet writeSheet overlay sheetBytes bytesIn fieldsOf bytesOf contentsOf pageFingerprints filled
+    reducible anyBelow fingerprint value valueFrom bits lowBits rem longDivision reduce degree halvings _⊕_
+written-sheet = refl
+
+pub last-field : Route 0x11B two 0x9D
+unfolding sheet numberAt valueFrom bits lowBits
+last-field = InSheet 16 (replicate 35 0) sheet written-sheet refl
+
+pub page-field : Route 0x11B (two ++ replicate 14 0) 0xAC
+unfolding sheet filled numberAt valueFrom bits lowBits
+page-field = InPageField 16 0 two (replicate 35 0) sheet written-sheet (omega arith) refl refl
+
+true-pages : TruePages 0x11B two sheet (contentsOf 0x11B 16 two)
+unfolding sheet every contentsOf
+true-pages =
+    record {
+      bytes = all-map (λ b t. ltb→lt b 256 t) sheet (all-by-test (λ b. ltb b 256) sheet tt);
+      read = written-reads 0x11B 16 two (replicate 35 0) sheet (omega arith) written-sheet;
+      same-key = refl;
+      same-length = refl;
+      same-pages = refl;
+    }
+
+pub read-9D : Route 0x11B two 0x9D
+unfolding contentsOf fingerprint value valueFrom bits lowBits rem longDivision reduce degree halvings _⊕_
+read-9D = ByReading sheet (contentsOf 0x11B 16 two) true-pages refl
+
+pub read-AC : Route 0x11B (two ++ replicate 14 0) 0xAC
+unfolding sheet overlay filled contentsOf pageFingerprints readPages readSheet contentsIn numbersAt numberAt fingerprint value valueFrom bits lowBits
+    joinedPages joined someUnreduced markOf reducible anyBelow rem longDivision reduce degree halvings _⊕_
+read-AC = ByReadingPages two sheet (0x00 ∷ []) (0xAC ∷ []) (contentsOf 0x11B 16 two) 0 true-pages refl (omega arith) (omega arith) refl refl
+
+-- ---- a key that confuses two files: 00 00 and 01 1B under 0x11B
 pub both-5E : Confuses Route 8 (0x00 ∷ 0x00 ∷ []) (0x01 ∷ 0x1B ∷ []) 0x11B
 both-5E =
     let c = bench-examples.both-5E in
-    record { is-accepted = c .is-accepted; of-degree = c .of-degree; left = c .left; one = OfBench (c .one); other = OfBench (c .other) }
+    record { is-accepted = c .is-accepted; of-degree = c .of-degree; fingerprint = c .fingerprint; one = OfBench (c .one); other = OfBench (c .other) }

@@ -1,20 +1,23 @@
 -- Demand 3 at the Site level: the claims of crate book (specs/Claims.antt), proved.
-use mathlib.Core.Path.{_≡_, refl, sym, _∙_}
+use mathlib.Core.Path.{_≡_, refl, sym, ap, _∙_}
 use mathlib.Core.List.{List, map}
 use Prim.Native.Nat.{ℕ}
 use lib.Dec.{T}
 use Rattle.lists.proofs.Lists.{rising}
-use Rattle.refusals.specs.Refusals.{numbers}
+use Rattle.refusals.specs.Lowest.{numbers}
 use Rattle.acceptance.proofs.Laws.{accepted-small}
 use Rattle.files.specs.declared.Mark.{Mark}
+use Rattle.files.specs.Files.{fingerprint}
 use Rattle.book.specs.Runs.{run}
+use Rattle.book.specs.Confusions.{Sound, Reaches}
 use Rattle.book.specs.Claims.{Lists, Lowest, Confusions, Counted, Bursts}
 use Rattle.book.proofs.Guarantee as any-level
 use Rattle.book.proofs.RunLaws.{run-map}
-use Rattle.sheets.proofs.Guarantee.{written-fingerprint}
+use Rattle.sheets.proofs.Routes.{written-page, written-last, read-fingerprint, read-page}
 use Rattle.gfp_bench.specs.Book as bench-book
 use Rattle.gfp_bench.proofs.Guarantee as bench-level
-use Rattle.gfp_site.specs.Book.{Call, Feeding, Behind, InFront, Page, step, bookTests, site, Route, OfBench, ByCalls, InSheet}
+use Rattle.gfp_site.specs.Book.{Call, Feeding, Behind, InFront, Page, step, bookTests, site}
+use Rattle.gfp_site.specs.Book.{pageOf, Route, OfBench, ByCalls, InSheet, InPageField, ByReading, ByReadingPages}
 use Rattle.gfp_site.proofs.StepLaws.{keeps}
 
 -- the book's tests stand in the order of their numbers
@@ -41,12 +44,23 @@ bench-lists key m calls = run-map (bench-book.step key) (step key) Feeding (λ s
 
 -- ---- two different files
 
-pub sound : any-level.Sound Route
+pub sound : Sound Route
 sound key file f a (OfBench r) = bench-level.sound key file f a r
 sound key file f a (ByCalls l) = any-level.list-sound site lists key file f a l
-sound key file f a (InSheet s buffer after done e) = sym e ∙ written-fingerprint key s file buffer after (accepted-small key a) done
+sound key file f a (InSheet s buffer after done e) = sym e ∙ written-last key s file buffer after (accepted-small key a) done
+sound key file f a (InPageField s i whole buffer after done l page e) =
+    sym e ∙ written-page key s whole buffer after (accepted-small key a) done i l ∙ ap (fingerprint key) (sym page)
+sound key file f a (ByReading sheet x t e) =
+    sym e
+    ∙ read-fingerprint sheet file x (t .bytes) (t .read) (t .same-length) (t .same-pages)
+    ∙ ap (λ (k : ℕ). fingerprint k file) (t .same-key)
+sound key file f a (ByReadingPages whole sheet words after x i t done l m page e) =
+    sym e
+    ∙ read-page sheet whole x (t .bytes) (t .read) (t .same-length) (t .same-pages) words after i done l m
+    ∙ ap (λ (k : ℕ). fingerprint k (pageOf (x .pageSize) whole i)) (t .same-key)
+    ∙ ap (fingerprint key) (sym page)
 
-pub reaches : any-level.Reaches Route
+pub reaches : Reaches Route
 reaches key file = OfBench (bench-level.reaches key file)
 
 pub confusions : Confusions Route

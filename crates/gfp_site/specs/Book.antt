@@ -3,18 +3,18 @@
 use mathlib.Core.Path.{_≡_}
 use mathlib.Core.Bool.{not}
 use mathlib.Core.List.{List, [], _∷_, _++_}
-use Prim.Native.Nat.{ℕ, _+_}
+use Prim.Native.Nat.{ℕ, _+_, _*_, _<_}
 use lib.Dec.{ltb, eqb}
-use lib.ListN.{length, take, drop}
+use lib.ListN.{length, getD, take, drop}
 use Rattle.refusals.specs.declared.Refusal.the-variants.{TooLong, MarkNotReduced, PageLengthsDiffer, PagePastEnd}
 use Rattle.refusals.specs.Refusals.{Answer, Done, Test, _⇒_, passes}
 use Rattle.acceptance.specs.Keys.{keyTests}
 use Rattle.files.specs.declared.Mark.{Mark}
-use Rattle.files.specs.Files.{True, unreduced}
+use Rattle.files.specs.Files.{True, Bytes, unreduced}
 use Rattle.marks.specs.Feeding.{sumTest}
 use Rattle.compose.specs.Composing.{joinBehind, joinInFront, replacePage}
-use Rattle.sheets.specs.Layout.{version1, pagePlace, sheetLength, pageCount, numberAt}
-use Rattle.sheets.specs.Sheets.{writeSheet}
+use Rattle.sheets.specs.Layout.{version1, pagePlace, pageCount, numberAt, Contents}
+use Rattle.sheets.specs.Sheets.{filled, writeSheet, readSheet, readPages, pagesNow}
 use Rattle.book.specs.Runs.{Level, Leaves}
 use Rattle.gfp_bench.specs.Book as bench-level
 
@@ -61,10 +61,23 @@ Brings key file (Page place old new) = take (length old) (drop place file) ≡ o
 abbrev pub site : Level
 site = record { Call = Call; step = step; tests = bookTests; written = written; Brings = Brings }
 
--- the 8 bytes behind the page fingerprints of a written sheet
-abbrev pub lastField : ℕ → List ℕ → List ℕ → ℕ
-lastField s file after =
-    numberAt (pagePlace version1 (pageCount s (length file))) 8 (take (sheetLength version1 (pageCount s (length file))) after)
+-- ---- the routes
+
+-- page i of a file, of s bytes, filled up
+abbrev pub pageOf : ℕ → List ℕ → ℕ → List ℕ
+pageOf s file i = filled s (take s (drop (i * s) file))
+
+-- the fingerprint in field i of a sheet: page i's, and the file's behind the last page's
+abbrev pub fieldAt : List ℕ → ℕ → ℕ
+fieldAt sheet i = numberAt (pagePlace version1 i) (version1 .fingerprintWidth) sheet
+
+-- a sheet under the key that reads as the numbers x, with the fingerprints of the file's pages
+pub record TruePages (key : ℕ) (file sheet : List ℕ) (x : Contents) : Type 0 where
+  pub bytes : Bytes sheet
+  pub read : readSheet sheet ≡ Done x
+  pub same-key : x .key ≡ key
+  pub same-length : x .length ≡ length file
+  pub same-pages : x .pages ≡ pagesNow x file
 
 -- The routes: the Bench level's, a list of this level's calls, and "any other call of ours that gives a file's fingerprint [..] from
 -- its contents or from true marks and old bytes [..], as the writing of a sheet does with its last field".
@@ -72,4 +85,12 @@ pub data Route (key : ℕ) (file : List ℕ) (f : ℕ) : Type 0 where
   OfBench : bench-level.Route key file f → Route key file f
   ByCalls : Leaves site key file f → Route key file f
   -- the last field of a written sheet
-  InSheet : (s : ℕ) (buffer after : List ℕ) → writeSheet key s file buffer ≡ Done after → lastField s file after ≡ f → Route key file f
+  InSheet : (s : ℕ) (buffer after : List ℕ) → writeSheet key s file buffer ≡ Done after → fieldAt after (pageCount s (length file)) ≡ f → Route key file f
+  -- the field of a page of a written sheet: the file is that page
+  InPageField : (s i : ℕ) (whole buffer after : List ℕ) → writeSheet key s whole buffer ≡ Done after → i < pageCount s (length whole)
+      → file ≡ pageOf s whole i → fieldAt after i ≡ f → Route key file f
+  -- what reading gives of a sheet with true page fingerprints: the file's fingerprint,
+  ByReading : (sheet : List ℕ) (x : Contents) → TruePages key file sheet x → x .fingerprint ≡ f → Route key file f
+  -- and a page's, in a lent word
+  ByReadingPages : (whole sheet words after : List ℕ) (x : Contents) (i : ℕ) → TruePages key whole sheet x → readPages sheet words ≡ Done after
+      → i < length (x .pages) → i < length words → file ≡ pageOf (x .pageSize) whole i → getD after i 0 ≡ f → Route key file f

@@ -1,3 +1,4 @@
 pub mod Book
+pub mod Calls
 pub mod Places
 pub mod Ranges

@@ -2,7 +2,7 @@
 // lent place and buffer keeps what it held. The guarantee over lists of these calls stands in specs/ and proofs/.
 ghost use mathlib.Core.Path.{_≡_};
 ghost use Rattle.refusals.specs.Refusals.{numberOf, stateOf, valueOr};
-ghost use Rattle.gfp_bench.specs.Places.{markAt};
+ghost use Rattle.places.specs.Places.{markAt};
 ghost use Rattle.compose.specs.Composing.{joinBehind, joinInFront, replacePage};
 ghost use Rattle.search.specs.Searching.{search, placesAfter};
 ghost use Rattle.sheets.specs.Sheets.{writeSheet, readSheet, sheetRead, readPages, checkSheet, changedRange, lengthFor};
@@ -16,18 +16,18 @@ use sheets::Checked;
 use sheets::Reading;
 use sheets::SheetLength;
 
-// The file of the mark (other, bytes) goes behind the file of the mark in the two places. Numbers 1, 2, 7, 8.
+// The file of the mark (other_fingerprint, other_length) goes behind the file of the mark in the two places. Numbers 1, 2, 7, 8.
 #[no_mangle]
 pub extern "C" fn gfp_join_behind(
     key: u64,
     fingerprint: &mut u64,
     length: &mut u64,
-    other: u64,
-    bytes: u64,
+    other_fingerprint: u64,
+    other_length: u64,
 ) -> u32
     ensures { λ r. ⌜
-        (r ≡ numberOf (joinBehind key (markAt (now (fingerprint .entry)) (now (length .entry))) (markAt other bytes)))
-        × (markAt (now (fingerprint .exit)) (now (length .exit)) ≡ stateOf (joinBehind key (markAt (now (fingerprint .entry)) (now (length .entry))) (markAt other bytes)))
+        (r ≡ numberOf (joinBehind key (markAt (now (fingerprint .entry)) (now (length .entry))) (markAt «other_fingerprint» «other_length»)))
+        × (markAt (now (fingerprint .exit)) (now (length .exit)) ≡ stateOf (joinBehind key (markAt (now (fingerprint .entry)) (now (length .entry))) (markAt «other_fingerprint» «other_length»)))
         ⌝ }
 {
     let m = Running {
@@ -36,24 +36,24 @@ pub extern "C" fn gfp_join_behind(
         length: *length,
     };
     let behind = Mark {
-        fingerprint: other,
-        length: bytes,
+        fingerprint: other_fingerprint,
+        length: other_length,
     };
-    gfp_bench::store(compose::join_behind(m, behind), fingerprint, length)
+    places::store(compose::join_behind(m, behind), fingerprint, length)
 }
 
-// The file of the mark (other, bytes) goes in front. Numbers 1, 2, 7, 8.
+// The file of the mark (other_fingerprint, other_length) goes in front. Numbers 1, 2, 7, 8.
 #[no_mangle]
 pub extern "C" fn gfp_join_in_front(
     key: u64,
     fingerprint: &mut u64,
     length: &mut u64,
-    other: u64,
-    bytes: u64,
+    other_fingerprint: u64,
+    other_length: u64,
 ) -> u32
     ensures { λ r. ⌜
-        (r ≡ numberOf (joinInFront key (markAt (now (fingerprint .entry)) (now (length .entry))) (markAt other bytes)))
-        × (markAt (now (fingerprint .exit)) (now (length .exit)) ≡ stateOf (joinInFront key (markAt (now (fingerprint .entry)) (now (length .entry))) (markAt other bytes)))
+        (r ≡ numberOf (joinInFront key (markAt (now (fingerprint .entry)) (now (length .entry))) (markAt «other_fingerprint» «other_length»)))
+        × (markAt (now (fingerprint .exit)) (now (length .exit)) ≡ stateOf (joinInFront key (markAt (now (fingerprint .entry)) (now (length .entry))) (markAt «other_fingerprint» «other_length»)))
         ⌝ }
 {
     let m = Running {
@@ -62,10 +62,10 @@ pub extern "C" fn gfp_join_in_front(
         length: *length,
     };
     let front = Mark {
-        fingerprint: other,
-        length: bytes,
+        fingerprint: other_fingerprint,
+        length: other_length,
     };
-    gfp_bench::store(compose::join_in_front(m, front), fingerprint, length)
+    places::store(compose::join_in_front(m, front), fingerprint, length)
 }
 
 // The new page stands where the old one stood, from the byte at the given place on. Numbers 1, 2, 7, 8, 9, 10.
@@ -75,12 +75,12 @@ pub extern "C" fn gfp_replace_page(
     fingerprint: &mut u64,
     length: &mut u64,
     place: u64,
-    old: &[u8],
-    new: &[u8],
+    old_page: &[u8],
+    new_page: &[u8],
 ) -> u32
     ensures { λ r. ⌜
-        (r ≡ numberOf (replacePage key (markAt (now (fingerprint .entry)) (now (length .entry))) place (now (old .entry)) (now (new .entry))))
-        × (markAt (now (fingerprint .exit)) (now (length .exit)) ≡ stateOf (replacePage key (markAt (now (fingerprint .entry)) (now (length .entry))) place (now (old .entry)) (now (new .entry))))
+        (r ≡ numberOf (replacePage key (markAt (now (fingerprint .entry)) (now (length .entry))) place (now («old_page» .entry)) (now («new_page» .entry))))
+        × (markAt (now (fingerprint .exit)) (now (length .exit)) ≡ stateOf (replacePage key (markAt (now (fingerprint .entry)) (now (length .entry))) place (now («old_page» .entry)) (now («new_page» .entry))))
         ⌝ }
 {
     let m = Running {
@@ -88,8 +88,8 @@ pub extern "C" fn gfp_replace_page(
         fingerprint: *fingerprint,
         length: *length,
     };
-    gfp_bench::store(
-        compose::replace_page(m, place, old, new),
+    places::store(
+        compose::replace_page(m, place, old_page, new_page),
         fingerprint,
         length,
     )
@@ -124,13 +124,13 @@ pub extern "C" fn gfp_search(
 
 // The sheet of a file, with pages of the given size, into the lent bytes; further bytes keep their value. Numbers 1, 2, 7, 12, 13.
 #[no_mangle]
-pub extern "C" fn gfp_write_sheet(key: u64, size: u64, file: &[u8], sheet: &mut [u8]) -> u32
+pub extern "C" fn gfp_write_sheet(key: u64, page_size: u64, file: &[u8], sheet: &mut [u8]) -> u32
     ensures { λ r. ⌜
-        (r ≡ numberOf (writeSheet key size (now (file .entry)) (now (sheet .entry))))
-        × (now (sheet .exit) ≡ stateOf (writeSheet key size (now (file .entry)) (now (sheet .entry))))
+        (r ≡ numberOf (writeSheet key «page_size» (now (file .entry)) (now (sheet .entry))))
+        × (now (sheet .exit) ≡ stateOf (writeSheet key «page_size» (now (file .entry)) (now (sheet .entry))))
         ⌝ }
 {
-    refusals::number_of(sheet_writing::write(key, size, file, sheet))
+    refusals::number_of(sheet_writing::write(key, page_size, file, sheet))
 }
 
 // The numbers of a sheet into five places. Numbers 14 (size, letters, version), 1, 2, 12, 14 (total, fingerprints, joining), in this order.
@@ -139,21 +139,21 @@ pub extern "C" fn gfp_read_sheet(
     sheet: &[u8],
     key: &mut u64,
     length: &mut u64,
-    size: &mut u64,
+    page_size: &mut u64,
     pages: &mut u64,
     fingerprint: &mut u64,
 ) -> u32
     ensures { λ r. ⌜
         (r ≡ numberOf (sheetRead (readSheet (now (sheet .entry)))))
-        × (sheetAt (now (key .exit)) (now (length .exit)) (now (size .exit)) (now (pages .exit)) (now (fingerprint .exit))
-        ≡ valueOr (sheetAt (now (key .entry)) (now (length .entry)) (now (size .entry)) (now (pages .entry)) (now (fingerprint .entry))) (sheetRead (readSheet (now (sheet .entry)))))
+        × (sheetAt (now (key .exit)) (now (length .exit)) (now («page_size» .exit)) (now (pages .exit)) (now (fingerprint .exit))
+        ≡ valueOr (sheetAt (now (key .entry)) (now (length .entry)) (now («page_size» .entry)) (now (pages .entry)) (now (fingerprint .entry))) (sheetRead (readSheet (now (sheet .entry)))))
         ⌝ }
 {
     match sheet_reading::read(sheet) {
         Reading::Sheet(x) => {
             *key = x.key;
             *length = x.length;
-            *size = x.size;
+            *page_size = x.size;
             *pages = x.pages;
             *fingerprint = x.fingerprint;
             0
@@ -162,7 +162,8 @@ pub extern "C" fn gfp_read_sheet(
     }
 }
 
-// The page fingerprints of a sheet into lent places, the first ones as far as they reach; further places keep their value. Numbers as above.
+// The page fingerprints of a sheet into lent places, the first ones as far as they reach; further places keep their value.
+// Numbers 14, 1, 2, 12, 14, in this order, as above.
 #[no_mangle]
 pub extern "C" fn gfp_read_pages(sheet: &[u8], fingerprints: &mut [u64]) -> u32
     ensures { λ r. ⌜
@@ -173,7 +174,7 @@ pub extern "C" fn gfp_read_pages(sheet: &[u8], fingerprints: &mut [u64]) -> u32
     refusals::number_of(sheet_reading::read_pages(sheet, fingerprints))
 }
 
-// A file checked against a sheet: 0 for same, 1 for a page with its place, 2 for another length. All of reading's numbers, then 7.
+// A file checked against a sheet: 0 for same, 1 for a page with its place, 2 for another length. Numbers 14, 1, 2, 12, 14, 7, in this order.
 #[no_mangle]
 pub extern "C" fn gfp_check_file(
     sheet: &[u8],
@@ -207,7 +208,7 @@ pub extern "C" fn gfp_check_file(
 }
 
 // The bytes of the first changed page of a file, from the first to before the last: outcome 0 for same, 1 for a page, 2 for another length;
-// from and to are 0 where no page is named. All of reading's numbers, then 7.
+// from and to are 0 where no page is named. Numbers 14, 1, 2, 12, 14, 7, in this order.
 #[no_mangle]
 pub extern "C" fn gfp_changed_range(
     sheet: &[u8],

@@ -3,12 +3,13 @@
 use mathlib.Core.Path.{_≡_, sym, ap, _∙_}
 use mathlib.Core.List.{List, _++_}
 use Prim.Native.Nat.{ℕ, _^_, _<_}
-use Rattle.gf2.specs.Moduli.{modulusOf}
+use Rattle.gf2.specs.Opening.{modulusOf}
 use Rattle.gf2.specs.declared.Modulus.{Modulus}
 use Rattle.refusals.specs.declared.Refusal.{Refusal}
 use Rattle.refusals.specs.Refusals.{Refused, Test, firstOf}
 use Rattle.refusals.proofs.Laws.{done-clear, more-refused}
-use Rattle.acceptance.specs.Keys.{keyTests, Opened}
+use Rattle.acceptance.specs.Keys.{keyTests}
+use Rattle.acceptance.specs.Opened.{Opened}
 use Rattle.acceptance.proofs.Laws.{key-iff}
 use Rattle.keys.specs.declared.Tested.{Tested}
 use Rattle.keys.specs.declared.Tested.the-variants as cases

@@ -6,7 +6,8 @@ ghost use Prim.Native.Nat.{_+_, _-_, _/_, _^_, _≤_, _<_};
 ghost use lib.ListN.{length, getD};
 ghost use Rattle.gf2.specs.Polynomials.{_⊕_};
 ghost use Rattle.gf2.specs.Moduli.{polynomial, Proper};
-ghost use Rattle.lists.specs.Lists.{listFrom, Scratch};
+ghost use Rattle.lists.specs.Lists.{listFrom};
+ghost use Rattle.lists.specs.Inner.{Scratch};
 ghost use Rattle.acceptance.specs.Keys.{reducible};
 ghost use Rattle.basis.specs.Rows.{Independent};
 ghost use Rattle.keys.specs.Squares.{square, evenRoot, oddPart, folded};
@@ -117,7 +118,7 @@ pub fn test(key: u64) -> Tested
         return Tested::Refused(Refusal::KeyBelow256);
     }
     let p = gf2::modulus_of(key);
-    if key == stock::stock_key(p.degree) {
+    if key == stock::stock_key(p.degree as u64) {
         return Tested::Accepted(p);
     }
     if !irreducible(p) {

@@ -1,12 +1,13 @@
--- Two lists of one length that agree outside k neighbouring places: the parts before and behind these places are equal.
-use mathlib.Core.Path.{_≡_, sym, ap, ap₂, _∙_}
+-- Parts of equal lists: two lists of one length that agree outside k neighbouring places have equal parts before and behind these
+-- places; and what stands beside a common part is equal.
+use mathlib.Core.Path.{_≡_, refl, sym, ap, ap₂, _∙_}
 use mathlib.Core.Logic.{_≢_, _⊎_, inl, inr}
 use mathlib.Core.List.{List, _++_, append-assoc}
 use Prim.Native.Nat.{ℕ, _+_, _≤_, _<_, min}
 use native.Mathlib.Decide.{ℕ-discrete}
 use native.Mathlib.Omega.{arith}
-use lib.ListN.{length, getD, take, drop, length-take, length-drop, take-append-drop}
-use lib.Seq.{ext-getD, getD-take, getD-drop}
+use lib.ListN.{length, getD, take, drop, length-append, length-take, length-drop, take-append-drop}
+use lib.Seq.{ext-getD, getD-take, getD-drop, take-at, drop-at}
 
 -- before the place `first`, k entries from there on, and those behind
 pub three-parts : {A : Type 0} (first k : ℕ) (l : List A) → take first l ++ take k (drop first l) ++ drop k (drop first l) ≡ l
@@ -47,3 +48,14 @@ module _ {A : Type 0} (d : A) (first k : ℕ) (a b : List A) (len : length a ≡
   -- the second list is the first with another middle
   pub other-middle : b ≡ take first a ++ take k (drop first b) ++ drop k (drop first a)
   other-middle = sym (ap₂ (λ x y. x ++ take k (drop first b) ++ y) same-front same-back ∙ three-parts first k b)
+
+module _ {A : Type 0} (a b common : List A) where
+  pub behind-common : common ++ a ≡ common ++ b → a ≡ b
+  behind-common e =
+      sym (drop-at common a (length common) refl) ∙ ap (drop (length common)) e ∙ drop-at common b (length common) refl
+
+  pub before-common : a ++ common ≡ b ++ common → a ≡ b
+  before-common e =
+      sym (take-at a common (length a) refl)
+      ∙ ap (take (length a)) e
+      ∙ take-at b common (length a) (omega (arith, ap length e, length-append a common, length-append b common))

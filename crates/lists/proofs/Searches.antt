@@ -11,7 +11,8 @@ use lib.Dec.{eqb}
 use borrow.Author.Tests.{eqb-true, eq-eqb, ne-eqb}
 use types.Run.{OneOf}
 use Rattle.lists.specs.Lists.{All, anyBelow}
-use Rattle.lists.specs.Searches.{firstFrom, among}
+use Rattle.lists.specs.Searches.{firstFrom}
+use Rattle.lists.specs.Inner.{among}
 use Rattle.lists.proofs.Truth.{or-neither}
 
 -- ---- whether some number below n passes

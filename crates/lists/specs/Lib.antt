@@ -1,3 +1,4 @@
 pub mod Lists
 pub mod Searches
 pub mod Counts
+pub mod Inner

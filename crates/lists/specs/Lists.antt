@@ -1,6 +1,5 @@
 -- Lists of numbers: the values of a function, the numbers that pass a test and whether there is one, whether two lists are the same, numbers
 -- written to a lent list, what holds of every entry, and that no entry stands twice.
-use mathlib.Core.Path.{_≡_}
 use mathlib.Core.Logic.{_≢_}
 use mathlib.Core.Bool.{Bool, true, false, _&&_, _||_, cond}
 use mathlib.Core.List.{List, [], _∷_, _++_}
@@ -33,10 +32,6 @@ same (x ∷ xs) (y ∷ ys) = eqb x y && same xs ys
 -- numbers written to a lent list: the first ones, as far as it reaches; its further entries keep their value
 unfoldable pub overlay : List ℕ → List ℕ → List ℕ
 overlay ns lent = take (length lent) ns ++ drop (length ns) lent
-
--- a lent list whose entries a promise leaves free: it keeps its length
-abbrev pub Scratch : {A : Type 0} → List A → List A → Type 0
-Scratch before after = length after ≡ length before
 
 abbrev pub All : (ℕ → Type 0) → List ℕ → Type 0
 All P [] = Unit {0}

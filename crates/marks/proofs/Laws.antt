@@ -11,7 +11,8 @@ use Rattle.refusals.specs.declared.Refusal.the-variants.{TooLong, MarkNotReduce
 use Rattle.refusals.specs.Refusals.{Done, Refused, Test, _⇒_, firstOf, longest, passes, judged}
 use Rattle.refusals.proofs.Laws.{Clear, skip, clear-done, more-clear}
 use Rattle.refusals.proofs.Lengths.{sum-within}
-use Rattle.acceptance.specs.Keys.{accepted, Opened}
+use Rattle.acceptance.specs.Keys.{accepted}
+use Rattle.acceptance.specs.Opened.{Opened}
 use Rattle.acceptance.proofs.Opened.{open-accepted, opened-first, opened-whole, residue-below}
 use Rattle.files.specs.declared.Mark.{Mark}
 use Rattle.files.specs.Files.{bits, valueFrom, markOf, unreduced, fedMark}

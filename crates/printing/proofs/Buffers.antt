@@ -9,7 +9,8 @@ use lib.Seq.{length-take-le, take-at, drop-append-add, drop-drop, take-length, t
 use borrow.Rule.Slice.PartMut.{midOf, putMid, post-is}
 use Rattle.io.specs.Counts.{Counts}
 use Rattle.io.specs.Digits.{digits, Fewest}
-use Rattle.printing.specs.Printing.{numeral, putAt}
+use Rattle.printing.specs.Printing.{numeral}
+use Rattle.printing.specs.Buffers.{putAt}
 use Rattle.printing.proofs.Numerals.{numeral-is, fewest-le}
 
 module _ (out : List ℕ) (at : ℕ) where

@@ -1,7 +1,7 @@
 -- Laws of the key's line: the value of a byte, one digit more, which tests make it a key, and how many bytes decide it.
 use mathlib.Core.Path.{_≡_, refl, sym, ap, _∙_}
 use mathlib.Core.Bool.{Bool, true, false, cond, _&&_, and-false}
-use mathlib.Core.List.{List, [], _∷_}
+use mathlib.Core.List.{List, [], _∷_, _++_}
 use Prim.Native.Nat.{ℕ, zero, suc, _+_, _-_, _*_, _^_, _≤_, _<_, min}
 use lib.Pow.{pow-add}
 use native.Mathlib.Nat.{zero-add, min-zero, zero-min, suc-min-suc, min-eq-left, min-eq-right}
@@ -9,8 +9,8 @@ use native.Mathlib.Decide.{decLe, decLt}
 use native.Mathlib.Numerals.{add-one}
 use native.Mathlib.Omega.{arith}
 use lib.Dec.{leb, ltb, eqb}
-use lib.ListN.{length, getD, take, drop, length-take}
-use lib.Seq.{drop-cons, take-length, take-take}
+use lib.ListN.{length, getD, take, drop, length-take, length-append}
+use lib.Seq.{drop-cons, take-length, take-take, take-append-le, take-append-seam}
 use borrow.Author.Tests.{ltb-true, lt-ltb, le-ltb, le-leb, lt-leb}
 use Rattle.bytes.specs.Bytes.{indexOf, indexAfter, slice}
 use Rattle.lists.proofs.Truth.{and-both}
@@ -83,6 +83,9 @@ module _ (n : ℕ) (input : List ℕ) where
   unfolding keyBefore
   key-digits h lo hi e = rw (lt-ltb n (length input) h, le-leb 1 n lo, le-leb n 16 hi, e)
 
+no-key : {key at : ℕ} → NoKey ≡ Key key at → ⊥
+no-key f = let z : _≡_ {A = ℕ} 0 1 = cc in omega arith
+
 -- the file begins within the input or at its end
 pub key-within : (input : List ℕ) (key at : ℕ) → keyLine input ≡ Key key at → at ≤ length input
 unfolding keyLine keyBefore
@@ -91,14 +94,11 @@ key-within input key at e = go (ltb n (length input)) (leb 1 n && leb n 16) (all
     n : ℕ
     n = indexOf 10 input
 
-    none : NoKey ≡ Key key at → ⊥
-    none f = let z : _≡_ {A = ℕ} 0 1 = cc in omega arith
-
     go : (a b c : Bool) → ltb n (length input) ≡ a → cond (a && b && c) (Key (hexFrom 0 (take n input)) (n + 1)) NoKey ≡ Key key at → at ≤ length input
     go true true true t f = let g : n + 1 ≡ at = cc in omega (arith, ltb-true n (length input) t)
-    go true true false t f = absurd (none f)
-    go true false c t f = absurd (none f)
-    go false b c t f = absurd (none f)
+    go true true false t f = absurd (no-key f)
+    go true false c t f = absurd (no-key f)
+    go false b c t f = absurd (no-key f)
 
 -- ---- the first 17 bytes decide the key's line
 
@@ -139,3 +139,24 @@ head-decides input = go (decLe (indexOf 10 input) 16)
     go (yes q) =
         let e : indexOf 10 (take 17 input) ≡ n = index-take 10 17 input ∙ min-eq-right (omega arith) in
         rw e (line-same n input (omega arith))
+
+-- ---- what comes behind a line that gives a key does not change it
+
+line-stays : (n : ℕ) (input more : List ℕ) → n < length input → keyBefore n (input ++ more) ≡ keyBefore n input
+unfolding keyBefore
+line-stays n input more h =
+    rw (take-append-le n input more (omega arith), lt-ltb n (length input) h, lt-ltb n (length (input ++ more)) (omega (arith, length-append input more)))
+
+index-stays : (b : ℕ) (input more : List ℕ) → indexOf b input < length input → indexOf b (input ++ more) ≡ indexOf b input
+index-stays b input more h =
+    let e : indexOf b input ≡ min (length input) (indexOf b (input ++ more))
+    = ap (indexOf b) (sym (take-append-seam input more)) ∙ index-take b (length input) (input ++ more) in
+    omega arith
+
+pub key-stays : (input more : List ℕ) (key at : ℕ) → keyLine input ≡ Key key at → keyLine (input ++ more) ≡ Key key at
+unfolding keyLine
+key-stays input more key at e = go (decLt (indexOf 10 input) (length input))
+  where
+    go : Dec (indexOf 10 input < length input) → keyBefore (indexOf 10 (input ++ more)) (input ++ more) ≡ Key key at
+    go (yes h) = rw (index-stays 10 input more h) (line-stays (indexOf 10 input) input more h ∙ e)
+    go (no h) = absurd (no-key (sym (no-newline (indexOf 10 input) input (omega arith)) ∙ e))

@@ -85,9 +85,3 @@ printedAfter (Key key at) input = answerText (markFile key (drop at input))
 -- what the program prints on an input
 unfoldable pub printed : List ℕ → List ℕ
 printed input = printedAfter (keyLine input) input
-
--- ---- a buffer
-
--- the buffer with a text at a place
-abbrev pub putAt : List ℕ → ℕ → List ℕ → List ℕ
-putAt out at text = take at out ++ text ++ drop (at + length text) out

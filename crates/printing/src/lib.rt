@@ -8,7 +8,8 @@ ghost use mathlib.Core.List.{_++_};
 ghost use lib.ListN.{length};
 ghost use Rattle.io.specs.Counts.{Counts};
 ghost use Rattle.gf2.specs.Polynomials.{degree};
-ghost use Rattle.printing.specs.Printing.{digit, allDigits, hexFrom, keyLine, numeral, report, refused, noKey, putAt};
+ghost use Rattle.printing.specs.Printing.{digit, allDigits, hexFrom, keyLine, numeral, report, refused, noKey};
+ghost use Rattle.printing.specs.Buffers.{putAt};
 
 // What the first line of an input says: the key, and the place where the file begins.
 pub enum KeyLine {

@@ -8,7 +8,7 @@ use Rattle.stock.specs.Stock.{stockKey}
 use Rattle.stock.proofs.Sieve.{left}
 use Rattle.stock.proofs.Table.{divisors, entry-stock}
 use Rattle.fields.specs.Fields.{terms, compose, at}
-use Rattle.lists.specs.Searches.{among}
+use Rattle.lists.specs.Inner.{among}
 use Rattle.draw.specs.Drawing.{draw}
 use Rattle.draw.proofs.Fairness.{key-only}
 

@@ -15,7 +15,8 @@ use Rattle.refusals.specs.declared.Refusal.{Refusal}
 use Rattle.refusals.specs.declared.Refusal.the-variants.{KeyBelow256, KeyReducible, DegreeNotListed, ElementOutOfRange, TableSize}
 use Rattle.refusals.specs.declared.Refusal.the-variants.{TableWord, TooLong, MarkNotReduced, PageLengthsDiffer, PagePastEnd}
 use Rattle.refusals.specs.declared.Refusal.the-variants.{EmptyPattern, PageSize, BufferShort, SheetMalformed}
-use Rattle.refusals.specs.Refusals.{number, Done, Refused, numberOf, stateOf, Test, _⇒_, firstOf, numbers, applying, least, lowest}
+use Rattle.refusals.specs.Refusals.{number, Answer, Done, Refused, numberOf, stateOf, Test, _⇒_, firstOf}
+use Rattle.refusals.specs.Lowest.{numbers, applying, least, lowest, foremost, GivesLowest, GivesFirst}
 
 -- ---- the lowest number that applies
 
@@ -42,6 +43,20 @@ first-from b (false ⇒ r ∷ ts) x y t = first-from (number r) ts x y (and-righ
 
 pub first-is-lowest : {S A : Type 0} (ts : List Test) (x : S) (y : A) → T (rising 0 (numbers ts)) → numberOf (firstOf ts x y) ≡ lowest (applying ts)
 first-is-lowest ts x y t = first-from 0 ts x y t
+
+first-applies : {S A : Type 0} (ts : List Test) (x : S) (y : A) → numberOf (firstOf ts x y) ≡ foremost (applying ts)
+first-applies [] x y = refl
+first-applies (true ⇒ r ∷ ts) x y = refl
+first-applies (false ⇒ r ∷ ts) x y = first-applies ts x y
+
+-- of a call, by its definition and its numbers
+module _ {S A : Type 0} {ns : List ℕ} {ts : List Test} {answer : Answer S A} (kept : S) (value : A) (is : answer ≡ firstOf ts kept value)
+    (numbered : numbers ts ≡ ns) where
+  pub gives-lowest : T (rising 0 ns) → GivesLowest ns ts answer
+  gives-lowest t = record { numbered = numbered; given = ap numberOf is ∙ first-is-lowest ts kept value (rw numbered t) }
+
+  pub gives-first : GivesFirst ns ts answer
+  gives-first = record { numbered = numbered; given = ap numberOf is ∙ first-applies ts kept value }
 
 -- ---- where nothing is refused
 

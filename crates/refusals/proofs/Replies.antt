@@ -1,11 +1,13 @@
 -- Laws of replies: what a caller of a function that judges knows in each arm, and what the functions for C tell of a reply.
 use mathlib.Core.Path.{_≡_, refl, sym, ap, _∙_}
-use mathlib.Core.List.{List, _++_}
+use mathlib.Core.Bool.{true, false}
+use mathlib.Core.List.{List, [], _∷_, _++_}
 use Prim.Native.Nat.{ℕ}
 use Rattle.refusals.specs.declared.Refusal.{Refusal}
 use Rattle.refusals.specs.declared.Reply.{Reply}
 use Rattle.refusals.specs.declared.Reply.the-variants as reply-cases
-use Rattle.refusals.specs.Refusals.{Answer, Refused, numberOf, stateOf, Test, firstOf, reply, told, judged}
+use Rattle.refusals.specs.Refusals.{Answer, Refused, numberOf, stateOf, valueOr, Test, _⇒_, firstOf, judged}
+use Rattle.refusals.specs.Answers.{reply, told}
 use Rattle.refusals.proofs.Laws.{Clear, done-clear, more-refused}
 
 -- the tests that were judged, whatever stands behind them
@@ -28,3 +30,9 @@ reply-state left (reply-cases.Refused q) = refl
 pub replied : {A : Type 0} {left : A} {answer : Answer A A} (r : Reply) {n : ℕ} → reply left r ≡ answer → n ≡ numberOf (told r)
     → (n ≡ numberOf answer) × (left ≡ stateOf answer)
 replied {left = left} r e h = (h ∙ reply-number left r ∙ ap numberOf e, reply-state left r ∙ ap stateOf e)
+
+-- On refusal the state is the one handed in: a function that writes nothing then leaves it.
+pub first-keeps : {A : Type 0} (ts : List Test) (before value : A) → valueOr before (firstOf ts before value) ≡ stateOf (firstOf ts before value)
+first-keeps [] before value = refl
+first-keeps (true ⇒ r ∷ ts) before value = refl
+first-keeps (false ⇒ r ∷ ts) before value = first-keeps ts before value

@@ -1,12 +1,9 @@
--- Refusals (document 01, "Who can cause a refusal"): the number of each, what a call answers, and how the lowest number that
--- applies is given.
+-- Refusals (document 01, "Who can cause a refusal"): the number of each, what a call answers, and how its tests choose the number.
 use mathlib.Core.Bool.{Bool, true, false, _||_}
 use mathlib.Core.List.{List, [], _∷_}
-use Prim.Native.Nat.{ℕ, min}
+use Prim.Native.Nat.{ℕ}
 use lib.Dec.{ltb}
 use Rattle.refusals.specs.declared.Refusal.{Refusal}
-use Rattle.refusals.specs.declared.Reply.{Reply}
-use Rattle.refusals.specs.declared.Reply.the-variants as reply-cases
 use Rattle.refusals.specs.declared.Refusal.the-variants.{KeyBelow256, KeyReducible, DegreeNotListed, ElementOutOfRange, TableSize, TableWord}
 use Rattle.refusals.specs.declared.Refusal.the-variants.{TooLong, MarkNotReduced, PageLengthsDiffer, PagePastEnd, EmptyPattern, PageSize}
 use Rattle.refusals.specs.declared.Refusal.the-variants.{BufferShort, SheetMalformed}
@@ -48,7 +45,7 @@ abbrev pub valueOr : {S A : Type 0} → A → Answer S A → A
 valueOr before (Done a) = a
 valueOr before (Refused r s) = before
 
--- ---- the lowest number that applies
+-- ---- the tests of a call
 
 -- a test, and the refusal where it holds
 infix 68 _⇒_
@@ -56,43 +53,15 @@ pub data Test : Type 0 where
   _⇒_ : Bool → Refusal → Test
 
 -- The first refusal whose test holds, or the value. Every list of tests but a sheet's stands in the order of the numbers, so that
--- the first is the lowest (`first-is-lowest`).
+-- the first is the lowest (specs/Lowest.antt).
 abbrev pub firstOf : {S A : Type 0} → List Test → S → A → Answer S A
 firstOf [] kept value = Done value
 firstOf (true ⇒ r ∷ ts) kept value = Refused r kept
 firstOf (false ⇒ r ∷ ts) kept value = firstOf ts kept value
 
--- the reply in code of a call that gives no value, with what it leaves: changed, or as it was handed in
-abbrev pub reply : {A : Type 0} → A → Reply → Answer A A
-reply left reply-cases.Done = Done left
-reply left (reply-cases.Refused r) = Refused r left
-
--- the same of a call that leaves nothing changed
-abbrev pub told : Reply → Answer Unit Unit
-told r = reply tt r
-
 -- tests alone
 abbrev pub judged : List Test → Answer Unit Unit
 judged ts = firstOf ts tt tt
-
--- the numbers of all tests, and of those that hold
-abbrev pub numbers : List Test → List ℕ
-numbers [] = []
-numbers (b ⇒ r ∷ ts) = number r ∷ numbers ts
-
-abbrev pub applying : List Test → List ℕ
-applying [] = []
-applying (true ⇒ r ∷ ts) = number r ∷ applying ts
-applying (false ⇒ r ∷ ts) = applying ts
-
--- the lowest of a list, 0 where it has none
-abbrev pub least : ℕ → List ℕ → ℕ
-least n [] = n
-least n (m ∷ ns) = least (min n m) ns
-
-abbrev pub lowest : List ℕ → ℕ
-lowest [] = 0
-lowest (n ∷ ns) = least n ns
 
 -- ---- number 7: one of the lengths passes the limit of 4,294,967,295
 

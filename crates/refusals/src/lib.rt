@@ -3,7 +3,8 @@ ghost use mathlib.Core.Path.{_≡_};
 ghost use mathlib.Core.Bool.{not};
 ghost use mathlib.Core.List.{[], _∷_};
 ghost use Prim.Native.Nat.{_+_};
-ghost use Rattle.refusals.specs.Refusals.{number, numberOf, told, passes};
+ghost use Rattle.refusals.specs.Refusals.{number, numberOf, passes};
+ghost use Rattle.refusals.specs.Answers.{told};
 
 // The limit of lengths (number 7), in bytes.
 pub const LONGEST: u64 = 4294967295;

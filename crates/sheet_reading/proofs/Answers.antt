@@ -11,7 +11,8 @@ use Rattle.gf2.specs.declared.Modulus.{Modulus}
 use Rattle.refusals.specs.declared.Refusal.{Refusal}
 use Rattle.refusals.specs.declared.Refusal.the-variants.{PageSize, SheetMalformed}
 use Rattle.refusals.specs.Refusals.{Done, Refused, Test, _⇒_, firstOf}
-use Rattle.acceptance.specs.Keys.{keyTests, Opened}
+use Rattle.acceptance.specs.Keys.{keyTests}
+use Rattle.acceptance.specs.Opened.{Opened}
 use Rattle.acceptance.proofs.Opened.{opened-first}
 use Rattle.keys.specs.declared.Tested.{Tested}
 use Rattle.keys.specs.declared.Tested.the-variants as tested-cases

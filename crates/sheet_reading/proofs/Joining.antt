@@ -12,7 +12,7 @@ use Rattle.gf2.specs.Moduli.{polynomial}
 use Rattle.gf2.specs.declared.Modulus.{Modulus}
 use Rattle.gf2.proofs.Monics.{monic-pos}
 use Rattle.gf2.proofs.Powers.{rem-⊗-pow}
-use Rattle.acceptance.specs.Keys.{Opened}
+use Rattle.acceptance.specs.Opened.{Opened}
 use Rattle.acceptance.proofs.Opened.{opened-degree, opened-whole, opened-proper}
 use Rattle.files.specs.Files.{markOf}
 use Rattle.sheets.specs.declared.layout.Head.{Head}

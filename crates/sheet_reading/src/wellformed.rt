@@ -3,7 +3,7 @@ ghost use mathlib.Core.Path.{_≡_};
 ghost use mathlib.Core.Bool.{not};
 ghost use Prim.Native.Nat.{_≤_};
 ghost use lib.ListN.{length};
-ghost use Rattle.acceptance.specs.Keys.{Opened};
+ghost use Rattle.acceptance.specs.Opened.{Opened};
 ghost use Rattle.sheets.specs.Layout.{version1, sheetLength, contentsIn};
 ghost use Rattle.sheets.specs.Sheets.{bodyWrong};
 ghost use Rattle.sheets.specs.Parts.{HeadOf};

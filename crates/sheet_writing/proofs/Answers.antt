@@ -15,7 +15,8 @@ use Rattle.refusals.specs.declared.Refusal.the-variants.{TooLong, PageSize, Buf
 use Rattle.refusals.specs.Refusals.{Done, Refused, Test, _⇒_, firstOf, longest}
 use Rattle.refusals.proofs.Laws.{Clear, done-clear, more-refused, more-clear}
 use Rattle.lists.proofs.Truth.{or-neither}
-use Rattle.acceptance.specs.Keys.{keyTests, Opened}
+use Rattle.acceptance.specs.Keys.{keyTests}
+use Rattle.acceptance.specs.Opened.{Opened}
 use Rattle.acceptance.proofs.Opened.{opened-first}
 use Rattle.keys.specs.declared.Tested.{Tested}
 use Rattle.keys.specs.declared.Tested.the-variants as tested-cases

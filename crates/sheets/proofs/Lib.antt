@@ -6,3 +6,4 @@ pub mod Changes
 pub mod Guarantee
 pub mod Damages
 pub mod Known
+pub mod Routes

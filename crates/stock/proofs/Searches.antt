@@ -1,20 +1,39 @@
 -- The smallest accepted key of a degree is what the search for it finds.
-use mathlib.Core.Path.{_≡_}
+use mathlib.Core.Path.{_≡_, sym, _∙_}
 use mathlib.Core.Bool.{true}
 use Prim.Native.Nat.{ℕ, _^_, _≤_, _<_}
 use native.Mathlib.Nat.{pow-suc}
 use native.Mathlib.Omega.{arith}
+use borrow.Author.Tests.{le-leb, lt-leb}
+use Rattle.lists.specs.Searches.{firstFrom}
 use Rattle.lists.proofs.Searches.{first-is}
 use Rattle.gf2.specs.Degrees.{Degree}
 use Rattle.gf2.proofs.Degrees.{degree-is, degree-eq, deg-lo, deg-hi, deg-intro}
 use Rattle.acceptance.specs.Keys.{accepted}
-use Rattle.acceptance.proofs.Laws.{accepted-pos}
+use Rattle.acceptance.proofs.Laws.{accepted-iff, accepted-pos}
 use Rattle.stock.specs.Stock.{stockKey, Smallest}
 
-pub stock-is : (k p : ℕ) → Smallest k p → stockKey k ≡ p
+-- the search runs for a degree 8 to 63 alone
+search-runs : (k : ℕ) → 8 ≤ k → k ≤ 63 → stockKey k ≡ firstFrom accepted (2 ^ k) (2 ^ k)
 unfolding stockKey
-stock-is k p s = first-is accepted (2 ^ k) (2 ^ k) p (deg-lo p k is) (omega (arith, deg-hi p k is, pow-suc 2 k)) (s .is-accepted) none
+search-runs k lo hi = rw (le-leb 8 k lo, le-leb k 63 hi)
+
+pub none-below : (k : ℕ) → k < 8 → stockKey k ≡ 0
+unfolding stockKey
+none-below k l = rw (lt-leb 8 k l)
+
+pub none-above : (k : ℕ) → 63 < k → stockKey k ≡ 0
+unfolding stockKey
+none-above k l = rw (le-leb 8 k (omega arith), lt-leb k 63 l)
+
+pub stock-is : (k p : ℕ) → Smallest k p → stockKey k ≡ p
+stock-is k p s =
+    search-runs k (range .0) (range .1)
+    ∙ first-is accepted (2 ^ k) (2 ^ k) p (deg-lo p k is) (omega (arith, deg-hi p k is, pow-suc 2 k)) (s .is-accepted) none
   where
+    range : (8 ≤ k) × (k ≤ 63)
+    range = let a = accepted-iff p .0 (s .is-accepted) in (rw (s .of-degree) at a .0, rw (s .of-degree) at a .1)
+
     is : Degree p k
     is = rw (s .of-degree) at (degree-is p (accepted-pos p (s .is-accepted)))
 

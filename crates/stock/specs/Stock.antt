@@ -1,16 +1,19 @@
 -- The stock list (document 01, "Polynomials and keys"): for each degree 8 to 63 the smallest accepted key of that degree.
 use mathlib.Core.Path.{_≡_}
-use mathlib.Core.Bool.{true}
+use mathlib.Core.Bool.{true, _&&_, cond}
 use Prim.Native.Nat.{ℕ, _^_, _≤_}
+use lib.Dec.{leb}
 use Rattle.lists.specs.Searches.{firstFrom}
 use Rattle.gf2.specs.Polynomials.{degree}
 use Rattle.acceptance.specs.Keys.{accepted}
 
--- the numbers of degree k are those from 2^k on, 2^k of them
+-- The stock key of a degree 8 to 63, and 0 for every other number. The numbers of degree k are those from 2^k on, 2^k of them.
 unfoldable pub stockKey : ℕ → ℕ
-stockKey k = firstFrom accepted (2 ^ k) (2 ^ k)
+stockKey k = cond (leb 8 k && leb k 63) (firstFrom accepted (2 ^ k) (2 ^ k)) 0
 
--- the same without a search: of degree k, accepted, and no accepted key of that degree is a smaller number
+-- ---- claims
+
+-- what it is for a degree 8 to 63, without a search: of degree k, accepted, and no accepted key of that degree is a smaller number
 pub record Smallest (k p : ℕ) : Type 0 where
   pub of-degree : degree p ≡ k
   pub is-accepted : accepted p ≡ true

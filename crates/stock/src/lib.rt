@@ -65,10 +65,23 @@ const STOCK: [u64; 56] = [
     0x8000000000000003,
 ];
 
-// The stock key of degree k. For our own crates, which ask for no other degree.
-pub fn stock_key(k: u32) -> u64
-    requires { ⌜ (8 ≤ k) × (k < 64) ⌝ }
-    ensures { λ r. ⌜ r ≡ stockKey k ⌝ }
+// The entry of a degree on the list.
+fn entry(degree: u64) -> u64
+    requires { ⌜ (8 ≤ degree) × (degree < 64) ⌝ }
+    ensures { λ r. ⌜ r ≡ stockKey degree ⌝ }
 {
-    STOCK[(k - 8) as usize]
+    STOCK[(degree - 8) as usize]
+}
+
+// The stock key of a degree 8 to 63; 0 for every other number.
+pub fn stock_key(degree: u64) -> u64
+    ensures { λ r. ⌜ r ≡ stockKey degree ⌝ }
+{
+    if degree < 8 {
+        return 0;
+    }
+    if 63 < degree {
+        return 0;
+    }
+    entry(degree)
 }

@@ -4,7 +4,8 @@ use refusals::Refusal;
 use refusals::Reply;
 ghost use mathlib.Core.Path.{_≡_};
 ghost use Rattle.gf2.specs.Moduli.{polynomial, Proper};
-ghost use Rattle.refusals.specs.Refusals.{told, judged};
+ghost use Rattle.refusals.specs.Refusals.{judged};
+ghost use Rattle.refusals.specs.Answers.{told};
 ghost use Rattle.table_tests.specs.TableTests.{tableTests};
 
 // Are the lent words the table of a modulus? Numbers 5, 6.

@@ -2,7 +2,7 @@
 use mathlib.Core.Path.{sym, ap, _∙_}
 use native.Mathlib.Omega.{arith}
 use borrow.Author.Needs.{needs}
-use Rattle.acceptance.specs.Keys.{Opened}
+use Rattle.acceptance.specs.Opened.{Opened}
 use Rattle.acceptance.proofs.Opened.{opened-first}
 use Rattle.files.specs.Files.{joined}
 use Rattle.keys.proofs.Laws.{opened, refused}

@@ -8,12 +8,13 @@ use borrow.Author.Needs.{needs}
 use borrow.Author.Tests.{not-true, not-false, ltb-false, leb-false}
 use lib.Dec.{ltb, leb}
 use lib.Pow.{pow-mono}
-use Rattle.gf2.specs.Moduli.{polynomial, Proper, modulusOf}
+use Rattle.gf2.specs.Moduli.{polynomial, Proper}
+use Rattle.gf2.specs.Opening.{modulusOf}
 use Rattle.gf2.specs.declared.Modulus.{Modulus}
 use Rattle.gf2.proofs.Degrees.{deg-hi}
 use Rattle.gf2.proofs.Monics.{word-proper, word-whole}
 use Rattle.refusals.specs.Refusals.{Done}
-use Rattle.lists.specs.Searches.{among}
+use Rattle.lists.specs.Inner.{among}
 use Rattle.lists.proofs.Truth.{or-neither}
 use Rattle.fields.specs.Fields.{Field}
 use Rattle.fields.proofs.Conjugates.{field-degree}
@@ -88,11 +89,6 @@ element-in c =
     let r = or-neither (ltb (a .element) 2) (leb (2 ^ a .degree) (a .element)) (in-range c) in
     (ltb-false (a .element) 2 (r .0), leb-false (2 ^ a .degree) (a .element) (r .1))
 
-stock-key-requires : tie.Need-stock-key-requires
-stock-key-requires c κs =
-    let r = range (else2→start c .args .degree) (listed (c .before .before)) in
-    (omega (arith, r), omega (arith, r))
-
 modulus-of-requires : tie.Need-modulus-of-requires
 modulus-of-requires c κs = rw (c .stock-key .ensures) (field (stock-key→start c .args .degree) (listed (stock-key→else1 c)) .irreducible .proper)
 
@@ -133,7 +129,7 @@ draw-spec =
     cast-k
     out-of-range-requires
     returns-2
-    stock-key-requires
+    (λ c κs. search needs)
     modulus-of-requires
     minimal-polynomial-requires
     returns-3)

@@ -4,8 +4,9 @@ use Rattle.refusals.specs.Refusals.{numberOf}
 use Rattle.marks.specs.declared.Begun.{Begun}
 use Rattle.marks.specs.Feeding.{begin}
 use Rattle.marks.specs.Answers.{begun}
-use Rattle.gfp_bench.specs.Places.{markAt}
-use Rattle.gfp_bench.proofs.Answers.{markOr, begun-number, begun-value}
+use Rattle.places.specs.Places.{markAt}
+use Rattle.places.specs.Storing.{markOr}
+use Rattle.places.proofs.Answers.{begun-number, begun-value}
 use borrow.Author.Needs.{needs}
 use Rattle.gfp_bench.proofs.gfp_begin.Statement.{statement}
 use Rattle.gfp_bench.proofs.gfp_begin.Tie as tie

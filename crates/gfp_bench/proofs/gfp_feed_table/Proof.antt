@@ -1,8 +1,18 @@
--- The answer, stored.
+-- The answer, stored: on refusal nothing is written, and the state is the mark that was handed in.
+use mathlib.Core.Path.{_≡_}
+use mathlib.Core.List.{List, _++_}
+use Prim.Native.Nat.{ℕ}
+use lib.ListN.{length}
 use borrow.Author.Needs.{needs}
-use Rattle.marks.specs.Feeding.{feedTable}
-use Rattle.gfp_bench.specs.Places.{markAt}
-use Rattle.gfp_bench.proofs.Answers.{stored}
+use Rattle.refusals.specs.Refusals.{stateOf, valueOr}
+use Rattle.refusals.proofs.Replies.{first-keeps}
+use Rattle.acceptance.specs.Keys.{keyTests}
+use Rattle.files.specs.declared.Mark.{Mark}
+use Rattle.files.specs.Files.{fedMark}
+use Rattle.table_tests.specs.TableTests.{tableTests}
+use Rattle.marks.specs.Feeding.{feedTests, feedTable}
+use Rattle.places.specs.Places.{markAt}
+use Rattle.places.proofs.Answers.{stored}
 use Rattle.gfp_bench.proofs.gfp_feed_table.Statement.{statement}
 use Rattle.gfp_bench.proofs.gfp_feed_table.Tie as tie
 
@@ -14,10 +24,16 @@ shared-slice-known2→start c = c .before .before
 abbrev feed-table→start : tie.After-feed-table → tie.Start
 feed-table→start c = shared-slice-known2→start (c .before .before .before)
 
+-- on refusal the state is the mark that was handed in
+keeps : (key : ℕ) (m : Mark) (words part : List ℕ) → valueOr m (feedTable key m words part) ≡ stateOf (feedTable key m words part)
+unfolding feedTable
+keeps key m words part = first-keeps (keyTests key ++ tableTests key words ++ feedTests key m (length part)) m (fedMark key m part)
+
 returns : tie.Need-returns
 returns c =
     let s = feed-table→start (c .before .before .before) .args in
-    stored (s .key) (feedTable (s .key) (markAt (s .fingerprint .now) (s .length .now)) (s .words .now) (s .part .now)) _ _ _
+    let m = markAt (s .fingerprint .now) (s .length .now) in
+    stored (s .key) m (feedTable (s .key) m (s .words .now) (s .part .now)) _ _ _ (keeps (s .key) m (s .words .now) (s .part .now))
     (c .before .before .before .feed-table .ensures) (c .store .ensures)
 
 pub gfp-feed-table-spec : {M : Type 1} → statement M

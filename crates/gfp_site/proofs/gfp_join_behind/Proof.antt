@@ -1,8 +1,14 @@
--- The answer, stored.
+-- The answer, stored: on refusal nothing is written, and the state is the mark that was handed in.
+use mathlib.Core.Path.{_≡_}
+use Prim.Native.Nat.{ℕ}
 use borrow.Author.Needs.{needs}
-use Rattle.compose.specs.Composing.{joinBehind}
-use Rattle.gfp_bench.specs.Places.{markAt}
-use Rattle.gfp_bench.proofs.Answers.{stored}
+use Rattle.refusals.specs.Refusals.{stateOf, valueOr}
+use Rattle.refusals.proofs.Replies.{first-keeps}
+use Rattle.files.specs.declared.Mark.{Mark}
+use Rattle.files.specs.Files.{joined}
+use Rattle.compose.specs.Composing.{joinTests, joinBehind}
+use Rattle.places.specs.Places.{markAt}
+use Rattle.places.proofs.Answers.{stored}
 use Rattle.gfp_site.proofs.gfp_join_behind.Statement.{statement}
 use Rattle.gfp_site.proofs.gfp_join_behind.Tie as tie
 
@@ -11,11 +17,17 @@ use Rattle.gfp_site.proofs.gfp_join_behind.Tie as tie
 abbrev join-behind→start : tie.After-join-behind → tie.Start
 join-behind→start c = c .before .before .before
 
+-- on refusal the state is the mark that was handed in
+keeps : (key : ℕ) (m other : Mark) → valueOr m (joinBehind key m other) ≡ stateOf (joinBehind key m other)
+unfolding joinBehind
+keeps key m other = first-keeps (joinTests key m other) m (joined key m other)
+
 returns : tie.Need-returns
 returns c =
     let s = join-behind→start (c .before .before .before) .args in
-    stored (s .key) (joinBehind (s .key) (markAt (s .fingerprint .now) (s .length .now)) (markAt (s .other) (s .bytes))) _ _ _
-    (c .before .before .before .join-behind .ensures) (c .store .ensures)
+    let m = markAt (s .fingerprint .now) (s .length .now) in
+    let other = markAt (s .other-fingerprint) (s .other-length) in
+    stored (s .key) m (joinBehind (s .key) m other) _ _ _ (keeps (s .key) m other) (c .before .before .before .join-behind .ensures) (c .store .ensures)
 
 pub gfp-join-behind-spec : {M : Type 1} → statement M
 gfp-join-behind-spec = tie.close (tie.spec (λ c κs. search needs) (λ c κs. search needs) returns)

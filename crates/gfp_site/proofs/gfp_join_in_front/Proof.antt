@@ -1,8 +1,14 @@
--- The answer, stored.
+-- The answer, stored: on refusal nothing is written, and the state is the mark that was handed in.
+use mathlib.Core.Path.{_≡_}
+use Prim.Native.Nat.{ℕ}
 use borrow.Author.Needs.{needs}
-use Rattle.compose.specs.Composing.{joinInFront}
-use Rattle.gfp_bench.specs.Places.{markAt}
-use Rattle.gfp_bench.proofs.Answers.{stored}
+use Rattle.refusals.specs.Refusals.{stateOf, valueOr}
+use Rattle.refusals.proofs.Replies.{first-keeps}
+use Rattle.files.specs.declared.Mark.{Mark}
+use Rattle.files.specs.Files.{joined}
+use Rattle.compose.specs.Composing.{joinTests, joinInFront}
+use Rattle.places.specs.Places.{markAt}
+use Rattle.places.proofs.Answers.{stored}
 use Rattle.gfp_site.proofs.gfp_join_in_front.Statement.{statement}
 use Rattle.gfp_site.proofs.gfp_join_in_front.Tie as tie
 
@@ -11,11 +17,17 @@ use Rattle.gfp_site.proofs.gfp_join_in_front.Tie as tie
 abbrev join-in-front→start : tie.After-join-in-front → tie.Start
 join-in-front→start c = c .before .before .before
 
+-- on refusal the state is the mark that was handed in
+keeps : (key : ℕ) (m other : Mark) → valueOr m (joinInFront key m other) ≡ stateOf (joinInFront key m other)
+unfolding joinInFront
+keeps key m other = first-keeps (joinTests key m other) m (joined key other m)
+
 returns : tie.Need-returns
 returns c =
     let s = join-in-front→start (c .before .before .before) .args in
-    stored (s .key) (joinInFront (s .key) (markAt (s .fingerprint .now) (s .length .now)) (markAt (s .other) (s .bytes))) _ _ _
-    (c .before .before .before .join-in-front .ensures) (c .store .ensures)
+    let m = markAt (s .fingerprint .now) (s .length .now) in
+    let other = markAt (s .other-fingerprint) (s .other-length) in
+    stored (s .key) m (joinInFront (s .key) m other) _ _ _ (keeps (s .key) m other) (c .before .before .before .join-in-front .ensures) (c .store .ensures)
 
 pub gfp-join-in-front-spec : {M : Type 1} → statement M
 gfp-join-in-front-spec = tie.close (tie.spec (λ c κs. search needs) (λ c κs. search needs) returns)

@@ -25,8 +25,8 @@ returns c =
     let h = c .before .before .before .read .ensures in
     let e = sym (c .before .x .given .1) in (
       ap (λ (x : Reading). numberOf (reading x)) e ∙ ap numberOf h,
-      ap (λ (x : Reading). valueOr (sheetAt (s .key .now) (s .length .now) (s .size .now) (s .pages .now) (s .fingerprint .now)) (reading x)) e
-          ∙ ap (valueOr (sheetAt (s .key .now) (s .length .now) (s .size .now) (s .pages .now) (s .fingerprint .now))) h,
+      ap (λ (x : Reading). valueOr (sheetAt (s .key .now) (s .length .now) (s .page-size .now) (s .pages .now) (s .fingerprint .now)) (reading x)) e
+          ∙ ap (valueOr (sheetAt (s .key .now) (s .length .now) (s .page-size .now) (s .pages .now) (s .fingerprint .now))) h,
     )
 
 returns-2 : tie.Need-returns-2
@@ -35,8 +35,8 @@ returns-2 c =
     let h = number→read c .read .ensures in
     let e = sym (c .before .before .r .given .1) in (
       c .number .ensures ∙ ap (λ (x : Reading). numberOf (reading x)) e ∙ ap numberOf h,
-      ap (λ (x : Reading). valueOr (sheetAt (s .key .now) (s .length .now) (s .size .now) (s .pages .now) (s .fingerprint .now)) (reading x)) e
-          ∙ ap (valueOr (sheetAt (s .key .now) (s .length .now) (s .size .now) (s .pages .now) (s .fingerprint .now))) h,
+      ap (λ (x : Reading). valueOr (sheetAt (s .key .now) (s .length .now) (s .page-size .now) (s .pages .now) (s .fingerprint .now)) (reading x)) e
+          ∙ ap (valueOr (sheetAt (s .key .now) (s .length .now) (s .page-size .now) (s .pages .now) (s .fingerprint .now))) h,
     )
 
 pub gfp-read-sheet-spec : {M : Type 1} → statement M

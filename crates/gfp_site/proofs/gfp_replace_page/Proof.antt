@@ -1,8 +1,16 @@
--- The answer, stored.
+-- The answer, stored: on refusal nothing is written, and the state is the mark that was handed in.
+use mathlib.Core.Path.{_≡_}
+use mathlib.Core.List.{List, _++_}
+use Prim.Native.Nat.{ℕ}
 use borrow.Author.Needs.{needs}
-use Rattle.compose.specs.Composing.{replacePage}
-use Rattle.gfp_bench.specs.Places.{markAt}
-use Rattle.gfp_bench.proofs.Answers.{stored}
+use Rattle.refusals.specs.Refusals.{stateOf, valueOr}
+use Rattle.refusals.proofs.Replies.{first-keeps}
+use Rattle.acceptance.specs.Keys.{keyTests}
+use Rattle.files.specs.declared.Mark.{Mark}
+use Rattle.files.specs.Files.{replaced}
+use Rattle.compose.specs.Composing.{pageTests, replacePage}
+use Rattle.places.specs.Places.{markAt}
+use Rattle.places.proofs.Answers.{stored}
 use Rattle.gfp_site.proofs.gfp_replace_page.Statement.{statement}
 use Rattle.gfp_site.proofs.gfp_replace_page.Tie as tie
 
@@ -14,11 +22,17 @@ shared-slice-known2→start c = c .before .before
 abbrev replace-page→start : tie.After-replace-page → tie.Start
 replace-page→start c = shared-slice-known2→start (c .before .before .before)
 
+-- on refusal the state is the mark that was handed in
+keeps : (key : ℕ) (m : Mark) (place : ℕ) (old new : List ℕ) → valueOr m (replacePage key m place old new) ≡ stateOf (replacePage key m place old new)
+unfolding replacePage
+keeps key m place old new = first-keeps (keyTests key ++ pageTests key m place old new) m (replaced key m place old new)
+
 returns : tie.Need-returns
 returns c =
     let s = replace-page→start (c .before .before .before) .args in
-    stored (s .key) (replacePage (s .key) (markAt (s .fingerprint .now) (s .length .now)) (s .place) (s .old .now) (s .new .now)) _ _ _
-    (c .before .before .before .replace-page .ensures) (c .store .ensures)
+    let m = markAt (s .fingerprint .now) (s .length .now) in
+    stored (s .key) m (replacePage (s .key) m (s .place) (s .old-page .now) (s .new-page .now)) _ _ _
+    (keeps (s .key) m (s .place) (s .old-page .now) (s .new-page .now)) (c .before .before .before .replace-page .ensures) (c .store .ensures)
 
 pub gfp-replace-page-spec : {M : Type 1} → statement M
 gfp-replace-page-spec = tie.close (tie.spec (λ c κs. search needs) (λ c κs. search needs) returns)

@@ -3,8 +3,10 @@ use mathlib.Core.Path.{_≡_, sym, ap, _∙_}
 use mathlib.Core.Bool.{false, not}
 use Prim.Native.Nat.{ℕ, _≤_, _<_}
 use native.Mathlib.Omega.{arith}
+use borrow.Author.Needs.{needs}
 use borrow.Author.Tests.{lt-ltb, le-ltb}
-use Rattle.gf2.specs.Moduli.{polynomial, Proper, modulusOf}
+use Rattle.gf2.specs.Moduli.{polynomial, Proper}
+use Rattle.gf2.specs.Opening.{modulusOf}
 use Rattle.gf2.specs.declared.Modulus.{Modulus}
 use Rattle.gf2.proofs.Degrees.{degree-from}
 use Rattle.gf2.proofs.Monics.{word-degree, word-proper, word-whole}
@@ -22,7 +24,7 @@ use Rattle.keys.proofs.test.Tie as tie
 -- ---- the places: from each one to an earlier one
 
 abbrev else2→modulus-of : tie.Else2 → tie.After-modulus-of
-else2→modulus-of c = c .before .before
+else2→modulus-of c = c .before .before .before
 
 returns : tie.Need-returns
 unfolding testKey
@@ -52,12 +54,9 @@ accepted-is : (key : ℕ) (p : Modulus) → p ≡ modulusOf key → ltb key 256 
 unfolding testKey
 accepted-is key p e a b = ap Done e ∙ sym (rw (a, b))
 
-stock-key-requires : tie.Need-stock-key-requires
-stock-key-requires c κs = in-range c
-
 returns-2 : tie.Need-returns-2
 returns-2 c =
-    let m = c .before .before in
+    let m = c .before .before .before in
     let s = m .before .before in
     let k = m .modulus-of .result .degree in
     let r = in-range m in
@@ -66,7 +65,7 @@ returns-2 c =
     accepted-is (s .args .key) (m .modulus-of .result) (m .modulus-of .ensures) (e .0) (e .1)
 
 irreducible-requires : tie.Need-irreducible-requires
-irreducible-requires c κs = let m = c .before .before in (proper m, in-range m .1)
+irreducible-requires c κs = let m = else2→modulus-of c in (proper m, in-range m .1)
 
 returns-3 : tie.Need-returns-3
 unfolding testKey
@@ -91,7 +90,8 @@ test-spec =
     (tie.spec
     returns
     (λ c κs. omega arith)
-    stock-key-requires
+    (λ c. search needs)
+    (λ c κs. search needs)
     returns-2
     irreducible-requires
     returns-3

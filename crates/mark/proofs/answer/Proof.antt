@@ -1,36 +1,78 @@
--- `mark::answer` meets its contract. The file begins within the bytes read: `key-within`.
-use mathlib.Core.Path.{sym, _∙_}
+-- `mark::answer` meets its contract. The file begins within the head: `key-within`.
+use mathlib.Core.Path.{_≡_, sym, subst, _∙_}
 use mathlib.Core.List.{List}
 use Prim.Native.Nat.{ℕ, _≤_}
 use native.Mathlib.Omega.{arith}
-use lib.ListN.{length}
+use lib.ListN.{length, drop}
 use borrow.Author.Needs.{needs}
+use Rattle.printing.specs.declared.KeyLine.the-variants.{Key}
+use Rattle.printing.specs.Printing.{keyLine}
 use Rattle.printing.proofs.Laws.{key-within}
+use Rattle.mark.specs.Reading.{MarkedInParts}
+use Rattle.mark.proofs.Parts.{from, none-printed, mark-printed, refusal-printed}
 use Rattle.mark.proofs.answer.Statement.{statement}
 use Rattle.mark.proofs.answer.Tie as tie
 
--- the places where the line, its key and the running mark are known
-abbrev line-at : tie.After-key → tie.After-key-line
-line-at c = c .before .before
+-- ---- the places: from each one to an earlier one
 
-abbrev head-at : tie.After-key-line → List ℕ
-head-at c = c .before .before .args .head .now
+abbrev key-line→start : tie.After-key-line → tie.Start
+key-line→start c = c .before .before
 
-abbrev begin-at : tie.After-known-told3 → tie.After-begin
-begin-at c = c .before .before .before
+abbrev key→key-line : tie.After-key → tie.After-key-line
+key→key-line c = c .before .before
 
-abbrev key-at : tie.After-known-told3 → tie.After-key
-key-at c = begin-at c .before .before
+abbrev mark-file→key : tie.After-mark-file → tie.After-key
+mark-file→key c = c .before .before .before
 
--- the place behind the key's line
-within : (c : tie.After-key) → c .key .given .0 .1 .0 ≤ length (head-at (line-at c))
-within c = key-within (head-at (line-at c)) _ _ (sym (line-at c .key-line .ensures) ∙ c .key .given .1)
+abbrev m→mark-file : tie.After-m → tie.After-mark-file
+m→mark-file c = c .before .before
 
-sub-feed-file : tie.Need-sub-feed-file
-sub-feed-file c = omega (arith, within (key-at c))
+abbrev r→mark-file : tie.After-r → tie.After-mark-file
+r→mark-file c = c .before .before
 
-part-feed-file-start : tie.Need-part-feed-file-start
-part-feed-file-start c = omega (arith, within (key-at c))
+abbrev head-at : tie.After-key → List ℕ
+head-at c = key-line→start (key→key-line c) .args .head .now
+
+-- the key's line
+line : (c : tie.After-key) → keyLine (head-at c) ≡ Key (c .key .given .0 .0) (c .key .given .0 .1 .0)
+line c = sym (key→key-line c .key-line .ensures) ∙ c .key .given .1
+
+-- the place behind it
+within : (c : tie.After-key) → c .key .given .0 .1 .0 ≤ length (head-at c)
+within c = key-within (head-at c) _ _ (line c)
+
+-- the file behind it
+file : (c : tie.After-mark-file)
+    → MarkedInParts (mark-file→key c .key .given .0 .0) (drop (mark-file→key c .key .given .0 .1 .0) (head-at (mark-file→key c))) (c .mark-file .result)
+file c =
+    let k = mark-file→key c in
+    subst (λ (l : List ℕ). MarkedInParts (k .key .given .0 .0) l (c .mark-file .result)) (from (k .key .given .0 .1 .0) (head-at k)) (c .mark-file .ensures)
+
+sub-mark-file : tie.Need-sub-mark-file
+sub-mark-file c = omega (arith, within (c .before))
+
+part-mark-file-start : tie.Need-part-mark-file-start
+part-mark-file-start c = omega (arith, within (c .before))
+
+returns : tie.Need-returns
+returns c =
+    let k = c .before .before .before .before in
+    none-printed _ _ _ _ (sym (k .key-line .ensures) ∙ c .before .before .enum-told .given .1) (c .no-key .ensures)
+
+returns-2 : tie.Need-returns-2
+returns-2 c =
+    let m = c .before .before .before in
+    let f = m→mark-file m in
+    mark-printed _ _ _ _ _ _ (line (mark-file→key f)) (f .mark-file .result) _ (file f) (m .m .given .1) (c .report .ensures)
+
+returns-3 : tie.Need-returns-3
+returns-3 c =
+    let r = c .before .before .before in
+    let f = r→mark-file r in
+    refusal-printed _ _ _ _ _ _ (line (mark-file→key f)) (f .mark-file .result) _ (file f) (r .r .given .1) (c .refusal .ensures)
+
+returns-4 : tie.Need-returns-4
+returns-4 c = tt
 
 pub answer-spec : {M : Type 1} → statement M
 answer-spec =
@@ -40,12 +82,8 @@ answer-spec =
     (λ c. search needs)
     (λ c κs. search needs)
     (λ c. search needs)
-    (λ c κs. search needs)
-    (λ c. search needs)
-    (λ c κs. search needs)
-    (λ c. search needs)
-    sub-feed-file
-    part-feed-file-start
+    sub-mark-file
+    part-mark-file-start
     (λ c. search needs)
     (λ c κs. search needs)
     (λ c. search needs)
@@ -53,6 +91,7 @@ answer-spec =
     (λ c. search needs)
     (λ c κs. search needs)
     (λ c. search needs)
-    (λ c. search needs)
-    (λ c. search needs)
-    (λ c. search needs))
+    returns
+    returns-2
+    returns-3
+    returns-4)

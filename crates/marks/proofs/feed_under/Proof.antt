@@ -4,7 +4,8 @@ use mathlib.Core.List.{List}
 use Prim.Native.Nat.{ℕ}
 use borrow.Author.Needs.{needs}
 use lib.ListN.{length}
-use Rattle.refusals.specs.Refusals.{Test, told, judged}
+use Rattle.refusals.specs.Refusals.{Test, judged}
+use Rattle.refusals.specs.Answers.{told}
 use Rattle.refusals.proofs.Laws.{Clear, more-clear}
 use Rattle.refusals.proofs.Replies.{judged-refused, judged-clear}
 use Rattle.acceptance.proofs.Opened.{opened-whole, opened-proper}

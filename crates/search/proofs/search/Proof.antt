@@ -5,7 +5,7 @@ use native.Mathlib.Omega.{arith}
 use borrow.Author.Needs.{needs}
 use Rattle.lists.specs.Lists.{overlay}
 use Rattle.refusals.specs.Refusals.{stateOf, firstOf}
-use Rattle.acceptance.specs.Keys.{Opened}
+use Rattle.acceptance.specs.Opened.{Opened}
 use Rattle.acceptance.proofs.Opened.{opened-first, opened-whole, opened-proper, opened-eight}
 use Rattle.keys.proofs.Laws.{opened, refused}
 use Rattle.search.specs.Searching.{places, counts, textTests, search as answer, placesAfter}

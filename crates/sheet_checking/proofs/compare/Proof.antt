@@ -4,9 +4,10 @@ use mathlib.Core.List.{List}
 use Prim.Native.Nat.{ℕ, _*_, _≤_}
 use native.Mathlib.Omega.{arith}
 use lib.ListN.{length, length-drop}
-use Rattle.gf2.specs.Moduli.{polynomial, modulusOf}
+use Rattle.gf2.specs.Moduli.{polynomial}
+use Rattle.gf2.specs.Opening.{modulusOf}
 use Rattle.refusals.specs.Refusals.{Done}
-use Rattle.acceptance.specs.Keys.{Opened}
+use Rattle.acceptance.specs.Opened.{Opened}
 use Rattle.acceptance.proofs.Opened.{open-accepted, opened-from, opened-proper, opened-eight, opened-whole}
 use Rattle.sheets.specs.Layout.{version1, numbersAt, pagePlace, sheetLength, pageCount, contentsIn}
 use Rattle.sheets.specs.Sheets.{pageFingerprints, firstChange}

@@ -6,7 +6,7 @@ use Prim.Native.Nat.{ℕ, _≤_}
 use native.Mathlib.Omega.{arith}
 use lib.ListN.{length}
 use Rattle.refusals.proofs.Laws.{holds, fails}
-use Rattle.acceptance.specs.Keys.{Opened}
+use Rattle.acceptance.specs.Opened.{Opened}
 use Rattle.keys.specs.Testing.{testKey}
 use Rattle.keys.proofs.Laws.{opened}
 use Rattle.sheets.specs.Layout.{version1, sheetLength}

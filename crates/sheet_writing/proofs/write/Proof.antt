@@ -1,6 +1,6 @@
 -- `write` meets its contract.
 use mathlib.Core.Path.{sym}
-use Rattle.acceptance.specs.Keys.{Opened}
+use Rattle.acceptance.specs.Opened.{Opened}
 use Rattle.keys.proofs.Laws.{opened}
 use Rattle.sheet_writing.proofs.Answers.{write-refused}
 use borrow.Author.Needs.{needs}

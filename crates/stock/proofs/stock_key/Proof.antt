@@ -1,26 +1,15 @@
--- The constant is the list that the checker finds, entry by entry.
-use mathlib.Core.Path.{ap, _∙_}
-use mathlib.Core.List.{List}
-use Prim.Native.Nat.{ℕ, _-_}
-use borrow.Author.Needs.{needs}
-use borrow.Table.Row as Row
-use lib.ListN.{getD}
-use Rattle.lists.specs.Lists.{same}
-use Rattle.lists.proofs.Lists.{same-eq}
-use Rattle.stock.proofs.Sieve.{left}
-use Rattle.stock.proofs.Table.{divisors, keys, entry-stock}
+-- Outside of the list the answer is 0.
+use mathlib.Core.Path.{sym}
+use native.Mathlib.Omega.{arith}
+use Rattle.stock.proofs.Searches.{none-below, none-above}
 use Rattle.stock.proofs.stock_key.Statement.{statement}
 use Rattle.stock.proofs.stock_key.Tie as tie
-use Rattle.stock.proofs.stock_key.Reads as reads
-use Rattle.stock.proofs.stock_key.Lts as lts
-
--- the words of the constant, as they lie in the function's memory
-abbrev constant : tie.Start → List ℕ
-constant c = Row.get 2 (lts.T2 .locals) (lts.m1 reads.Pre reads.Post (c .args) (c .blocks))
 
 returns : tie.Need-returns
-unfolding divisors left same
-returns c = ap (λ (xs : List ℕ). getD xs (c .args .k - 8) 0) (same-eq (constant c) keys tt) ∙ entry-stock (c .args .k) (c .pre .0) (c .pre .1)
+returns c = sym (none-below (c .before .args .degree) (c .if1 .taken))
+
+returns-2 : tie.Need-returns-2
+returns-2 c = sym (none-above (c .before .before .args .degree) (c .if2 .taken))
 
 pub stock-key-spec : {M : Type 1} → statement M
-stock-key-spec = tie.close (tie.spec (λ c. search needs) (λ c. search needs) (λ c. search needs) (λ c. search needs) returns)
+stock-key-spec = tie.close (tie.spec returns returns-2 (λ c κs. omega arith) (λ c. c .entry .ensures))

@@ -6,7 +6,8 @@ use native.Mathlib.Omega.{arith}
 use borrow.Author.Needs.{needs}
 use lib.ListN.{length}
 use Rattle.refusals.specs.Refusals.{firstOf}
-use Rattle.acceptance.specs.Keys.{accepted, Opened}
+use Rattle.acceptance.specs.Keys.{accepted}
+use Rattle.acceptance.specs.Opened.{Opened}
 use Rattle.files.specs.declared.Mark.{Mark}
 use Rattle.files.specs.Files.{fedMark}
 use Rattle.lookups.specs.Rule.{table}

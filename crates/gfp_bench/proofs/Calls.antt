@@ -1,0 +1,43 @@
+-- Each call gives the lowest number that applies: the claims of specs/Calls.antt, proved. Each line is the state that comes back on
+-- refusal, the value, and that the numbers rise.
+use mathlib.Core.Path.{_≡_, refl}
+use mathlib.Core.List.{List, [], _∷_, _++_}
+use Prim.Native.Nat.{ℕ}
+use lib.ListN.{length}
+use Rattle.lists.specs.Lists.{listFrom}
+use Rattle.lists.proofs.Lists.{rising, length-list}
+use Rattle.gf2.specs.Opening.{modulusOf}
+use Rattle.refusals.specs.declared.Refusal.the-variants.{TableSize, TableWord}
+use Rattle.refusals.specs.Refusals.{_⇒_, firstOf}
+use Rattle.refusals.proofs.Laws.{skip, gives-lowest}
+use Rattle.acceptance.specs.Keys.{keyTests}
+use Rattle.files.specs.declared.Mark.{Mark}
+use Rattle.files.specs.Files.{markOf, fedMark}
+use Rattle.lookups.specs.Rule.{word, differs}
+use Rattle.house.specs.House.{houseKey, houseWords}
+use Rattle.keys.specs.Testing.{testKey}
+use Rattle.tables.specs.Tables.{makeTable, testTable}
+use Rattle.marks.specs.Feeding.{begin, feedTests, feedBits, feedTable, feedHouse}
+use Rattle.gfp_bench.specs.Calls.{EachCall}
+
+module _ (key : ℕ) (m : Mark) (words part : List ℕ) where
+  -- number 5 does not apply to the house key's words
+  without-5 : feedHouse key m part
+      ≡ firstOf (keyTests key ++ differs (word 8 key) 0 houseWords ⇒ TableWord ∷ feedTests key m (length part)) m (fedMark key m part)
+  unfolding feedHouse feedTable
+  without-5 =
+      rw (length-list (word 8 houseKey) 0 1024)
+      (skip (keyTests key) (differs (word 8 key) 0 houseWords ⇒ TableWord ∷ feedTests key m (length part)) TableSize m (fedMark key m part))
+
+  pub each-call : EachCall key m words part
+  unfolding testKey begin feedBits makeTable testTable feedTable rising
+  each-call =
+      record {
+        test-key = gives-lowest tt (modulusOf key) refl refl tt;
+        begin-mark = gives-lowest tt (markOf key []) refl refl tt;
+        feed = gives-lowest m (fedMark key m part) refl refl tt;
+        make-table = gives-lowest words (listFrom (word 8 key) 0 1024) refl refl tt;
+        test-table = gives-lowest tt tt refl refl tt;
+        feed-table = gives-lowest m (fedMark key m part) refl refl tt;
+        feed-house = gives-lowest m (fedMark key m part) without-5 refl tt;
+      }

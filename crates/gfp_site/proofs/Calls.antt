@@ -1,0 +1,34 @@
+-- Each call gives the lowest number that applies, or the first in document 01's order: the claims of specs/Calls.antt, proved. Each
+-- line is the state that comes back on refusal, the value, and that the numbers rise.
+use mathlib.Core.Path.{refl}
+use mathlib.Core.List.{List}
+use Prim.Native.Nat.{ℕ}
+use Rattle.lists.proofs.Lists.{rising}
+use Rattle.refusals.proofs.Laws.{gives-lowest, gives-first}
+use Rattle.files.specs.declared.Mark.{Mark}
+use Rattle.files.specs.Files.{joined, replaced}
+use Rattle.compose.specs.Composing.{joinBehind, joinInFront, replacePage}
+use Rattle.search.specs.Searching.{counts, search}
+use Rattle.sheets.specs.Layout.{version1, contentsIn}
+use Rattle.sheets.specs.Sheets.{writeSheet, readSheet, readPages, compared, checkSheet}
+use Rattle.gfp_site.specs.Calls.{EachMarkCall, EachFileCall}
+
+pub each-mark-call : (key : ℕ) (m other : Mark) (place : ℕ) (old new : List ℕ) → EachMarkCall key m other place old new
+unfolding joinBehind joinInFront replacePage rising
+each-mark-call key m other place old new =
+    record {
+      join-behind = gives-lowest m (joined key m other) refl refl tt;
+      join-in-front = gives-lowest m (joined key other m) refl refl tt;
+      replace-page = gives-lowest m (replaced key m place old new) refl refl tt;
+    }
+
+pub each-file-call : (key s : ℕ) (file pattern sheet buffer words : List ℕ) → EachFileCall key s file pattern sheet buffer words
+unfolding search writeSheet readSheet readPages checkSheet rising
+each-file-call key s file pattern sheet buffer words =
+    record {
+      find = gives-lowest tt (counts key file pattern) refl refl tt;
+      write-sheet = gives-lowest buffer _ refl refl tt;
+      read-sheet = gives-first tt (contentsIn version1 sheet) refl refl;
+      read-pages = gives-first words _ refl refl;
+      check-file = gives-first tt (compared (contentsIn version1 sheet) file) refl refl;
+    }

@@ -1,0 +1,318 @@
+-- The parts that the program reads: feeding them one after another marks the file that they make, and what is printed then is what `printed` says
+-- of the input that they make.
+use mathlib.Core.Path.{_≡_, refl, sym, ap, subst, _∙_}
+use mathlib.Core.Bool.{Bool, true, false}
+use mathlib.Core.List.{List, [], _∷_, _++_, flatten, append-assoc, append-nil}
+use Prim.Native.Nat.{ℕ, _+_, _-_, _≤_, _<_}
+use native.Mathlib.Decide.{decLe}
+use native.Mathlib.Omega.{arith}
+use lib.Dec.{ltb}
+use lib.ListN.{length, take, drop, length-append, length-drop}
+use lib.Seq.{drop-append-le, take-all}
+use borrow.Author.Tests.{lt-ltb, le-ltb, ltb-false}
+use Rattle.io.specs.Counts.{Counts}
+use Rattle.lists.specs.Lists.{listFrom}
+use Rattle.refusals.specs.declared.Refusal.{Refusal}
+use Rattle.refusals.specs.declared.Refusal.the-variants.{TooLong, MarkNotReduced}
+use Rattle.refusals.specs.Refusals.{Answer, Done, Refused, _⇒_, firstOf, passes, longest}
+use Rattle.refusals.proofs.Laws.{Clear, clear-done, done-clear, more-clear, more-refused, first-true}
+use Rattle.refusals.proofs.Lengths.{sum-passes, sum-fits}
+use Rattle.acceptance.specs.Keys.{keyTests}
+use Rattle.files.specs.declared.Mark.{Mark}
+use Rattle.files.specs.Files.{markOf, unreduced, fedMark}
+use Rattle.files.proofs.Marks.{true-reduced, fed-true}
+use Rattle.lookups.specs.Rule.{word}
+use Rattle.tables.specs.Tables.{makeTable}
+use Rattle.table_tests.specs.TableTests.{tableSizeTest}
+use Rattle.table_tests.specs.TableTests.{tableTests}
+use Rattle.tables.proofs.Laws.{size-passed, clear-table}
+use Rattle.marks.specs.declared.Running.{Running}
+use Rattle.marks.specs.declared.Fed.{Fed}
+use Rattle.marks.specs.declared.Fed.the-variants as fed-cases
+use Rattle.marks.specs.Feeding.{feedTests, begin, feedTable}
+use Rattle.marks.specs.Answers.{markIn, running, fed, begunUnder, fedUnder}
+use Rattle.printing.specs.declared.KeyLine.{KeyLine}
+use Rattle.printing.specs.declared.KeyLine.the-variants.{NoKey, Key}
+use Rattle.printing.specs.Printing.{keyLine, noKey, report, refused, answerText, markFile, printedAfter, printed}
+use Rattle.printing.proofs.Laws.{key-within, key-stays, head-decides}
+use Rattle.mark.specs.declared.Marked.{Marked}
+use Rattle.mark.specs.declared.Marked.the-variants as marked-cases
+use Rattle.mark.specs.declared.Front.{Front}
+use Rattle.mark.specs.declared.Front.the-variants as front-cases
+use Rattle.mark.specs.declared.Step.{Step}
+use Rattle.mark.specs.declared.Step.the-variants as step-cases
+use Rattle.mark.specs.Reading.{PutInFront, Stepped, NonEmpty, feeds, stateless, Gives, FedInParts, MarkedInParts, PrintedInParts}
+
+-- ---- one feed, in code
+
+module _ (key : ℕ) where
+  pub fed-next : (a : Answer Mark Mark) (next : Running) → Done next ≡ fedUnder key a → (next .key ≡ key) × (a ≡ Done (markIn next))
+  fed-next (Done m) next e = let is : next ≡ running key m = cc in (ap (λ (x : Running). x .key) is, ap (λ (x : Running). Done (markIn x)) (sym is))
+  fed-next (Refused r m) next e = absurd (apart e)
+    where
+      apart : Done next ≡ fedUnder key (Refused r m) → ⊥
+      apart e = let z : _≡_ {A = ℕ} 0 1 = cc in omega arith
+
+  pub fed-refused : (a : Answer Mark Mark) (r : Refusal) (kept : Running) → Refused r kept ≡ fedUnder key a → stateless a ≡ Refused r tt
+  fed-refused (Done m) r kept e = cc
+  fed-refused (Refused q m) r kept e = cc
+
+-- ---- feeds one after another
+
+module _ (key : ℕ) (words : List ℕ) where
+  stopped : (r : Refusal) (m : Mark) (parts : List (List ℕ)) → feeds key words (Refused r m) parts ≡ Refused r m
+  stopped r m [] = refl
+  stopped r m (part ∷ parts) = refl
+
+  feeds-append : (a : Answer Mark Mark) (xs ys : List (List ℕ)) → feeds key words a (xs ++ ys) ≡ feeds key words (feeds key words a xs) ys
+  feeds-append a [] ys = refl
+  feeds-append (Done m) (x ∷ xs) ys = feeds-append (feedTable key m words x) xs ys
+  feeds-append (Refused r m) (x ∷ xs) ys = sym (stopped r m ys)
+
+nonempty-append : (xs ys : List (List ℕ)) → NonEmpty xs → NonEmpty ys → NonEmpty (xs ++ ys)
+nonempty-append [] ys p q = q
+nonempty-append (x ∷ xs) ys p q = (p .0, nonempty-append xs ys (p .1) q)
+
+-- what the turns have made of a running mark so far: the parts that were read are fed to it
+abbrev pub SoFar : Running → List ℕ → Running → Type 0
+SoFar start words m =
+    (m .key ≡ start .key) × ((parts : List (List ℕ)) × (NonEmpty parts × (feeds (start .key) words (Done (markIn start)) parts ≡ Done (markIn m))))
+
+pub at-first : (start : Running) (words : List ℕ) → SoFar start words start
+at-first start words = (refl, ([], (tt, refl)))
+
+module _ (start : Running) (words : List ℕ) (m : Running) (s : SoFar start words m) where
+  -- one part more
+  one-more : (part : List ℕ) → feeds (start .key) words (Done (markIn start)) (s .1 .0 ++ part ∷ []) ≡ feedTable (m .key) (markIn m) words part
+  one-more part =
+      feeds-append (start .key) words (Done (markIn start)) (s .1 .0) (part ∷ [])
+      ∙ ap (λ (a : Answer Mark Mark). feeds (start .key) words a (part ∷ [])) (s .1 .1 .1)
+      ∙ ap (λ (k : ℕ). feedTable k (markIn m) words part) (sym (s .0))
+
+  pub next-turn : (part : List ℕ) (next : Running) → 0 < length part
+      → Done next ≡ fedUnder (m .key) (feedTable (m .key) (markIn m) words part) → SoFar start words next
+  next-turn part next p e =
+      let h = fed-next (m .key) (feedTable (m .key) (markIn m) words part) next e in
+      (h .0 ∙ s .0, (s .1 .0 ++ part ∷ [], (nonempty-append (s .1 .0) (part ∷ []) (s .1 .1 .0) (p, tt), one-more part ∙ h .1)))
+
+  pub last-turn : (part : List ℕ) (r : Refusal) (kept : Running) → 0 < length part
+      → Refused r kept ≡ fedUnder (m .key) (feedTable (m .key) (markIn m) words part) → FedInParts start words (marked-cases.Refused r)
+  last-turn part r kept p e = (
+    s .1 .0 ++ part ∷ [],
+    (
+      nonempty-append (s .1 .0) (part ∷ []) (s .1 .1 .0) (p, tt),
+      ap (begunUnder (start .key)) (ap stateless (one-more part) ∙ fed-refused (m .key) (feedTable (m .key) (markIn m) words part) r kept e),
+    ),
+  )
+
+  pub at-end : FedInParts start words (marked-cases.Done m)
+  at-end = (
+    s .1 .0,
+    (
+      s .1 .1 .0,
+      ap (λ (a : Answer Mark Mark). begunUnder (start .key) (stateless a)) (s .1 .1 .1)
+          ∙ ap (λ (k : ℕ). Done (running k (markIn m))) (sym (s .0)),
+    ),
+  )
+
+-- one turn of the code
+module _ (start : Running) (words : List ℕ) (m : Running) (s : SoFar start words m) (buffer : List ℕ) (step : Step) (n : ℕ) (f : Fed)
+    (h : Stepped m words buffer step) (is : step ≡ step-cases.Fed n f) where
+  turned : (0 < n) × (Counts n buffer × (fed f ≡ fedUnder (m .key) (feedTable (m .key) (markIn m) words (take n buffer))))
+  turned = subst (λ (x : Step). Stepped m words buffer x) is h
+
+  some-bytes : 0 < length (take n buffer)
+  some-bytes = omega (arith, turned .0, turned .1 .0 .1)
+
+  pub turn-next : (next : Running) → f ≡ fed-cases.Next next → SoFar start words next
+  turn-next next e = next-turn start words m s (take n buffer) next some-bytes (ap fed (sym e) ∙ turned .1 .1)
+
+  pub turn-refused : (r : Refusal) (kept : Running) → f ≡ fed-cases.Refused r kept → FedInParts start words (marked-cases.Refused r)
+  turn-refused r kept e = last-turn start words m s (take n buffer) r kept some-bytes (ap fed (sym e) ∙ turned .1 .1)
+
+-- ---- feeding the parts is marking the file
+
+module _ (key : ℕ) (h : Clear (keyTests key)) where
+  pos : 0 < key
+  pos = omega (arith, ltb-false key 256 (h .0))
+
+  -- the table that is made passes its tests
+  table : List ℕ
+  table = listFrom (word 8 key) 0 1024
+
+  made : (blank : List ℕ) → length blank ≡ 1024 → makeTable key blank ≡ Done table
+  unfolding table makeTable
+  made blank e =
+      more-clear (keyTests key) (tableSizeTest blank ∷ []) blank (listFrom (word 8 key) 0 1024) h
+      ∙ size-passed blank [] blank (listFrom (word 8 key) 0 1024) e
+
+  tested : (m : Mark) (part : List ℕ) → feedTable key m table part ≡ firstOf (feedTests key m (length part)) m (fedMark key m part)
+  unfolding table feedTable
+  tested m part =
+      let words = listFrom (word 8 key) 0 1024 in
+      more-clear (keyTests key) (tableTests key words ++ feedTests key m (length part)) m (fedMark key m part) h
+      ∙ more-clear (tableTests key words) (feedTests key m (length part)) m (fedMark key m part) (clear-table words key refl)
+
+  feed-goes : (file part : List ℕ) → length file + length part ≤ longest → feedTable key (markOf key file) table part ≡ Done (markOf key (file ++ part))
+  unfolding markOf
+  feed-goes file part l =
+      tested (markOf key file) part
+      ∙ clear-done (feedTests key (markOf key file) (length part)) (markOf key file) (fedMark key (markOf key file) part)
+      (sum-fits (length file) (length part) l, (true-reduced key pos file, tt))
+      ∙ ap Done (fed-true key pos file part)
+
+  feed-stops : (file part : List ℕ) → longest < length file + length part → feedTable key (markOf key file) table part ≡ Refused TooLong (markOf key file)
+  unfolding markOf
+  feed-stops file part l =
+      let m = markOf key file in
+      tested m part
+      ∙ first-true _ TooLong (unreduced key m ⇒ MarkNotReduced ∷ []) m (fedMark key m part) (sum-passes (length file) (length part) l)
+
+  -- number 7 of a whole file
+  abbrev judged : List ℕ → Answer Unit Mark
+  judged file = firstOf (passes (length file ∷ []) ⇒ TooLong ∷ []) tt (markOf key file)
+
+  short : (file : List ℕ) → length file ≤ longest → judged file ≡ Done (markOf key file)
+  short file l = rw (le-ltb longest (length file) l)
+
+  long : (file : List ℕ) → longest < length file → judged file ≡ Refused TooLong tt
+  long file l = rw (lt-ltb longest (length file) l)
+
+  feed-one : (file part : List ℕ) (parts : List (List ℕ)) → Dec (length file + length part ≤ longest)
+      → (length (file ++ part) ≤ longest → stateless (feeds key table (Done (markOf key (file ++ part))) parts) ≡ judged (file ++ part ++ flatten parts))
+      → stateless (feeds key table (feedTable key (markOf key file) table part) parts) ≡ judged (file ++ (part ++ flatten parts))
+  feed-one file part parts (yes l) ih =
+      ap (λ (a : Answer Mark Mark). stateless (feeds key table a parts)) (feed-goes file part l)
+      ∙ ih (omega (arith, length-append file part))
+      ∙ ap judged (append-assoc file part (flatten parts))
+  feed-one file part parts (no l) ih =
+      ap (λ (a : Answer Mark Mark). stateless (feeds key table a parts)) (feed-stops file part (omega arith))
+      ∙ ap stateless (stopped key table TooLong (markOf key file) parts)
+      ∙ sym (long (file ++ (part ++ flatten parts)) (omega (arith, length-append file (part ++ flatten parts), length-append part (flatten parts))))
+
+  feeds-judged : (file : List ℕ) (parts : List (List ℕ)) → length file ≤ longest
+      → stateless (feeds key table (Done (markOf key file)) parts) ≡ judged (file ++ flatten parts)
+  unfolding flatten
+  feeds-judged file [] l = sym (ap judged (append-nil file) ∙ short file l)
+  feeds-judged file (part ∷ parts) l =
+      feed-one file part parts (decLe (length file + length part) longest) (λ m. feeds-judged (file ++ part) parts m)
+
+  feeds-marked : (parts : List (List ℕ))
+      → begunUnder key (stateless (feeds key table (Done (markOf key [])) parts)) ≡ markFile key (flatten parts)
+  unfolding markFile
+  feeds-marked parts =
+      ap (begunUnder key) (feeds-judged [] parts (omega arith))
+      ∙ sym
+      (ap (begunUnder key)
+      (more-clear (keyTests key) (passes (length (flatten parts) ∷ []) ⇒ TooLong ∷ []) tt (markOf key (flatten parts)) h))
+
+-- ---- the calls of `mark_file`, one after another
+
+done-refused : {S A : Type 0} {a : A} {r : Refusal} {s : S} → _≡_ {A = Answer S A} (Done a) (Refused r s) → ⊥
+done-refused e = let z : _≡_ {A = ℕ} 0 1 = cc in omega arith
+
+module _ (key : ℕ) where
+  -- a key that is refused
+  pub begun-refused : (first : List ℕ) (r : Refusal) → Refused r tt ≡ begunUnder key (begin key) → MarkedInParts key first (marked-cases.Refused r)
+  unfolding begin markFile
+  begun-refused first r e =
+      let file = first ++ flatten [] in (
+        [],
+        (
+          tt,
+          ap (begunUnder key)
+              (more-refused (keyTests key) (passes (length file ∷ []) ⇒ TooLong ∷ []) tt tt (markOf key []) (markOf key file) r (go (begin key) refl e)),
+        ),
+      )
+    where
+      go : (a : Answer Unit Mark) → begin key ≡ a → Refused r tt ≡ begunUnder key a → begin key ≡ Refused r tt
+      go (Done m) t u = absurd (done-refused (sym u))
+      go (Refused q s) t u = t ∙ cc
+
+  -- a key that is accepted
+  pub begun-clear : (m : Running) → Done m ≡ begunUnder key (begin key) → Clear (keyTests key) × (m ≡ running key (markOf key []))
+  unfolding begin
+  begun-clear m e = go (begin key) refl e
+    where
+      go : (a : Answer Unit Mark) → begin key ≡ a → Done m ≡ begunUnder key a → Clear (keyTests key) × (m ≡ running key (markOf key []))
+      go (Done x) t u =
+          let d = done-clear (keyTests key) tt (markOf key []) x t in
+          let is : m ≡ running key x = cc in
+          (d .0, is ∙ ap (running key) (sym (d .1)))
+      go (Refused q s) t u = absurd (done-refused u)
+
+  module _ (first : List ℕ) (m : Running) (begun-is : Done m ≡ begunUnder key (begin key)) (blank words : List ℕ) where
+    clear : Clear (keyTests key)
+    clear = begun-clear m begun-is .0
+
+    pub made-always : (r : Refusal) → Refused r words ≡ makeTable key blank → 1024 ≡ length blank → ⊥
+    made-always r e size = done-refused (sym (e ∙ made key clear blank (sym size)))
+
+    module _ (e : Done words ≡ makeTable key blank) (size : 1024 ≡ length blank) where
+      table-words : words ≡ table key clear
+      table-words = let d : _≡_ {A = Answer (List ℕ) (List ℕ)} (Done words) (Done (table key clear)) = e ∙ made key clear blank (sym size) in cc
+
+      -- the first bytes and the parts behind them, fed by the table that was made
+      fed-marked : (parts : List (List ℕ))
+          → begunUnder key (stateless (feeds key words (feedTable (m .key) (markIn m) words first) parts)) ≡ markFile key (first ++ flatten parts)
+      unfolding flatten
+      fed-marked parts =
+          rw (begun-clear m begun-is .1, table-words) (feeds-marked key clear (first ∷ parts))
+
+      pub first-refused : (r : Refusal) (kept : Running) → Refused r kept ≡ fedUnder (m .key) (feedTable (m .key) (markIn m) words first)
+          → MarkedInParts key first (marked-cases.Refused r)
+      first-refused r kept u = (
+        [],
+        (
+          tt,
+          sym (fed-marked []) ∙ ap (begunUnder key) (fed-refused (m .key) (feedTable (m .key) (markIn m) words first) r kept u),
+        ),
+      )
+
+      pub rest-marked : (next : Running) (r : Marked) → Done next ≡ fedUnder (m .key) (feedTable (m .key) (markIn m) words first)
+          → FedInParts next words r → MarkedInParts key first r
+      rest-marked next r u p = (p .0, (p .1 .0, subst (Gives r) same (p .1 .1)))
+        where
+          fed-is : (next .key ≡ m .key) × (feedTable (m .key) (markIn m) words first ≡ Done (markIn next))
+          fed-is = fed-next (m .key) (feedTable (m .key) (markIn m) words first) next u
+
+          same : begunUnder (next .key) (stateless (feeds (next .key) words (Done (markIn next)) (p .0))) ≡ markFile key (first ++ flatten (p .0))
+          same =
+              ap (λ (k : ℕ). begunUnder k (stateless (feeds k words (Done (markIn next)) (p .0))))
+              (fed-is .0 ∙ ap (λ (x : Running). x .key) (begun-clear m begun-is .1))
+              ∙ ap (λ (a : Answer Mark Mark). begunUnder key (stateless (feeds key words a (p .0)))) (sym (fed-is .1))
+              ∙ fed-marked (p .0)
+
+-- ---- the text
+
+-- the part of a list from a place on
+pub from : (at : ℕ) (l : List ℕ) → take (length l - at) (drop at l) ≡ drop at l
+from at l = take-all (length l - at) (drop at l) (omega (arith, length-drop at l))
+
+module _ (head before after : List ℕ) (n : ℕ) where
+  pub none-printed : keyLine head ≡ NoKey → PutInFront before after n noKey → PrintedInParts head before after (front-cases.Bytes n)
+  unfolding flatten printed
+  none-printed e p =
+      ([], (tt, subst (PutInFront before after n) (sym (ap printed (append-nil head) ∙ ap (λ (l : KeyLine). printedAfter l head) e)) p))
+
+  module _ (key at : ℕ) (line : keyLine head ≡ Key key at) where
+    text : (rest : List ℕ) → printed (head ++ rest) ≡ answerText (markFile key (drop at head ++ rest))
+    unfolding printed
+    text rest =
+        ap (λ (l : KeyLine). printedAfter l (head ++ rest)) (key-stays head rest key at line)
+        ∙ ap (λ (file : List ℕ). answerText (markFile key file)) (drop-append-le at head rest (key-within head key at line))
+
+    pub mark-printed : (r : Marked) (m : Running) → MarkedInParts key (drop at head) r → r ≡ marked-cases.Done m → PutInFront before after n (report m)
+        → PrintedInParts head before after (front-cases.Bytes n)
+    mark-printed r m p e put =
+        let g : markFile key (drop at head ++ flatten (p .0)) ≡ Done m = subst (λ (x : Marked). Gives x (markFile key (drop at head ++ flatten (p .0)))) e (p .1 .1) in
+        (p .0, (p .1 .0, subst (PutInFront before after n) (sym (text (flatten (p .0)) ∙ ap answerText g)) put))
+
+    pub refusal-printed : (r : Marked) (q : Refusal) → MarkedInParts key (drop at head) r → r ≡ marked-cases.Refused q → PutInFront before after n (refused q)
+        → PrintedInParts head before after (front-cases.Bytes n)
+    refusal-printed r q p e put =
+        let g : markFile key (drop at head ++ flatten (p .0)) ≡ Refused q tt = subst (λ (x : Marked). Gives x (markFile key (drop at head ++ flatten (p .0)))) e (p .1 .1) in
+        (p .0, (p .1 .0, subst (PutInFront before after n) (sym (text (flatten (p .0)) ∙ ap answerText g)) put))
+
+pub text-counts : (head before after : List ℕ) (r : Front) (n : ℕ) → PrintedInParts head before after r → r ≡ front-cases.Bytes n → Counts n after
+text-counts head before after r n p e = subst (λ (x : Front). PrintedInParts head before after x) e p .1 .1 .1 .0
