@@ -12,7 +12,7 @@ use Rattle.refusals.specs.declared.Refusal.{Refusal}
 use Rattle.refusals.specs.declared.Refusal.the-variants.{TooLong}
 use Rattle.refusals.specs.Refusals.{Done, Refused, Test, _⇒_, firstOf, passes, longest}
 use Rattle.sheets.specs.declared.Sheet.{Sheet}
-use Rattle.sheets.specs.Layout.{PageSize, version1, numbersAt, pagePlace, sheetLength, pageCount, Contents, fieldIn, contentsIn}
+use Rattle.sheets.specs.Layout.{version1, numbersAt, pagePlace, sheetLength, pageCount, Contents, fieldIn, contentsIn}
 use Rattle.sheets.specs.Sheets.{pageFingerprints, contentsOf, readTests, readSheet, Page, OtherLength, firstChange, compared, checkSheet}
 use Rattle.sheets.specs.Answers.{sheetRead}
 use Rattle.sheets.specs.Sheets.{Outcome, checkTests, FromTo, rangeOf, changedRange}
@@ -118,7 +118,7 @@ module _ (sheet file : List ℕ) (i : ℕ) (e : checkSheet sheet file ≡ Done (
       go (no d) = absurd (not-other (sym (other-length (contentsIn version1 sheet) file d) ∙ named .1))
 
   -- its bytes, by the numbers that the code has
-  pub named-range : (from size end : ℕ) → size ≡ fieldIn version1 PageSize sheet → from ≡ i * size → end ≡ min (from + size) (length file)
+  pub named-range : (from size end : ℕ) → size ≡ fieldIn version1 4 sheet → from ≡ i * size → end ≡ min (from + size) (length file)
       → Done (FromTo from end) ≡ changedRange sheet file
   unfolding contentsIn
   named-range from size end es ef ee =

@@ -1,13 +1,17 @@
--- What the inner functions promise of page marks joined, and of the bits of their fields: a reader of the promises need not read this page.
+-- For inner functions: a reader of the promises need not read this page. What they promise of page marks joined, and of the bits of their
+-- fields.
 use mathlib.Core.Path.{_≡_}
+use mathlib.Core.Bool.{false}
 use mathlib.Core.List.{List, [], _∷_}
 use Prim.Native.Nat.{ℕ, _+_, _*_, _^_}
 use lib.Dec.{leb}
 use lib.ListN.{getD}
 use Rattle.gf2.specs.Polynomials.{_⊕_, rem}
+use Rattle.files.specs.Files.{markOf}
 use Rattle.lookups.specs.Groups.{looked}
 use Rattle.sheets.specs.Layout.{numbersAt}
-use Rattle.sheets.specs.Sheets.{someUnreduced}
+use Rattle.sheets.specs.Sheets.{someUnreduced, joinedPages}
+use Rattle.sheet_joining.specs.declared.Joined.{Joined}
 use Rattle.sheet_joining.specs.declared.Lanes.{Lanes}
 
 -- page marks joined behind the residue f, each page shifting by t^e; and the same by the table of that shift
@@ -19,7 +23,7 @@ unfoldable pub looping : List ℕ → ℕ → List ℕ → ℕ
 looping words f [] = f
 looping words f (g ∷ gs) = looping words (looked 8 words 8 0 f ⊕ g ⊕ getD words 1 0) gs
 
--- the bits of all fields: whatever k is, they are below 2^k exactly where each field is
+-- the bits of all fields: whatever k is, they are below 2^k exactly where each field is. The bits below the highest one are left free.
 abbrev pub BitsOf : List ℕ → ℕ → Type 0
 BitsOf fs bits = (k : ℕ) → leb (2 ^ k) bits ≡ someUnreduced k fs
 
@@ -30,3 +34,8 @@ pub record LanesJoined (words : List ℕ) (place q : ℕ) (l : List ℕ) (r : La
   pub c : r .c ≡ looping words 0 (numbersAt (place + 8 * q + 8 * q) 8 q l)
   pub d : r .d ≡ looping words 0 (numbersAt (place + 8 * q + 8 * q + 8 * q) 8 q l)
   pub bits : BitsOf (numbersAt place 8 (4 * q) l) (r .bits)
+
+-- marks of pages of s bytes joined under a key of degree k. Where a field is not below 2^k, the mark is left free.
+pub record PagesJoined (key k s : ℕ) (fields : List ℕ) (r : Joined) : Type 0 where
+  pub mark : someUnreduced k fields ≡ false → r .mark ≡ joinedPages key s (markOf key []) fields .fingerprint
+  pub bits : BitsOf fields (r .bits)

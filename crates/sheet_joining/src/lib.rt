@@ -1,15 +1,12 @@
 // Page marks joined, from the fields of a sheet. These functions are for the project's own crates: what they require, every caller proves.
 use gf2::Modulus;
 ghost use mathlib.Core.Path.{_≡_};
-ghost use mathlib.Core.Bool.{false};
-ghost use mathlib.Core.List.{[], _∷_};
+ghost use mathlib.Core.List.{_∷_};
 ghost use Prim.Native.Nat.{_+_, _*_, _≤_, _<_, _^_};
 ghost use lib.ListN.{length};
 ghost use Rattle.gf2.specs.Moduli.{polynomial, Proper};
-ghost use Rattle.files.specs.Files.{markOf};
 ghost use Rattle.sheets.specs.Layout.{numbersAt};
-ghost use Rattle.sheets.specs.Sheets.{someUnreduced, joinedPages};
-ghost use Rattle.sheet_joining.specs.Joining.{looping, BitsOf, LanesJoined};
+ghost use Rattle.sheet_joining.specs.Joining.{looping, BitsOf, LanesJoined, PagesJoined};
 
 // Marks joined, and the bits that stand in any of their fields: all fields are below 2^k exactly where these bits are.
 pub struct Joined {
@@ -79,9 +76,7 @@ fn join_lanes(shift: &[u64], fields: &[u8], q: u64) -> Lanes
 // below 2^k shows in the bits. The mark then means nothing: a lane may reach 2^k too, and the products take its low bits.
 pub fn pages_joined(fields: &[u8], p: Modulus, size: u64, n: u64) -> Joined
     requires { ⌜ Proper p × (p .degree < 64) × (size ≤ 4096) × (n < 2 ^ 29) × (8 * n ≤ length (now fields)) ⌝ }
-    ensures { λ r. ⌜ (someUnreduced (p .degree) (numbersAt 0 8 n (now (fields .entry))) ≡ false
-        → r .mark ≡ joinedPages (polynomial p) size (markOf (polynomial p) []) (numbersAt 0 8 n (now (fields .entry))) .fingerprint)
-        × BitsOf (numbersAt 0 8 n (now (fields .entry))) (r .bits) ⌝ }
+    ensures { λ r. ⌜ PagesJoined (polynomial p) (p .degree) size (numbersAt 0 8 n (now (fields .entry))) r ⌝ }
 {
     let mut shift = [0u64; 2048];
     shifts::fill(&mut shift, p, size);

@@ -1,12 +1,13 @@
--- What the inner functions promise of a block of pages: a reader of the promises need not read this page.
+-- For inner functions: a reader of the promises need not read this page. What they promise of a block of pages.
 use mathlib.Core.Path.{_≡_}
 use mathlib.Core.List.{List}
-use Prim.Native.Nat.{ℕ, _*_, _≤_, _<_}
+use Prim.Native.Nat.{ℕ, _*_, _<_, min}
 use lib.ListN.{length, getD, take, drop}
 use Rattle.gf2.specs.Polynomials.{rem}
 use Rattle.gf2.specs.Moduli.{polynomial, Proper}
 use Rattle.gf2.specs.declared.Modulus.{Modulus}
 use Rattle.files.specs.Files.{bits, valueFrom, fingerprint}
+use Rattle.multiples.specs.Rows.{SameFrom}
 use Rattle.lookups.specs.Groups.{TableOf}
 use Rattle.shifts.specs.Shifts.{Shifts}
 use Rattle.sheets.specs.Layout.{pageCount}
@@ -21,7 +22,8 @@ pub record PageTables (p : Modulus) (words eights : List ℕ) : Type 0 where
 abbrev pub pageFront : ℕ → ℕ → List ℕ → ℕ → List ℕ
 pageFront s w pages i = take w (drop (i * s) pages)
 
--- of n pages of s bytes: the number at place i is congruent to the first w bytes of page i behind a leading 1
+-- of n pages of s bytes: the number at place i is congruent to the first w bytes of page i behind a leading 1. Which of the congruent
+-- numbers it is, is left free.
 abbrev pub Begun : ℕ → ℕ → ℕ → ℕ → List ℕ → List ℕ → Type 0
 Begun key s w n pages marks = (i : ℕ) → i < n → rem key (getD marks i 0) ≡ rem key (valueFrom 1 (bits (pageFront s w pages i)))
 
@@ -33,9 +35,8 @@ BegunBy eights s w n pages marks = (p : Modulus) → Proper p → Shifts (polyno
 abbrev pub Finished : ℕ → ℕ → ℕ → List ℕ → List ℕ → Type 0
 Finished key s n pages marks = (i : ℕ) → i < n → getD marks i 0 ≡ fingerprint key (pageFront s s pages i)
 
--- n pages of what is left of a file, at least one of them where a byte is left, and their fingerprints in the first n places
-pub record NextPages (key s : ℕ) (rest : List ℕ) (n : ℕ) (marks : List ℕ) : Type 0 where
-  pub few : n ≤ 64
-  pub within : n ≤ pageCount s (length rest)
-  pub some : 0 < length rest → 0 < n
+-- the next n pages of what is left of a file: all of them, at most 64. Their fingerprints stand in the first n places, the others stay.
+pub record NextPages (key s : ℕ) (rest : List ℕ) (n : ℕ) (before marks : List ℕ) : Type 0 where
+  pub count : n ≡ min (pageCount s (length rest)) 64
   pub prints : take n marks ≡ pageFingerprints key s n rest
+  pub behind : SameFrom n before marks

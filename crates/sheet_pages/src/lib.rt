@@ -1,11 +1,12 @@
 // The fingerprints of a file's pages, by tables. These functions are for the project's own crates: what they require, every caller proves.
 use gf2::Modulus;
 ghost use mathlib.Core.Path.{_≡_};
-ghost use Prim.Native.Nat.{_+_, _*_, _/_, _%_, _≤_, _<_, min};
+ghost use Prim.Native.Nat.{_+_, _-_, _*_, _/_, _%_, _≤_, _<_, min};
 ghost use lib.ListN.{length, take};
 ghost use Rattle.gf2.specs.Polynomials.{rem};
 ghost use Rattle.gf2.specs.Moduli.{polynomial, Proper};
 ghost use Rattle.files.specs.Files.{bits, valueFrom, fingerprint};
+ghost use Rattle.multiples.specs.Rows.{SameFrom};
 ghost use Rattle.lookups.specs.Groups.{TableOf};
 ghost use Rattle.sheets.specs.Sheets.{filled, pageFingerprints};
 ghost use Rattle.sheets.specs.Parts.{lastPage, LastFilled};
@@ -32,16 +33,18 @@ fn block(left: usize, size: usize) -> usize
 // The page that is fed beside page i, of n pages: the next one, or page i itself where it is the last.
 fn beside(i: usize, n: usize) -> usize
     requires { ⌜ i < n ⌝ }
-    ensures { λ r. ⌜ (i ≤ r) × (r ≤ i + 1) × (r < n) ⌝ }
+    ensures { λ r. ⌜ r ≡ min (i + 1) (n - 1) ⌝ }
 {
     if i < n - 1 { i + 1 } else { i }
 }
 
-// The first bytes of each of n pages, `whole` of them, in groups of eight: two pages side by side, which do not wait for each other.
+// The first bytes of each of n pages, `whole` of them, in groups of eight: two pages side by side, which do not wait for each other. The
+// places behind the first n stay.
 fn begin_pages(marks: &mut [u64], eights: &[u64], size: usize, whole: usize, n: usize, pages: &[u8])
     requires { ⌜ (length (now eights) ≡ 2048) × (8 ≤ whole) × (whole % 8 ≡ 0) × (whole ≤ size)
         × (n * size ≤ length (now pages)) × (n ≤ length (now marks)) ⌝ }
-    ensures { λ r. ⌜ BegunBy (now (eights .entry)) size whole n (now (pages .entry)) (now (marks .exit)) ⌝ }
+    ensures { λ r. ⌜ BegunBy (now (eights .entry)) size whole n (now (pages .entry)) (now (marks .exit))
+        × SameFrom n (now (marks .entry)) (now (marks .exit)) ⌝ }
 {
     let mut i: usize = 0;
     while i < n {
@@ -68,6 +71,7 @@ fn finished(words: &[u64], p: Modulus, x: u64, rest: &[u8]) -> u64
 }
 
 // The fingerprints of n pages that are begun: each number is reduced, and the bytes that are left of its page are fed behind it.
+// The places behind the first n stay.
 fn finish_pages(
     marks: &mut [u64],
     words: &[u64],
@@ -79,7 +83,7 @@ fn finish_pages(
 )
     requires { ⌜ TableOf p (now words) × (whole ≤ size) × (n * size ≤ length (now pages)) × (n ≤ length (now marks))
         × Begun (polynomial p) size whole n (now pages) (now marks) ⌝ }
-    ensures { λ r. ⌜ Finished (polynomial p) size n (now (pages .entry)) (now (marks .exit)) ⌝ }
+    ensures { λ r. ⌜ Finished (polynomial p) size n (now (pages .entry)) (now (marks .exit)) × SameFrom n (now (marks .entry)) (now (marks .exit)) ⌝ }
 {
     let mut i: usize = 0;
     while i < n {
@@ -89,7 +93,7 @@ fn finish_pages(
     }
 }
 
-// The fingerprints of the first n pages, which are whole, into the first n places.
+// The fingerprints of the first n pages, which are whole, into the first n places. The places behind them stay.
 fn whole_marks(
     marks: &mut [u64],
     words: &[u64],
@@ -100,7 +104,8 @@ fn whole_marks(
     pages: &[u8],
 )
     requires { ⌜ PageTables p (now words) (now eights) × (8 ≤ size) × (n * size ≤ length (now pages)) × (n ≤ length (now marks)) ⌝ }
-    ensures { λ r. ⌜ take n (now (marks .exit)) ≡ pageFingerprints (polynomial p) size n (now (pages .entry)) ⌝ }
+    ensures { λ r. ⌜ (take n (now (marks .exit)) ≡ pageFingerprints (polynomial p) size n (now (pages .entry)))
+        × SameFrom n (now (marks .entry)) (now (marks .exit)) ⌝ }
 {
     let whole = size / 8 * 8;
     begin_pages(marks, eights, size, whole, n, pages);
@@ -143,7 +148,7 @@ pub struct Paging {
 pub fn next_pages(marks: &mut [u64], words: &[u64], eights: &[u64], x: Paging, rest: &[u8]) -> usize
     requires { ⌜ PageTables (x .p) (now words) (now eights) × (8 ≤ x .size) × (x .size ≤ 4096) × (64 ≤ length (now marks))
         × LastFilled (polynomial (x .p)) (x .size) (now rest) (x .last) ⌝ }
-    ensures { λ r. ⌜ NextPages (polynomial (x .p)) (x .size) (now (rest .entry)) r (now (marks .exit)) ⌝ }
+    ensures { λ r. ⌜ NextPages (polynomial (x .p)) (x .size) (now (rest .entry)) r (now (marks .entry)) (now (marks .exit)) ⌝ }
 {
     let size = x.size;
     let n = block(rest.len(), size);

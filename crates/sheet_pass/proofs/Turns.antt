@@ -7,7 +7,7 @@ use lib.ListN.{length, take, drop, length-drop}
 use Rattle.sheets.specs.Layout.{pageCount}
 use Rattle.sheets.specs.Sheets.{pageFingerprints}
 use Rattle.sheets.specs.Parts.{LastFilled}
-use Rattle.sheets.proofs.Pages.{block-within, pages-from, last-after, all-left}
+use Rattle.sheets.proofs.Pages.{count-le, block-within, pages-from, last-after, all-left}
 use Rattle.sheet_pages.specs.Blocks.{NextPages}
 
 module _ (key s : ℕ) (file : List ℕ) (i : ℕ) (pos : 0 < s) (more : i * s < length file) where
@@ -15,12 +15,21 @@ module _ (key s : ℕ) (file : List ℕ) (i : ℕ) (pos : 0 < s) (more : i * s <
   turn-last last e = rw (all-left file (i * s), last-after s i file pos (omega arith)) e
 
   -- n pages, whose fingerprints are the first of the marks
-  module _ (n : ℕ) (marks : List ℕ) (h : NextPages key s (take (length file - i * s) (drop (i * s) file)) n marks) where
+  module _ (n : ℕ) (before marks : List ℕ) (h : NextPages key s (take (length file - i * s) (drop (i * s) file)) n before marks) where
+    pub turn-few : n ≤ 64
+    turn-few = omega (arith, h .count)
+
+    within : n ≤ pageCount s (length (drop (i * s) file))
+    within = rw (← (all-left file (i * s))) (omega (arith, h .count))
+
     pub turn-within : i + n ≤ pageCount s (length file)
-    turn-within = block-within s i n file pos (omega arith) (rw (← (all-left file (i * s))) (h .within))
+    turn-within = block-within s i n file pos (omega arith) within
 
     pub turn-some : 0 < n
-    turn-some = h .some (rw (all-left file (i * s), length-drop) (omega arith))
+    turn-some =
+        let left : 0 < length (drop (i * s) file) = rw length-drop (omega arith) in
+        let e = ap (λ (l : List ℕ). pageCount s (length l)) (all-left file (i * s)) in
+        omega (arith, h .count, e, count-le s (length (drop (i * s) file)) 1 pos (omega (arith, left)))
 
     pub turn-marks : take n marks ≡ take n (drop i (pageFingerprints key s (pageCount s (length file)) file))
     turn-marks =

@@ -1,4 +1,4 @@
--- What a pass over the pages of a file promises: a reader of the promises need not read this page.
+-- For inner functions: a reader of the promises need not read this page. What a pass over the pages of a file promises.
 use mathlib.Core.Path.{_≡_}
 use mathlib.Core.List.{List, [], _∷_}
 use Prim.Native.Nat.{ℕ, _≤_, _<_}

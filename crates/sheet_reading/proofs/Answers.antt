@@ -20,7 +20,7 @@ use Rattle.keys.specs.Testing.{testKey}
 use Rattle.keys.specs.Answers.{tested}
 use Rattle.keys.proofs.Laws.{refused}
 use Rattle.sheets.specs.declared.layout.Head.{Head}
-use Rattle.sheets.specs.Layout.{Key, PageSize, version1, numberAt, pagePlace, sheetLength, pageCount, Contents, fieldIn, pagesIn, contentsIn}
+use Rattle.sheets.specs.Layout.{version1, numberAt, pagePlace, sheetLength, pageCount, Contents, fieldIn, pagesIn, contentsIn}
 use Rattle.sheets.specs.Sheets.{someUnreduced, pagesJoined, fileFilled, pageSizeTest, headWrong, bodyWrong, readSheet}
 use Rattle.sheets.specs.Answers.{numbersOf}
 use Rattle.sheets.specs.Parts.{HeadOf, readBody}
@@ -60,22 +60,22 @@ module _ (sheet : List ℕ) where
   read-head e = first-true (headWrong version1 sheet) SheetMalformed (keyTests (x .key) ++ rest) tt x e
 
   module _ (head : headWrong version1 sheet ≡ false) where
-    after-head : readSheet sheet ≡ firstOf (keyTests (fieldIn version1 Key sheet) ++ rest) tt x
+    after-head : readSheet sheet ≡ firstOf (keyTests (fieldIn version1 2 sheet) ++ rest) tt x
     unfolding readSheet contentsIn
-    after-head = first-false (headWrong version1 sheet) SheetMalformed (keyTests (fieldIn version1 Key sheet) ++ rest) tt x head
+    after-head = first-false (headWrong version1 sheet) SheetMalformed (keyTests (fieldIn version1 2 sheet) ++ rest) tt x head
 
-    pub read-refused : (t : Tested) (q : Refusal) → tested t ≡ testKey (fieldIn version1 Key sheet) → t ≡ tested-cases.Refused q
+    pub read-refused : (t : Tested) (q : Refusal) → tested t ≡ testKey (fieldIn version1 2 sheet) → t ≡ tested-cases.Refused q
         → readSheet sheet ≡ Refused q tt
-    read-refused t q e a = after-head ∙ refused t (fieldIn version1 Key sheet) e rest tt x q a
+    read-refused t q e a = after-head ∙ refused t (fieldIn version1 2 sheet) e rest tt x q a
 
-    pub read-opened : (p : Modulus) → Opened (fieldIn version1 Key sheet) p → readSheet sheet ≡ readBody sheet
+    pub read-opened : (p : Modulus) → Opened (fieldIn version1 2 sheet) p → readSheet sheet ≡ readBody sheet
     read-opened p o = after-head ∙ opened-first o rest tt x
 
-  pub body-size : (ltb (fieldIn version1 PageSize sheet) 16 || ltb 4096 (fieldIn version1 PageSize sheet)) ≡ true → readBody sheet ≡ Refused PageSize tt
+  pub body-size : (ltb (fieldIn version1 4 sheet) 16 || ltb 4096 (fieldIn version1 4 sheet)) ≡ true → readBody sheet ≡ Refused PageSize tt
   unfolding contentsIn
   body-size e = first-true (ltb (x .pageSize) 16 || ltb 4096 (x .pageSize)) PageSize (bodyWrong version1 (length sheet) x ⇒ SheetMalformed ∷ []) tt x e
 
-  module _ (size : (ltb (fieldIn version1 PageSize sheet) 16 || ltb 4096 (fieldIn version1 PageSize sheet)) ≡ false) where
+  module _ (size : (ltb (fieldIn version1 4 sheet) 16 || ltb 4096 (fieldIn version1 4 sheet)) ≡ false) where
     after-size : readBody sheet ≡ firstOf (bodyWrong version1 (length sheet) x ⇒ SheetMalformed ∷ []) tt x
     unfolding contentsIn
     after-size = first-false (ltb (x .pageSize) 16 || ltb 4096 (x .pageSize)) PageSize (bodyWrong version1 (length sheet) x ⇒ SheetMalformed ∷ []) tt x size

@@ -12,7 +12,7 @@ use Rattle.gf2.specs.Moduli.{polynomial, Proper}
 use Rattle.gf2.specs.declared.Modulus.{Modulus}
 use Rattle.lists.proofs.Lists.{all-map}
 use Rattle.gf2.proofs.Monics.{monic-pos, monic-degree}
-use Rattle.sheets.specs.Layout.{version1, bytesOf, fieldsOf, numbersAt, pagePlace, pageCount, sheetLength, Contents, valueOf, bytesIn, sheetBytes}
+use Rattle.sheets.specs.Layout.{version1, bytesOf, fieldsOf, numbersAt, pagePlace, pageCount, sheetLength, Contents, headOf, bytesIn, sheetBytes}
 use Rattle.sheets.specs.Sheets.{pageFingerprints}
 use Rattle.sheets.proofs.Numbers.{length-bytesOf, length-fieldsOf, sets-front, numbers-stored}
 use Rattle.sheets.proofs.Layouts.{length-fields}
@@ -29,19 +29,19 @@ fronts u v b b' n m eu ev h e =
 
 -- head, and fingerprints
 pub sheet-stores : (x : Contents) (c : ℕ) (b b' part : List ℕ) → length (x .pages) ≡ c → sheetLength version1 c ≤ length b
-    → b' ≡ sets b 0 (bytesIn (version1 .fields) (valueOf version1 x))
+    → b' ≡ sets b 0 (bytesIn (version1 .widths) (headOf version1 x))
     → part ≡ sets (drop (pagePlace version1 0) b') 0 (fieldsOf 8 (x .pages) ++ bytesOf 8 (x .fingerprint))
     → take (pagePlace version1 0) b' ++ part ≡ sheetBytes version1 x ++ drop (sheetLength version1 c) b
 unfolding sheetBytes
 sheet-stores x c b b' part ec h e ep =
-    let head = bytesIn (version1 .fields) (valueOf version1 x) in
+    let head = bytesIn (version1 .widths) (headOf version1 x) in
     let pages = fieldsOf 8 (x .pages) in
     let last = bytesOf 8 (x .fingerprint) in
     let long : length (pages ++ last) ≡ 8 * c + 8 =
     length-append pages last ∙ ap₂ (λ (m n : ℕ). m + n) (length-fieldsOf 8 (x .pages) ∙ ap (λ (m : ℕ). 8 * m) ec) (length-bytesOf 8 (x .fingerprint)) in
     let all : pagePlace version1 0 + (8 * c + 8) ≡ sheetLength version1 c = omega arith in
     ap (λ (l : List ℕ). take (pagePlace version1 0) b' ++ l) ep
-    ∙ fronts head (pages ++ last) b b' (pagePlace version1 0) (8 * c + 8) (length-fields (valueOf version1 x) (version1 .fields)) long (omega arith) e
+    ∙ fronts head (pages ++ last) b b' (pagePlace version1 0) (8 * c + 8) (length-fields (version1 .widths) (headOf version1 x)) long (omega arith) e
     ∙ ap₂ (λ (u : List ℕ) (n : ℕ). u ++ drop n b) (sym (append-assoc head pages last)) all
 
 -- the fields of the whole pages read back, after all pages' were stored

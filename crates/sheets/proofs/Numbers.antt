@@ -13,7 +13,7 @@ use lib.Seq.{sets, sets-eq, drop-cons, take-at, drop-at, take-add, drop-drop, le
 use Rattle.lists.specs.Lists.{All}
 use Rattle.files.specs.Files.{bits, valueFrom, Bytes}
 use Rattle.files.proofs.Values.{value-byte, value-split, value-lt, length-bits}
-use Rattle.sheets.specs.Layout.{bytesOf, fieldsOf, numberAt, numbersAt, Name, Field, _bytes_, bytesIn}
+use Rattle.sheets.specs.Layout.{bytesOf, fieldsOf, numberAt, numbersAt, bytesIn}
 
 -- ---- lengths
 
@@ -230,17 +230,17 @@ unfolding fieldsOf
 fields-behind w f fs l i = sets-behind (bytesOf w f) (fieldsOf w fs) l i (i + w) (ap (λ (n : ℕ). i + n) (sym (length-bytesOf w f)))
 
 -- the fields in front of the fingerprints: one store more
-pub store-field : (fields : List Field) (value : Name → ℕ) (w : ℕ) (name : Name) (place : ℕ) (l l' after : List ℕ) → l' ≡ sets l place (bytesOf w (value name))
-    → after ≡ sets l' (place + w) (bytesIn fields value) → after ≡ sets l place (bytesIn (w bytes name ∷ fields) value)
+pub store-field : (ws xs : List ℕ) (w x place : ℕ) (l l' after : List ℕ) → l' ≡ sets l place (bytesOf w x) → after ≡ sets l' (place + w) (bytesIn ws xs)
+    → after ≡ sets l place (bytesIn (w ∷ ws) (x ∷ xs))
 unfolding bytesIn
-store-field fields value w name place l l' after e d =
+store-field ws xs w x place l l' after e d =
     d
-    ∙ ap (λ (b : List ℕ). sets b (place + w) (bytesIn fields value)) e
-    ∙ sets-behind (bytesOf w (value name)) (bytesIn fields value) l place (place + w) (ap (λ (n : ℕ). place + n) (sym (length-bytesOf w (value name))))
+    ∙ ap (λ (b : List ℕ). sets b (place + w) (bytesIn ws xs)) e
+    ∙ sets-behind (bytesOf w x) (bytesIn ws xs) l place (place + w) (ap (λ (n : ℕ). place + n) (sym (length-bytesOf w x)))
 
-pub store-none : (value : Name → ℕ) (place : ℕ) (l : List ℕ) → l ≡ sets l place (bytesIn [] value)
+pub store-none : (xs : List ℕ) (place : ℕ) (l : List ℕ) → l ≡ sets l place (bytesIn [] xs)
 unfolding bytesIn
-store-none value place l = refl
+store-none xs place l = refl
 
 -- one of the numbers
 pub numbers-one : (c place w i : ℕ) (l : List ℕ) → i < c → getD (numbersAt place w c l) i 0 ≡ numberAt (place + w * i) w l

@@ -1,7 +1,7 @@
 -- Routes to a file's fingerprint through sheets: the fields of a written sheet, and what reading gives of a sheet whose page
 -- fingerprints are those of a file's pages.
-use mathlib.Core.Path.{_≡_, refl, sym, ap, ap₂, _∙_}
-use mathlib.Core.List.{List, [], _∷_, _++_}
+use mathlib.Core.Path.{_≡_, refl, sym, ap, _∙_}
+use mathlib.Core.List.{List, [], _∷_}
 use Prim.Native.Nat.{ℕ, zero, suc, _+_, _*_, _^_, _≤_, _<_}
 use native.Mathlib.Nat.{zero-mul, suc-mul}
 use native.Mathlib.Omega.{arith}
@@ -12,9 +12,8 @@ use Rattle.refusals.specs.Refusals.{Done}
 use Rattle.refusals.proofs.Laws.{done-clear}
 use Rattle.files.specs.Files.{Bytes, bits, valueFrom, fingerprint}
 use Rattle.sheets.specs.Layout.{version1, numberAt, pagePlace, sheetLength, pageCount, pagesIn, Contents, contentsIn}
-use Rattle.sheets.specs.Sheets.{filled, pageFingerprints, contentsOf, writeSheet, readTests, readSheet, readPages, Same, pagesNow}
+use Rattle.sheets.specs.Sheets.{filled, pageFingerprints, contentsOf, writeSheet, readTests, readSheet, readPages, pagesNow}
 use Rattle.sheets.specs.Claims.{WellFormed}
-use Rattle.sheets.specs.Sheets.{checkSheet}
 use Rattle.sheets.proofs.Numbers.{numbers-one}
 use Rattle.sheets.proofs.Pages.{length-pages}
 use Rattle.sheets.proofs.Sound.{clear-sound}

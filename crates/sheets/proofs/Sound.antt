@@ -6,7 +6,7 @@ use Prim.Native.Nat.{ℕ, _+_, _-_, _*_, _^_, _≤_, _<_}
 use native.Mathlib.Nat.{lt-of-lt-of-le}
 use native.Mathlib.Omega.{arith}
 use lib.Dec.{ltb, leb, eqb, lit<}
-use lib.ListN.{length}
+use lib.ListN.{length, take}
 use lib.Pow.{pow-mono}
 use borrow.Author.Tests.{eq-eqb, le-ltb, lt-leb, ltb-false, leb-false, eqb-true, not-false}
 use Rattle.lists.specs.Lists.{All}
@@ -18,7 +18,7 @@ use Rattle.acceptance.specs.Keys.{accepted}
 use Rattle.lists.proofs.Truth.{or-neither}
 use Rattle.acceptance.proofs.Laws.{accepted-iff, accepted-pos, accepted-small, key-iff}
 use Rattle.files.specs.Files.{Bytes, fingerprint}
-use Rattle.sheets.specs.Layout.{Letters, Version, Key, Length, version1, placeOf, widthOf, pagePlace, sheetLength, pageCount, Contents, letters}
+use Rattle.sheets.specs.Layout.{version1, width, pagePlace, sheetLength, pageCount, Contents, letters}
 use Rattle.sheets.specs.Layout.{sheetBytes, fieldIn, pagesIn, contentsIn}
 use Rattle.sheets.specs.Sheets.{contentsOf, someUnreduced, pagesJoined, fileFilled, headWrong, readTests}
 use Rattle.sheets.specs.Claims.{SoundContents, WellFormed}
@@ -61,7 +61,7 @@ sound-fits x h =
     small = let d = accepted-iff (x .key) .0 (h .key) in pow-mono {i = degree (x .key)} {j = 64} (omega arith)
 
 pub sound-back : (x : Contents) → SoundContents x → contentsIn version1 (sheetBytes version1 x) ≡ x
-sound-back x h = read-back version1 x (sound-fits x h) refl refl refl
+sound-back x h = read-back version1 x (sound-fits x h) (omega arith)
 
 -- ---- the tests of reading
 
@@ -79,7 +79,7 @@ pub sound-clear : (x : Contents) → SoundContents x → Clear (readTests versio
 sound-clear x h =
     let f = sound-fits x h in
     let k = key-iff (x .key) (accepted-small (x .key) (h .key)) .0 (h .key) in
-    rw (sound-back x h, length-sheet version1 x, field-back version1 x f Letters refl, field-back version1 x f Version refl) (
+    rw (sound-back x h, length-sheet version1 x, field-back version1 x f 0 (omega arith), field-back version1 x f 1 (omega arith)) (
       or-clear (le-ltb (sheetLength version1 (length (x .pages))) (sheetLength version1 0) (omega arith)) refl refl,
       (
         k .0,
@@ -105,18 +105,18 @@ neither a b c e = let x = or-neither (a || b) c e in let y = or-neither a b (x .
 -- size, letters and version are right
 pub record HeadRight (sheet : List ℕ) : Type 0 where
   pub long : sheetLength version1 0 ≤ length sheet
-  pub letters : fieldIn version1 Letters sheet ≡ Rattle.sheets.specs.Layout.letters
-  pub version : fieldIn version1 Version sheet ≡ version1 .version
+  pub letters : fieldIn version1 0 sheet ≡ Rattle.sheets.specs.Layout.letters
+  pub version : fieldIn version1 1 sheet ≡ version1 .version
 
 pub head-right : (sheet : List ℕ) → headWrong version1 sheet ≡ false → HeadRight sheet
 head-right sheet e =
     let n =
-    neither (ltb (length sheet) (sheetLength version1 0)) (not (eqb (fieldIn version1 Letters sheet) letters))
-    (not (eqb (fieldIn version1 Version sheet) (version1 .version))) e in
+    neither (ltb (length sheet) (sheetLength version1 0)) (not (eqb (fieldIn version1 0 sheet) letters))
+    (not (eqb (fieldIn version1 1 sheet) (version1 .version))) e in
     record {
       long = ltb-false (length sheet) (sheetLength version1 0) (n .0);
-      letters = eqb-true (fieldIn version1 Letters sheet) letters (not-false _ (n .1));
-      version = eqb-true (fieldIn version1 Version sheet) (version1 .version) (not-false _ (n .2));
+      letters = eqb-true (fieldIn version1 0 sheet) letters (not-false _ (n .1));
+      version = eqb-true (fieldIn version1 1 sheet) (version1 .version) (not-false _ (n .2));
     }
 
 -- what the tests say of the bytes where none holds
@@ -146,8 +146,8 @@ module _ (sheet : List ℕ) (c : Clear (readTests version1 sheet)) where
   unfolding x contentsIn
   clear-contents =
       let long = head .long in
-      let small = number-lt (placeOf (version1 .fields) Key) (widthOf (version1 .fields) Key) sheet (omega arith) in
-      let n = number-lt (placeOf (version1 .fields) Length) (widthOf (version1 .fields) Length) sheet (omega arith) in
+      let small = number-lt (width (take 2 (version1 .widths))) 8 sheet (omega arith) in
+      let n = number-lt (width (take 3 (version1 .widths))) 4 sheet (omega arith) in
       let fs = none-unreduced (degree (x .key)) (x .pages) (x .fingerprint) (body .1) in
       record {
         key = key-iff (x .key) small .1 (c .1 .0, c .1 .1 .0);
@@ -165,7 +165,7 @@ module _ (sheet : List ℕ) (c : Clear (readTests version1 sheet)) where
         contents = contentsIn version1 sheet;
         sound = clear-contents;
         bytes =
-            sym (write-back version1 (refl, (refl, (refl, (refl, (refl, tt))))) sheet b clear-total (head .letters) (head .version));
+            sym (write-back version1 (omega arith) sheet b clear-total (head .letters) (head .version));
       }
 
 -- ---- the numbers of a file's sheet are sound

@@ -1,4 +1,4 @@
--- What the inner functions promise: a reader of the promises need not read this page.
+-- For inner functions: a reader of the promises need not read this page. What they promise.
 use mathlib.Core.Path.{_≡_}
 use mathlib.Core.Bool.{cond}
 use mathlib.Core.List.{List, [], _∷_}
@@ -13,7 +13,7 @@ use Rattle.sheets.specs.declared.Checked.{Checked}
 use Rattle.sheets.specs.declared.Checked.the-variants as checked-cases
 use Rattle.sheets.specs.declared.Changed.{Changed}
 use Rattle.sheets.specs.declared.layout.Head.{Head}
-use Rattle.sheets.specs.Layout.{Key, Length, PageSize, version1, pagePlace, Contents, fieldIn, contentsIn}
+use Rattle.sheets.specs.Layout.{version1, pagePlace, Contents, fieldIn, contentsIn}
 use Rattle.sheets.specs.Sheets.{filled, pageSizeTest, bodyWrong, readSheet, Outcome, compared, Range, rangeOf}
 use Rattle.sheets.specs.Answers.{numbersOf}
 use Rattle.sheets.specs.Answers.{checkAnswer, changeAnswer}
@@ -64,9 +64,9 @@ WithoutPage o r = (x : Contents) → changeAnswer r ≡ ranged x (checkAnswer o)
 
 -- the numbers in front of a sheet's fingerprints, as the code reads them
 pub record HeadOf (sheet : List ℕ) (head : Head) : Type 0 where
-  pub key : head .key ≡ fieldIn version1 Key sheet
-  pub length : head .length ≡ fieldIn version1 Length sheet
-  pub size : head .size ≡ fieldIn version1 PageSize sheet
+  pub key : head .key ≡ fieldIn version1 2 sheet
+  pub length : head .length ≡ fieldIn version1 3 sheet
+  pub size : head .size ≡ fieldIn version1 4 sheet
   pub length-fits : head .length < 2 ^ 32
   pub size-fits : head .size < 2 ^ 16
 

@@ -11,7 +11,7 @@ use Rattle.refusals.specs.Refusals.{Answer, Done, Refused, Test, _⇒_, firstOf
 use Rattle.acceptance.specs.Keys.{keyTests}
 use Rattle.files.specs.declared.Mark.{Mark}
 use Rattle.files.specs.Files.{fingerprint, markOf, joined}
-use Rattle.sheets.specs.Layout.{Letters, Version, Layout, version1, sheetLength, pageCount, Contents, letters, sheetBytes}
+use Rattle.sheets.specs.Layout.{Layout, version1, sheetLength, pageCount, Contents, letters, sheetBytes}
 use Rattle.sheets.specs.Layout.{fieldIn, contentsIn}
 use Rattle.sheets.specs.declared.Sheet.{Sheet}
 
@@ -83,8 +83,8 @@ fileFilled x = rem (x .key) (x .fingerprint * 2 ^ (8 * (length (x .pages) * x .p
 abbrev pub headWrong : Layout → List ℕ → Bool
 headWrong v sheet =
     ltb (length sheet) (sheetLength v 0)
-    || not (eqb (fieldIn v Letters sheet) letters)
-    || not (eqb (fieldIn v Version sheet) (v .version))
+    || not (eqb (fieldIn v 0 sheet) letters)
+    || not (eqb (fieldIn v 1 sheet) (v .version))
 
 -- number 14, last: total, fields, joining
 abbrev pub bodyWrong : Layout → ℕ → Contents → Bool

@@ -6,7 +6,7 @@ ghost use mathlib.Core.Bool.{not};
 ghost use Prim.Native.Nat.{_≤_, _<_, _^_};
 ghost use lib.ListN.{length};
 ghost use lib.Seq.{sets};
-ghost use Rattle.sheets.specs.Layout.{version1, pagePlace, sheetLength, valueOf, bytesIn, numberAt};
+ghost use Rattle.sheets.specs.Layout.{version1, pagePlace, sheetLength, headOf, bytesIn, numberAt};
 ghost use Rattle.sheets.specs.Sheets.{headWrong};
 ghost use Rattle.sheets.specs.Parts.{HeadOf, fingerprintsPart, headOnly};
 
@@ -74,7 +74,7 @@ pub fn read_head(sheet: &[u8]) -> Head
 // Writes what stands in front of the fingerprints.
 pub fn put_head(buffer: &mut [u8], head: Head)
     requires { ⌜ pagePlace version1 0 ≤ length (now buffer) ⌝ }
-    ensures { λ r. ⌜ now (buffer .exit) ≡ sets (now (buffer .entry)) 0 (bytesIn (version1 .fields) (valueOf version1 (headOnly head))) ⌝ }
+    ensures { λ r. ⌜ now (buffer .exit) ≡ sets (now (buffer .entry)) 0 (bytesIn (version1 .widths) (headOf version1 (headOnly head))) ⌝ }
 {
     fields::put(buffer, 0, LETTERS_WIDTH, LETTERS);
     fields::put(buffer, VERSION_PLACE, VERSION_WIDTH, VERSION);

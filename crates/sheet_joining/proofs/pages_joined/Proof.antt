@@ -45,7 +45,10 @@ returns c =
     let s = start t in
     let a = s .args in
     let x = c .join-lane .ensures in
-    (λ r. x .0 ∙ few-joined (a .p) (s .pre .0) (a .size) 0 (a .n) (a .fields .now) (t .fill .last .0) (t .fill .ensures) r, λ k. x .1 k ∙ bits-none k _)
+    record {
+      mark = λ r. x .0 ∙ few-joined (a .p) (s .pre .0) (a .size) 0 (a .n) (a .fields .now) (t .fill .last .0) (t .fill .ensures) r;
+      bits = λ k. x .1 k ∙ bits-none k _;
+    }
 
 mul-power-of-t-2 : tie.Need-mul-power-of-t-2
 mul-power-of-t-2 c = let s = start (filled c) in omega (arith, mul-le-mul-right (s .args .n / 4) (s .pre .2))
@@ -78,18 +81,19 @@ returns-2 c =
     let t = filled (lanes p) .fill in
     let s = start (filled (lanes p)) in
     let a = s .args in
-    let q = a .n / 4 in (
-      λ r. all-joined (a .p) (s .pre .0) (a .size) 0 (a .n) q (32 * q) (omega arith) (omega arith) (a .fields .now) (t .last .0) (t .ensures) r (x .result)
+    let q = a .n / 4 in
+    record {
+      mark = λ r. all-joined (a .p) (s .pre .0) (a .size) 0 (a .n) q (32 * q) (omega arith) (omega arith) (a .fields .now) (t .last .0) (t .ensures) r (x .result)
           (x .ensures)
           (p .power-of-t .result) (p .power-of-t .ensures) (b₂ .before .times-plus .result) (b₃ .before .times-plus2 .result) (c₃ .times-plus3 .result)
           (c .join-lane2 .result .mark)
           (times-low (a .p) _ _ _ _ _ (b₁ .low-bits .ensures) (b₂ .before .times-plus .ensures))
           (times-low (a .p) _ _ _ _ _ (b₂ .low-bits2 .ensures) (b₃ .before .times-plus2 .ensures))
           (times-low (a .p) _ _ _ _ _ (b₃ .low-bits3 .ensures) (c₃ .times-plus3 .ensures))
-          (c .join-lane2 .ensures .0),
-      bits-all (t .last .0) (a .fields .now) 0 (a .n) q (32 * q) (x .result) (c .join-lane2 .result .bits) (omega arith) (omega arith) (x .ensures)
-          (c .join-lane2 .ensures .1),
-    )
+          (c .join-lane2 .ensures .0);
+      bits = bits-all (t .last .0) (a .fields .now) 0 (a .n) q (32 * q) (x .result) (c .join-lane2 .result .bits) (omega arith) (omega arith) (x .ensures)
+          (c .join-lane2 .ensures .1);
+    }
 
 pub pages-joined-spec : {M : Type 1} → statement M
 pages-joined-spec =

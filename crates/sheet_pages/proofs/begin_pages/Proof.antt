@@ -4,10 +4,12 @@ use mathlib.Core.List.{List}
 use Prim.Native.Nat.{ℕ, _+_, _-_, _*_, _≤_}
 use native.Mathlib.Nat.{not-suc-le-zero}
 use native.Mathlib.Omega.{arith}
-use lib.ListN.{length, take, drop, length-set}
+use lib.ListN.{length, set, take, drop, length-set}
+use lib.Seq.{getD-set-other}
 use Rattle.gf2.specs.Polynomials.{rem}
 use Rattle.gf2.specs.Moduli.{polynomial}
 use Rattle.files.specs.Files.{bits, valueFrom}
+use Rattle.multiples.specs.Rows.{SameFrom}
 use Rattle.lookups.proofs.Parts.{lane-length}
 use Rattle.sheet_pages.specs.Blocks.{BegunBy}
 use Rattle.sheet_pages.proofs.Blocks.{begun-two, place-fits, front-cut}
@@ -15,7 +17,7 @@ use Rattle.sheet_pages.proofs.begin_pages.Statement.{statement}
 use Rattle.sheet_pages.proofs.begin_pages.Tie as tie
 
 abbrev Inv-loop : tie.InvT-loop
-Inv-loop marks₀ eights size whole n pages i₀ marks i = (i ≤ n) × (length marks ≡ length marks₀) × BegunBy eights size whole i pages marks
+Inv-loop marks₀ eights size whole n pages i₀ marks i = (i ≤ n) × (length marks ≡ length marks₀) × BegunBy eights size whole i pages marks × SameFrom n marks₀ marks
 
 abbrev μ-loop : tie.MeasureT-loop
 μ-loop marks₀ eights size whole n pages i₀ marks i = n - i
@@ -31,7 +33,7 @@ abbrev two : tie.After-feed-eights Inv-loop μ-loop → tie.After-beside Inv-loo
 two c = c .before .before .before
 
 loop-holds : tie.Need-loop-holds Inv-loop μ-loop
-loop-holds c = (omega arith, refl, λ p h sh i l. absurd (not-suc-le-zero l))
+loop-holds c = (omega arith, refl, λ p h sh i l. absurd (not-suc-le-zero l), λ i l. refl)
 
 -- both pages end inside the block
 first-fits : (c : tie.After-beside Inv-loop μ-loop)
@@ -44,7 +46,8 @@ second-fits : (c : tie.After-beside Inv-loop μ-loop)
     → c .beside .result * start (loop c) .args .size + start (loop c) .args .size ≤ length (start (loop c) .args .pages .now)
 second-fits c =
     let s = start (loop c) in
-    place-fits (s .args .size) (s .args .n) (c .beside .result) (length (s .args .pages .now)) (c .beside .ensures .2) (s .pre .4)
+    place-fits (s .args .size) (s .args .n) (c .beside .result) (length (s .args .pages .now)) (omega (arith, c .beside .ensures, c .before .loop-test .taken))
+    (s .pre .4)
 
 mul-a : tie.Need-mul-a Inv-loop μ-loop
 mul-a c = omega (arith, start (loop c) .pre .3, first-fits c)
@@ -107,14 +110,17 @@ loop-again c =
     λ key i. ap (λ (q : List ℕ). rem key (valueFrom 1 (bits q))) (front-cut (i * a .size) (a .whole) (a .pages .now)) in (
       omega arith,
       simp length-set (l .inv .1),
-      λ p h sh. begun-two (polynomial p) (a .size) (a .whole) (a .pages .now) (l .marks) (l .i) (j .result) (x .result .a) (x .result .b) (j .ensures .0)
-          (j .ensures .1)
-          (omega (arith, j .ensures .2)) (l .inv .2 p h sh) (x .ensures .0 p h sh ∙ front (polynomial p) (l .i))
+      λ p h sh. begun-two (polynomial p) (a .size) (a .whole) (a .pages .now) (l .marks) (l .i) (j .result) (x .result .a) (x .result .b)
+          (omega (arith, j .ensures, b .before .loop-test .taken)) (omega (arith, j .ensures)) (omega (arith, j .ensures, s .pre .5, l .inv .1)) (l .inv .2 p h sh) (x .ensures .0 p h sh ∙ front (polynomial p) (l .i))
           (x .ensures .1 p h sh ∙ front (polynomial p) (j .result)),
+      λ m n≤m.
+          getD-set-other (set (l .marks) (l .i) (x .result .a)) (j .result) m (x .result .b) 0 (λ e. omega (arith, e, n≤m, j .ensures, b .before .loop-test .taken))
+          ∙ getD-set-other (l .marks) (l .i) m (x .result .a) 0 (λ e. omega (arith, e, n≤m, b .before .loop-test .taken))
+          ∙ l .inv .3 m n≤m,
     )
 
 returns : tie.Need-returns Inv-loop μ-loop
-returns c = λ p h sh i l. c .before .loop .inv .2 p h sh i (omega (arith, l))
+returns c = (λ p h sh i l. c .before .loop .inv .2 p h sh i (omega (arith, l)), c .before .loop .inv .3)
 
 pub begin-pages-spec : {M : Type 1} → statement M
 begin-pages-spec =

@@ -2,11 +2,12 @@
 use mathlib.Core.Path.{_≡_, refl, ap, _∙_}
 use Prim.Native.Nat.{ℕ, _+_, _-_, _*_, _≤_}
 use native.Mathlib.Omega.{arith}
-use lib.ListN.{length, getD, length-set}
+use lib.ListN.{length, length-set}
 use lib.Seq.{getD-set-other}
 use Rattle.gf2.specs.Polynomials.{rem}
 use Rattle.gf2.specs.Moduli.{polynomial}
 use Rattle.gf2.proofs.Monics.{monic-pos}
+use Rattle.multiples.specs.Rows.{SameFrom}
 use Rattle.sheet_pages.specs.Blocks.{Finished}
 use Rattle.sheet_pages.proofs.Blocks.{finished-more, place-fits, page-finished}
 use Rattle.sheet_pages.proofs.finish_pages.Statement.{statement}
@@ -14,7 +15,7 @@ use Rattle.sheet_pages.proofs.finish_pages.Tie as tie
 
 abbrev Inv-loop : tie.InvT-loop
 Inv-loop marks₀ words p size whole n pages i₀ marks i =
-    (i ≤ n) × (length marks ≡ length marks₀) × Finished (polynomial p) size i pages marks × ((j : ℕ) → i ≤ j → getD marks j 0 ≡ getD marks₀ j 0)
+    (i ≤ n) × (length marks ≡ length marks₀) × Finished (polynomial p) size i pages marks × SameFrom i marks₀ marks
 
 abbrev μ-loop : tie.MeasureT-loop
 μ-loop marks₀ words p size whole n pages i₀ marks i = n - i
@@ -79,7 +80,7 @@ loop-again c =
     )
 
 returns : tie.Need-returns Inv-loop μ-loop
-returns c = λ i l. c .before .loop .inv .2 i (omega (arith, l))
+returns c = (λ i l. c .before .loop .inv .2 i (omega (arith, l)), λ j l. c .before .loop .inv .3 j (omega (arith, l)))
 
 pub finish-pages-spec : {M : Type 1} → statement M
 finish-pages-spec =

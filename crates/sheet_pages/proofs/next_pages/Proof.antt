@@ -1,13 +1,14 @@
 -- `next_pages` meets its contract.
-use mathlib.Core.Path.{_≡_, ap}
+use mathlib.Core.Path.{_≡_, ap, _∙_}
 use mathlib.Core.List.{List}
-use Prim.Native.Nat.{ℕ, zero, suc, _+_, _*_, _/_, _≤_, _<_}
-use native.Mathlib.Nat.{zero-mul, add-mul, mul-le-mul-right}
+use Prim.Native.Nat.{ℕ, _+_, _*_, _/_, _≤_, _<_}
+use native.Mathlib.Nat.{add-mul, mul-le-mul-right}
 use native.Mathlib.Omega.{arith}
 use lib.ListN.{length, drop, length-drop, length-set}
+use lib.Seq.{getD-set-other}
 use Rattle.gf2.specs.Moduli.{polynomial}
 use Rattle.sheets.specs.Layout.{pageCount}
-use Rattle.sheets.proofs.Pages.{count-le, whole-fits}
+use Rattle.sheets.proofs.Pages.{count-le, count-reached, whole-fits, last-short}
 use Rattle.sheet_pages.proofs.Blocks.{block-last}
 use borrow.Author.Needs.{needs}
 use Rattle.sheet_pages.proofs.next_pages.Statement.{statement}
@@ -43,9 +44,10 @@ begin c = let s = start c in count-le (s .args .x .size) (length (rest s)) (c .b
 one-more : (s n m : ℕ) → 0 < s → m * s < n → m + 1 ≤ pageCount s n
 one-more s n m pos l = count-le s n (m + 1) pos (omega (arith, add-mul m 1 s))
 
-some : (s n m : ℕ) → n ≤ m * s → 0 < n → 0 < m
-some s n zero l h = absurd (omega (arith, zero-mul s))
-some s n (suc m) l h = omega arith
+-- and there is no other behind it
+no-second : (s n m : ℕ) → 0 < s → m ≡ n / s → pageCount s n ≤ m + 1
+no-second s n m pos e =
+    count-reached s n (m + 1) pos (omega (arith, add-mul m 1 s, last-short s n pos, ap (λ (q : ℕ). q * s) e))
 
 block-requires : tie.Need-block-requires
 block-requires c κs = omega (arith, slices→start c .pre .1)
@@ -59,7 +61,8 @@ whole-marks-requires c κs =
 returns : tie.Need-returns
 returns c =
     let b = block (c .before) in
-    record { few = omega arith; within = begin b; some = λ l. omega arith; prints = whole-marks (c .before) .whole-marks .ensures }
+    let w = whole-marks (c .before) .whole-marks in
+    record { count = omega (arith, begin b, c .if1 .taken); prints = w .ensures .0; behind = w .ensures .1 }
 
 mul-if2 : tie.Need-mul-if2
 mul-if2 c = omega (arith, fits (block (c .before)))
@@ -69,12 +72,9 @@ returns-2 c =
     let d = c .before .before in
     let b = block d in
     let s = start b in
-    record {
-      few = omega arith;
-      within = begin b;
-      some = some (s .args .x .size) (length (rest s)) (b .block .result) (c .if2 .taken);
-      prints = whole-marks d .whole-marks .ensures;
-    }
+    let w = whole-marks d .whole-marks in
+    let all = count-reached (s .args .x .size) (length (rest s)) (b .block .result) (omega (arith, s .pre .1)) (c .if2 .taken) in
+    record { count = omega (arith, begin b, all, b .block .ensures); prints = w .ensures .0; behind = w .ensures .1 }
 
 slice-write-marks : tie.Need-slice-write-marks
 slice-write-marks c = let d = c .before .before in omega (arith, start (block d) .pre .3, whole-marks d .whole-marks .kept .0)
@@ -94,13 +94,14 @@ returns-3 c =
     let whole = length (rest s) / a .size * a .size in
     let some-left : 0 < length (drop whole (rest s)) =
     omega (arith, length-drop whole (rest s), ap (λ (m : ℕ). m * a .size) all, c .if2 .left) in
+    let more = one-more (a .size) (length (rest s)) n (omega arith) (omega (arith, c .if2 .left)) in
+    let no-more = no-second (a .size) (length (rest s)) n (omega arith) all in
     record {
-      few = omega arith;
-      within = one-more (a .size) (length (rest s)) n (omega arith) (omega (arith, c .if2 .left));
-      some = λ l. omega arith;
+      count = omega (arith, more, no-more, b .block .ensures, all);
       prints =
           block-last (polynomial (a .p)) (a .size) n (a .last) (rest s) _ (omega arith) all (omega (arith, s .pre .3, w .kept .0)) (s .pre .4 some-left)
-          (w .ensures);
+          (w .ensures .0);
+      behind = λ j l. getD-set-other (w .last .0) n j (a .last) 0 (λ e. omega (arith, e, l)) ∙ w .ensures .1 j (omega (arith, l));
     }
 
 pub next-pages-spec : {M : Type 1} → statement M

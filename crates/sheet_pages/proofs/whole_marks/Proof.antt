@@ -1,4 +1,5 @@
 -- `whole_marks` meets its contract.
+use mathlib.Core.Path.{_∙_}
 use native.Mathlib.Omega.{arith}
 use Rattle.gf2.specs.Moduli.{polynomial}
 use Rattle.sheet_pages.proofs.Blocks.{block-is}
@@ -24,7 +25,7 @@ finish-pages-requires c κs =
       omega arith,
       s .pre .2,
       omega (arith, b .begin-pages .kept .0),
-      b .begin-pages .ensures (s .args .p) (s .pre .0 .table .0)
+      b .begin-pages .ensures .0 (s .args .p) (s .pre .0 .table .0)
           (s .pre .0 .shifts),
     )
 
@@ -33,9 +34,11 @@ returns c =
     let f = c .before .before in
     let b = begun f in
     let s = start (b .before) in
-    let a = s .args in
-    block-is (polynomial (a .p)) (a .size) (a .n) (a .pages .now) _ (s .pre .2) (omega (arith, b .begin-pages .kept .0, f .finish-pages .kept .0))
-    (f .finish-pages .ensures)
+    let a = s .args in (
+      block-is (polynomial (a .p)) (a .size) (a .n) (a .pages .now) _ (s .pre .2) (omega (arith, b .begin-pages .kept .0, f .finish-pages .kept .0))
+          (f .finish-pages .ensures .0),
+      λ j l. f .finish-pages .ensures .1 j l ∙ b .begin-pages .ensures .1 j l,
+    )
 
 pub whole-marks-spec : {M : Type 1} → statement M
 whole-marks-spec =

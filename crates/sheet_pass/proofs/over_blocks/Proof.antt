@@ -78,13 +78,13 @@ more c = c .before .loop-test .taken
 within : (c : tie.After-next-pages Inv-loop μ-loop) → begun c .loop .page + c .next-pages .result ≤ count (start (begun c))
 within c =
     let s = start (begun c) in
-    turn-within (key s) (s .args .x .size) (file s) (begun c .loop .page) (positive s) (more (c .before .before)) (c .next-pages .result) _
+    turn-within (key s) (s .args .x .size) (file s) (begun c .loop .page) (positive s) (more (c .before .before)) (c .next-pages .result) _ _
     (c .next-pages .ensures)
 
 some : (c : tie.After-next-pages Inv-loop μ-loop) → 0 < c .next-pages .result
 some c =
     let s = start (begun c) in
-    turn-some (key s) (s .args .x .size) (file s) (begun c .loop .page) (positive s) (more (c .before .before)) (c .next-pages .result) _
+    turn-some (key s) (s .args .x .size) (file s) (begun c .loop .page) (positive s) (more (c .before .before)) (c .next-pages .result) _ _
     (c .next-pages .ensures)
 
 -- the marks of the block, as they are lent
@@ -94,7 +94,7 @@ block c = take (c .next-pages .result) (c .next-pages .last .0)
 marks : (c : tie.After-next-pages Inv-loop μ-loop) → block c ≡ take (c .next-pages .result) (drop (begun c .loop .page) (prints (start (begun c))))
 marks c =
     let s = start (begun c) in
-    turn-marks (key s) (s .args .x .size) (file s) (begun c .loop .page) (positive s) (more (c .before .before)) (c .next-pages .result) _
+    turn-marks (key s) (s .args .x .size) (file s) (begun c .loop .page) (positive s) (more (c .before .before)) (c .next-pages .result) _ _
     (c .next-pages .ensures)
 
 fits : (c : tie.After-next-pages Inv-loop μ-loop) → begun c .loop .page + c .next-pages .result ≤ length (prints (start (begun c)))
@@ -104,7 +104,7 @@ long : (c : tie.After-next-pages Inv-loop μ-loop) → length (block c) ≡ c .n
 long c = block-long (start (begun c) .args .known .now) (prints (start (begun c))) (block c) (begun c .loop .page) (c .next-pages .result) (marks c) (fits c)
 
 all-marks : (c : tie.After-next-pages Inv-loop μ-loop) → c .next-pages .result ≤ length (c .next-pages .last .0)
-all-marks c = omega (arith, c .next-pages .ensures .few, c .next-pages .kept .0, begun c .loop .inv .1)
+all-marks c = omega (arith, c .next-pages .ensures .count, c .next-pages .kept .0, begun c .loop .inv .1)
 
 few : (c : tie.After-agreeing Inv-loop μ-loop) → c .agreeing .result ≤ next c .next-pages .result
 few c =

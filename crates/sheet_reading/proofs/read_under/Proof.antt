@@ -9,7 +9,7 @@ use lib.ListN.{length}
 use Rattle.refusals.specs.Refusals.{Done}
 use Rattle.refusals.proofs.Laws.{holds, fails}
 use Rattle.sheets.specs.declared.layout.Head.{Head}
-use Rattle.sheets.specs.Layout.{PageSize, version1, sheetLength, pageCount, fieldIn, pagesIn}
+use Rattle.sheets.specs.Layout.{version1, sheetLength, pageCount, fieldIn, pagesIn}
 use Rattle.sheets.specs.Answers.{sheetRead}
 use Rattle.sheets.proofs.Sound.{size-bounds}
 use Rattle.sheet_reading.proofs.Answers.{numbers-are, body-total, body-size, body-wrong, body-done}
@@ -31,7 +31,7 @@ head s = s .args .head
 
 -- the page size is right
 size-passed : (c : tie.Else1)
-    → (ltb (fieldIn version1 PageSize (sheet (start (c .before)))) 16 || ltb 4096 (fieldIn version1 PageSize (sheet (start (c .before))))) ≡ false
+    → (ltb (fieldIn version1 4 (sheet (start (c .before)))) 16 || ltb 4096 (fieldIn version1 4 (sheet (start (c .before))))) ≡ false
 size-passed c = let s = start (c .before) in rw (← (s .pre .1 .size)) (fails _ _ (c .before .size-right .ensures) (c .if1 .left))
 
 size : (c : tie.Else1) → (16 ≤ head (start (c .before)) .size) × (head (start (c .before)) .size ≤ 4096)

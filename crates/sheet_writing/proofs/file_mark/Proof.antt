@@ -48,7 +48,7 @@ joined c =
     let a = s .args in
     let w = length (file s) / a .size in
     let small = rw (monic-degree (a .p .degree) (a .p .low) (s .pre .0 .2)) at (fingerprints-lt (pos s) w (a .size) (file s)) in
-    c .pages-joined .ensures .0 (rw (s .pre .7) (list-reduced (a .p .degree) (pageFingerprints (key s) (a .size) w (file s)) small))
+    c .pages-joined .ensures .mark (rw (s .pre .7) (list-reduced (a .p .degree) (pageFingerprints (key s) (a .size) w (file s)) small))
     ∙ ap (λ (fs : List ℕ). joinedPages (key s) (a .size) (markOf (key s) []) fs .fingerprint) (s .pre .7)
     ∙ whole-joined (pos s) (a .size) w (file s) (ends s)
 

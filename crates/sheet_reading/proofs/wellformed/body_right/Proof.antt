@@ -84,7 +84,7 @@ bits c =
     let n = counted (long j) in
     let s = start n in
     bits-are (sheet n) (s .args .head) (s .pre .1) (count n) (n .page-count .ensures) (s .args .p) (s .pre .4) (j .pages-joined .result .bits) _
-    (j .before .page-fields .result .now) (j .before .page-fields .ensures) (c .before .before .fingerprint-at .ensures) (j .pages-joined .ensures .1)
+    (j .before .page-fields .result .now) (j .before .page-fields .ensures) (c .before .before .fingerprint-at .ensures) (j .pages-joined .ensures .bits)
 
 -- no bit stands too high: the pages' fields and the file's are reduced
 fields : (c : tie.Else2)
@@ -96,7 +96,7 @@ fields c =
     let b = j .pages-joined .result .bits in
     let f = c .before .before .before .fingerprint-at .result in
     let o = or-neither (leb (2 ^ k) b) (leb (2 ^ k) f) (sym (or-leb k b f) ∙ fails _ _ (c .before .is-residue .ensures) (c .if2 .left)) in
-    (sym (j .pages-joined .ensures .1 k) ∙ o .0, leb-false (2 ^ k) f (o .1))
+    (sym (j .pages-joined .ensures .bits k) ∙ o .0, leb-false (2 ^ k) f (o .1))
 
 page-count-requires : tie.Need-page-count-requires
 page-count-requires c κs = let s = c .before in (omega (arith, s .pre .2), s .pre .3, s .pre .1 .length-fits)
@@ -173,7 +173,7 @@ returns-3 c =
     let part = j .before .page-fields in
     let t : someUnreduced (degree (a .head .key)) (all n) ≡ false = sym (bits r) ∙ fails _ _ (r .is-residue .ensures) (e .if2 .left) in
     let mark = joined-are (sheet n) (a .head) (s .pre .1) (count n) (n .page-count .ensures) (a .p) (s .pre .4) (j .pages-joined .result .mark)
-    (part .result .now) (part .ensures) (j .pages-joined .ensures .0 (fields e .0)) in
+    (part .result .now) (part .ensures) (j .pages-joined .ensures .mark (fields e .0)) in
     let product = filled-is (sheet n) (a .head) (s .pre .1) (count n) (n .page-count .ensures) (a .p) (s .pre .4) _ _ (p .product .result)
     (count n * a .head .size - a .head .length) (r .before .before .fingerprint-at .ensures) (p .before .power-of-t .ensures) (p .product .ensures) in
     body-joined (sheet n) (a .head) (s .pre .1) (count n) (n .page-count .ensures) (j .pages-joined .result .mark) (p .product .result)

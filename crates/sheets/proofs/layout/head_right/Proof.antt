@@ -7,7 +7,7 @@ use native.Mathlib.Omega.{arith}
 use lib.Dec.{eqb}
 use lib.ListN.{length}
 use borrow.Author.Tests.{lt-ltb, le-ltb, eq-eqb, ne-eqb}
-use Rattle.sheets.specs.Layout.{Letters, Version, version1, sheetLength, letters, fieldIn}
+use Rattle.sheets.specs.Layout.{version1, sheetLength, letters, fieldIn}
 use borrow.Author.Needs.{needs}
 use Rattle.sheets.proofs.layout.head_right.Statement.{statement}
 use Rattle.sheets.proofs.layout.head_right.Tie as tie
@@ -26,16 +26,16 @@ returns-2 c =
     let l = sheet (start (c .before .before)) in
     rw (
       le-ltb (length l) (sheetLength version1 0) (omega arith),
-      ne-eqb (fieldIn version1 Letters l) letters
+      ne-eqb (fieldIn version1 0 l) letters
           (λ e. c .if2 .taken (c .before .number-at .ensures .0 ∙ e)),
     )
 
 returns-3 : tie.Need-returns-3
 returns-3 c =
     let l = sheet (start (c .before .before .before)) in
-    let right = eq-eqb (fieldIn version1 Letters l) letters (sym (c .before .before .number-at .ensures .0) ∙ c .before .if2 .left) in
+    let right = eq-eqb (fieldIn version1 0 l) letters (sym (c .before .before .number-at .ensures .0) ∙ c .before .if2 .left) in
     rw (le-ltb (length l) (sheetLength version1 0) (omega arith), right, c .number-at2 .ensures .0)
-    (sym (Bool·not-not (eqb (fieldIn version1 Version l) (version1 .version))))
+    (sym (Bool·not-not (eqb (fieldIn version1 1 l) (version1 .version))))
 
 pub head-right-spec : {M : Type 1} → statement M
 head-right-spec =
