@@ -1,6 +1,5 @@
 -- Demand 3 for every level whose calls keep the book, and for every type of routes that leave a file's fingerprint.
-use mathlib.Core.Path.{_≡_, refl, sym, ap, _∙_}
-use mathlib.Core.Bool.{true}
+use mathlib.Core.Path.{refl, sym, ap, _∙_}
 use mathlib.Core.List.{List, []}
 use Prim.Native.Nat.{ℕ, _<_}
 use lib.Dec.{T}
@@ -8,7 +7,6 @@ use lib.ListN.{length}
 use Rattle.lists.proofs.Lists.{rising, all-map}
 use Rattle.refusals.specs.Lowest.{numbers}
 use Rattle.refusals.proofs.Laws.{first-is-lowest}
-use Rattle.acceptance.specs.Keys.{accepted}
 use Rattle.acceptance.proofs.Laws.{accepted-pos}
 use Rattle.files.specs.declared.Mark.{Mark}
 use Rattle.files.specs.Files.{fingerprint, markOf}

@@ -61,10 +61,8 @@ joined key x y =
 -- a page replaced: the difference of the two pages' fingerprints, times t^(8 × bytes after the page), is added
 unfoldable pub replaced : ℕ → Mark → ℕ → List ℕ → List ℕ → Mark
 replaced key m place old new =
-    record {
-      fingerprint = rem key (m .fingerprint ⊕ (fingerprint key old ⊕ fingerprint key new) * 2 ^ (8 * (m .length - (place + length old))));
-      length = m .length;
-    }
+    let after = m .length - (place + length old) in
+    record { fingerprint = rem key (m .fingerprint ⊕ (fingerprint key old ⊕ fingerprint key new) * 2 ^ (8 * after)); length = m .length }
 
 -- ---- claims
 

@@ -6,7 +6,7 @@ use Prim.Native.Nat.{ℕ, zero, suc, _^_, _<_}
 use native.Mathlib.Nat.{le-refl}
 use native.Mathlib.Decide.{ℕ-discrete, decLt}
 use native.Mathlib.Omega.{arith}
-use Rattle.gf2.specs.Polynomials.{_⊕_, _⊗_, degree, rem, Divides, Irreducible}
+use Rattle.gf2.specs.Polynomials.{_⊕_, _⊗_, degree, rem, Divides}
 use Rattle.gf2.specs.Criterion.{Rigid, RigidIrreducible, IrreducibleRigid}
 use Rattle.gf2.proofs.Sums.{⊕-eq, ⊕-lt, xor}
 use Rattle.gf2.proofs.Products.{one-⊗, ⊗-one, ⊗-comm, ring}

@@ -11,7 +11,7 @@ use Rattle.files.specs.Files.{joined, replaced}
 use Rattle.compose.specs.Composing.{joinBehind, joinInFront, replacePage}
 use Rattle.search.specs.Searching.{counts, search}
 use Rattle.sheets.specs.Layout.{version1, sheetLength, pageCount, sheetBytes, contentsIn}
-use Rattle.sheets.specs.Sheets.{contentsOf, lengthFor, writeSheet, readSheet, readPages, compared, checkSheet, rangeOf, changedRange}
+use Rattle.sheets.specs.Sheets.{contentsOf, lengthFor, writeSheet, readSheet, readPages, compared, checkSheet}
 use Rattle.gfp_site.specs.Calls.{EachMarkCall, EachFileCall}
 
 pub each-mark-call : (key : ℕ) (m other : Mark) (place : ℕ) (old new : List ℕ) → EachMarkCall key m other place old new
@@ -24,7 +24,7 @@ each-mark-call key m other place old new =
     }
 
 pub each-file-call : (key n s : ℕ) (file pattern sheet buffer words : List ℕ) → EachFileCall key n s file pattern sheet buffer words
-unfolding search lengthFor writeSheet readSheet readPages checkSheet changedRange rising
+unfolding search lengthFor writeSheet readSheet readPages checkSheet rising
 each-file-call key n s file pattern sheet buffer words =
     record {
       find = gives-lowest tt (counts key file pattern) refl refl tt;
@@ -33,5 +33,4 @@ each-file-call key n s file pattern sheet buffer words =
       read-sheet = gives-first tt (contentsIn version1 sheet) refl refl;
       read-pages = gives-first words (overlay (contentsIn version1 sheet .pages) words) refl refl;
       check-file = gives-first tt (compared (contentsIn version1 sheet) file) refl refl;
-      changed-range = gives-first tt (rangeOf (contentsIn version1 sheet) (compared (contentsIn version1 sheet) file)) refl refl;
     }

@@ -9,7 +9,7 @@ use Rattle.files.specs.declared.Mark.{Mark}
 use Rattle.compose.specs.Composing.{joinTests, joinBehind, joinInFront, pageTests, replacePage}
 use Rattle.search.specs.Searching.{searchTests, search}
 use Rattle.sheets.specs.Layout.{version1}
-use Rattle.sheets.specs.Sheets.{lengthTests, lengthFor, writeTests, writeSheet, readTests, readSheet, readPages, checkTests, checkSheet, changedRange}
+use Rattle.sheets.specs.Sheets.{lengthTests, lengthFor, writeTests, writeSheet, readTests, readSheet, readPages, checkTests, checkSheet}
 
 -- of marks
 pub record EachMarkCall (key : ℕ) (m other : Mark) (place : ℕ) (old new : List ℕ) : Type 0 where
@@ -25,4 +25,3 @@ pub record EachFileCall (key n s : ℕ) (file pattern sheet buffer words : List 
   pub read-sheet : GivesFirst (14 ∷ 1 ∷ 2 ∷ 12 ∷ 14 ∷ []) (readTests version1 sheet) (readSheet sheet)
   pub read-pages : GivesFirst (14 ∷ 1 ∷ 2 ∷ 12 ∷ 14 ∷ []) (readTests version1 sheet) (readPages sheet words)
   pub check-file : GivesFirst (14 ∷ 1 ∷ 2 ∷ 12 ∷ 14 ∷ 7 ∷ []) (checkTests sheet file) (checkSheet sheet file)
-  pub changed-range : GivesFirst (14 ∷ 1 ∷ 2 ∷ 12 ∷ 14 ∷ 7 ∷ []) (checkTests sheet file) (changedRange sheet file)

@@ -1,10 +1,10 @@
 -- The numbers that the functions for C write to lent places, in the order of the places.
 use mathlib.Core.List.{List, [], _∷_}
-use Prim.Native.Nat.{ℕ}
+use Prim.Native.Nat.{ℕ, _+_, _*_, min}
 use lib.ListN.{length}
 use Rattle.search.specs.declared.Counts.{Counts}
 use Rattle.sheets.specs.Layout.{Contents}
-use Rattle.sheets.specs.Sheets.{Outcome, Same, Page, OtherLength, Range, NoChange, FromTo, NotAsLong}
+use Rattle.sheets.specs.Sheets.{Outcome, Same, Page, OtherLength}
 
 -- of a search: the number of places, and of false alarms
 abbrev pub countsIn : Counts → List ℕ
@@ -20,8 +20,8 @@ outcomeIn Same = 0 ∷ 0 ∷ []
 outcomeIn (Page i) = 1 ∷ i ∷ []
 outcomeIn OtherLength = 2 ∷ 0 ∷ []
 
--- the same with the range of the page's bytes, or 0 and 0
-abbrev pub rangeIn : Range → List ℕ
-rangeIn NoChange = 0 ∷ 0 ∷ 0 ∷ []
-rangeIn (FromTo from to) = 1 ∷ from ∷ to ∷ []
-rangeIn NotAsLong = 2 ∷ 0 ∷ 0 ∷ []
+-- the same with the bytes of the page, from the first to before the last, or 0 and 0: x being the sheet's numbers
+abbrev pub rangeIn : Contents → Outcome → List ℕ
+rangeIn x Same = 0 ∷ 0 ∷ 0 ∷ []
+rangeIn x (Page i) = 1 ∷ i * x .pageSize ∷ min (i * x .pageSize + x .pageSize) (x .length) ∷ []
+rangeIn x OtherLength = 2 ∷ 0 ∷ 0 ∷ []

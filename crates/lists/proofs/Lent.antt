@@ -3,7 +3,7 @@ use mathlib.Core.Path.{_≡_, refl, sym, ap, _∙_}
 use mathlib.Core.List.{List, [], _∷_, _++_}
 use Prim.Native.Nat.{ℕ, suc, _+_, _≤_}
 use native.Mathlib.Nat.{add-zero, add-suc, suc-add}
-use lib.ListN.{length, set, take, drop}
+use lib.ListN.{length, set, drop}
 use lib.Seq.{sets, take-all, take-nil, length-sets}
 use Rattle.lists.specs.Lists.{overlay}
 

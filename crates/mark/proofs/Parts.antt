@@ -1,12 +1,10 @@
 -- The parts that the program reads: feeding them one after another marks the file that they make, and what is printed then is what `printed` says
 -- of the input that they make.
 use mathlib.Core.Path.{_≡_, refl, sym, ap, subst, _∙_}
-use mathlib.Core.Bool.{Bool, true, false}
 use mathlib.Core.List.{List, [], _∷_, _++_, flatten, append-assoc, append-nil}
 use Prim.Native.Nat.{ℕ, _+_, _-_, _≤_, _<_}
 use native.Mathlib.Decide.{decLe}
 use native.Mathlib.Omega.{arith}
-use lib.Dec.{ltb}
 use lib.ListN.{length, take, drop, length-append, length-drop}
 use lib.Seq.{drop-append-le, take-all}
 use borrow.Author.Tests.{lt-ltb, le-ltb, ltb-false}
@@ -33,7 +31,7 @@ use Rattle.marks.specs.Feeding.{feedTests, begin, feedTable}
 use Rattle.marks.specs.Answers.{markIn, running, fed, begunUnder, fedUnder}
 use Rattle.printing.specs.declared.KeyLine.{KeyLine}
 use Rattle.printing.specs.declared.KeyLine.the-variants.{NoKey, Key}
-use Rattle.printing.specs.Printing.{keyLine, noKey, report, refused, answerText, markFile, printedAfter, printed}
+use Rattle.printing.specs.Printing.{keyLine, noKey, answerText, markFile, printedAfter, printed}
 use Rattle.printing.specs.Buffers.{PutInFront}
 use Rattle.printing.proofs.Laws.{key-within, key-stays}
 use Rattle.mark.specs.declared.Marked.{Marked}

@@ -7,7 +7,8 @@ use sheets::Sheet;
 use sheets::fields;
 use sheets::layout;
 ghost use mathlib.Core.Path.{_≡_};
-ghost use Rattle.sheets.specs.Sheets.{checkSheet, changedRange};
+ghost use Rattle.sheets.specs.Sheets.{checkSheet};
+ghost use Rattle.sheets.specs.Answers.{changedRange};
 ghost use Rattle.sheets.specs.Answers.{checkAnswer, changeAnswer};
 ghost use Rattle.sheets.specs.Parts.{ReadAs, comparison, NoPage, WithoutPage};
 

@@ -1,9 +1,10 @@
 -- For callers in Rattle: the answers of the calls in code, as those of the definitions. A reader of the functions for C need not read this page.
-use Prim.Native.Nat.{ℕ}
+use mathlib.Core.List.{List}
+use Prim.Native.Nat.{ℕ, _+_, _*_, min}
 use lib.ListN.{length}
-use Rattle.refusals.specs.Refusals.{Answer, Done, Refused}
-use Rattle.sheets.specs.Layout.{Contents}
-use Rattle.sheets.specs.Sheets.{Outcome, Same, Page, OtherLength, Range, NoChange, FromTo, NotAsLong}
+use Rattle.refusals.specs.Refusals.{Answer, Done, Refused, firstOf}
+use Rattle.sheets.specs.Layout.{version1, Contents, contentsIn}
+use Rattle.sheets.specs.Sheets.{Outcome, Same, Page, OtherLength, compared, checkTests}
 use Rattle.sheets.specs.declared.Sheet.{Sheet}
 use Rattle.sheets.specs.declared.Reading.{Reading}
 use Rattle.sheets.specs.declared.Reading.the-variants as reading-cases
@@ -13,6 +14,24 @@ use Rattle.sheets.specs.declared.Changed.{Changed}
 use Rattle.sheets.specs.declared.Changed.the-variants as changed-cases
 use Rattle.sheets.specs.declared.SheetLength.{SheetLength}
 use Rattle.sheets.specs.declared.SheetLength.the-variants as length-cases
+
+-- ---- the call that answers the changed range: a check, and the range of the page that it names
+
+-- a check's outcome with the bytes of the page that it names, from the first to before the last
+pub data Range : Type 0 where
+  NoChange : Range
+  FromTo : ℕ → ℕ → Range
+  NotAsLong : Range
+
+abbrev pub rangeOf : Contents → Outcome → Range
+rangeOf x Same = NoChange
+rangeOf x (Page i) = FromTo (i * x .pageSize) (min (i * x .pageSize + x .pageSize) (x .length))
+rangeOf x OtherLength = NotAsLong
+
+unfoldable pub changedRange : List ℕ → List ℕ → Answer Unit Range
+changedRange sheet file = let x = contentsIn version1 sheet in firstOf (checkTests sheet file) tt (rangeOf x (compared x file))
+
+-- ---- the answers in code
 
 abbrev pub lengthAnswer : SheetLength → Answer Unit ℕ
 lengthAnswer (length-cases.Bytes n) = Done n

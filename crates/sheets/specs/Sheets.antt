@@ -1,19 +1,18 @@
 -- Writing, reading and checking a page sheet (document 01, "Page sheets"): each call is its tests, in document 01's order, and its value.
 use mathlib.Core.Bool.{Bool, false, _||_, not, cond}
 use mathlib.Core.List.{List, [], _∷_, _++_}
-use Prim.Native.Nat.{ℕ, zero, suc, _+_, _-_, _*_, _^_, min}
+use Prim.Native.Nat.{ℕ, zero, suc, _+_, _-_, _*_, _^_}
 use lib.Dec.{ltb, leb, eqb}
 use lib.ListN.{length, take, drop, replicate}
 use Rattle.lists.specs.Lists.{overlay}
 use Rattle.gf2.specs.Polynomials.{degree, rem}
 use Rattle.refusals.specs.declared.Refusal.the-variants.{TooLong, PageSize, BufferShort, SheetMalformed}
-use Rattle.refusals.specs.Refusals.{Answer, Done, Refused, Test, _⇒_, firstOf, passes}
+use Rattle.refusals.specs.Refusals.{Answer, Test, _⇒_, firstOf, passes}
 use Rattle.acceptance.specs.Keys.{keyTests}
 use Rattle.files.specs.declared.Mark.{Mark}
 use Rattle.files.specs.Files.{fingerprint, markOf, joined}
 use Rattle.sheets.specs.Layout.{Layout, version1, sheetLength, pageCount, Contents, letters, sheetBytes}
 use Rattle.sheets.specs.Layout.{fieldIn, contentsIn}
-use Rattle.sheets.specs.declared.Sheet.{Sheet}
 
 -- ---- the pages of a file
 
@@ -28,13 +27,8 @@ pageFingerprints key s (suc c) file = fingerprint key (filled s (take s file)) �
 
 unfoldable pub contentsOf : ℕ → ℕ → List ℕ → Contents
 contentsOf key s file =
-    record {
-      key = key;
-      length = length file;
-      pageSize = s;
-      pages = pageFingerprints key s (pageCount s (length file)) file;
-      fingerprint = fingerprint key file;
-    }
+    let pages = pageFingerprints key s (pageCount s (length file)) file in
+    record { key = key; length = length file; pageSize = s; pages = pages; fingerprint = fingerprint key file }
 
 -- ---- writing: numbers 1, 2, 7, 12, 13
 
@@ -134,17 +128,3 @@ checkTests sheet file = readTests version1 sheet ++ passes (length file ∷ []) 
 
 unfoldable pub checkSheet : List ℕ → List ℕ → Answer Unit Outcome
 checkSheet sheet file = firstOf (checkTests sheet file) tt (compared (contentsIn version1 sheet) file)
-
--- a check's outcome with the bytes of the page that it names, from the first to before the last
-pub data Range : Type 0 where
-  NoChange : Range
-  FromTo : ℕ → ℕ → Range
-  NotAsLong : Range
-
-abbrev pub rangeOf : Contents → Outcome → Range
-rangeOf x Same = NoChange
-rangeOf x (Page i) = FromTo (i * x .pageSize) (min (i * x .pageSize + x .pageSize) (x .length))
-rangeOf x OtherLength = NotAsLong
-
-unfoldable pub changedRange : List ℕ → List ℕ → Answer Unit Range
-changedRange sheet file = let x = contentsIn version1 sheet in firstOf (checkTests sheet file) tt (rangeOf x (compared x file))

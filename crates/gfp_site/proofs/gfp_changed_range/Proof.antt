@@ -1,11 +1,13 @@
 -- The range is told in three places; on refusal nothing is.
-use mathlib.Core.Path.{_≡_, sym, ap, _∙_}
+use mathlib.Core.Path.{_≡_, refl, sym, ap, _∙_}
+use mathlib.Core.Bool.{true, false}
 use mathlib.Core.List.{List, [], _∷_}
 use Prim.Native.Nat.{ℕ}
-use Rattle.refusals.specs.Refusals.{numberOf}
+use Rattle.refusals.specs.Refusals.{numberOf, Test, _⇒_, firstOf}
 use Rattle.sheets.specs.declared.Changed.{Changed}
-use Rattle.sheets.specs.Answers.{changeAnswer}
-use Rattle.sheets.specs.Sheets.{changedRange}
+use Rattle.sheets.specs.Layout.{version1, Contents, contentsIn}
+use Rattle.sheets.specs.Sheets.{Outcome, Same, Page, OtherLength, compared, checkTests, checkSheet}
+use Rattle.sheets.specs.Answers.{Range, NoChange, FromTo, NotAsLong, rangeOf, changedRange, changeAnswer}
 use Rattle.places.specs.Places.{heldAfter}
 use Rattle.gfp_site.specs.Places.{rangeIn}
 use borrow.Author.Needs.{needs}
@@ -18,13 +20,35 @@ start c = c .before .before .before
 abbrev before : tie.After-first-changed-range → List ℕ
 before c = let a = start c .args in a .outcome .now ∷ a .from .now ∷ a .to .now ∷ []
 
+-- the numbers of the code's range, in the order of the places
+abbrev numbersIn : Range → List ℕ
+numbersIn NoChange = 0 ∷ 0 ∷ 0 ∷ []
+numbersIn (FromTo from to) = 1 ∷ from ∷ to ∷ []
+numbersIn NotAsLong = 2 ∷ 0 ∷ 0 ∷ []
+
+-- behind the same tests, the range of an outcome is told as the outcome is
+same-told : (x : Contents) (o : Outcome) (before : List ℕ) (ts : List Test)
+    → (numberOf (firstOf {S = Unit} ts tt (rangeOf x o)) ≡ numberOf (firstOf {S = Unit} ts tt o))
+    × (heldAfter numbersIn before (firstOf {S = Unit} ts tt (rangeOf x o)) ≡ heldAfter (rangeIn x) before (firstOf {S = Unit} ts tt o))
+same-told x Same before [] = (refl, refl)
+same-told x (Page i) before [] = (refl, refl)
+same-told x OtherLength before [] = (refl, refl)
+same-told x o before (true ⇒ r ∷ ts) = (refl, refl)
+same-told x o before (false ⇒ r ∷ ts) = same-told x o before ts
+
 -- what is told of the answer that the code has
 told : (c : tie.After-first-changed-range) (o : Changed) → c .first-changed-range .result ≡ o
-    → (numberOf (changeAnswer o) ≡ numberOf (changedRange (start c .args .sheet .now) (start c .args .file .now)))
-    × (heldAfter rangeIn (before c) (changeAnswer o) ≡ heldAfter rangeIn (before c) (changedRange (start c .args .sheet .now) (start c .args .file .now)))
+    → (numberOf (changeAnswer o) ≡ numberOf (checkSheet (start c .args .sheet .now) (start c .args .file .now)))
+    × (heldAfter numbersIn (before c) (changeAnswer o)
+    ≡ heldAfter (rangeIn (contentsIn version1 (start c .args .sheet .now))) (before c) (checkSheet (start c .args .sheet .now) (start c .args .file .now)))
+unfolding changedRange checkSheet
 told c o e =
     let h = ap changeAnswer (sym e) ∙ c .first-changed-range .ensures in
-    (ap numberOf h, ap (heldAfter rangeIn (before c)) h)
+    let sheet = start c .args .sheet .now in
+    let file = start c .args .file .now in
+    let x = contentsIn version1 sheet in
+    let s = same-told x (compared x file) (before c) (checkTests sheet file) in
+    (ap numberOf h ∙ s .0, ap (heldAfter numbersIn (before c)) h ∙ s .1)
 
 returns : tie.Need-returns
 returns c = told (c .before .before) _ (c .enum-told .given .1)

@@ -10,7 +10,7 @@ use Rattle.sheets.proofs.Checked as CheckedT
 use Rattle.sheets.specs.declared.Checked.{Checked}
 use Rattle.sheets.specs.declared.Checked.the-variants as cases
 use Rattle.sheets.specs.Layout.{Contents}
-use Rattle.sheets.specs.Sheets.{NotAsLong}
+use Rattle.sheets.specs.Answers.{NotAsLong}
 use Rattle.sheets.specs.Answers.{checkAnswer}
 use Rattle.sheets.specs.Parts.{NoPage, ranged}
 use borrow.Author.Needs.{needs}
