@@ -110,7 +110,7 @@ fn irreducible(p: Modulus) -> bool
     independent_differences(&mut squares[..n], k as usize - n)
 }
 
-// Is the key accepted, and if not, by which number is it refused? The stock key of its degree is known to be.
+// Is the key accepted, and if not, by which number is it refused? The stock key of its degree is known to be accepted. Numbers 1, 2.
 pub fn test(key: u64) -> Tested
     ensures { λ r. ⌜ tested r ≡ testKey key ⌝ }
 {

@@ -37,7 +37,7 @@ fn compare(sheet: &[u8], x: Sheet, file: &[u8]) -> Checked
     Checked::Same
 }
 
-// Checks a file against a sheet. All of reading's numbers, then 7.
+// Checks a file against a sheet. Numbers 14 (size, letters, version), 1, 2, 12, 14 (total, fingerprints, joining), 7.
 pub fn check(sheet: &[u8], file: &[u8]) -> Checked
     ensures { λ r. ⌜ checkAnswer r ≡ checkSheet (now (sheet .entry)) (now (file .entry)) ⌝ }
 {
@@ -61,7 +61,8 @@ fn without_page(answer: Checked) -> Changed
     Changed::OtherLength
 }
 
-// The bytes of the first changed page: from the first to before the last. Goes on only where the check names a page. The check's numbers.
+// The bytes of the first changed page: from the first to before the last. Goes on only where the check names a page.
+// Numbers 14 (size, letters, version), 1, 2, 12, 14 (total, fingerprints, joining), 7.
 pub fn first_changed_range(sheet: &[u8], file: &[u8]) -> Changed
     ensures { λ r. ⌜ changeAnswer r ≡ changedRange (now (sheet .entry)) (now (file .entry)) ⌝ }
 {

@@ -78,7 +78,8 @@ fn copy_fields(lent: &mut [u64], fields: &[u8], n: usize)
     }
 }
 
-// The page fingerprints of a sheet into lent places: the first ones, as far as the places reach. Reading's numbers.
+// The page fingerprints of a sheet into lent places: the first ones, as far as the places reach.
+// Numbers 14 (size, letters, version), 1, 2, 12, 14 (total, fingerprints, joining).
 pub fn read_pages(sheet: &[u8], lent: &mut [u64]) -> Reply
     ensures { λ r. ⌜ reply (now (lent .exit)) r ≡ readPages (now (sheet .entry)) (now (lent .entry)) ⌝ }
 {

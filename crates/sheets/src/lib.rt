@@ -1,5 +1,6 @@
 // Page sheets: the layout of their bytes and the answers of the calls. The definitions are in specs/, their laws in proofs/. The calls are in
-// the crates sheet_writing, sheet_reading and sheet_checking.
+// the crates sheet_writing, sheet_reading and sheet_checking. The functions here are for the project's own crates: what they require, every
+// caller proves.
 use refusals::Refusal;
 
 pub mod fields;
