@@ -3,14 +3,15 @@
 use mathlib.Core.Path.{refl}
 use mathlib.Core.List.{List}
 use Prim.Native.Nat.{ℕ}
+use Rattle.lists.specs.Lists.{overlay}
 use Rattle.lists.proofs.Lists.{rising}
 use Rattle.refusals.proofs.Laws.{gives-lowest, gives-first}
 use Rattle.files.specs.declared.Mark.{Mark}
 use Rattle.files.specs.Files.{joined, replaced}
 use Rattle.compose.specs.Composing.{joinBehind, joinInFront, replacePage}
 use Rattle.search.specs.Searching.{counts, search}
-use Rattle.sheets.specs.Layout.{version1, contentsIn}
-use Rattle.sheets.specs.Sheets.{writeSheet, readSheet, readPages, compared, checkSheet}
+use Rattle.sheets.specs.Layout.{version1, sheetLength, pageCount, sheetBytes, contentsIn}
+use Rattle.sheets.specs.Sheets.{contentsOf, lengthFor, writeSheet, readSheet, readPages, compared, checkSheet, rangeOf, changedRange}
 use Rattle.gfp_site.specs.Calls.{EachMarkCall, EachFileCall}
 
 pub each-mark-call : (key : ℕ) (m other : Mark) (place : ℕ) (old new : List ℕ) → EachMarkCall key m other place old new
@@ -22,13 +23,15 @@ each-mark-call key m other place old new =
       replace-page = gives-lowest m (replaced key m place old new) refl refl tt;
     }
 
-pub each-file-call : (key s : ℕ) (file pattern sheet buffer words : List ℕ) → EachFileCall key s file pattern sheet buffer words
-unfolding search writeSheet readSheet readPages checkSheet rising
-each-file-call key s file pattern sheet buffer words =
+pub each-file-call : (key n s : ℕ) (file pattern sheet buffer words : List ℕ) → EachFileCall key n s file pattern sheet buffer words
+unfolding search lengthFor writeSheet readSheet readPages checkSheet changedRange rising
+each-file-call key n s file pattern sheet buffer words =
     record {
       find = gives-lowest tt (counts key file pattern) refl refl tt;
-      write-sheet = gives-lowest buffer _ refl refl tt;
+      sheet-length = gives-lowest tt (sheetLength version1 (pageCount s n)) refl refl tt;
+      write-sheet = gives-lowest buffer (overlay (sheetBytes version1 (contentsOf key s file)) buffer) refl refl tt;
       read-sheet = gives-first tt (contentsIn version1 sheet) refl refl;
-      read-pages = gives-first words _ refl refl;
+      read-pages = gives-first words (overlay (contentsIn version1 sheet .pages) words) refl refl;
       check-file = gives-first tt (compared (contentsIn version1 sheet) file) refl refl;
+      changed-range = gives-first tt (rangeOf (contentsIn version1 sheet) (compared (contentsIn version1 sheet) file)) refl refl;
     }

@@ -3,16 +3,13 @@
 -- their numbers that applies, in the order of document 01, "Page sheets".
 use mathlib.Core.List.{List, [], _∷_, _++_}
 use Prim.Native.Nat.{ℕ}
-use lib.ListN.{length}
-use Rattle.refusals.specs.declared.Refusal.the-variants.{TooLong}
-use Rattle.refusals.specs.Refusals.{_⇒_, passes}
 use Rattle.refusals.specs.Lowest.{GivesLowest, GivesFirst}
 use Rattle.acceptance.specs.Keys.{keyTests}
 use Rattle.files.specs.declared.Mark.{Mark}
 use Rattle.compose.specs.Composing.{joinTests, joinBehind, joinInFront, pageTests, replacePage}
 use Rattle.search.specs.Searching.{searchTests, search}
 use Rattle.sheets.specs.Layout.{version1}
-use Rattle.sheets.specs.Sheets.{writeTests, writeSheet, readTests, readSheet, readPages, checkSheet}
+use Rattle.sheets.specs.Sheets.{lengthTests, lengthFor, writeTests, writeSheet, readTests, readSheet, readPages, checkTests, checkSheet, changedRange}
 
 -- of marks
 pub record EachMarkCall (key : ℕ) (m other : Mark) (place : ℕ) (old new : List ℕ) : Type 0 where
@@ -21,9 +18,11 @@ pub record EachMarkCall (key : ℕ) (m other : Mark) (place : ℕ) (old new : Li
   pub replace-page : GivesLowest (1 ∷ 2 ∷ 7 ∷ 8 ∷ 9 ∷ 10 ∷ []) (keyTests key ++ pageTests key m place old new) (replacePage key m place old new)
 
 -- of files and sheets
-pub record EachFileCall (key s : ℕ) (file pattern sheet buffer words : List ℕ) : Type 0 where
+pub record EachFileCall (key n s : ℕ) (file pattern sheet buffer words : List ℕ) : Type 0 where
   pub find : GivesLowest (1 ∷ 2 ∷ 7 ∷ 11 ∷ []) (searchTests key file pattern) (search key file pattern)
+  pub sheet-length : GivesLowest (7 ∷ 12 ∷ []) (lengthTests n s) (lengthFor n s)
   pub write-sheet : GivesLowest (1 ∷ 2 ∷ 7 ∷ 12 ∷ 13 ∷ []) (writeTests key s file buffer) (writeSheet key s file buffer)
   pub read-sheet : GivesFirst (14 ∷ 1 ∷ 2 ∷ 12 ∷ 14 ∷ []) (readTests version1 sheet) (readSheet sheet)
   pub read-pages : GivesFirst (14 ∷ 1 ∷ 2 ∷ 12 ∷ 14 ∷ []) (readTests version1 sheet) (readPages sheet words)
-  pub check-file : GivesFirst (14 ∷ 1 ∷ 2 ∷ 12 ∷ 14 ∷ 7 ∷ []) (readTests version1 sheet ++ passes (length file ∷ []) ⇒ TooLong ∷ []) (checkSheet sheet file)
+  pub check-file : GivesFirst (14 ∷ 1 ∷ 2 ∷ 12 ∷ 14 ∷ 7 ∷ []) (checkTests sheet file) (checkSheet sheet file)
+  pub changed-range : GivesFirst (14 ∷ 1 ∷ 2 ∷ 12 ∷ 14 ∷ 7 ∷ []) (checkTests sheet file) (changedRange sheet file)

@@ -1,4 +1,3 @@
 pub mod Book
 pub mod Calls
 pub mod Places
-pub mod Ranges

@@ -1,31 +1,27 @@
--- The numbers that the functions for C write, in lent places.
+-- The numbers that the functions for C write to lent places, in the order of the places.
+use mathlib.Core.List.{List, [], _∷_}
 use Prim.Native.Nat.{ℕ}
-use Rattle.refusals.specs.Refusals.{Answer, Done, Refused}
+use lib.ListN.{length}
 use Rattle.search.specs.declared.Counts.{Counts}
-use Rattle.sheets.specs.declared.Sheet.{Sheet}
-use Rattle.sheets.specs.Sheets.{Outcome, Same, Page, OtherLength}
+use Rattle.sheets.specs.Layout.{Contents}
+use Rattle.sheets.specs.Sheets.{Outcome, Same, Page, OtherLength, Range, NoChange, FromTo, NotAsLong}
 
--- the numbers of a search
-abbrev pub countsAt : ℕ → ℕ → Counts
-countsAt places alarms = record { places = places; alarms = alarms }
+-- of a search: the number of places, and of false alarms
+abbrev pub countsIn : Counts → List ℕ
+countsIn c = c .places ∷ c .alarms ∷ []
 
--- the numbers of a sheet in five lent places
-abbrev pub sheetAt : ℕ → ℕ → ℕ → ℕ → ℕ → Sheet
-sheetAt key length size pages fingerprint = record { key = key; length = length; size = size; pages = pages; fingerprint = fingerprint }
+-- of a sheet: the key, the file's length, the page size, the number of pages, the file's fingerprint
+abbrev pub sheetIn : Contents → List ℕ
+sheetIn x = x .key ∷ x .length ∷ x .pageSize ∷ length (x .pages) ∷ x .fingerprint ∷ []
 
--- a check's answer in two lent places: 0 for same, 1 for a page, 2 for another length; and the page, or 0
-pub record Told : Type 0 where
-  pub outcome : ℕ
-  pub page : ℕ
+-- of a check: 0 for same, 1 for a page, 2 for another length; and the page, or 0
+abbrev pub outcomeIn : Outcome → List ℕ
+outcomeIn Same = 0 ∷ 0 ∷ []
+outcomeIn (Page i) = 1 ∷ i ∷ []
+outcomeIn OtherLength = 2 ∷ 0 ∷ []
 
-abbrev pub toldAt : ℕ → ℕ → Told
-toldAt outcome page = record { outcome = outcome; page = page }
-
-abbrev pub told : Outcome → Told
-told Same = toldAt 0 0
-told (Page i) = toldAt 1 i
-told OtherLength = toldAt 2 0
-
-abbrev pub toldOr : Told → Answer Unit Outcome → Told
-toldOr before (Done o) = told o
-toldOr before (Refused r s) = before
+-- the same with the range of the page's bytes, or 0 and 0
+abbrev pub rangeIn : Range → List ℕ
+rangeIn NoChange = 0 ∷ 0 ∷ 0 ∷ []
+rangeIn (FromTo from to) = 1 ∷ from ∷ to ∷ []
+rangeIn NotAsLong = 2 ∷ 0 ∷ 0 ∷ []

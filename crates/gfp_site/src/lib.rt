@@ -1,13 +1,13 @@
 // The Site level: the functions that it sells beside the Bench level's, for C. Each answers 0 or the refusal's number; on refusal every
 // lent place and buffer keeps what it held. The guarantee over lists of these calls stands in specs/ and proofs/.
 ghost use mathlib.Core.Path.{_≡_};
+ghost use mathlib.Core.List.{[], _∷_};
 ghost use Rattle.refusals.specs.Refusals.{numberOf, stateOf, valueOr};
-ghost use Rattle.places.specs.Places.{markAt};
+ghost use Rattle.places.specs.Places.{markAt, heldAfter};
 ghost use Rattle.compose.specs.Composing.{joinBehind, joinInFront, replacePage};
 ghost use Rattle.search.specs.Searching.{search, placesAfter};
-ghost use Rattle.sheets.specs.Sheets.{writeSheet, readSheet, sheetRead, readPages, checkSheet, changedRange, lengthFor};
-ghost use Rattle.gfp_site.specs.Places.{countsAt, sheetAt, toldAt, toldOr};
-ghost use Rattle.gfp_site.specs.Ranges.{rangeAt, rangeOr};
+ghost use Rattle.sheets.specs.Sheets.{writeSheet, readSheet, readPages, checkSheet, changedRange, lengthFor};
+ghost use Rattle.gfp_site.specs.Places.{countsIn, sheetIn, outcomeIn, rangeIn};
 use files::Mark;
 use marks::Running;
 use search::Searched;
@@ -109,7 +109,8 @@ pub extern "C" fn gfp_search(
     ensures { λ r. ⌜
         (r ≡ numberOf (search key (now (text .entry)) (now (pattern .entry))))
         × (now (places .exit) ≡ placesAfter key (now (text .entry)) (now (pattern .entry)) (now (places .entry)))
-        × (countsAt (now (count .exit)) (now (alarms .exit)) ≡ valueOr (countsAt (now (count .entry)) (now (alarms .entry))) (search key (now (text .entry)) (now (pattern .entry))))
+        × (now (count .exit) ∷ now (alarms .exit) ∷ []
+        ≡ heldAfter countsIn (now (count .entry) ∷ now (alarms .entry) ∷ []) (search key (now (text .entry)) (now (pattern .entry))))
         ⌝ }
 {
     match search::search(key, text, pattern, places) {
@@ -144,9 +145,9 @@ pub extern "C" fn gfp_read_sheet(
     fingerprint: &mut u64,
 ) -> u32
     ensures { λ r. ⌜
-        (r ≡ numberOf (sheetRead (readSheet (now (sheet .entry)))))
-        × (sheetAt (now (key .exit)) (now (length .exit)) (now («page_size» .exit)) (now (pages .exit)) (now (fingerprint .exit))
-        ≡ valueOr (sheetAt (now (key .entry)) (now (length .entry)) (now («page_size» .entry)) (now (pages .entry)) (now (fingerprint .entry))) (sheetRead (readSheet (now (sheet .entry)))))
+        (r ≡ numberOf (readSheet (now (sheet .entry))))
+        × (now (key .exit) ∷ now (length .exit) ∷ now («page_size» .exit) ∷ now (pages .exit) ∷ now (fingerprint .exit) ∷ []
+        ≡ heldAfter sheetIn (now (key .entry) ∷ now (length .entry) ∷ now («page_size» .entry) ∷ now (pages .entry) ∷ now (fingerprint .entry) ∷ []) (readSheet (now (sheet .entry))))
         ⌝ }
 {
     match sheet_reading::read(sheet) {
@@ -184,7 +185,8 @@ pub extern "C" fn gfp_check_file(
 ) -> u32
     ensures { λ r. ⌜
         (r ≡ numberOf (checkSheet (now (sheet .entry)) (now (file .entry))))
-        × (toldAt (now (outcome .exit)) (now (page .exit)) ≡ toldOr (toldAt (now (outcome .entry)) (now (page .entry))) (checkSheet (now (sheet .entry)) (now (file .entry))))
+        × (now (outcome .exit) ∷ now (page .exit) ∷ []
+        ≡ heldAfter outcomeIn (now (outcome .entry) ∷ now (page .entry) ∷ []) (checkSheet (now (sheet .entry)) (now (file .entry))))
         ⌝ }
 {
     match sheet_checking::check(sheet, file) {
@@ -219,8 +221,8 @@ pub extern "C" fn gfp_changed_range(
 ) -> u32
     ensures { λ r. ⌜
         (r ≡ numberOf (changedRange (now (sheet .entry)) (now (file .entry))))
-        × (rangeAt (now (outcome .exit)) (now (from .exit)) (now (to .exit))
-        ≡ rangeOr (rangeAt (now (outcome .entry)) (now (from .entry)) (now (to .entry))) (changedRange (now (sheet .entry)) (now (file .entry))))
+        × (now (outcome .exit) ∷ now (from .exit) ∷ now (to .exit) ∷ []
+        ≡ heldAfter rangeIn (now (outcome .entry) ∷ now (from .entry) ∷ now (to .entry) ∷ []) (changedRange (now (sheet .entry)) (now (file .entry))))
         ⌝ }
 {
     match sheet_checking::first_changed_range(sheet, file) {

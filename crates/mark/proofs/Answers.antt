@@ -22,7 +22,8 @@ use Rattle.mark.specs.declared.Got.{Got}
 use Rattle.mark.specs.declared.Got.the-variants.{Bytes, End, Interrupted, Failed}
 use Rattle.mark.specs.declared.Front.{Front}
 use Rattle.mark.specs.declared.Front.the-variants as front-cases
-use Rattle.mark.specs.Reading.{failure, outcome, InFront, Filled}
+use Rattle.mark.specs.Reading.{failure, outcome, InFront}
+use Rattle.mark.specs.Marking.{Filled}
 
 true-false : true ≡ false → ⊥
 true-false e = let z : _≡_ {A = ℕ} 0 1 = cc in omega arith

@@ -25,7 +25,7 @@ use Rattle.lookups.specs.Rule.{word}
 use Rattle.tables.specs.Tables.{makeTable}
 use Rattle.table_tests.specs.TableTests.{tableSizeTest}
 use Rattle.table_tests.specs.TableTests.{tableTests}
-use Rattle.tables.proofs.Laws.{size-passed, clear-table}
+use Rattle.table_tests.proofs.Laws.{size-passed, clear-table}
 use Rattle.marks.specs.declared.Running.{Running}
 use Rattle.marks.specs.declared.Fed.{Fed}
 use Rattle.marks.specs.declared.Fed.the-variants as fed-cases
@@ -34,14 +34,16 @@ use Rattle.marks.specs.Answers.{markIn, running, fed, begunUnder, fedUnder}
 use Rattle.printing.specs.declared.KeyLine.{KeyLine}
 use Rattle.printing.specs.declared.KeyLine.the-variants.{NoKey, Key}
 use Rattle.printing.specs.Printing.{keyLine, noKey, report, refused, answerText, markFile, printedAfter, printed}
-use Rattle.printing.proofs.Laws.{key-within, key-stays, head-decides}
+use Rattle.printing.specs.Buffers.{PutInFront}
+use Rattle.printing.proofs.Laws.{key-within, key-stays}
 use Rattle.mark.specs.declared.Marked.{Marked}
 use Rattle.mark.specs.declared.Marked.the-variants as marked-cases
 use Rattle.mark.specs.declared.Front.{Front}
 use Rattle.mark.specs.declared.Front.the-variants as front-cases
 use Rattle.mark.specs.declared.Step.{Step}
 use Rattle.mark.specs.declared.Step.the-variants as step-cases
-use Rattle.mark.specs.Reading.{PutInFront, Stepped, NonEmpty, feeds, stateless, Gives, FedInParts, MarkedInParts, PrintedInParts}
+use Rattle.mark.specs.Reading.{Stepped, NonEmpty, PrintedInParts}
+use Rattle.mark.specs.Marking.{feeds, stateless, Gives, FedInParts, MarkedInParts}
 
 -- ---- one feed, in code
 
@@ -118,17 +120,17 @@ module _ (start : Running) (words : List ℕ) (m : Running) (s : SoFar start wor
 -- one turn of the code
 module _ (start : Running) (words : List ℕ) (m : Running) (s : SoFar start words m) (buffer : List ℕ) (step : Step) (n : ℕ) (f : Fed)
     (h : Stepped m words buffer step) (is : step ≡ step-cases.Fed n f) where
-  turned : (0 < n) × (Counts n buffer × (fed f ≡ fedUnder (m .key) (feedTable (m .key) (markIn m) words (take n buffer))))
+  turned : ((0 < n) × Counts n buffer) × (fed f ≡ fedUnder (m .key) (feedTable (m .key) (markIn m) words (take n buffer)))
   turned = subst (λ (x : Step). Stepped m words buffer x) is h
 
   some-bytes : 0 < length (take n buffer)
-  some-bytes = omega (arith, turned .0, turned .1 .0 .1)
+  some-bytes = omega (arith, turned .0 .0, turned .0 .1 .1)
 
   pub turn-next : (next : Running) → f ≡ fed-cases.Next next → SoFar start words next
-  turn-next next e = next-turn start words m s (take n buffer) next some-bytes (ap fed (sym e) ∙ turned .1 .1)
+  turn-next next e = next-turn start words m s (take n buffer) next some-bytes (ap fed (sym e) ∙ turned .1)
 
   pub turn-refused : (r : Refusal) (kept : Running) → f ≡ fed-cases.Refused r kept → FedInParts start words (marked-cases.Refused r)
-  turn-refused r kept e = last-turn start words m s (take n buffer) r kept some-bytes (ap fed (sym e) ∙ turned .1 .1)
+  turn-refused r kept e = last-turn start words m s (take n buffer) r kept some-bytes (ap fed (sym e) ∙ turned .1)
 
 -- ---- feeding the parts is marking the file
 
@@ -302,17 +304,15 @@ module _ (head before after : List ℕ) (n : ℕ) where
         ap (λ (l : KeyLine). printedAfter l (head ++ rest)) (key-stays head rest key at line)
         ∙ ap (λ (file : List ℕ). answerText (markFile key file)) (drop-append-le at head rest (key-within head key at line))
 
-    pub mark-printed : (r : Marked) (m : Running) → MarkedInParts key (drop at head) r → r ≡ marked-cases.Done m → PutInFront before after n (report m)
-        → PrintedInParts head before after (front-cases.Bytes n)
-    mark-printed r m p e put =
-        let g : markFile key (drop at head ++ flatten (p .0)) ≡ Done m = subst (λ (x : Marked). Gives x (markFile key (drop at head ++ flatten (p .0)))) e (p .1 .1) in
+    pub marked-printed : (r : Marked) (a : Answer Unit Running) → MarkedInParts key (drop at head) r
+        → ((x : Answer Unit Running) → Gives r x → x ≡ a) → PutInFront before after n (answerText a) → PrintedInParts head before after (front-cases.Bytes n)
+    marked-printed r a p is put =
+        let g = is (markFile key (drop at head ++ flatten (p .0))) (p .1 .1) in
         (p .0, (p .1 .0, subst (PutInFront before after n) (sym (text (flatten (p .0)) ∙ ap answerText g)) put))
 
-    pub refusal-printed : (r : Marked) (q : Refusal) → MarkedInParts key (drop at head) r → r ≡ marked-cases.Refused q → PutInFront before after n (refused q)
-        → PrintedInParts head before after (front-cases.Bytes n)
-    refusal-printed r q p e put =
-        let g : markFile key (drop at head ++ flatten (p .0)) ≡ Refused q tt = subst (λ (x : Marked). Gives x (markFile key (drop at head ++ flatten (p .0)))) e (p .1 .1) in
-        (p .0, (p .1 .0, subst (PutInFront before after n) (sym (text (flatten (p .0)) ∙ ap answerText g)) put))
+-- the code's answer, where it is known
+pub gives : {r : Marked} {s : Marked} → r ≡ s → (x : Answer Unit Running) → Gives r x → Gives s x
+gives e x g = subst (λ (y : Marked). Gives y x) e g
 
 pub text-counts : (head before after : List ℕ) (r : Front) (n : ℕ) → PrintedInParts head before after r → r ≡ front-cases.Bytes n → Counts n after
 text-counts head before after r n p e = subst (λ (x : Front). PrintedInParts head before after x) e p .1 .1 .1 .0

@@ -1,10 +1,10 @@
 // The printing program: standard input is a line with the key in hexadecimal and then a file's bytes, standard output the file's mark under the key.
 //
-// Proved: what a call of read answered is told apart as `outcome` says; each turn feeds exactly the bytes at the front of the buffer, as many as the
-// read answered (`feed_some`); the text at the front of `out` is what `printed` says of the head and of some parts that were read behind it (`answer`);
-// an interrupted read is made again, and where a read fails or the turns are used up there is no text.
+// Proved: what the answer of a call of read means (`outcome`); that a turn feeds, of the bytes at the front of the buffer as it is afterwards, as many
+// as it says were read, and at least one (`feed_some`); that later bytes of the head leave its first ones in place (`read_behind`); and that the text at
+// the front of `out` is what `printed` says of the head and of some parts behind it (`answer`).
 // Not proved, since no contract reaches behind a read: that libc::read puts the input's next bytes at the front of the buffer, which is assumed; that
-// the parts are all that was read, in its order, and that `main` prints what `answer` gives, which is tested (tools/test-program).
+// the parts are all that was read and in its order, that a failure is handed on, and that `main` prints what `answer` gives: tools/test-program tests it.
 use libc::STDERR_FILENO;
 use libc::STDIN_FILENO;
 use libc::STDOUT_FILENO;
@@ -17,7 +17,8 @@ use refusals::Reply;
 ghost use mathlib.Core.Path.{_≡_};
 ghost use Prim.Native.Nat.{_≤_};
 ghost use lib.ListN.{length, take, drop};
-ghost use Rattle.mark.specs.Reading.{outcome, InFront, Filled, Stepped, FedInParts, MarkedInParts, PrintedInParts};
+ghost use Rattle.mark.specs.Reading.{outcome, InFront, Stepped, PrintedInParts};
+ghost use Rattle.mark.specs.Marking.{Filled, FedInParts, MarkedInParts};
 
 // What a read gave.
 enum Got {
@@ -191,12 +192,14 @@ fn answer(head: &[u8], out: &mut [u8; 96]) -> Front
     }
 }
 
+// Writes the text, or a line on standard error that says that it cannot.
 fn print(text: &[u8]) {
     if !io::write_all(STDOUT_FILENO, text) {
         io::write_all(STDERR_FILENO, b"mark: standard output cannot be written\n");
     }
 }
 
+// The line where a read failed.
 fn unread() {
     io::write_all(STDERR_FILENO, b"mark: standard input cannot be read\n");
 }

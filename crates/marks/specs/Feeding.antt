@@ -1,4 +1,5 @@
--- Beginning a mark and feeding it, by bits and by tables (document 01, "Marks", "Tables"): each call is its tests, in the order of their numbers, and its value.
+-- Beginning a mark and feeding it, by bits and by tables (document 01, "Marks", "Tables"): each call is its tests, in the order of their numbers,
+-- and its value.
 use mathlib.Core.List.{List, [], _∷_, _++_}
 use Prim.Native.Nat.{ℕ, _+_}
 use lib.ListN.{length}

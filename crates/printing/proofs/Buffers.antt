@@ -10,7 +10,7 @@ use borrow.Rule.Slice.PartMut.{midOf, putMid, post-is}
 use Rattle.io.specs.Counts.{Counts}
 use Rattle.io.specs.Digits.{digits, Fewest}
 use Rattle.printing.specs.Printing.{numeral}
-use Rattle.printing.specs.Buffers.{putAt}
+use Rattle.printing.specs.Buffers.{putAt, PutInFront}
 use Rattle.printing.proofs.Numerals.{numeral-is, fewest-le}
 
 module _ (out : List ℕ) (at : ℕ) where
@@ -77,7 +77,7 @@ put-number out at label b same e f = record {
 }
 
 -- what the writer of a whole text shows
-pub whole : {out text l : List ℕ} {n : ℕ} → n ≤ length out → Holds out 0 n l text → (n ≡ length text) × (Counts n l × (l ≡ putAt out 0 text))
+pub whole : {out text l : List ℕ} {n : ℕ} → n ≤ length out → Holds out 0 n l text → PutInFront out l n text
 whole {out} {text} {l} {n} room h =
     (h .behind ∙ zero-add (length text), (put-counts out 0 text l n (rw (h .behind) at room) (h .behind) (h .put), h .put))
 

@@ -6,10 +6,9 @@ ghost use mathlib.Core.Bool.{true};
 ghost use Prim.Native.Nat.{_+_, _≤_};
 ghost use mathlib.Core.List.{_++_};
 ghost use lib.ListN.{length};
-ghost use Rattle.io.specs.Counts.{Counts};
 ghost use Rattle.gf2.specs.Polynomials.{degree};
 ghost use Rattle.printing.specs.Printing.{digit, allDigits, hexFrom, keyLine, numeral, report, refused, noKey};
-ghost use Rattle.printing.specs.Buffers.{putAt};
+ghost use Rattle.printing.specs.Buffers.{putAt, PutInFront};
 
 // What the first line of an input says: the key, and the place where the file begins.
 pub enum KeyLine {
@@ -140,9 +139,7 @@ fn degree(key: u64) -> u32
 
 // The three lines of a mark, at the front of a buffer, and their length.
 pub fn report(m: Running, out: &mut [u8; 96]) -> usize
-    ensures { λ r. ⌜ r ≡ length (report m) ⌝ }
-    ensures { λ r. ⌜ Counts r (now (out .exit)) ⌝ }
-    ensures { λ _. ⌜ now (out .exit) ≡ putAt (now (out .entry)) 0 (report m) ⌝ }
+    ensures { λ n. ⌜ PutInFront (now (out .entry)) (now (out .exit)) n (report m) ⌝ }
 {
     let key = m.key;
     let fingerprint = m.fingerprint;
@@ -156,9 +153,7 @@ pub fn report(m: Running, out: &mut [u8; 96]) -> usize
 
 // The line of a refusal.
 pub fn refusal(r: Refusal, out: &mut [u8; 96]) -> usize
-    ensures { λ n. ⌜ n ≡ length (refused r) ⌝ }
-    ensures { λ n. ⌜ Counts n (now (out .exit)) ⌝ }
-    ensures { λ _. ⌜ now (out .exit) ≡ putAt (now (out .entry)) 0 (refused r) ⌝ }
+    ensures { λ n. ⌜ PutInFront (now (out .entry)) (now (out .exit)) n (refused r) ⌝ }
 {
     let a = put_decimal(out, 0, b"refused ", refusals::number(r) as u64);
     put(out, a, b"\n")
@@ -166,9 +161,7 @@ pub fn refusal(r: Refusal, out: &mut [u8; 96]) -> usize
 
 // The line where the input gives no key.
 pub fn no_key(out: &mut [u8; 96]) -> usize
-    ensures { λ n. ⌜ n ≡ length noKey ⌝ }
-    ensures { λ n. ⌜ Counts n (now (out .exit)) ⌝ }
-    ensures { λ _. ⌜ now (out .exit) ≡ putAt (now (out .entry)) 0 noKey ⌝ }
+    ensures { λ n. ⌜ PutInFront (now (out .entry)) (now (out .exit)) n noKey ⌝ }
 {
     put(out, 0, b"no key\n")
 }

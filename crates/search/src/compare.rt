@@ -73,7 +73,8 @@ pub fn compare(
         × (found .alarms ≤ from) ⌝ }
     ensures { λ r. ⌜ (r .places ≡ found .places + length (flaggedPlaces (now (flags .entry)) (now (text .entry)) (now (pattern .entry)) from size))
         × (r .alarms ≡ found .alarms + length (flaggedAlarms (now (flags .entry)) (now (text .entry)) (now (pattern .entry)) from size))
-        × (now (places .exit) ≡ sets (now (places .entry)) (found .places) (flaggedPlaces (now (flags .entry)) (now (text .entry)) (now (pattern .entry)) from size)) ⌝ }
+        × (now (places .exit) ≡ sets (now (places .entry)) (found .places)
+        (flaggedPlaces (now (flags .entry)) (now (text .entry)) (now (pattern .entry)) from size)) ⌝ }
 {
     let m = pattern.len();
     let mut count = found.places;

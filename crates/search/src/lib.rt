@@ -88,7 +88,8 @@ fn search_text(p: Modulus, text: &[u8], pattern: &[u8], places: &mut [u32]) -> C
 // The search under an opened key. Numbers 7, 11.
 fn search_under(p: Modulus, text: &[u8], pattern: &[u8], places: &mut [u32]) -> Searched
     requires { ⌜ Proper p × (8 ≤ p .degree) ⌝ }
-    ensures { λ r. ⌜ (searched r ≡ firstOf (textTests (now (text .entry)) (now (pattern .entry))) tt (counts (polynomial p) (now (text .entry)) (now (pattern .entry))))
+    ensures { λ r. ⌜ (searched r ≡ firstOf (textTests (now (text .entry)) (now (pattern .entry))) tt
+        (counts (polynomial p) (now (text .entry)) (now (pattern .entry))))
         × (now (places .exit) ≡ stateOf (firstOf (textTests (now (text .entry)) (now (pattern .entry))) (now (places .entry))
         (overlay (placesOf (now (text .entry)) (now (pattern .entry))) (now (places .entry))))) ⌝ }
 {

@@ -13,7 +13,8 @@ use Rattle.refusals.specs.declared.Refusal.the-variants.{TooLong}
 use Rattle.refusals.specs.Refusals.{Done, Refused, Test, _⇒_, firstOf, passes, longest}
 use Rattle.sheets.specs.declared.Sheet.{Sheet}
 use Rattle.sheets.specs.Layout.{version1, numbersAt, pagePlace, sheetLength, pageCount, Contents, fieldIn, contentsIn}
-use Rattle.sheets.specs.Sheets.{pageFingerprints, contentsOf, readTests, readSheet, sheetRead, Page, OtherLength, firstChange, compared, checkSheet}
+use Rattle.sheets.specs.Sheets.{pageFingerprints, contentsOf, readTests, readSheet, Page, OtherLength, firstChange, compared, checkSheet}
+use Rattle.sheets.specs.Answers.{sheetRead}
 use Rattle.sheets.specs.Sheets.{Outcome, checkTests, FromTo, rangeOf, changedRange}
 use Rattle.sheets.specs.Parts.{ReadAs, comparison, ranged, fingerprintsPart}
 use Rattle.refusals.proofs.Laws.{Clear, done-clear, more-refused, more-clear}

@@ -21,7 +21,8 @@ use Rattle.keys.specs.Answers.{tested}
 use Rattle.keys.proofs.Laws.{refused}
 use Rattle.sheets.specs.declared.layout.Head.{Head}
 use Rattle.sheets.specs.Layout.{version1, numberAt, pagePlace, sheetLength, pageCount, Contents, fieldIn, pagesIn, contentsIn}
-use Rattle.sheets.specs.Sheets.{someUnreduced, pagesJoined, fileFilled, pageSizeTest, headWrong, bodyWrong, readSheet, numbersOf}
+use Rattle.sheets.specs.Sheets.{someUnreduced, pagesJoined, fileFilled, pageSizeTest, headWrong, bodyWrong, readSheet}
+use Rattle.sheets.specs.Answers.{numbersOf}
 use Rattle.sheets.specs.Parts.{HeadOf, readBody}
 use Rattle.sheets.proofs.Numbers.{length-numbersAt}
 use Rattle.refusals.proofs.Laws.{first-true, first-false}

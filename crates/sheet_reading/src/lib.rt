@@ -15,7 +15,8 @@ ghost use lib.ListN.{length, drop};
 ghost use Rattle.refusals.specs.Answers.{reply};
 ghost use Rattle.acceptance.specs.Opened.{Opened};
 ghost use Rattle.sheets.specs.Layout.{version1, numbersAt, sheetLength};
-ghost use Rattle.sheets.specs.Sheets.{readSheet, sheetRead, readPages};
+ghost use Rattle.sheets.specs.Sheets.{readSheet, readPages};
+ghost use Rattle.sheets.specs.Answers.{sheetRead};
 ghost use Rattle.sheets.specs.Answers.{reading};
 ghost use Rattle.sheets.specs.Parts.{HeadOf, readBody};
 

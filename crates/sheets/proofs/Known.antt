@@ -10,7 +10,8 @@ use Rattle.refusals.proofs.Laws.{Clear, clear-done, done-clear, more-refused}
 use Rattle.refusals.specs.Refusals.{Answer, Done, Refused, Test, firstOf}
 use Rattle.sheets.specs.declared.Sheet.{Sheet}
 use Rattle.sheets.specs.Layout.{version1, pagePlace, sheetLength, Contents, pagesIn, contentsIn}
-use Rattle.sheets.specs.Sheets.{readTests, readSheet, readPages, numbersOf, sheetRead}
+use Rattle.sheets.specs.Sheets.{readTests, readSheet, readPages}
+use Rattle.sheets.specs.Answers.{numbersOf, sheetRead}
 use Rattle.sheets.specs.Claims.{SoundContents}
 use Rattle.sheets.specs.Parts.{ReadAs}
 use Rattle.sheets.proofs.Numbers.{length-numbersAt}

@@ -1,6 +1,8 @@
 -- For callers in Rattle: the answers of the calls in code, as those of the definitions. A reader of the functions for C need not read this page.
 use Prim.Native.Nat.{ℕ}
+use lib.ListN.{length}
 use Rattle.refusals.specs.Refusals.{Answer, Done, Refused}
+use Rattle.sheets.specs.Layout.{Contents}
 use Rattle.sheets.specs.Sheets.{Outcome, Same, Page, OtherLength, Range, NoChange, FromTo, NotAsLong}
 use Rattle.sheets.specs.declared.Sheet.{Sheet}
 use Rattle.sheets.specs.declared.Reading.{Reading}
@@ -15,6 +17,14 @@ use Rattle.sheets.specs.declared.SheetLength.the-variants as length-case
 abbrev pub lengthAnswer : SheetLength → Answer Unit ℕ
 lengthAnswer (length-cases.Bytes n) = Done n
 lengthAnswer (length-cases.Refused r) = Refused r tt
+
+-- the numbers that a reader is given at once; the page fingerprints are given by `readPages`
+abbrev pub numbersOf : Contents → Sheet
+numbersOf x = record { key = x .key; length = x .length; size = x .pageSize; pages = length (x .pages); fingerprint = x .fingerprint }
+
+abbrev pub sheetRead : Answer Unit Contents → Answer Unit Sheet
+sheetRead (Done x) = Done (numbersOf x)
+sheetRead (Refused r s) = Refused r s
 
 abbrev pub reading : Reading → Answer Unit Sheet
 reading (reading-cases.Sheet x) = Done x

@@ -14,7 +14,8 @@ use Rattle.sheets.specs.declared.Checked.the-variants as checked-cases
 use Rattle.sheets.specs.declared.Changed.{Changed}
 use Rattle.sheets.specs.declared.layout.Head.{Head}
 use Rattle.sheets.specs.Layout.{version1, pagePlace, Contents, fieldIn, contentsIn}
-use Rattle.sheets.specs.Sheets.{filled, pageSizeTest, bodyWrong, readSheet, numbersOf, Outcome, compared, Range, rangeOf}
+use Rattle.sheets.specs.Sheets.{filled, pageSizeTest, bodyWrong, readSheet, Outcome, compared, Range, rangeOf}
+use Rattle.sheets.specs.Answers.{numbersOf}
 use Rattle.sheets.specs.Answers.{checkAnswer, changeAnswer}
 
 -- what a file has behind its whole pages, of s bytes each

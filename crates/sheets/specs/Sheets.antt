@@ -105,14 +105,6 @@ readTests v sheet =
 unfoldable pub readSheet : List ℕ → Answer Unit Contents
 readSheet sheet = firstOf (readTests version1 sheet) tt (contentsIn version1 sheet)
 
--- the numbers that a reader is given at once; the page fingerprints are given by `readPages`
-abbrev pub numbersOf : Contents → Sheet
-numbersOf x = record { key = x .key; length = x .length; size = x .pageSize; pages = length (x .pages); fingerprint = x .fingerprint }
-
-abbrev pub sheetRead : Answer Unit Contents → Answer Unit Sheet
-sheetRead (Done x) = Done (numbersOf x)
-sheetRead (Refused r s) = Refused r s
-
 -- the page fingerprints into lent places
 unfoldable pub readPages : List ℕ → List ℕ → Answer (List ℕ) (List ℕ)
 readPages sheet lent = firstOf (readTests version1 sheet) lent (overlay (contentsIn version1 sheet .pages) lent)

@@ -1,10 +1,13 @@
 -- The range is told in three places; on refusal nothing is.
 use mathlib.Core.Path.{_≡_, sym, ap, _∙_}
+use mathlib.Core.List.{List, [], _∷_}
+use Prim.Native.Nat.{ℕ}
 use Rattle.refusals.specs.Refusals.{numberOf}
 use Rattle.sheets.specs.declared.Changed.{Changed}
 use Rattle.sheets.specs.Answers.{changeAnswer}
 use Rattle.sheets.specs.Sheets.{changedRange}
-use Rattle.gfp_site.specs.Ranges.{RangePlaces, rangeAt, rangeOr}
+use Rattle.places.specs.Places.{heldAfter}
+use Rattle.gfp_site.specs.Places.{rangeIn}
 use borrow.Author.Needs.{needs}
 use Rattle.gfp_site.proofs.gfp_changed_range.Statement.{statement}
 use Rattle.gfp_site.proofs.gfp_changed_range.Tie as tie
@@ -12,16 +15,16 @@ use Rattle.gfp_site.proofs.gfp_changed_range.Tie as tie
 abbrev start : tie.After-first-changed-range → tie.Start
 start c = c .before .before .before
 
-abbrev before : tie.After-first-changed-range → RangePlaces
-before c = let a = start c .args in rangeAt (a .outcome .now) (a .from .now) (a .to .now)
+abbrev before : tie.After-first-changed-range → List ℕ
+before c = let a = start c .args in a .outcome .now ∷ a .from .now ∷ a .to .now ∷ []
 
 -- what is told of the answer that the code has
 told : (c : tie.After-first-changed-range) (o : Changed) → c .first-changed-range .result ≡ o
     → (numberOf (changeAnswer o) ≡ numberOf (changedRange (start c .args .sheet .now) (start c .args .file .now)))
-    × (rangeOr (before c) (changeAnswer o) ≡ rangeOr (before c) (changedRange (start c .args .sheet .now) (start c .args .file .now)))
+    × (heldAfter rangeIn (before c) (changeAnswer o) ≡ heldAfter rangeIn (before c) (changedRange (start c .args .sheet .now) (start c .args .file .now)))
 told c o e =
     let h = ap changeAnswer (sym e) ∙ c .first-changed-range .ensures in
-    (ap numberOf h, ap (rangeOr (before c)) h)
+    (ap numberOf h, ap (heldAfter rangeIn (before c)) h)
 
 returns : tie.Need-returns
 returns c = told (c .before .before) _ (c .enum-told .given .1)

@@ -1,9 +1,11 @@
 -- The answer of the check is told in two places; on refusal nothing is.
 use mathlib.Core.Path.{sym, ap, _∙_}
+use mathlib.Core.List.{[], _∷_}
 use Rattle.refusals.specs.Refusals.{numberOf}
 use Rattle.sheets.specs.declared.Checked.{Checked}
 use Rattle.sheets.specs.Answers.{checkAnswer}
-use Rattle.gfp_site.specs.Places.{toldAt, toldOr}
+use Rattle.places.specs.Places.{heldAfter}
+use Rattle.gfp_site.specs.Places.{outcomeIn}
 use borrow.Author.Needs.{needs}
 use Rattle.gfp_site.proofs.gfp_check_file.Statement.{statement}
 use Rattle.gfp_site.proofs.gfp_check_file.Tie as tie
@@ -25,7 +27,7 @@ returns c =
     let h = c .before .before .check .ensures in
     let e = sym (c .enum-told .given .1) in (
       ap (λ (x : Checked). numberOf (checkAnswer x)) e ∙ ap numberOf h,
-      ap (λ (x : Checked). toldOr (toldAt (s .outcome .now) (s .page .now)) (checkAnswer x)) e ∙ ap (toldOr (toldAt (s .outcome .now) (s .page .now))) h,
+      ap (λ (x : Checked). heldAfter outcomeIn (s .outcome .now ∷ s .page .now ∷ []) (checkAnswer x)) e ∙ ap (heldAfter outcomeIn (s .outcome .now ∷ s .page .now ∷ [])) h,
     )
 
 returns-2 : tie.Need-returns-2
@@ -34,7 +36,7 @@ returns-2 c =
     let h = c .before .before .before .check .ensures in
     let e = sym (c .before .i .given .1) in (
       ap (λ (x : Checked). numberOf (checkAnswer x)) e ∙ ap numberOf h,
-      ap (λ (x : Checked). toldOr (toldAt (s .outcome .now) (s .page .now)) (checkAnswer x)) e ∙ ap (toldOr (toldAt (s .outcome .now) (s .page .now))) h,
+      ap (λ (x : Checked). heldAfter outcomeIn (s .outcome .now ∷ s .page .now ∷ []) (checkAnswer x)) e ∙ ap (heldAfter outcomeIn (s .outcome .now ∷ s .page .now ∷ [])) h,
     )
 
 returns-3 : tie.Need-returns-3
@@ -43,7 +45,7 @@ returns-3 c =
     let h = c .before .before .check .ensures in
     let e = sym (c .enum-told2 .given .1) in (
       ap (λ (x : Checked). numberOf (checkAnswer x)) e ∙ ap numberOf h,
-      ap (λ (x : Checked). toldOr (toldAt (s .outcome .now) (s .page .now)) (checkAnswer x)) e ∙ ap (toldOr (toldAt (s .outcome .now) (s .page .now))) h,
+      ap (λ (x : Checked). heldAfter outcomeIn (s .outcome .now ∷ s .page .now ∷ []) (checkAnswer x)) e ∙ ap (heldAfter outcomeIn (s .outcome .now ∷ s .page .now ∷ [])) h,
     )
 
 returns-4 : tie.Need-returns-4
@@ -52,7 +54,7 @@ returns-4 c =
     let h = number→check c .check .ensures in
     let e = sym (c .before .before .r .given .1) in (
       c .number .ensures ∙ ap (λ (x : Checked). numberOf (checkAnswer x)) e ∙ ap numberOf h,
-      ap (λ (x : Checked). toldOr (toldAt (s .outcome .now) (s .page .now)) (checkAnswer x)) e ∙ ap (toldOr (toldAt (s .outcome .now) (s .page .now))) h,
+      ap (λ (x : Checked). heldAfter outcomeIn (s .outcome .now ∷ s .page .now ∷ []) (checkAnswer x)) e ∙ ap (heldAfter outcomeIn (s .outcome .now ∷ s .page .now ∷ [])) h,
     )
 
 pub gfp-check-file-spec : {M : Type 1} → statement M

@@ -1,9 +1,15 @@
 -- The numbers of the sheet are stored; on refusal nothing is.
-use mathlib.Core.Path.{sym, ap, _∙_}
-use Rattle.refusals.specs.Refusals.{numberOf, valueOr}
+use mathlib.Core.Path.{_≡_, refl, sym, ap, _∙_}
+use mathlib.Core.List.{List, [], _∷_}
+use Prim.Native.Nat.{ℕ}
+use Rattle.refusals.specs.Refusals.{Answer, Done, Refused, numberOf}
 use Rattle.sheets.specs.declared.Reading.{Reading}
-use Rattle.sheets.specs.Answers.{reading}
-use Rattle.gfp_site.specs.Places.{sheetAt}
+use Rattle.sheets.specs.Answers.{reading, sheetRead}
+use Rattle.sheets.specs.declared.Sheet.{Sheet}
+use Rattle.sheets.specs.Layout.{Contents}
+use Rattle.sheets.specs.Sheets.{readSheet}
+use Rattle.places.specs.Places.{heldAfter}
+use Rattle.gfp_site.specs.Places.{sheetIn}
 use borrow.Author.Needs.{needs}
 use Rattle.gfp_site.proofs.gfp_read_sheet.Statement.{statement}
 use Rattle.gfp_site.proofs.gfp_read_sheet.Tie as tie
@@ -13,31 +19,39 @@ use Rattle.gfp_site.proofs.gfp_read_sheet.Tie as tie
 abbrev read→start : tie.After-read → tie.Start
 read→start c = c .before .before
 
-abbrev number→start : tie.After-number → tie.Start
-number→start c = read→start (c .before .before .before .before)
-
 abbrev number→read : tie.After-number → tie.After-read
 number→read c = c .before .before .before .before
 
+-- the numbers of the code's sheet, in the order of the places
+abbrev numbersIn : Sheet → List ℕ
+numbersIn x = x .key ∷ x .length ∷ x .size ∷ x .pages ∷ x .fingerprint ∷ []
+
+-- the code's sheet has the numbers of the definition's
+same-number : (a : Answer Unit Contents) → numberOf (sheetRead a) ≡ numberOf a
+same-number (Done x) = refl
+same-number (Refused r s) = refl
+
+same-places : (before : List ℕ) (a : Answer Unit Contents) → heldAfter numbersIn before (sheetRead a) ≡ heldAfter sheetIn before a
+same-places before (Done x) = refl
+same-places before (Refused r s) = refl
+
+abbrev before : tie.After-read → List ℕ
+before c = let a = read→start c .args in a .key .now ∷ a .length .now ∷ a .page-size .now ∷ a .pages .now ∷ a .fingerprint .now ∷ []
+
+-- what is told of the answer that the code has
+told : (c : tie.After-read) (o : Reading) → c .read .result ≡ o
+    → (numberOf (reading o) ≡ numberOf (readSheet (read→start c .args .sheet .now)))
+    × (heldAfter numbersIn (before c) (reading o) ≡ heldAfter sheetIn (before c) (readSheet (read→start c .args .sheet .now)))
+told c o e =
+    let h = ap reading (sym e) ∙ c .read .ensures in
+    let a = readSheet (read→start c .args .sheet .now) in
+    (ap numberOf h ∙ same-number a, ap (heldAfter numbersIn (before c)) h ∙ same-places (before c) a)
+
 returns : tie.Need-returns
-returns c =
-    let s = read→start (c .before .before .before) .args in
-    let h = c .before .before .before .read .ensures in
-    let e = sym (c .before .x .given .1) in (
-      ap (λ (x : Reading). numberOf (reading x)) e ∙ ap numberOf h,
-      ap (λ (x : Reading). valueOr (sheetAt (s .key .now) (s .length .now) (s .page-size .now) (s .pages .now) (s .fingerprint .now)) (reading x)) e
-          ∙ ap (valueOr (sheetAt (s .key .now) (s .length .now) (s .page-size .now) (s .pages .now) (s .fingerprint .now))) h,
-    )
+returns c = told (c .before .before .before) _ (c .before .x .given .1)
 
 returns-2 : tie.Need-returns-2
-returns-2 c =
-    let s = number→start c .args in
-    let h = number→read c .read .ensures in
-    let e = sym (c .before .before .r .given .1) in (
-      c .number .ensures ∙ ap (λ (x : Reading). numberOf (reading x)) e ∙ ap numberOf h,
-      ap (λ (x : Reading). valueOr (sheetAt (s .key .now) (s .length .now) (s .page-size .now) (s .pages .now) (s .fingerprint .now)) (reading x)) e
-          ∙ ap (valueOr (sheetAt (s .key .now) (s .length .now) (s .page-size .now) (s .pages .now) (s .fingerprint .now))) h,
-    )
+returns-2 c = let t = told (number→read c) _ (c .before .before .r .given .1) in (c .number .ensures ∙ t .0, t .1)
 
 pub gfp-read-sheet-spec : {M : Type 1} → statement M
 gfp-read-sheet-spec =

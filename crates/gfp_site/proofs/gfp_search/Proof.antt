@@ -1,9 +1,11 @@
 -- The two numbers of the search are stored; on refusal nothing is.
 use mathlib.Core.Path.{sym, ap, _∙_}
-use Rattle.refusals.specs.Refusals.{numberOf, valueOr}
+use mathlib.Core.List.{[], _∷_}
+use Rattle.refusals.specs.Refusals.{numberOf}
 use Rattle.search.specs.declared.Searched.{Searched}
 use Rattle.search.specs.Answers.{searched}
-use Rattle.gfp_site.specs.Places.{countsAt}
+use Rattle.places.specs.Places.{heldAfter}
+use Rattle.gfp_site.specs.Places.{countsIn}
 use borrow.Author.Needs.{needs}
 use Rattle.gfp_site.proofs.gfp_search.Statement.{statement}
 use Rattle.gfp_site.proofs.gfp_search.Tie as tie
@@ -38,8 +40,8 @@ returns c =
     let e = sym (c .before .c .given .1) in (
       ap (λ (x : Searched). numberOf (searched x)) e ∙ ap numberOf (m .ensures .0),
       m .ensures .1,
-      ap (λ (x : Searched). valueOr (countsAt (s .count .now) (s .alarms .now)) (searched x)) e
-          ∙ ap (valueOr (countsAt (s .count .now) (s .alarms .now))) (m .ensures .0),
+      ap (λ (x : Searched). heldAfter countsIn (s .count .now ∷ s .alarms .now ∷ []) (searched x)) e
+          ∙ ap (heldAfter countsIn (s .count .now ∷ s .alarms .now ∷ [])) (m .ensures .0),
     )
 
 returns-2 : tie.Need-returns-2
@@ -49,8 +51,8 @@ returns-2 c =
     let e = sym (c .before .before .r .given .1) in (
       c .number .ensures ∙ ap (λ (x : Searched). numberOf (searched x)) e ∙ ap numberOf (m .ensures .0),
       m .ensures .1,
-      ap (λ (x : Searched). valueOr (countsAt (s .count .now) (s .alarms .now)) (searched x)) e
-          ∙ ap (valueOr (countsAt (s .count .now) (s .alarms .now))) (m .ensures .0),
+      ap (λ (x : Searched). heldAfter countsIn (s .count .now ∷ s .alarms .now ∷ []) (searched x)) e
+          ∙ ap (heldAfter countsIn (s .count .now ∷ s .alarms .now ∷ [])) (m .ensures .0),
     )
 
 pub gfp-search-spec : {M : Type 1} → statement M

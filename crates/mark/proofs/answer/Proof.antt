@@ -1,15 +1,16 @@
 -- `mark::answer` meets its contract. The file begins within the head: `key-within`.
-use mathlib.Core.Path.{_≡_, sym, subst, _∙_}
+use mathlib.Core.Path.{_≡_, refl, sym, subst, _∙_}
 use mathlib.Core.List.{List}
 use Prim.Native.Nat.{ℕ, _≤_}
 use native.Mathlib.Omega.{arith}
 use lib.ListN.{length, drop}
 use borrow.Author.Needs.{needs}
+use Rattle.refusals.specs.Refusals.{Done, Refused}
 use Rattle.printing.specs.declared.KeyLine.the-variants.{Key}
 use Rattle.printing.specs.Printing.{keyLine}
 use Rattle.printing.proofs.Laws.{key-within}
-use Rattle.mark.specs.Reading.{MarkedInParts}
-use Rattle.mark.proofs.Parts.{from, none-printed, mark-printed, refusal-printed}
+use Rattle.mark.specs.Marking.{MarkedInParts}
+use Rattle.mark.proofs.Parts.{from, none-printed, marked-printed, gives}
 use Rattle.mark.proofs.answer.Statement.{statement}
 use Rattle.mark.proofs.answer.Tie as tie
 
@@ -63,16 +64,16 @@ returns-2 : tie.Need-returns-2
 returns-2 c =
     let m = c .before .before .before in
     let f = m→mark-file m in
-    mark-printed _ _ _ _ _ _ (line (mark-file→key f)) (f .mark-file .result) _ (file f) (m .m .given .1) (c .report .ensures)
+    marked-printed _ _ _ _ _ _ (line (mark-file→key f)) (f .mark-file .result) (Done _) (file f) (gives (m .m .given .1)) (c .report .ensures)
 
 returns-3 : tie.Need-returns-3
 returns-3 c =
     let r = c .before .before .before in
     let f = r→mark-file r in
-    refusal-printed _ _ _ _ _ _ (line (mark-file→key f)) (f .mark-file .result) _ (file f) (r .r .given .1) (c .refusal .ensures)
+    marked-printed _ _ _ _ _ _ (line (mark-file→key f)) (f .mark-file .result) (Refused _ tt) (file f) (gives (r .r .given .1)) (c .refusal .ensures)
 
 returns-4 : tie.Need-returns-4
-returns-4 c = tt
+returns-4 c = refl
 
 pub answer-spec : {M : Type 1} → statement M
 answer-spec =

@@ -1,5 +1,6 @@
 -- `mark::feed_some` meets its contract: the bytes that were read are fed.
 use Prim.Native.Nat.{_<_}
+use native.Mathlib.Omega.{arith}
 use borrow.Author.Needs.{needs}
 use Rattle.io.specs.Counts.{Counts}
 use Rattle.mark.proofs.Answers.{bytes-front}
@@ -15,13 +16,13 @@ front : (c : tie.After-n) → (0 < c .n .given .0 .0) × Counts (c .n .given .0 
 front c = let r = n→read-some c .read-some in bytes-front (r .result) _ (r .last .0) (r .ensures .0) (c .n .given .1)
 
 slice-reshare-prefix-feed-table : tie.Need-slice-reshare-prefix-feed-table
-slice-reshare-prefix-feed-table c = front (c .before) .1 .0
+slice-reshare-prefix-feed-table c = omega (arith, front (c .before) .1 .0)
 
 slice-aggregate-feed-table : tie.Need-slice-aggregate-feed-table
-slice-aggregate-feed-table c = front (c .before .before) .1 .1
+slice-aggregate-feed-table c = search (needs, front (c .before .before) .1 .1)
 
 returns : tie.Need-returns
-returns c = let h = front (c .before .before .before) in (h .0, (h .1, c .feed-table .ensures))
+returns c = let h = front (c .before .before .before) in (h, c .feed-table .ensures)
 
 pub feed-some-spec : {M : Type 1} → statement M
 feed-some-spec =

@@ -25,12 +25,15 @@ begun-is : (c : tie.After-m) → Done (c .m .given .0 .0) ≡ begunUnder (m→be
 begun-is c = ap begun (sym (c .m .given .1)) ∙ m→begin c .begin .ensures
 
 returns : tie.Need-returns
-returns c = let b = c .before .before .before in begun-refused _ (b .before .before .args .first .now) _ (ap begun (sym (c .before .r .given .1)) ∙ b .begin .ensures)
+returns c =
+    let b = c .before .before .before in
+    begun-refused _ (b .before .before .args .first .now) _ (ap begun (sym (c .before .r .given .1)) ∙ b .begin .ensures)
 
 returns-2 : tie.Need-returns-2
 returns-2 c =
     let k = c .before .before .before .before in
-    absurd (made-always _ [] _ (begun-is (make→m k)) _ _ _ (ap (reply (k .make .last .1 .0)) (sym (c .before .r2 .given .1)) ∙ k .make .ensures) (search needs))
+    let made = ap (reply (k .make .last .1 .0)) (sym (c .before .r2 .given .1)) ∙ k .make .ensures in
+    absurd (made-always _ [] _ (begun-is (make→m k)) _ _ _ made (search needs))
 
 returns-3 : tie.Need-returns-3
 returns-3 c =
@@ -38,8 +41,8 @@ returns-3 c =
     let t = r .before .before in
     let d = t .before .before in
     let k = told→make d in
-    first-refused _ _ _ (begun-is (make→m k)) _ _ (ap (reply (k .make .last .1 .0)) (sym (d .enum-told .given .1)) ∙ k .make .ensures) (search needs) _ _
-    (ap fed (sym (r .r3 .given .1)) ∙ t .feed-table .ensures)
+    let made = ap (reply (k .make .last .1 .0)) (sym (d .enum-told .given .1)) ∙ k .make .ensures in
+    first-refused _ _ _ (begun-is (make→m k)) _ _ made (search needs) _ _ (ap fed (sym (r .r3 .given .1)) ∙ t .feed-table .ensures)
 
 returns-4 : tie.Need-returns-4
 returns-4 c =
@@ -47,7 +50,8 @@ returns-4 c =
     let t = n .before .before in
     let d = t .before .before in
     let k = told→make d in
-    rest-marked _ _ _ (begun-is (make→m k)) _ _ (ap (reply (k .make .last .1 .0)) (sym (d .enum-told .given .1)) ∙ k .make .ensures) (search needs) _ (c .feed-rest .result)
+    let made = ap (reply (k .make .last .1 .0)) (sym (d .enum-told .given .1)) ∙ k .make .ensures in
+    rest-marked _ _ _ (begun-is (make→m k)) _ _ made (search needs) _ (c .feed-rest .result)
     (ap fed (sym (n .next .given .1)) ∙ t .feed-table .ensures) (c .feed-rest .ensures)
 
 pub mark-file-spec : {M : Type 1} → statement M

@@ -15,7 +15,8 @@ read→start c = c .before .before .before
 returns : tie.Need-returns
 returns c =
     let r = outcome→read c .read in
-    moved-front (r .result) _ (read→start (outcome→read c) .args .buffer .now) (r .last .1 .0) (c .outcome .result) (record { sfits = r .ok }) (r .ensures) (search needs) (c .outcome .ensures)
+    let before = read→start (outcome→read c) .args .buffer .now in
+    moved-front (r .result) _ before (r .last .1 .0) (c .outcome .result) (record { sfits = r .ok }) (r .ensures) (search needs) (c .outcome .ensures)
 
 pub read-once-spec : {M : Type 1} → statement M
 read-once-spec = tie.close (tie.spec (λ c κs. search needs) (λ c κs. search needs) (λ c κs. search needs) (λ c. search needs) returns)

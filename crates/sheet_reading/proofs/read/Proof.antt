@@ -10,7 +10,8 @@ use Rattle.acceptance.specs.Opened.{Opened}
 use Rattle.keys.specs.Testing.{testKey}
 use Rattle.keys.proofs.Laws.{opened}
 use Rattle.sheets.specs.Layout.{version1, sheetLength}
-use Rattle.sheets.specs.Sheets.{headWrong, sheetRead}
+use Rattle.sheets.specs.Sheets.{headWrong}
+use Rattle.sheets.specs.Answers.{sheetRead}
 use Rattle.sheets.proofs.Sound.{head-right}
 use Rattle.sheet_reading.proofs.Answers.{read-head, read-refused, read-opened}
 use borrow.Author.Needs.{needs}

@@ -10,7 +10,7 @@ use Rattle.refusals.specs.Refusals.{Done}
 use Rattle.refusals.proofs.Laws.{holds, fails}
 use Rattle.sheets.specs.declared.layout.Head.{Head}
 use Rattle.sheets.specs.Layout.{version1, sheetLength, pageCount, fieldIn, pagesIn}
-use Rattle.sheets.specs.Sheets.{sheetRead}
+use Rattle.sheets.specs.Answers.{sheetRead}
 use Rattle.sheets.proofs.Sound.{size-bounds}
 use Rattle.sheet_reading.proofs.Answers.{numbers-are, body-total, body-size, body-wrong, body-done}
 use borrow.Author.Needs.{needs}

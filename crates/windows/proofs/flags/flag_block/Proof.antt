@@ -27,8 +27,14 @@ one-by-one-requires c κs =
 returns : tie.Need-returns
 returns c =
     let p = lanes→start (c .before) .pre in
-    let f = c .four-lanes .ensures in
-    (omega arith, omega arith, omega (arith, p .2, c .before .before .if2 .taken), λ h. absurd (omega arith), record { flags = f .1; behind = filled-none 1024 _; next = λ _. f .0 }, f .2)
+    let f = c .four-lanes .ensures in (
+      omega arith,
+      omega arith,
+      omega (arith, p .2, c .before .before .if2 .taken),
+      λ h. absurd (omega arith),
+      record { flags = f .1; behind = filled-none 1024 _; next = λ _. f .0 },
+      f .2,
+    )
 
 returns-2 : tie.Need-returns-2
 returns-2 c =

@@ -70,7 +70,8 @@ returns : tie.Need-returns Inv-loop μ-loop
 returns c =
     let a = shared-slice-known2→start (c .before .before) .args in
     let l = c .before .loop in
-    (flagged-all (a .s) (a .text .now) (a .from) (l .j) (a .size) (l .a) (a .flags .now) (l .flags) (omega arith) (l .inv .2) (l .inv .3) (l .inv .4), l .inv .1)
+    let e : l .j ≡ a .size = omega arith in
+    (flagged-all (a .s) (a .text .now) (a .from) (l .j) (a .size) (l .a) (a .flags .now) (l .flags) e (l .inv .2) (l .inv .3) (l .inv .4), l .inv .1)
 
 pub one-by-one-spec : {M : Type 1} → statement M
 one-by-one-spec =
