@@ -64,6 +64,7 @@ pub record Contents : Type 0 where
 abbrev pub letters : ℕ
 letters = 0x474650
 
+-- the numbers in front of the fingerprints, in the order of the fields
 abbrev pub headOf : Layout → Contents → List ℕ
 headOf v x = letters ∷ v .version ∷ x .key ∷ x .length ∷ x .pageSize ∷ []
 
@@ -75,7 +76,9 @@ bytesIn (w ∷ ws) xs = bytesOf w (getD xs 0 0) ++ bytesIn ws (drop 1 xs)
 unfoldable pub sheetBytes : Layout → Contents → List ℕ
 sheetBytes v x = bytesIn (v .widths) (headOf v x) ++ fieldsOf (v .fingerprintWidth) (x .pages) ++ bytesOf (v .fingerprintWidth) (x .fingerprint)
 
--- the numbers as they stand in given bytes, with as many pages as the length and the page size ask
+-- ---- the numbers as they stand in given bytes, with as many pages as the length and the page size ask
+
+-- the number in field i
 abbrev pub fieldIn : Layout → ℕ → List ℕ → ℕ
 fieldIn v i sheet = numberAt (width (take i (v .widths))) (getD (v .widths) i 0) sheet
 

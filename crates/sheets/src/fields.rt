@@ -1,4 +1,5 @@
-// Numbers as bytes, the high byte first, and the number of pages.
+// Numbers as bytes, the high byte first, and the number of pages. These functions are for the project's own crates: what they require, every
+// caller proves.
 ghost use mathlib.Core.Path.{_≡_};
 ghost use mathlib.Core.Bool.{_||_, not};
 ghost use Prim.Native.Nat.{_+_, _*_, _≤_, _<_, _^_};

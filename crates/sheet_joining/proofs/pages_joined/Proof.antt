@@ -83,8 +83,8 @@ returns-2 c =
     let a = s .args in
     let q = a .n / 4 in
     record {
-      mark = λ r. all-joined (a .p) (s .pre .0) (a .size) 0 (a .n) q (32 * q) (omega arith) (omega arith) (a .fields .now) (t .last .0) (t .ensures) r (x .result)
-          (x .ensures)
+      mark = λ r. all-joined (a .p) (s .pre .0) (a .size) 0 (a .n) q (32 * q) (omega arith) (omega arith) (a .fields .now) (t .last .0) (t .ensures) r
+          (x .result) (x .ensures)
           (p .power-of-t .result) (p .power-of-t .ensures) (b₂ .before .times-plus .result) (b₃ .before .times-plus2 .result) (c₃ .times-plus3 .result)
           (c .join-lane2 .result .mark)
           (times-low (a .p) _ _ _ _ _ (b₁ .low-bits .ensures) (b₂ .before .times-plus .ensures))

@@ -17,7 +17,8 @@ use Rattle.sheet_pages.proofs.begin_pages.Statement.{statement}
 use Rattle.sheet_pages.proofs.begin_pages.Tie as tie
 
 abbrev Inv-loop : tie.InvT-loop
-Inv-loop marks₀ eights size whole n pages i₀ marks i = (i ≤ n) × (length marks ≡ length marks₀) × BegunBy eights size whole i pages marks × SameFrom n marks₀ marks
+Inv-loop marks₀ eights size whole n pages i₀ marks i =
+    (i ≤ n) × (length marks ≡ length marks₀) × BegunBy eights size whole i pages marks × SameFrom n marks₀ marks
 
 abbrev μ-loop : tie.MeasureT-loop
 μ-loop marks₀ eights size whole n pages i₀ marks i = n - i
@@ -111,10 +112,12 @@ loop-again c =
       omega arith,
       simp length-set (l .inv .1),
       λ p h sh. begun-two (polynomial p) (a .size) (a .whole) (a .pages .now) (l .marks) (l .i) (j .result) (x .result .a) (x .result .b)
-          (omega (arith, j .ensures, b .before .loop-test .taken)) (omega (arith, j .ensures)) (omega (arith, j .ensures, s .pre .5, l .inv .1)) (l .inv .2 p h sh) (x .ensures .0 p h sh ∙ front (polynomial p) (l .i))
+          (omega (arith, j .ensures, b .before .loop-test .taken)) (omega (arith, j .ensures)) (omega (arith, j .ensures, s .pre .5, l .inv .1))
+          (l .inv .2 p h sh) (x .ensures .0 p h sh ∙ front (polynomial p) (l .i))
           (x .ensures .1 p h sh ∙ front (polynomial p) (j .result)),
       λ m n≤m.
-          getD-set-other (set (l .marks) (l .i) (x .result .a)) (j .result) m (x .result .b) 0 (λ e. omega (arith, e, n≤m, j .ensures, b .before .loop-test .taken))
+          getD-set-other (set (l .marks) (l .i) (x .result .a)) (j .result) m (x .result .b) 0
+          (λ e. omega (arith, e, n≤m, j .ensures, b .before .loop-test .taken))
           ∙ getD-set-other (l .marks) (l .i) m (x .result .a) 0 (λ e. omega (arith, e, n≤m, b .before .loop-test .taken))
           ∙ l .inv .3 m n≤m,
     )
