@@ -23,7 +23,8 @@ use Rattle.gf2.proofs.Powers.{rem-⊗-left}
 use Rattle.gf2.proofs.Criterion.{rigid-irreducible}
 use Rattle.basis.specs.Rows.{Independent}
 use Rattle.basis.proofs.Matrices.{sum-listed}
-use Rattle.stock.proofs.Coefficients.{Word, value, plus, value-plus, size, word, digit, value-word, size-word, divide, divide-rem, divide-size, value-shl, modulus, modulus-deg}
+use Rattle.stock.proofs.Coefficients.{Word, value, plus, value-plus, size, word, digit, value-word, size-word, divide, divide-rem}
+use Rattle.stock.proofs.Coefficients.{divide-size, value-shl, modulus, modulus-deg}
 use Rattle.stock.proofs.Independence.{basis, sound, insert, empty, independent}
 
 -- ---- the test

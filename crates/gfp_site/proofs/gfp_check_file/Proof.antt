@@ -1,8 +1,10 @@
 -- The answer of the check is told in two places; on refusal nothing is.
-use mathlib.Core.Path.{sym, ap, _∙_}
-use mathlib.Core.List.{[], _∷_}
+use mathlib.Core.Path.{_≡_, sym, ap, _∙_}
+use mathlib.Core.List.{List, [], _∷_}
+use Prim.Native.Nat.{ℕ}
 use Rattle.refusals.specs.Refusals.{numberOf}
 use Rattle.sheets.specs.declared.Checked.{Checked}
+use Rattle.sheets.specs.Sheets.{checkSheet}
 use Rattle.sheets.specs.Answers.{checkAnswer}
 use Rattle.places.specs.Places.{heldAfter}
 use Rattle.gfp_site.specs.Places.{outcomeIn}
@@ -15,47 +17,32 @@ use Rattle.gfp_site.proofs.gfp_check_file.Tie as tie
 abbrev check→start : tie.After-check → tie.Start
 check→start c = c .before .before .before
 
-abbrev number→start : tie.After-number → tie.Start
-number→start c = check→start (c .before .before .before .before)
-
 abbrev number→check : tie.After-number → tie.After-check
 number→check c = c .before .before .before .before
 
+abbrev before : tie.After-check → List ℕ
+before c = let a = check→start c .args in a .outcome .now ∷ a .page .now ∷ []
+
+-- what is told of the answer that the code has
+told : (c : tie.After-check) (o : Checked) → c .check .result ≡ o
+    → (numberOf (checkAnswer o) ≡ numberOf (checkSheet (check→start c .args .sheet .now) (check→start c .args .file .now)))
+    × (heldAfter outcomeIn (before c) (checkAnswer o)
+    ≡ heldAfter outcomeIn (before c) (checkSheet (check→start c .args .sheet .now) (check→start c .args .file .now)))
+told c o e =
+    let h = ap checkAnswer (sym e) ∙ c .check .ensures in
+    (ap numberOf h, ap (heldAfter outcomeIn (before c)) h)
+
 returns : tie.Need-returns
-returns c =
-    let s = check→start (c .before .before) .args in
-    let h = c .before .before .check .ensures in
-    let e = sym (c .enum-told .given .1) in (
-      ap (λ (x : Checked). numberOf (checkAnswer x)) e ∙ ap numberOf h,
-      ap (λ (x : Checked). heldAfter outcomeIn (s .outcome .now ∷ s .page .now ∷ []) (checkAnswer x)) e ∙ ap (heldAfter outcomeIn (s .outcome .now ∷ s .page .now ∷ [])) h,
-    )
+returns c = told (c .before .before) _ (c .enum-told .given .1)
 
 returns-2 : tie.Need-returns-2
-returns-2 c =
-    let s = check→start (c .before .before .before) .args in
-    let h = c .before .before .before .check .ensures in
-    let e = sym (c .before .i .given .1) in (
-      ap (λ (x : Checked). numberOf (checkAnswer x)) e ∙ ap numberOf h,
-      ap (λ (x : Checked). heldAfter outcomeIn (s .outcome .now ∷ s .page .now ∷ []) (checkAnswer x)) e ∙ ap (heldAfter outcomeIn (s .outcome .now ∷ s .page .now ∷ [])) h,
-    )
+returns-2 c = told (c .before .before .before) _ (c .before .i .given .1)
 
 returns-3 : tie.Need-returns-3
-returns-3 c =
-    let s = check→start (c .before .before) .args in
-    let h = c .before .before .check .ensures in
-    let e = sym (c .enum-told2 .given .1) in (
-      ap (λ (x : Checked). numberOf (checkAnswer x)) e ∙ ap numberOf h,
-      ap (λ (x : Checked). heldAfter outcomeIn (s .outcome .now ∷ s .page .now ∷ []) (checkAnswer x)) e ∙ ap (heldAfter outcomeIn (s .outcome .now ∷ s .page .now ∷ [])) h,
-    )
+returns-3 c = told (c .before .before) _ (c .enum-told2 .given .1)
 
 returns-4 : tie.Need-returns-4
-returns-4 c =
-    let s = number→start c .args in
-    let h = number→check c .check .ensures in
-    let e = sym (c .before .before .r .given .1) in (
-      c .number .ensures ∙ ap (λ (x : Checked). numberOf (checkAnswer x)) e ∙ ap numberOf h,
-      ap (λ (x : Checked). heldAfter outcomeIn (s .outcome .now ∷ s .page .now ∷ []) (checkAnswer x)) e ∙ ap (heldAfter outcomeIn (s .outcome .now ∷ s .page .now ∷ [])) h,
-    )
+returns-4 c = let t = told (number→check c) _ (c .before .before .r .given .1) in (c .number .ensures ∙ t .0, t .1)
 
 pub gfp-check-file-spec : {M : Type 1} → statement M
 gfp-check-file-spec =
