@@ -7,13 +7,12 @@ use lib.ListN.{length, take, drop, replicate}
 use Rattle.lists.specs.Lists.{overlay}
 use Rattle.gf2.specs.Polynomials.{degree, rem}
 use Rattle.refusals.specs.declared.Refusal.the-variants.{TooLong, PageSize, BufferShort, SheetMalformed}
-use Rattle.refusals.specs.Refusals.{Answer, Done, Refused, Test, _⇒_, firstOf, passes}
+use Rattle.refusals.specs.Refusals.{Answer, Test, _⇒_, firstOf, passes}
 use Rattle.acceptance.specs.Keys.{keyTests}
 use Rattle.files.specs.declared.Mark.{Mark}
 use Rattle.files.specs.Files.{fingerprint, markOf, joined}
 use Rattle.sheets.specs.Layout.{Layout, version1, sheetLength, pageCount, Contents, letters, sheetBytes}
 use Rattle.sheets.specs.Layout.{fieldIn, contentsIn}
-use Rattle.sheets.specs.declared.Sheet.{Sheet}
 
 -- ---- the pages of a file
 
