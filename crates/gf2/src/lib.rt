@@ -5,7 +5,6 @@ ghost use mathlib.Core.Bool.{not};
 ghost use Prim.Native.Nat.{_+_, _*_, _/_, _%_, _^_, _≤_, _<_};
 ghost use lib.Dec.{leb};
 ghost use Rattle.gf2.specs.Polynomials.{_⊗_, degree, rem};
-ghost use Rattle.gf2.specs.Degrees.{_⊗^_};
 ghost use Rattle.gf2.specs.Moduli.{polynomial, Proper};
 ghost use Rattle.gf2.specs.Opening.{modulusOf};
 
@@ -82,23 +81,6 @@ pub fn product(p: Modulus, a: u64, b: u64) -> u64
     sum
 }
 
-// The power a^n of a residue, by the bits of n from the highest: a square for each, and a product where the bit is one.
-pub fn power(p: Modulus, a: u64, n: u64) -> u64
-    requires { ⌜ Proper p × (a < 2 ^ p .degree) ⌝ }
-    ensures { λ r. ⌜ r ≡ rem (polynomial p) (a ⊗^ n) ⌝ }
-{
-    let mut x: u64 = 1;
-    let mut i = 64 - u64::leading_zeros(n);
-    while 0 < i {
-        i -= 1;
-        x = product(p, x, x);
-        if (n >> i) % 2 == 1 {
-            x = product(p, x, a);
-        }
-    }
-    x
-}
-
 // How many of the low bits of n to leave, so that the bits above them name a power of t below t^k.
 fn low_places(k: u32, n: u64) -> u32
     requires { ⌜ 0 < k ⌝ }
@@ -125,7 +107,8 @@ fn first_power(n: u64, i: u32) -> u64
     1 << (n >> i)
 }
 
-// The power t^n, likewise: a step where the bit is one. It begins with the highest bits, as far as they name a power below t^k.
+// The power t^n, by the bits of n from the highest: a square for each, and a step where the bit is one. It begins with the bits that name a power
+// below t^k.
 pub fn power_of_t(p: Modulus, n: u64) -> u64
     requires { ⌜ Proper p ⌝ }
     ensures { λ r. ⌜ r ≡ rem (polynomial p) (2 ^ n) ⌝ }
