@@ -116,9 +116,9 @@ uint32_t gfp_search(uint64_t key, const uint8_t *text, size_t text_length, const
 /* The bytes of a sheet without pages; each page adds 8. */
 #define GFP_SHEET_BYTES 27
 
-/* The bytes of the sheet of a file of the given length, with pages of the given size, to *bytes: 27 + 8 * pages.
+/* The bytes of the sheet of a file of the given length, with pages of the given size, to *sheet_length: 27 + 8 * pages.
  * Refusals: 7, 12. Stack: 512 bytes. */
-uint32_t gfp_sheet_length(uint64_t length, uint64_t size, uint64_t *bytes);
+uint32_t gfp_sheet_length(uint64_t file_length, uint64_t page_size, uint64_t *sheet_length);
 
 /* Writes the page sheet of a file into the lent bytes; further bytes keep their value. The page size is 16 to 4,096
  * bytes, and the sheet takes 27 + 8 * pages bytes, pages being the file's length over the page size, rounded up: the

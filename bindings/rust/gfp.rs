@@ -15,7 +15,7 @@ mod raw {
         pub fn gfp_join_in_front(key: u64, fingerprint: *mut u64, length: *mut u64, other_fingerprint: u64, other_length: u64) -> u32;
         pub fn gfp_replace_page(key: u64, fingerprint: *mut u64, length: *mut u64, place: u64, old_page: *const u8, old_page_length: usize, new_page: *const u8, new_page_length: usize) -> u32;
         pub fn gfp_search(key: u64, text: *const u8, text_length: usize, pattern: *const u8, pattern_length: usize, places: *mut u32, places_length: usize, count: *mut u32, alarms: *mut u32) -> u32;
-        pub fn gfp_sheet_length(length: u64, size: u64, bytes: *mut u64) -> u32;
+        pub fn gfp_sheet_length(file_length: u64, page_size: u64, sheet_length: *mut u64) -> u32;
         pub fn gfp_write_sheet(key: u64, page_size: u64, file: *const u8, file_length: usize, sheet: *mut u8, sheet_length: usize) -> u32;
         pub fn gfp_read_sheet(sheet: *const u8, sheet_length: usize, key: *mut u64, length: *mut u64, page_size: *mut u64, pages: *mut u64, fingerprint: *mut u64) -> u32;
         pub fn gfp_read_pages(sheet: *const u8, sheet_length: usize, fingerprints: *mut u64, fingerprints_length: usize) -> u32;

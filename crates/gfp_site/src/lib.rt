@@ -252,12 +252,15 @@ pub extern "C" fn gfp_changed_range(
 
 // The bytes that the sheet of a file of the given length has, with pages of the given size. Numbers 7, 12.
 #[no_mangle]
-pub extern "C" fn gfp_sheet_length(length: u64, size: u64, bytes: &mut u64) -> u32
-    ensures { λ r. ⌜ (r ≡ numberOf (lengthFor length size)) × (now (bytes .exit) ≡ valueOr (now (bytes .entry)) (lengthFor length size)) ⌝ }
+pub extern "C" fn gfp_sheet_length(file_length: u64, page_size: u64, sheet_length: &mut u64) -> u32
+    ensures { λ r. ⌜
+        (r ≡ numberOf (lengthFor «file_length» «page_size»))
+        × (now («sheet_length» .exit) ≡ valueOr (now («sheet_length» .entry)) (lengthFor «file_length» «page_size»))
+        ⌝ }
 {
-    match sheet_writing::length(length, size) {
+    match sheet_writing::length(file_length, page_size) {
         SheetLength::Bytes(n) => {
-            *bytes = n;
+            *sheet_length = n;
             0
         }
         SheetLength::Refused(r) => refusals::number(r),

@@ -10,12 +10,12 @@ use Rattle.gfp_site.proofs.gfp_sheet_length.Tie as tie
 
 -- what is told of the answer that the code has
 told : (c : tie.After-length) (o : SheetLength) → c .length .result ≡ o
-    → (numberOf (lengthAnswer o) ≡ numberOf (lengthFor (c .before .args .length) (c .before .args .size)))
-    × (valueOr (c .before .args .bytes .now) (lengthAnswer o)
-    ≡ valueOr (c .before .args .bytes .now) (lengthFor (c .before .args .length) (c .before .args .size)))
+    → (numberOf (lengthAnswer o) ≡ numberOf (lengthFor (c .before .args .file-length) (c .before .args .page-size)))
+    × (valueOr (c .before .args .sheet-length .now) (lengthAnswer o)
+    ≡ valueOr (c .before .args .sheet-length .now) (lengthFor (c .before .args .file-length) (c .before .args .page-size)))
 told c o e =
     let h = ap lengthAnswer (sym e) ∙ c .length .ensures in
-    (ap numberOf h, ap (valueOr (c .before .args .bytes .now)) h)
+    (ap numberOf h, ap (valueOr (c .before .args .sheet-length .now)) h)
 
 returns : tie.Need-returns
 returns c = told (c .before .before .before) _ (c .before .n .given .1)
