@@ -1,5 +1,5 @@
--- When a polynomial is irreducible, after Berlekamp: where squaring modulo it takes no residue to 0 but 0 and keeps none but 0 and 1. The
--- promises speak of `Irreducible` alone; this is how the code decides it.
+-- For inner functions: how the code decides whether a polynomial is irreducible, after Berlekamp: where squaring modulo it takes no residue to 0
+-- but 0 and keeps none but 0 and 1. The promises speak of `Irreducible` alone.
 use mathlib.Core.Path.{_≡_}
 use Prim.Native.Nat.{ℕ, _^_, _<_}
 use Rattle.gf2.specs.Polynomials.{_⊗_, degree, rem, Irreducible}
