@@ -106,6 +106,9 @@ done-clear [] x y z e = (tt, cc)
 done-clear (true ⇒ r ∷ ts) x y z e = absurd (let z : _≡_ {A = ℕ} 0 1 = cc in omega arith)
 done-clear (false ⇒ r ∷ ts) x y z e = let i = done-clear ts x y z e in ((refl, i .0), i .1)
 
+pub done-eq : {S A : Type 0} (x y : A) → _≡_ {A = Answer S A} (Done x) (Done y) → x ≡ y
+done-eq x y e = cc
+
 pub clear-append : (ts us : List Test) → Clear ts → Clear us → Clear (ts ++ us)
 clear-append [] us h k = k
 clear-append (b ⇒ r ∷ ts) us h k = (h .0, clear-append ts us (h .1) k)

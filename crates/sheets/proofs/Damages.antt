@@ -9,6 +9,7 @@ use lib.ListN.{length}
 use Rattle.gf2.specs.Polynomials.{rem}
 use Rattle.gf2.proofs.Congruences.{shift-cancels}
 use Rattle.refusals.specs.Refusals.{Done, longest}
+use Rattle.refusals.proofs.Laws.{done-eq}
 use Rattle.acceptance.proofs.Laws.{accepted-iff, accepted-pos}
 use Rattle.files.specs.Files.{fingerprint, markOf}
 use Rattle.files.proofs.Confusions.{burst-differs}
@@ -19,9 +20,6 @@ use Rattle.sheets.proofs.Pages.{fingerprint-lt, pages-joined}
 use Rattle.sheets.proofs.Sound.{file-sound}
 use Rattle.sheets.proofs.Changes.{other-not-same}
 use Rattle.sheets.proofs.Guarantee.{checks, other-length, same-iff}
-
-done-eq : {S A : Type 0} (x y : A) → _≡_ {A = Rattle.refusals.specs.Refusals.Answer S A} (Done x) (Done y) → x ≡ y
-done-eq x y e = cc
 
 module _ (sheet : List ℕ) (w : WellFormed sheet) (file : List ℕ) (fits : length file ≤ longest) (same : checkSheet sheet file ≡ Done Same) where
   x : Contents

@@ -9,7 +9,7 @@ use lib.ListN.{length, getD, take, drop, length-take, List·getD-append}
 use lib.Seq.{take-take, drop-drop, getD-take}
 use Rattle.lists.specs.Lists.{overlay}
 use Rattle.refusals.specs.Refusals.{Done}
-use Rattle.refusals.proofs.Laws.{done-clear}
+use Rattle.refusals.proofs.Laws.{done-clear, done-eq}
 use Rattle.files.specs.Files.{Bytes, bits, valueFrom, fingerprint}
 use Rattle.sheets.specs.Layout.{version1, numberAt, pagePlace, sheetLength, pageCount, pagesIn, Contents, contentsIn}
 use Rattle.sheets.specs.Sheets.{filled, pageFingerprints, contentsOf, writeSheet, readTests, readSheet, readPages, pagesNow}
@@ -68,9 +68,6 @@ module _ (key s : ℕ) (file buffer after : List ℕ) (fits : key < 2 ^ 64) (don
       ∙ written-fingerprint key s file buffer after fits done
 
 -- ---- a sheet that is read, with the page fingerprints of a file
-
-done-eq : {S A : Type 0} (x y : A) → _≡_ {A = Rattle.refusals.specs.Refusals.Answer S A} (Done x) (Done y) → x ≡ y
-done-eq x y e = cc
 
 module _ (sheet : List ℕ) (w : WellFormed sheet) (file : List ℕ) (size : w .contents .length ≡ length file)
     (pages : w .contents .pages ≡ pagesNow (w .contents) file) where
