@@ -12,7 +12,7 @@ use lib.Pow.{pow-pos, pow-mono}
 use Rattle.gf2.specs.Polynomials.{_⊕_, _⊗_, halvings, degree}
 use Rattle.gf2.specs.Degrees.{Degree}
 use Rattle.gf2.proofs.Sums.{⊕-zero, ⊕-self, ⊕-shr}
-use Rattle.gf2.proofs.Products.{⊗-step, one-⊗, by-bit}
+use Rattle.gf2.proofs.Products.{⊗-step, zero-⊗, ⊗-zero, one-⊗, by-bit}
 
 -- ---- as an order: 2 ^ d ≤ n < 2 ^ (d + 1)
 
@@ -117,6 +117,19 @@ pos-⊗ a b p q = deg-pos (a ⊗ b) (degree a + degree b) (deg-⊗ a b (degree a
 
 pub degree-⊗ : (a b : ℕ) → 0 < a → 0 < b → degree (a ⊗ b) ≡ degree a + degree b
 degree-⊗ a b p q = degree-eq (a ⊗ b) (degree a + degree b) (deg-⊗ a b (degree a) (degree b) (degree-is a p) (degree-is b q))
+
+-- a product has as many places as its factors together, less one
+pub ⊗-lt : (a b m n : ℕ) → a < 2 ^ m → b < 2 ^ suc n → a ⊗ b < 2 ^ (m + n)
+⊗-lt a b m n ha hb = go (eq-zero-or-pos a) (eq-zero-or-pos b)
+  where
+    go : (a ≡ 0) ⊎ (0 < a) → (b ≡ 0) ⊎ (0 < b) → a ⊗ b < 2 ^ (m + n)
+    go (inl p) y = rw (p, zero-⊗) (pow-pos (m + n))
+    go (inr p) (inl q) = rw (q, ⊗-zero) (pow-pos (m + n))
+    go (inr p) (inr q) =
+        let d = deg-le a (degree a) m (degree-is a p) ha in
+        let e = deg-le b (degree b) (suc n) (degree-is b q) hb in
+        lt-of-lt-of-le (deg-hi (a ⊗ b) (degree a + degree b) (deg-⊗ a b (degree a) (degree b) (degree-is a p) (degree-is b q)))
+        (pow-mono (omega arith))
 
 -- no zero divisors
 pub ⊗-no-zero : (a b : ℕ) → a ⊗ b ≡ 0 → (a ≡ 0) ⊎ (b ≡ 0)

@@ -128,27 +128,34 @@ step-is (suc j) c f b p h l m =
 
 -- ---- a product and a power, bit by bit
 
+-- one bit more of the second factor, from the lowest
+pub ⊗-next : (a b i : ℕ) → a ⊗ (b % 2 ^ suc i) ≡ a ⊗ (b % 2 ^ i) ⊕ a * 2 ^ i * (b / 2 ^ i % 2)
+⊗-next a b i =
+    ap (λ (x : ℕ). a ⊗ x) bits
+    ∙ ⊗-⊕ a (b / 2 ^ i % 2 * 2 ^ i) (b % 2 ^ i)
+    ∙ ⊕-comm (a ⊗ (b / 2 ^ i % 2 * 2 ^ i)) (a ⊗ (b % 2 ^ i))
+    ∙ ap (λ (x : ℕ). a ⊗ (b % 2 ^ i) ⊕ x) one-bit
+  where
+    bits : b % 2 ^ suc i ≡ b / 2 ^ i % 2 * 2 ^ i ⊕ b % 2 ^ i
+    bits =
+        ap (λ (n : ℕ). b % 2 ^ n) (sym (one-add i)) ∙ mod-pow-add b 1 i
+        ∙ sym (⊕-append (b / 2 ^ i % 2) i (b % 2 ^ i) (mod-lt b (pow-pos i)))
+
+    one-bit : a ⊗ (b / 2 ^ i % 2 * 2 ^ i) ≡ a * 2 ^ i * (b / 2 ^ i % 2)
+    one-bit =
+        by-bit (λ (x : ℕ). a ⊗ (x * 2 ^ i) ≡ a * 2 ^ i * x) (rw (zero-mul, ⊗-zero, mul-zero)) (rw (one-mul, ⊗-pow, mul-one)) (b / 2 ^ i)
+
 module _ {p : ℕ} (pos : 0 < p) where
-  -- one bit more of the second factor, from the lowest
+  -- its residue
   pub product-next : (a b i : ℕ) → rem p (a ⊗ (b % 2 ^ suc i)) ≡ rem p (a ⊗ (b % 2 ^ i)) ⊕ rem p (a * 2 ^ i) * (b / 2 ^ i % 2)
   product-next a b i =
-      ap (λ (x : ℕ). rem p (a ⊗ x)) bits
-      ∙ ap (rem p) (⊗-⊕ a (b / 2 ^ i % 2 * 2 ^ i) (b % 2 ^ i))
-      ∙ rem-⊕ pos (a ⊗ (b / 2 ^ i % 2 * 2 ^ i)) (a ⊗ (b % 2 ^ i))
-      ∙ ap (λ (x : ℕ). x ⊕ rem p (a ⊗ (b % 2 ^ i))) one-bit
-      ∙ ⊕-comm (rem p (a * 2 ^ i) * (b / 2 ^ i % 2)) (rem p (a ⊗ (b % 2 ^ i)))
+      ap (rem p) (⊗-next a b i)
+      ∙ rem-⊕ pos (a ⊗ (b % 2 ^ i)) (a * 2 ^ i * (b / 2 ^ i % 2))
+      ∙ ap (λ (x : ℕ). rem p (a ⊗ (b % 2 ^ i)) ⊕ x) one-bit
     where
-      bits : b % 2 ^ suc i ≡ b / 2 ^ i % 2 * 2 ^ i ⊕ b % 2 ^ i
-      bits =
-          ap (λ (n : ℕ). b % 2 ^ n) (sym (one-add i)) ∙ mod-pow-add b 1 i
-          ∙ sym (⊕-append (b / 2 ^ i % 2) i (b % 2 ^ i) (mod-lt b (pow-pos i)))
-
-      one-bit : rem p (a ⊗ (b / 2 ^ i % 2 * 2 ^ i)) ≡ rem p (a * 2 ^ i) * (b / 2 ^ i % 2)
+      one-bit : rem p (a * 2 ^ i * (b / 2 ^ i % 2)) ≡ rem p (a * 2 ^ i) * (b / 2 ^ i % 2)
       one-bit =
-          by-bit (λ (x : ℕ). rem p (a ⊗ (x * 2 ^ i)) ≡ rem p (a * 2 ^ i) * x)
-          (rw (zero-mul, ⊗-zero, rem-zero, mul-zero))
-          (rw (one-mul, ⊗-pow, mul-one))
-          (b / 2 ^ i)
+          by-bit (λ (x : ℕ). rem p (a * 2 ^ i * x) ≡ rem p (a * 2 ^ i) * x) (rw (mul-zero, rem-zero, mul-zero)) (rw (mul-one, mul-one)) (b / 2 ^ i)
 
   pub shift-next : (a i : ℕ) → rem p (rem p (a * 2 ^ i) * 2 + 0) ≡ rem p (a * 2 ^ suc i)
   shift-next a i = rw add-zero (rem-shl pos (a * 2 ^ i) 1 ∙ ap (rem p) (sym (shl-suc a i)))

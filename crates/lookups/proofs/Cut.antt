@@ -22,10 +22,10 @@ use Rattle.lookups.specs.Groups.{looked}
 
 -- what stands at t^(n + j) and above in a number with n new low digits, and what stands below
 module _ (f v n j : ℕ) (h : v < 2 ^ n) where
-  above : (f * 2 ^ n + v) / 2 ^ (n + j) ≡ f / 2 ^ j
+  pub above : (f * 2 ^ n + v) / 2 ^ (n + j) ≡ f / 2 ^ j
   above = sym (shr-shr (f * 2 ^ n + v) n j) ∙ ap (λ (x : ℕ). x / 2 ^ j) (high f n h)
 
-  below : (f * 2 ^ n + v) % 2 ^ (n + j) ≡ f % 2 ^ j * 2 ^ n + v
+  pub below : (f * 2 ^ n + v) % 2 ^ (n + j) ≡ f % 2 ^ j * 2 ^ n + v
   below =
       ap (λ (m : ℕ). (f * 2 ^ n + v) % 2 ^ m) (add-comm n j)
       ∙ mod-pow-add (f * 2 ^ n + v) j n

@@ -100,7 +100,7 @@ module _ (p : Modulus) (proper : Proper p) (f : ℕ) (part : List ℕ) (from i x
   pos = monic-pos (p .degree) (p .low) (proper .2)
 
   -- c bytes more
-  going : (c v y : ℕ) → i + c ≤ length part → v ≡ valueFrom 0 (bits (take c (drop i part))) → y ≡ rem (polynomial p) (x * 2 ^ (8 * c) + v)
+  pub going : (c v y : ℕ) → i + c ≤ length part → v ≡ valueFrom 0 (bits (take c (drop i part))) → y ≡ rem (polynomial p) (x * 2 ^ (8 * c) + v)
       → Going p f part from (i + c) y
   going c v y l ev ey = (
     residue-below p proper y (x * 2 ^ (8 * c) + v) ey,

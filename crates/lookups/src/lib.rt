@@ -34,7 +34,7 @@ fn wide(x: u8) -> u64
 }
 
 // One byte as a number.
-fn byte_at(part: &[u8], i: usize) -> u64
+pub fn byte_at(part: &[u8], i: usize) -> u64
     requires { ⌜ i < length (now part) ⌝ }
     ensures { λ r. ⌜ r ≡ valueFrom 0 (bits (take 1 (drop i (now (part .entry))))) ⌝ }
 {

@@ -1,0 +1,82 @@
+// Feeding with no table under a modulus whose coefficients below t^k are few and low: what would reach t^k comes back as a product with them
+// that stays below t^k. Every stock key from degree 16 on is such. These functions are for the project's own crates: what they require, every
+// caller proves.
+use gf2::Modulus;
+ghost use mathlib.Core.Path.{_≡_};
+ghost use Prim.Native.Nat.{_+_, _*_, _^_, _≤_, _<_};
+ghost use lib.ListN.{length, drop};
+ghost use Rattle.gf2.specs.Polynomials.{_⊗_, rem};
+ghost use Rattle.gf2.specs.Moduli.{polynomial, Proper};
+ghost use Rattle.files.specs.Files.{bits, valueFrom};
+ghost use Rattle.sparse.specs.Sparse.{Sparse};
+
+// The product with a polynomial below 2^8. No branch: the bits are data.
+fn times(h: u64, low: u64) -> u64
+    requires { ⌜ (h < 2 ^ 56) × (low < 2 ^ 8) ⌝ }
+    ensures { λ r. ⌜ r ≡ h ⊗ low ⌝ }
+{
+    let mut sum: u64 = 0;
+    let mut i: u32 = 0;
+    while i < 8 {
+        let bit = (low >> i) % 2;
+        sum = sum ^ ((h << i) * bit);
+        i += 1;
+    }
+    sum
+}
+
+// n bytes behind a residue.
+fn behind(p: Modulus, n: u32, f: u64, v: u64) -> u64
+    requires { ⌜ Sparse p n × (f < 2 ^ p .degree) × (v < 2 ^ (8 * n)) ⌝ }
+    ensures { λ r. ⌜ r ≡ rem (polynomial p) (f * 2 ^ (8 * n) + v) ⌝ }
+{
+    let cut = p.degree - 8 * n;
+    let rest = gf2::low_bits(f, cut);
+    times(f >> cut, p.low) ^ (rest << (8 * n)) ^ v
+}
+
+// The bytes from place `from` on, one at a time.
+fn feed_ones(p: Modulus, f: u64, part: &[u8], from: usize) -> u64
+    requires { ⌜ Sparse p 1 × (f < 2 ^ p .degree) × (from ≤ length (now part)) ⌝ }
+    ensures { λ r. ⌜ r ≡ rem (polynomial p) (valueFrom f (bits (drop from (now (part .entry))))) ⌝ }
+{
+    let mut x = f;
+    let mut i = from;
+    while i < part.len() {
+        x = behind(p, 1, x, lookups::byte_at(part, i));
+        i += 1;
+    }
+    x
+}
+
+// A part behind a residue: n bytes at a time, of the eight that one load brings, and the last ones one at a time.
+pub fn fed(p: Modulus, n: u32, f: u64, part: &[u8]) -> u64
+    requires { ⌜ Sparse p n × (f < 2 ^ p .degree) ⌝ }
+    ensures { λ r. ⌜ r ≡ rem (polynomial p) (valueFrom f (bits (now (part .entry)))) ⌝ }
+{
+    let bytes = n as usize;
+    let spare = 64 - 8 * n;
+    let mut x = f;
+    let mut i: usize = 0;
+    while 8 <= part.len() - i {
+        let eight = lookups::eight_at(part, i);
+        x = behind(p, n, x, eight >> spare);
+        i += bytes;
+    }
+    feed_ones(p, x, part, i)
+}
+
+// How many bytes come in at a time, at most seven: 0 where the coefficients are not few and low enough for one.
+pub fn bytes_at_once(p: Modulus) -> u32
+    requires { ⌜ Proper p ⌝ }
+    ensures { λ n. ⌜ (0 < n → Sparse p n) ⌝ }
+{
+    if 256 <= p.low {
+        return 0;
+    }
+    if p.low == 0 {
+        return 0;
+    }
+    let n = (p.degree - gf2::degree(p.low)) / 8;
+    if n < 8 { n } else { 7 }
+}
