@@ -2,15 +2,14 @@
 use mathlib.Core.Path.{_≡_, refl, sym, ap, ap₂, _∙_}
 use mathlib.Core.List.{List, [], _∷_, _++_}
 use Prim.Native.Nat.{ℕ, zero, suc, _+_, _-_, _*_, _/_, _%_, _^_, _≤_, _<_}
-use native.Mathlib.Nat.{zero-add, add-comm, mul-assoc, mul-comm, zero-mul, mul-le-mul-right, mul-lt-mul-of-pos-right}
+use native.Mathlib.Nat.{le-refl, zero-add, add-zero, add-comm, mul-assoc, mul-comm, zero-mul, mul-le-mul-right, mul-lt-mul-of-pos-right}
 use native.Mathlib.Numerals.{add-one}
 use native.Mathlib.Omega.{arith}
-use lib.ListN.{length, getD, set, take, drop, replicate, take-append-drop, length-drop, length-set}
-use lib.Seq.{drop-drop, length-take-le, take-add, take-suc, take-take, take-set-le, take-suc-set, drop-set-lt, getD-drop, getD-set-same}
+use lib.ListN.{length, getD, set, take, drop, replicate, take-append-drop, length-drop, length-set, drop-of-length-le}
+use lib.Seq.{drop-drop, length-take-le, take-add, take-all, take-suc, take-take, take-set-le, take-suc-set, drop-set-lt, getD-drop, getD-take, getD-set-same}
 use Rattle.gf2.specs.Polynomials.{_⊕_, _⊗_, rem}
-use Rattle.gf2.proofs.Sums.{⊕-shl, ⊕-lt, xor}
+use Rattle.gf2.proofs.Sums.{⊕-shl, ⊕-lt, ⊕-swap, xor}
 use Rattle.gf2.proofs.Products.{⊗-zero}
-use Rattle.gf2.proofs.Residues.{rem-zero, rem-⊕}
 use Rattle.files.specs.Files.{bits, valueFrom}
 use Rattle.files.proofs.Values.{value-append, value-byte, value-⊕, length-bits, bits-append, rem-from}
 use Rattle.lookups.proofs.Parts.{value-one}
@@ -40,7 +39,7 @@ value-byte-more x l i h b =
 
 -- ---- the first bytes of a list
 
-front-zero : (q : List ℕ) → front q 0 ≡ 0
+pub front-zero : (q : List ℕ) → front q 0 ≡ 0
 unfolding front bits valueFrom
 front-zero q = refl
 
@@ -52,25 +51,20 @@ front-next : (q : List ℕ) (i : ℕ) → i < length q → getD q i 0 < 256 → 
 unfolding front
 front-next = value-byte-more 0
 
-front-same : (p q : List ℕ) (m k : ℕ) → k ≤ m → take m p ≡ take m q → front p k ≡ front q k
+pub front-same : (p q : List ℕ) (m k : ℕ) → k ≤ m → take m p ≡ take m q → front p k ≡ front q k
 unfolding front
 front-same p q m k h e =
     ap (λ (l : List ℕ). valueFrom 0 (bits l)) (sym (take-take k m p h) ∙ ap (take k) e ∙ take-take k m q h)
 
 -- ---- the exponents
 
--- none above k
-unfoldable pub AtMost : ℕ → List ℕ → Type 0
-AtMost k [] = ⊤
-AtMost k (e ∷ es) = (e ≤ k) × AtMost k es
-
--- none but lower ones than k
+-- all of them lower than k
 unfoldable pub Lower : ℕ → List ℕ → Type 0
-Lower k [] = ⊤
+Lower k [] = Unit {0}
 Lower k (e ∷ es) = (e < k) × Lower k es
 
-place-le : (e k s n m : ℕ) → e ≤ k → n + k * s ≤ m → n + e * s ≤ m
-place-le e k s n m l h = omega (arith, mul-le-mul-right s l)
+place-le : (e k s n m : ℕ) → e < suc k → n + k * s ≤ m → n + e * s ≤ m
+place-le e k s n m l h = omega (arith, mul-le-mul-right {m = e} {n = k} s (omega arith))
 
 place-lt : (e k s i : ℕ) → 0 < s → e < k → i + e * s < i + k * s
 place-lt e k s i pos l = omega (arith, mul-lt-mul-of-pos-right l pos)
@@ -78,29 +72,33 @@ place-lt e k s i pos l = omega (arith, mul-lt-mul-of-pos-right l pos)
 -- ---- only the last words matter
 
 module _ (k s : ℕ) (q : List ℕ) (n : ℕ) (h : n + k * s ≤ length q) where
-  apart : (es : List ℕ) → AtMost k es → folded es s q n ≡ front q n ⊗ form es (8 * s) ⊕ folded es s (drop n q) 0
-  unfolding folded AtMost form
+  apart : (es : List ℕ) → Lower (suc k) es → folded es s q n ≡ front q n ⊗ form es (8 * s) ⊕ folded es s (drop n q) 0
+  unfolding folded Lower form
   apart [] a = rw ⊗-zero (simp xor)
   apart (e ∷ es) a =
       ap₂ (λ (x y : ℕ). x ⊕ y) (front-more q n (e * s) (e * (8 * s)) (place-le e k s n (length q) (a .0) h) (scaled e)) (apart es (a .1))
-      ∙ rw (spread e es (8 * s) (front q n), zero-add (e * s)) (simp xor)
+      ∙ ⊕-swap (front q n * 2 ^ (e * (8 * s))) (front (drop n q) (e * s)) (front q n ⊗ form es (8 * s)) (folded es s (drop n q) 0)
+      ∙ ap₂ (λ (x j : ℕ). x ⊕ (front (drop n q) j ⊕ folded es s (drop n q) 0)) (sym (spread e es (8 * s) (front q n))) (sym (zero-add (e * s)))
     where
       scaled : (e : ℕ) → e * (8 * s) ≡ 8 * (e * s)
       scaled e = omega (arith, mul-assoc e 8 s, mul-assoc 8 e s, mul-comm e 8)
 
-  pub folded-last : (es : List ℕ) → AtMost k es → 0 < form es 1 → (m : ℕ) → 8 * s ≡ 2 ^ m
+  pub folded-last : (es : List ℕ) → Lower (suc k) es → 0 < form es 1 → (m : ℕ) → 8 * s ≡ 2 ^ m
       → rem (form es 1) (folded es s q n) ≡ rem (form es 1) (folded es s (drop n q) 0)
   folded-last es a pos m w =
       ap (rem (form es 1)) (apart es a ∙ ap (λ (x : ℕ). front q n ⊗ form es x ⊕ folded es s (drop n q) 0) w)
       ∙ rem-spread es pos m (front q n) (folded es s (drop n q) 0)
 
-pub folded-same : (k s : ℕ) (p q : List ℕ) → take (k * s) p ≡ take (k * s) q → (es : List ℕ) → AtMost k es → folded es s p 0 ≡ folded es s q 0
-unfolding folded AtMost
+pub folded-same : (k s : ℕ) (p q : List ℕ) → take (k * s) p ≡ take (k * s) q → (es : List ℕ) → Lower (suc k) es → folded es s p 0 ≡ folded es s q 0
+unfolding folded Lower
 folded-same k s p q t [] a = refl
 folded-same k s p q t (e ∷ es) a =
     ap₂ (λ (x y : ℕ). x ⊕ y) (front-same p q (k * s) (0 + e * s) (place-le e k s 0 (k * s) (a .0) (omega arith)) t) (folded-same k s p q t es (a .1))
 
 -- ---- one byte of the quotient more
+
+shifted-sum : (a b c d : ℕ) → (a * 2 ^ 8 ⊕ c) ⊕ (b * 2 ^ 8 ⊕ d) ≡ (a ⊕ b) * 2 ^ 8 ⊕ (c ⊕ d)
+shifted-sum a b c d = ⊕-swap (a * 2 ^ 8) c (b * 2 ^ 8) d ∙ ap (λ (x : ℕ). x ⊕ (c ⊕ d)) (sym (⊕-shl 8 a b))
 
 abbrev pub Bytes : List ℕ → Type 0
 Bytes q = (j : ℕ) → getD q j 0 < 256
@@ -129,8 +127,8 @@ module _ (k s : ℕ) (pos : 0 < s) (q : List ℕ) (b : Bytes q) (i x : ℕ) (h :
   unfolding folded added Lower
   lower-next [] l = simp xor
   lower-next (e ∷ es) l =
-      ap₂ (λ (u v : ℕ). u ⊕ v) (rw (place (e * s)) (near (i + e * s) (place-lt e k s i pos (l .0)))) (lower-next es (l .1))
-      ∙ simp (⊕-shl, xor)
+      ap₂ (λ (u v : ℕ). u ⊕ v) (ap (front (set q (i + k * s) x)) (place (e * s)) ∙ near (i + e * s) (place-lt e k s i pos (l .0))) (lower-next es (l .1))
+      ∙ shifted-sum (front q (i + e * s)) (folded es s q i) (getD q (i + e * s) 0) (added es s q i)
 
 -- the byte is chosen so that the sum of all places is the source's
 folded-next : (k s : ℕ) → 0 < s → (q : List ℕ) → Bytes q → (i c : ℕ) → c < 256 → i + k * s < length q → (es : List ℕ) → Lower k es
@@ -141,7 +139,8 @@ folded-next k s pos q b i c hc h es l =
     ap₂ (λ (u v : ℕ). u ⊕ v)
     (ap (front (set q (i + k * s) x)) (place k s pos q b i x h (k * s)) ∙ far k s pos q b i x h (⊕-lt 8 c (added es s q i) hc (added-lt s q b i es)))
     (lower-next k s pos q b i x h es l)
-    ∙ simp (⊕-shl, xor)
+    ∙ shifted-sum (front q (i + k * s)) (folded es s q i) x (added es s q i)
+    ∙ ap (λ (y : ℕ). (front q (i + k * s) ⊕ folded es s q i) * 2 ^ 8 ⊕ y) (simp xor)
 
 -- the loop over a part: after i bytes
 pub folding : (k s : ℕ) → 0 < s → (q src : List ℕ) (i start : ℕ) → Bytes q → i + k * s < length q → i < length src → getD src i 0 < 256
@@ -154,6 +153,11 @@ folding k s pos q src i start b h l byte es low inv =
     ∙ sym (value-byte-more start src i l byte)
 
 -- ---- the last bytes come to the front
+
+getD-behind : (p q : List ℕ) (i : ℕ) → drop i p ≡ drop i q → getD p i 0 ≡ getD q i 0
+getD-behind p q i e =
+    ap (λ (j : ℕ). getD p j 0) (sym (add-zero i)) ∙ sym (getD-drop i p 0 0) ∙ ap (λ (r : List ℕ). getD r 0 0) e ∙ getD-drop i q 0 0
+    ∙ ap (λ (j : ℕ). getD q j 0) (add-zero i)
 
 module _ (q₀ q : List ℕ) (n i : ℕ) (h : i + n < length q₀) (l : i < length q) (e : drop i q ≡ drop i q₀) where
   read : getD q (i + n) 0 ≡ getD (drop n q₀) i 0
@@ -178,6 +182,13 @@ module _ (q₀ q : List ℕ) (n i : ℕ) (h : i + n < length q₀) (l : i < leng
 
 -- ---- a part in blocks
 
+-- all from a place on
+pub rest-all : (l : List ℕ) (i : ℕ) → take (length l - i) (drop i l) ≡ drop i l
+rest-all l i = take-all (length l - i) (drop i l) (rw length-drop (le-refl (length l - i)))
+
+pub nothing-left : (key x : ℕ) (p : List ℕ) (i : ℕ) → length p ≤ i → rem key (valueFrom x (bits (drop i p))) ≡ rem key x
+nothing-left key x p i l = rw (drop-of-length-le p {i = i} l) (unfold valueFrom bits in refl)
+
 module _ {key : ℕ} (pos : 0 < key) where
   -- of what came before only the residue matters
   pub same-start : (x y : ℕ) (a : List ℕ) → rem key y ≡ rem key x → rem key (valueFrom y a) ≡ rem key (valueFrom x a)
@@ -197,18 +208,58 @@ module _ {key : ℕ} (pos : 0 < key) where
       end : b ≡ i + (b - i)
       end = omega arith
 
-  -- ---- what is left, by its parts
+-- ---- the first bytes added to others: n bytes from place `at` on, i of them done
 
-  unfoldable pub residues : List ℕ → ℕ → List ℕ → ℕ
-  residues [] s q = 0
-  residues (e ∷ es) s q = rem key (front q (e * s)) ⊕ residues es s q
+module _ (q₀ q : List ℕ) (b : Bytes q) (at n i : ℕ) (few : n ≤ at) (l : i < n) (len : length q ≡ length q₀) (h : at + n ≤ length q₀)
+    (before-at : take at q ≡ take at q₀) (behind : drop (at + i) q ≡ drop (at + i) q₀) where
+  abbrev here : ℕ
+  here = getD q₀ (at + i) 0 ⊕ getD q₀ i 0
 
-  pub left-sum : (es : List ℕ) (s : ℕ) (q : List ℕ) → residues es s q ≡ rem key (folded es s q 0)
-  unfolding residues folded
-  left-sum [] s q = sym (rem-zero key)
-  left-sum (e ∷ es) s q =
-      ap₂ (λ (x y : ℕ). x ⊕ y) (ap (λ (n : ℕ). rem key (front q n)) (sym (zero-add (e * s)))) (left-sum es s q)
-      ∙ sym (rem-⊕ pos (front q (0 + e * s)) (folded es s q 0))
+  same-here : getD q (at + i) 0 ≡ getD q₀ (at + i) 0
+  same-here = getD-behind q q₀ (at + i) behind
+
+  same-first : getD q i 0 ≡ getD q₀ i 0
+  same-first = sym (getD-take at q i 0 (omega arith)) ∙ ap (λ (r : List ℕ). getD r i 0) before-at ∙ getD-take at q₀ i 0 (omega arith)
+
+  here-lt : getD q₀ (at + i) 0 < 256
+  here-lt = rw same-here at (b (at + i))
+
+  first-lt : getD q₀ i 0 < 256
+  first-lt = rw same-first at (b i)
+
+  sum-here : getD q (at + i) 0 ⊕ getD q i 0 ≡ here
+  sum-here = ap₂ (λ (x y : ℕ). x ⊕ y) same-here same-first
+
+  pub added-before : take at (set q (at + i) (getD q (at + i) 0 ⊕ getD q i 0)) ≡ take at q₀
+  added-before = take-set-le at q (at + i) (getD q (at + i) 0 ⊕ getD q i 0) (omega arith) ∙ before-at
+
+  pub added-behind : drop (at + (i + 1)) (set q (at + i) (getD q (at + i) 0 ⊕ getD q i 0)) ≡ drop (at + (i + 1)) q₀
+  added-behind =
+      drop-set-lt (at + (i + 1)) q (at + i) (getD q (at + i) 0 ⊕ getD q i 0) (omega arith)
+      ∙ drop-one-more q
+      ∙ ap (drop 1) behind
+      ∙ sym (drop-one-more q₀)
+    where
+      drop-one-more : (r : List ℕ) → drop (at + (i + 1)) r ≡ drop 1 (drop (at + i) r)
+      drop-one-more r = let e : at + (i + 1) ≡ at + i + 1 = omega arith in ap (λ (j : ℕ). drop j r) e ∙ sym (drop-drop 1 (at + i) r)
+
+  pub added-next : front q (at + i) ≡ front q₀ (at + i) ⊕ front q₀ i
+      → front (set q (at + i) (getD q (at + i) 0 ⊕ getD q i 0)) (at + (i + 1)) ≡ front q₀ (at + (i + 1)) ⊕ front q₀ (i + 1)
+  added-next inv =
+      let x = getD q (at + i) 0 ⊕ getD q i 0 in
+      let e : at + (i + 1) ≡ at + i + 1 = omega arith in
+      let small : x < 256 = rw sum-here (⊕-lt 8 (getD q₀ (at + i) 0) (getD q₀ i 0) here-lt first-lt) in
+      let inside : at + i < length q = omega arith in
+      ap (front (set q (at + i) x)) e
+      ∙ front-next (set q (at + i) x) (at + i) (rw length-set inside) (rw (getD-set-same q (at + i) x 0 inside) small)
+      ∙ ap₂ (λ (u v : ℕ). u * 2 ^ 8 ⊕ v)
+      (front-same (set q (at + i) x) q (at + i) (at + i) (omega arith) (take-set-le (at + i) q (at + i) x (omega arith)) ∙ inv)
+      (getD-set-same q (at + i) x 0 inside ∙ sum-here)
+      ∙ ap (λ (u : ℕ). u ⊕ here) (⊕-shl 8 (front q₀ (at + i)) (front q₀ i))
+      ∙ ⊕-swap (front q₀ (at + i) * 2 ^ 8) (front q₀ i * 2 ^ 8) (getD q₀ (at + i) 0) (getD q₀ i 0)
+      ∙ ap₂ (λ (u v : ℕ). u ⊕ v)
+      (sym (front-next q₀ (at + i) (omega arith) here-lt) ∙ ap (front q₀) (sym e))
+      (sym (front-next q₀ i (omega arith) first-lt))
 
 -- ---- the start
 
@@ -222,13 +273,18 @@ done : (x : ℕ) → valueFrom x (bits []) ≡ x
 unfolding bits valueFrom
 done x = refl
 
--- the eight digits of a number to the base 256
+zero-first : (file : List ℕ) → valueFrom 0 (bits (0 ∷ file)) ≡ valueFrom 0 (bits file)
+zero-first file = value-byte 0 0 file
+
+-- eight zeros and the eight digits of a number to the base 256
 pub value-digits : (f : ℕ) → f / 256 / 256 / 256 / 256 / 256 / 256 / 256 < 256
-    → valueFrom 0 (bits (f / 256 / 256 / 256 / 256 / 256 / 256 / 256 ∷ f / 256 / 256 / 256 / 256 / 256 / 256 % 256
+    → valueFrom 0 (bits (0 ∷ 0 ∷ 0 ∷ 0 ∷ 0 ∷ 0 ∷ 0 ∷ 0
+    ∷ f / 256 / 256 / 256 / 256 / 256 / 256 / 256 ∷ f / 256 / 256 / 256 / 256 / 256 / 256 % 256
     ∷ f / 256 / 256 / 256 / 256 / 256 % 256 ∷ f / 256 / 256 / 256 / 256 % 256 ∷ f / 256 / 256 / 256 % 256
     ∷ f / 256 / 256 % 256 ∷ f / 256 % 256 ∷ f % 256 ∷ [])) ≡ f
 value-digits f small =
-    first (f / 256 / 256 / 256 / 256 / 256 / 256 / 256) _ small
+    zero-first _ ∙ zero-first _ ∙ zero-first _ ∙ zero-first _ ∙ zero-first _ ∙ zero-first _ ∙ zero-first _ ∙ zero-first _
+    ∙ first (f / 256 / 256 / 256 / 256 / 256 / 256 / 256) _ small
     ∙ push (f / 256 / 256 / 256 / 256 / 256 / 256) _
     ∙ push (f / 256 / 256 / 256 / 256 / 256) _
     ∙ push (f / 256 / 256 / 256 / 256) _

@@ -10,8 +10,7 @@ use Rattle.gf2.proofs.Sums.{xor}
 use Rattle.gf2.proofs.Products.{zero-⊗, ⊗-pow, ⊗-⊕, square-⊕}
 use Rattle.gf2.proofs.Divisors.{dvd-by, dvd-refl, dvd-⊗}
 use Rattle.gf2.proofs.Residues.{rem-cong}
-use Rattle.house.specs.House.{houseKey}
-use Rattle.folds.specs.Folds.{form, exponents}
+use Rattle.folds.specs.Folds.{form}
 
 pow-square : (a b : ℕ) → b ≡ a + a → 2 ^ a ⊗ 2 ^ a ≡ 2 ^ b
 pow-square a b e = ⊗-pow a (2 ^ a) ∙ sym (pow-add 2 a a) ∙ ap (λ (x : ℕ). 2 ^ x) (sym e)
@@ -37,8 +36,3 @@ spread e es w x = ⊗-⊕ x (2 ^ (e * w)) (form es w) ∙ ap (λ (y : ℕ). y �
 -- a multiple of the form may be left out
 pub rem-spread : (es : List ℕ) → 0 < form es 1 → (n x y : ℕ) → rem (form es 1) (x ⊗ form es (2 ^ n) ⊕ y) ≡ rem (form es 1) y
 rem-spread es pos n x y = rem-cong pos (x ⊗ form es (2 ^ n) ⊕ y) y (dvd-by (dvd-⊗ x (form-dvd es n)) (simp xor))
-
--- the house key's
-pub house-form : form exponents 1 ≡ houseKey
-unfolding form _⊕_
-house-form = refl

@@ -34,8 +34,8 @@ unfoldable pub added : List ℕ → ℕ → List ℕ → ℕ → ℕ
 added [] s q i = 0
 added (e ∷ es) s q i = getD q (i + e * s) 0 ⊕ added es s q i
 
--- a word of s bytes: at most eight, and a power of two in bits
+-- a word of s bytes: at most 16, and a power of two in bits
 pub record Word (s : ℕ) : Type 0 where
   pub exponent : ℕ
   pub size : 8 * s ≡ 2 ^ exponent
-  pub most : s ≤ 8
+  pub most : s ≤ 16

@@ -6,7 +6,7 @@ ghost use mathlib.Core.Path.{_≡_};
 ghost use mathlib.Core.Bool.{true};
 ghost use Prim.Native.Nat.{ℕ, _+_, _-_, _*_, _^_, _≤_, _<_};
 ghost use lib.ListN.{length, take, drop, replicate};
-ghost use Rattle.gf2.specs.Polynomials.{rem};
+ghost use Rattle.gf2.specs.Polynomials.{_⊕_, rem};
 ghost use Rattle.gf2.specs.Moduli.{polynomial, Proper};
 ghost use Rattle.files.specs.Files.{bits, valueFrom};
 ghost use Rattle.lookups.specs.Groups.{TableOf};
@@ -28,7 +28,7 @@ fn feed_sevens(f: u64, part: &[u8]) -> u64
 // The quotient's bytes for the bytes of src, behind the 61 words of s bytes in front. A byte depends on bytes at least 56 words before it, so the
 // compiler makes many at once.
 fn divide(q: &mut [u8], s: usize, src: &[u8])
-    requires { ⌜ (0 < s) × (s ≤ 8) × (length (now src) + 61 * s ≤ length (now q)) ⌝ }
+    requires { ⌜ (0 < s) × (s ≤ 16) × (length (now src) + 61 * s ≤ length (now q)) ⌝ }
     ensures { λ r. ⌜ folded exponents s (now (q .exit)) (length (now (src .entry))) ≡ valueFrom (folded exponents s (now (q .entry)) 0) (bits (now (src .entry))) ⌝ }
 {
     let two = 2 * s;
@@ -39,6 +39,22 @@ fn divide(q: &mut [u8], s: usize, src: &[u8])
         q[i + all] = src[i] ^ q[i + five] ^ q[i + two] ^ q[i + s] ^ q[i];
         i += 1;
     }
+}
+
+// A block behind what the 61 words in front stand for: then those behind as many bytes stand for it. Pieces of 64 bytes, so that the compiler loads
+// no byte of a piece twice.
+fn divide_block(q: &mut [u8], s: usize, src: &[u8])
+    requires { ⌜ Word s × (length (now src) + 61 * s ≤ length (now q)) ⌝ }
+    ensures { λ r. ⌜ rem houseKey (folded exponents s (drop (length (now (src .entry))) (now (q .exit))) 0)
+        ≡ rem houseKey (valueFrom (folded exponents s (now (q .entry)) 0) (bits (now (src .entry)))) ⌝ }
+{
+    let mut i: usize = 0;
+    while 64 <= src.len() - i {
+        let end = i + 64;
+        divide(&mut q[i..], s, &src[i..end]);
+        i = end;
+    }
+    divide(&mut q[i..], s, &src[i..]);
 }
 
 // The k bytes from place n on come to the front.
@@ -59,7 +75,7 @@ fn turn(q: &mut [u8], s: usize, src: &[u8])
     ensures { λ r. ⌜ rem houseKey (folded exponents s (now (q .exit)) 0)
         ≡ rem houseKey (valueFrom (folded exponents s (now (q .entry)) 0) (bits (now (src .entry)))) ⌝ }
 {
-    divide(q, s, src);
+    divide_block(q, s, src);
     keep_last(q, src.len(), 61 * s);
 }
 
@@ -85,21 +101,31 @@ fn fold(q: &mut [u8], s: usize, size: usize, part: &[u8])
     }
 }
 
-// The residue of what the 61 words in front stand for, d being the residue of their bytes.
-fn left(q: &[u8], s: usize, d: u64) -> u64
-    requires { ⌜ (s ≤ 8) × (61 * s ≤ length (now q)) × (d ≡ rem houseKey (front (now q) (61 * s))) ⌝ }
-    ensures { λ r. ⌜ r ≡ rem houseKey (folded exponents s (now (q .entry)) 0) ⌝ }
+// The first n bytes are added to the n bytes from place `at` on.
+fn add_front(q: &mut [u8], at: usize, n: usize)
+    requires { ⌜ (n ≤ at) × (at + n ≤ length (now q)) ⌝ }
+    ensures { λ r. ⌜ (front (now (q .exit)) (at + n) ≡ front (now (q .entry)) (at + n) ⊕ front (now (q .entry)) n)
+        × (take at (now (q .exit)) ≡ take at (now (q .entry))) ⌝ }
 {
-    let two = 2 * s;
-    let five = 5 * s;
-    let a = feed_sevens(0, &q[..s]);
-    let b = feed_sevens(0, &q[..two]);
-    let c = feed_sevens(0, &q[..five]);
-    d ^ c ^ b ^ a
+    let mut i: usize = 0;
+    while i < n {
+        q[at + i] = q[at + i] ^ q[i];
+        i += 1;
+    }
 }
 
-// The eight bytes of a number, the highest first.
-fn eight(f: u64) -> [u8; 8]
+// The 61 words in front become the string of bytes that they stand for.
+fn flatten(q: &mut [u8], s: usize)
+    requires { ⌜ (s ≤ 16) × (61 * s ≤ length (now q)) ⌝ }
+    ensures { λ r. ⌜ front (now (q .exit)) (61 * s) ≡ folded exponents s (now (q .entry)) 0 ⌝ }
+{
+    add_front(q, 56 * s, 5 * s);
+    add_front(q, 59 * s, 2 * s);
+    add_front(q, 60 * s, s);
+}
+
+// Eight zero bytes and the eight bytes of a number, the highest first.
+fn sixteen(f: u64) -> [u8; 16]
     ensures { λ r. ⌜ valueFrom 0 (bits r) ≡ f ⌝ }
 {
     let a = f / 256;
@@ -110,6 +136,14 @@ fn eight(f: u64) -> [u8; 8]
     let g = e / 256;
     let h = g / 256;
     [
+        0,
+        0,
+        0,
+        0,
+        0,
+        0,
+        0,
+        0,
         h as u8,
         (g % 256) as u8,
         (e % 256) as u8,
@@ -121,34 +155,33 @@ fn eight(f: u64) -> [u8; 8]
     ]
 }
 
-// A part behind a residue, which comes first as a block of its own: what is left are the 61 words from place 8 on.
+// A part behind a residue, which comes first as a block of its own: what is left are the bytes of 61 words, from place 16 on.
 fn fold_from(q: &mut [u8], s: usize, size: usize, f: u64, part: &[u8])
-    requires { ⌜ Word s × (0 < size) × (8 + size + 61 * s ≤ length (now q)) × (now q ≡ replicate (length (now q)) 0) ⌝ }
-    ensures { λ r. ⌜ rem houseKey (folded exponents s (drop 8 (now (q .exit))) 0) ≡ rem houseKey (valueFrom f (bits (now (part .entry)))) ⌝ }
+    requires { ⌜ Word s × (0 < size) × (16 + size + 61 * s ≤ length (now q)) × (now q ≡ replicate (length (now q)) 0) ⌝ }
+    ensures { λ r. ⌜ rem houseKey (front (drop 16 (now (q .exit))) (61 * s)) ≡ rem houseKey (valueFrom f (bits (now (part .entry)))) ⌝ }
 {
-    let start = eight(f);
+    let start = sixteen(f);
     divide(q, s, &start);
-    fold(&mut q[8..], s, size, part);
+    fold(&mut q[16..], s, size, part);
+    flatten(&mut q[16..], s);
 }
 
-// A part of middle length behind a residue: words of two bytes.
+// A part of middle length behind a residue: words of four bytes.
 fn feed_middle(f: u64, part: &[u8]) -> u64
     ensures { λ r. ⌜ r ≡ rem houseKey (valueFrom f (bits (now (part .entry)))) ⌝ }
 {
-    let mut q: [u8; 1154] = [0; 1154];
-    fold_from(&mut q, 2, 1024, f, part);
-    let d = feed_sevens(0, &q[8..130]);
-    left(&q[8..], 2, d)
+    let mut q: [u8; 1284] = [0; 1284];
+    fold_from(&mut q, 4, 1024, f, part);
+    feed_sevens(0, &q[16..260])
 }
 
-// A long part behind a residue: words of eight bytes. What is left of it is a part of middle length.
+// A long part behind a residue: words of sixteen bytes. What is left of it is a part of middle length.
 fn feed_long(f: u64, part: &[u8]) -> u64
     ensures { λ r. ⌜ r ≡ rem houseKey (valueFrom f (bits (now (part .entry)))) ⌝ }
 {
-    let mut q: [u8; 4528] = [0; 4528];
-    fold_from(&mut q, 8, 4032, f, part);
-    let d = feed_middle(0, &q[8..496]);
-    left(&q[8..], 8, d)
+    let mut q: [u8; 5088] = [0; 5088];
+    fold_from(&mut q, 16, 4096, f, part);
+    feed_middle(0, &q[16..992])
 }
 
 // A part behind a residue under the house key.
@@ -156,10 +189,10 @@ pub fn fed_house(f: u64, part: &[u8]) -> u64
     requires { ⌜ f < 2 ^ 61 ⌝ }
     ensures { λ r. ⌜ r ≡ rem houseKey (valueFrom f (bits (now (part .entry)))) ⌝ }
 {
-    if part.len() < 320 {
+    if part.len() < 384 {
         return feed_sevens(f, part);
     }
-    if part.len() < 2560 {
+    if part.len() < 8192 {
         return feed_middle(f, part);
     }
     feed_long(f, part)
@@ -167,10 +200,12 @@ pub fn fed_house(f: u64, part: &[u8]) -> u64
 
 // Whether a modulus is the house key.
 fn is_house(p: Modulus) -> bool
-    ensures { λ r. ⌜ (r ≡ true → polynomial p ≡ houseKey) ⌝ }
-    ensures { λ r. ⌜ (r ≡ true → p .degree ≡ 61) ⌝ }
+    ensures { λ r. ⌜ (r ≡ true → (polynomial p ≡ houseKey) × (p .degree ≡ 61)) ⌝ }
 {
-    p.degree == 61 && p.low == 39
+    if p.degree != 61 {
+        return false;
+    }
+    p.low == 39
 }
 
 // A part behind a residue by the table of the modulus, which is not read under the house key.

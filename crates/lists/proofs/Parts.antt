@@ -2,12 +2,13 @@
 -- places; and what stands beside a common part is equal.
 use mathlib.Core.Path.{_≡_, refl, sym, ap, ap₂, _∙_}
 use mathlib.Core.Logic.{_≢_, _⊎_, inl, inr}
-use mathlib.Core.List.{List, _++_, append-assoc}
-use Prim.Native.Nat.{ℕ, _+_, _≤_, _<_, min}
+use mathlib.Core.List.{List, _++_, append-nil, append-assoc}
+use Prim.Native.Nat.{ℕ, _+_, _-_, _≤_, _<_, min}
 use native.Mathlib.Decide.{ℕ-discrete}
 use native.Mathlib.Omega.{arith}
 use lib.ListN.{length, getD, take, drop, length-append, length-take, length-drop, take-append-drop}
-use lib.Seq.{ext-getD, getD-take, getD-drop, take-at, drop-at}
+use lib.Seq.{ext-getD, getD-take, getD-drop, take-at, drop-at, drop-length, length-take-le}
+use borrow.Rule.Slice.PartMut.{putMid, post-is}
 
 -- before the place `first`, k entries from there on, and those behind
 pub three-parts : {A : Type 0} (first k : ℕ) (l : List A) → take first l ++ take k (drop first l) ++ drop k (drop first l) ≡ l
@@ -59,3 +60,10 @@ module _ {A : Type 0} (a b common : List A) where
       sym (take-at a common (length a) refl)
       ∙ ap (take (length a)) e
       ∙ take-at b common (length a) (omega (arith, ap length e, length-append a common, length-append b common))
+
+-- what was put in the place of all from a place on
+pub put-last : (at : ℕ) (l part : List ℕ) → at ≤ length l → drop at (putMid at (length l - at) l part) ≡ part
+put-last at l part h =
+    drop-at (take at l) _ at (length-take-le at l h)
+    ∙ ap (λ (x : List ℕ). part ++ x) (post-is at (length l) l h ∙ drop-length l)
+    ∙ append-nil part

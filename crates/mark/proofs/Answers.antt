@@ -1,21 +1,19 @@
 -- Laws of one call of read: what its answer means, by the tests that the code makes, and where its bytes stand.
 use mathlib.Core.Path.{_≡_, refl, sym, ap, subst, _∙_}
 use mathlib.Core.Bool.{Bool, true, false, cond}
-use mathlib.Core.List.{List, _++_, append-nil}
+use mathlib.Core.List.{List}
 use mathlib.Core.Logic.{_⊎_, ⊎-elim}
 use Prim.Native.Nat.{ℕ, zero, suc, _+_, _-_, _≤_, _<_, min}
 use native.Mathlib.Nat.{min-eq-left}
 use native.Mathlib.Omega.{arith}
 use lib.Dec.{eqb}
-use lib.ListN.{length, take, drop, length-drop}
-use lib.Seq.{length-take-le, drop-at, drop-length}
+use lib.ListN.{length, drop, length-drop}
 use lib.IntN.{ℤ, pos, negsuc}
 use lib.Signed.{ltZ}
 use mir.Syntax.{w32, w64}
 use mir.Val.{SFits, ofZ, toZ}
 use mir.ValLaws.{toZ-ofZ}
 use borrow.Author.Tests.{lt-ltb, ne-eqb}
-use borrow.Rule.Slice.PartMut.{putMid, post-is}
 use Rattle.libc.specs.Io.{Moved}
 use Rattle.io.specs.Counts.{Counts, clamped}
 use Rattle.mark.specs.declared.Got.{Got}
@@ -100,12 +98,6 @@ pub more-fits : (r : Got) (n at : ℕ) (l : List ℕ) → at ≤ length l → In
 more-fits r n at l h f e =
     let b = bytes-front r n (drop at l) f e in
     (b .0, omega (arith, b .1 .0, length-drop at l))
-
-pub behind : (at : ℕ) (l part : List ℕ) → at ≤ length l → drop at (putMid at (length l - at) l part) ≡ part
-behind at l part h =
-    drop-at (take at l) _ at (length-take-le at l h)
-    ∙ ap (λ (x : List ℕ). part ++ x) (post-is at (length l) l h ∙ drop-length l)
-    ∙ append-nil part
 
 pub filled : (r : Front) (n : ℕ) (l : List ℕ) → Filled r l → r ≡ front-cases.Bytes n → Counts n l
 filled r n l h e = subst (λ (g : Front). Filled g l) e h

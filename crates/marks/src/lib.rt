@@ -1,4 +1,5 @@
-// Feeding a file to a running mark: bit by bit, by a lent table, and by the house key's constant words.
+// Feeding a file to a running mark: with no table, by a lent table, and by the house key's constant words. Under the house key all three fold, and
+// read no table.
 use files::Mark;
 use gf2::Modulus;
 use keys::Tested;
@@ -50,8 +51,8 @@ fn judge(p: Modulus, m: Running, n: u64) -> Reply
     Reply::Done
 }
 
-// A part fed bit by bit, after the test of the key.
-fn feed_bits(p: Modulus, m: Running, part: &[u8]) -> Fed
+// A part fed with no table, after the test of the key.
+fn feed_alone(p: Modulus, m: Running, part: &[u8]) -> Fed
     requires { ⌜ Opened (m .key) p ⌝ }
     ensures { λ r. ⌜ fed r ≡ fedUnder (m .key) (firstOf (feedTests (m .key) (markIn m) (length (now (part .entry)))) (markIn m)
         (fedMark (m .key) (markIn m) (now (part .entry)))) ⌝ }
@@ -60,7 +61,7 @@ fn feed_bits(p: Modulus, m: Running, part: &[u8]) -> Fed
     match judge(p, m, n) {
         Reply::Refused(r) => Fed::Refused(r, m),
         Reply::Done => {
-            let next = files::feed_bytes(p, m.fingerprint, part);
+            let next = folds::fed_alone(p, m.fingerprint, part);
             let total = m.length + n;
             Fed::Next(Running {
                 key: m.key,
@@ -71,7 +72,7 @@ fn feed_bits(p: Modulus, m: Running, part: &[u8]) -> Fed
     }
 }
 
-// A part fed by the table of the key, four bytes at a time, after the tests of key and words.
+// A part fed by the table of the key, after the tests of key and words.
 fn feed_looked(p: Modulus, m: Running, words: &[u64], part: &[u8]) -> Fed
     requires { ⌜ Opened (m .key) p × Table (m .key) (now words) ⌝ }
     ensures { λ r. ⌜ fed r ≡ fedUnder (m .key) (firstOf (feedTests (m .key) (markIn m) (length (now (part .entry)))) (markIn m)
@@ -81,7 +82,7 @@ fn feed_looked(p: Modulus, m: Running, words: &[u64], part: &[u8]) -> Fed
     match judge(p, m, n) {
         Reply::Refused(r) => Fed::Refused(r, m),
         Reply::Done => {
-            let looked = lookups::fed(words, p, m.fingerprint, part);
+            let looked = folds::fed(words, p, m.fingerprint, part);
             let total = m.length + n;
             Fed::Next(Running {
                 key: m.key,
@@ -135,7 +136,7 @@ impl Running {
     {
         match keys::test(self.key) {
             Tested::Refused(r) => Fed::Refused(r, self),
-            Tested::Accepted(p) => feed_bits(p, self, part),
+            Tested::Accepted(p) => feed_alone(p, self, part),
         }
     }
 
@@ -149,16 +150,23 @@ impl Running {
         }
     }
 
-    // The same by the house key's constant words. Under that key they are right and nothing is tested but the lengths and the mark; under another
-    // key they are tested like a lent table. Numbers 1, 2, 6, 7, 8.
+    // The same by the house key's constant words. Under that key they are right: they are not read, and nothing is tested but the lengths and the
+    // mark. Under another key they are tested like a lent table. Numbers 1, 2, 6, 7, 8.
     pub fn feed_house(self, part: &[u8]) -> Fed
         ensures { λ r. ⌜ fed r ≡ fedUnder (self .key) (feedHouse (self .key) (markIn self) (now (part .entry))) ⌝ }
     {
-        let words = house::words();
         if self.key == house::KEY {
             let p = gf2::modulus_of(self.key);
-            return feed_looked(p, self, &words, part);
+            return feed_alone(p, self, part);
         }
-        self.feed_table(&words, part)
+        feed_constant(self, part)
     }
+}
+
+// A part fed by the house key's constant words, which are copied here alone.
+fn feed_constant(m: Running, part: &[u8]) -> Fed
+    ensures { λ r. ⌜ fed r ≡ fedUnder (m .key) (feedHouse (m .key) (markIn m) (now (part .entry))) ⌝ }
+{
+    let words = house::words();
+    m.feed_table(&words, part)
 }

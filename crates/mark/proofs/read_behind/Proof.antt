@@ -5,7 +5,7 @@ use lib.ListN.{length}
 use borrow.Rule.Slice.PartMut.{take-put}
 use borrow.Author.Needs.{needs}
 use Rattle.mark.specs.Reading.{InFront}
-use Rattle.mark.proofs.Answers.{behind}
+use Rattle.lists.proofs.Parts.{put-last}
 use Rattle.mark.proofs.read_behind.Statement.{statement}
 use Rattle.mark.proofs.read_behind.Tie as tie
 
@@ -15,7 +15,7 @@ returns c =
     let r = c .before .before .read-some in
     let at = s .args .done in
     let l = s .args .buffer .now in
-    (subst (InFront (r .result)) (sym (behind at l (r .last .0) (s .pre))) (r .ensures .0), take-put at (length l - at) l (r .last .0) (s .pre))
+    (subst (InFront (r .result)) (sym (put-last at l (r .last .0) (s .pre))) (r .ensures .0), take-put at (length l - at) l (r .last .0) (s .pre))
 
 pub read-behind-spec : {M : Type 1} → statement M
 read-behind-spec =

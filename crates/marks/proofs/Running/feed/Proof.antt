@@ -1,4 +1,4 @@
--- `Running::feed` meets its contract: the tests of the key, and then those of `feed_bits`.
+-- `Running::feed` meets its contract: the tests of the key, and then those of `feed_alone`.
 use mathlib.Core.Path.{sym, ap, _∙_}
 use mathlib.Core.List.{List}
 use native.Mathlib.Omega.{arith}
@@ -44,15 +44,15 @@ key-opened c =
     let t = c .before .before .test in
     opened (t .result) (p→start c .args .self .key) (t .ensures) _ (omega arith) (c .p .given .1)
 
-feed-bits-requires : tie.Need-feed-bits-requires
-feed-bits-requires c κs = key-opened (c .before)
+feed-alone-requires : tie.Need-feed-alone-requires
+feed-alone-requires c κs = key-opened (c .before)
 
 returns-2 : tie.Need-returns-2
 unfolding feedBits
 returns-2 c =
     let s = p→start (c .before .before) in
-    c .feed-bits .ensures ∙ sym (ap (fedUnder (s .args .self .key))
+    c .feed-alone .ensures ∙ sym (ap (fedUnder (s .args .self .key))
     (opened-first (key-opened (c .before .before)) (tests s) (markIn (s .args .self)) (value s)))
 
 pub feed-spec : {M : Type 1} → statement M
-feed-spec = tie.close (tie.spec (λ c κs. search needs) (λ c. search needs) (λ c. search needs) feed-bits-requires returns returns-2)
+feed-spec = tie.close (tie.spec (λ c κs. search needs) (λ c. search needs) (λ c. search needs) feed-alone-requires returns returns-2)

@@ -1,4 +1,4 @@
--- `feed_bits` meets its contract: what `judge` refuses, and the residue of the part behind the fingerprint.
+-- `feed_alone` meets its contract: what `judge` refuses, and the residue of the part behind the fingerprint.
 use mathlib.Core.Path.{sym, ap}
 use mathlib.Core.List.{[]}
 use native.Mathlib.Omega.{arith}
@@ -11,8 +11,8 @@ use Rattle.files.specs.Files.{fedMark}
 use Rattle.marks.specs.Feeding.{feedTests}
 use Rattle.marks.specs.Answers.{markIn, fedUnder}
 use Rattle.marks.proofs.Laws.{clear-fits, clear-below, fed-next}
-use Rattle.marks.proofs.feed_bits.Statement.{statement}
-use Rattle.marks.proofs.feed_bits.Tie as tie
+use Rattle.marks.proofs.feed_alone.Statement.{statement}
+use Rattle.marks.proofs.feed_alone.Tie as tie
 
 -- ---- the places: from each one to an earlier one
 
@@ -44,8 +44,8 @@ clear c =
     let j = c .before .before .judge in
     judged-clear (feedTests (a .m .key) (markIn (a .m)) (length (a .part .now))) (j .result) (j .ensures) (c .enum-told .given .1)
 
-feed-bytes-requires : tie.Need-feed-bytes-requires
-feed-bytes-requires c κs =
+fed-alone-requires : tie.Need-fed-alone-requires
+fed-alone-requires c κs =
     let s = enum-told→start c in
     (opened-proper (s .pre), clear-below (s .pre) (markIn (s .args .m)) (length (s .args .part .now)) (clear c))
 
@@ -57,8 +57,8 @@ add-total c =
 returns-2 : tie.Need-returns-2
 returns-2 c =
     let s = struct-known→start c in
-    let f = c .before .feed-bytes in
+    let f = c .before .fed-alone in
     fed-next (s .pre) (markIn (s .args .m)) (s .args .part .now) (clear (c .before .before)) (f .result) (f .ensures)
 
-pub feed-bits-spec : {M : Type 1} → statement M
-feed-bits-spec = tie.close (tie.spec judge-requires (λ c. search needs) (λ c. search needs) feed-bytes-requires add-total returns returns-2)
+pub feed-alone-spec : {M : Type 1} → statement M
+feed-alone-spec = tie.close (tie.spec judge-requires (λ c. search needs) (λ c. search needs) fed-alone-requires add-total returns returns-2)

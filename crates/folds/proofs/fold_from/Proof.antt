@@ -1,0 +1,84 @@
+-- `fold_from` meets its contract: the start's eight bytes are a block of their own.
+use mathlib.Core.Path.{_≡_, sym, ap, _∙_}
+use mathlib.Core.List.{List}
+use Prim.Native.Nat.{ℕ, _+_, _-_, _*_, _≤_}
+use native.Mathlib.Omega.{arith}
+use lib.ListN.{length, take, drop, replicate, length-drop}
+use borrow.Rule.Slice.PartMut.{putMid, same-len-mid}
+use Rattle.lists.proofs.Parts.{put-last}
+use Rattle.gf2.specs.Polynomials.{rem}
+use Rattle.files.specs.Files.{bits, valueFrom}
+use Rattle.house.specs.House.{houseKey}
+use Rattle.folds.specs.Folds.{exponents, front, folded, Word}
+use Rattle.folds.proofs.Folding.{same-start, folded-zeros, rest-all}
+use Rattle.folds.proofs.House.{house-pos, house-last, word-pos}
+use borrow.Author.Needs.{needs}
+use Rattle.folds.proofs.fold_from.Statement.{statement}
+use Rattle.folds.proofs.fold_from.Tie as tie
+
+-- behind zeros the first block alone counts
+started : (s : ℕ) → Word s → (zeros q : List ℕ) (f : ℕ) (start part : List ℕ) → length start ≡ 16 → 16 + 61 * s ≤ length q → zeros ≡ replicate (length zeros) 0
+    → valueFrom 0 (bits start) ≡ f → folded exponents s q (length start) ≡ valueFrom (folded exponents s zeros 0) (bits start)
+    → rem houseKey (valueFrom (folded exponents s (drop 16 q) 0) (bits part)) ≡ rem houseKey (valueFrom f (bits part))
+started s w zeros q f start part n l z ef e =
+    same-start house-pos f (folded exponents s (drop 16 q) 0) (bits part)
+    (sym (house-last s w q 16 l)
+    ∙ ap (rem houseKey)
+    (ap (folded exponents s q) (sym n) ∙ e ∙ ap (λ (x : ℕ). valueFrom x (bits start)) (ap (λ (x : List ℕ). folded exponents s x 0) z ∙ folded-zeros exponents s (length zeros)) ∙ ef))
+
+divide-requires : tie.Need-divide-requires
+divide-requires c κs =
+    let w = c .before .before .before .before .before .pre .0 in
+    (word-pos w, w .most, omega arith)
+
+flatten-requires : tie.Need-flatten-requires
+flatten-requires c κs =
+    let s = c .before .before .before .before .before .before .before .before .before .before .before .before .before in
+    let d = c .before .before .before .before .before .before .before .divide in
+    let g = c .before .before .before .fold in
+    let e : length (putMid 16 (length (d .last .0) - 16) (d .last .0) (g .last .0)) ≡ length (d .last .0) =
+    same-len-mid 16 (length (d .last .0) - 16) (d .last .0) (g .last .0) (g .kept .0) in
+    (s .pre .0 .most, rw (rest-all, length-drop, e) (omega arith))
+
+-- the list becomes d by the start, g from place 16 on by the part, and h by the sums
+behind-start : (s : ℕ) → Word s → (d g h part : List ℕ) → length g ≡ length (take (length d - 16) (drop 16 d)) → 16 ≤ length d
+    → let q = putMid 16 (length d - 16) d g in
+    front h (61 * s) ≡ folded exponents s (take (length q - 16) (drop 16 q)) 0
+    → rem houseKey (folded exponents s g 0) ≡ rem houseKey (valueFrom (folded exponents s (take (length d - 16) (drop 16 d)) 0) (bits part))
+    → rem houseKey (front (drop 16 (putMid 16 (length q - 16) q h)) (61 * s)) ≡ rem houseKey (valueFrom (folded exponents s (drop 16 d) 0) (bits part))
+behind-start s w d g h part kept l eh eg =
+    let q = putMid 16 (length d - 16) d g in
+    let size : length q ≡ length d = same-len-mid 16 (length d - 16) d g kept in
+    ap (λ (x : List ℕ). rem houseKey (front x (61 * s))) (put-last 16 q h (omega arith))
+    ∙ ap (rem houseKey) (eh ∙ ap (λ (x : List ℕ). folded exponents s x 0) (rest-all q 16 ∙ put-last 16 d g l))
+    ∙ eg
+    ∙ ap (λ (x : List ℕ). rem houseKey (valueFrom (folded exponents s x 0) (bits part))) (rest-all d 16)
+
+returns : tie.Need-returns
+returns c =
+    let s = c .before .before .before .before .before .before .before .before .before .before .before .before .before .before .before .before in
+    let a = s .args in
+    let b = c .before .before .before .before .before .before .before .before .before .before .before .before .before .sixteen in
+    let d = c .before .before .before .before .before .before .before .before .before .before .divide in
+    let g = c .before .before .before .before .before .before .fold in
+    let h = c .before .before .flatten in
+    behind-start (a .s) (s .pre .0) (d .last .0) (g .last .0) (h .last .0) (a .part .now) (g .kept .0) (omega arith) (h .ensures) (g .ensures)
+    ∙ started (a .s) (s .pre .0) (a .q .now) (d .last .0) (a .f) (b .result) (a .part .now) (omega arith) (omega arith) (s .pre .3) (b .ensures) (d .ensures)
+
+pub fold-from-spec : {M : Type 1} → statement M
+fold-from-spec =
+    tie.close
+    (tie.spec
+    (λ c κs. search needs)
+    (λ c. search needs)
+    divide-requires
+    (λ c. search needs)
+    (λ c. search needs)
+    (λ c. search needs)
+    (λ c κs. search needs)
+    (λ c. search needs)
+    (λ c. search needs)
+    (λ c. search needs)
+    flatten-requires
+    (λ c. search needs)
+    returns)

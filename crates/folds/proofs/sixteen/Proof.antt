@@ -1,0 +1,23 @@
+-- `sixteen` meets its contract: digits to the base 256.
+use native.Mathlib.Omega.{arith}
+use Rattle.folds.proofs.Folding.{value-digits}
+use borrow.Author.Needs.{needs}
+use Rattle.folds.proofs.sixteen.Statement.{statement}
+use Rattle.folds.proofs.sixteen.Tie as tie
+
+returns : tie.Need-returns
+returns c = value-digits (c .args .f) (omega arith)
+
+pub sixteen-spec : {M : Type 1} → statement M
+sixteen-spec =
+    tie.close
+    (tie.spec
+    (λ c. search needs)
+    (λ c. search needs)
+    (λ c. search needs)
+    (λ c. search needs)
+    (λ c. search needs)
+    (λ c. search needs)
+    (λ c. search needs)
+    (λ c. search needs)
+    returns)
