@@ -1,10 +1,10 @@
 -- The house key's form, and the words that the code folds by.
 use mathlib.Core.Path.{_≡_, refl, sym, ap, _∙_}
 use mathlib.Core.List.{List}
+use mathlib.Core.Logic.{inl, inr}
 use Prim.Native.Nat.{ℕ, _+_, _*_, _^_, _≤_, _<_}
 use native.Mathlib.Omega.{arith}
 use lib.ListN.{length, drop}
-use lib.Pow.{pow-pos}
 use Rattle.gf2.specs.Polynomials.{_⊕_, rem}
 use Rattle.house.specs.House.{houseKey}
 use Rattle.folds.specs.Folds.{form, lowExponents, exponents, folded, Word}
@@ -25,17 +25,31 @@ pub all-exponents : Lower 62 exponents
 unfolding Lower
 all-exponents = (omega arith, (omega arith, (omega arith, (omega arith, (omega arith, tt)))))
 
+-- ---- words
+
+exponent : {s : ℕ} → Word s → ℕ
+exponent (inl e) = 5
+exponent (inr e) = 7
+
+word-size : {s : ℕ} (w : Word s) → 8 * s ≡ 2 ^ exponent w
+unfolding exponent
+word-size (inl e) = ap (λ (x : ℕ). 8 * x) e
+word-size (inr e) = ap (λ (x : ℕ). 8 * x) e
+
+pub not-wide : {s : ℕ} → Word s → (s ≡ 16 → ⊥) → s ≡ 4
+not-wide (inl e) n = e
+not-wide (inr e) n = absurd (n e)
+
+pub word-pos : {s : ℕ} → Word s → 0 < s
+word-pos (inl e) = omega arith
+word-pos (inr e) = omega arith
+
+pub word-most : {s : ℕ} → Word s → s ≤ 16
+word-most (inl e) = omega arith
+word-most (inr e) = omega arith
+
 -- only the last 61 words matter
 pub house-last : (s : ℕ) → Word s → (q : List ℕ) (n : ℕ) → n + 61 * s ≤ length q
     → rem houseKey (folded exponents s q n) ≡ rem houseKey (folded exponents s (drop n q) 0)
 house-last s w q n h =
-    rw house-form at (folded-last 61 s q n h exponents all-exponents (rw house-form house-pos) (w .exponent) (w .size))
-
-pub word-pos : {s : ℕ} → Word s → 0 < s
-word-pos w = omega (arith, w .size, pow-pos (w .exponent))
-
-pub word-four : Word 4
-word-four = record { exponent = 5; size = refl; most = omega arith }
-
-pub word-sixteen : Word 16
-word-sixteen = record { exponent = 7; size = refl; most = omega arith }
+    rw house-form at (folded-last 61 s q n h exponents all-exponents (rw house-form house-pos) (exponent w) (word-size w))

@@ -1,8 +1,9 @@
 -- For inner functions: a reader of the promises need not read this page, as every call's value is the residue. Folding: over the field of two
 -- elements p(t)^w = p(t^w) where w is a power of two, so a polynomial with few terms divides a string of bytes by additions of whole words.
 use mathlib.Core.Path.{_≡_}
+use mathlib.Core.Logic.{_⊎_}
 use mathlib.Core.List.{List, [], _∷_}
-use Prim.Native.Nat.{ℕ, _+_, _*_, _^_, _≤_}
+use Prim.Native.Nat.{ℕ, _+_, _*_, _^_}
 use lib.ListN.{getD, take}
 use Rattle.gf2.specs.Polynomials.{_⊕_}
 use Rattle.files.specs.Files.{bits, valueFrom}
@@ -34,8 +35,6 @@ unfoldable pub added : List ℕ → ℕ → List ℕ → ℕ → ℕ
 added [] s q i = 0
 added (e ∷ es) s q i = getD q (i + e * s) 0 ⊕ added es s q i
 
--- a word of s bytes: at most 16, and a power of two in bits
-pub record Word (s : ℕ) : Type 0 where
-  pub exponent : ℕ
-  pub size : 8 * s ≡ 2 ^ exponent
-  pub most : s ≤ 16
+-- the words that the code folds by, of 4 and of 16 bytes: in bits both are powers of two
+abbrev pub Word : ℕ → Type 0
+Word s = (s ≡ 4) ⊎ (s ≡ 16)

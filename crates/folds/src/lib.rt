@@ -41,6 +41,18 @@ fn divide(q: &mut [u8], s: usize, src: &[u8])
     }
 }
 
+// The same with the size of a word as a constant, for which the compiler makes code of its own.
+fn divide_piece(q: &mut [u8], s: usize, src: &[u8])
+    requires { ⌜ Word s × (length (now src) + 61 * s ≤ length (now q)) ⌝ }
+    ensures { λ r. ⌜ folded exponents s (now (q .exit)) (length (now (src .entry))) ≡ valueFrom (folded exponents s (now (q .entry)) 0) (bits (now (src .entry))) ⌝ }
+{
+    if s == 16 {
+        divide(q, 16, src);
+    } else {
+        divide(q, 4, src);
+    }
+}
+
 // A block behind what the 61 words in front stand for: then those behind as many bytes stand for it. Pieces of 64 bytes, so that the compiler loads
 // no byte of a piece twice.
 fn divide_block(q: &mut [u8], s: usize, src: &[u8])
@@ -51,10 +63,10 @@ fn divide_block(q: &mut [u8], s: usize, src: &[u8])
     let mut i: usize = 0;
     while 64 <= src.len() - i {
         let end = i + 64;
-        divide(&mut q[i..], s, &src[i..end]);
+        divide_piece(&mut q[i..], s, &src[i..end]);
         i = end;
     }
-    divide(&mut q[i..], s, &src[i..]);
+    divide_piece(&mut q[i..], s, &src[i..]);
 }
 
 // The k bytes from place n on come to the front.
@@ -161,16 +173,17 @@ fn fold_from(q: &mut [u8], s: usize, size: usize, f: u64, part: &[u8])
     ensures { λ r. ⌜ rem houseKey (front (drop 16 (now (q .exit))) (61 * s)) ≡ rem houseKey (valueFrom f (bits (now (part .entry)))) ⌝ }
 {
     let start = sixteen(f);
-    divide(q, s, &start);
+    divide_piece(q, s, &start);
     fold(&mut q[16..], s, size, part);
     flatten(&mut q[16..], s);
 }
 
-// A part of middle length behind a residue: words of four bytes.
+// A part of middle length behind a residue: words of four bytes. The buffer has twelve bytes more than are used: so that on the stack a buffer beside
+// it begins at a multiple of 16.
 fn feed_middle(f: u64, part: &[u8]) -> u64
     ensures { λ r. ⌜ r ≡ rem houseKey (valueFrom f (bits (now (part .entry)))) ⌝ }
 {
-    let mut q: [u8; 1284] = [0; 1284];
+    let mut q: [u8; 1296] = [0; 1296];
     fold_from(&mut q, 4, 1024, f, part);
     feed_sevens(0, &q[16..260])
 }
@@ -189,7 +202,7 @@ pub fn fed_house(f: u64, part: &[u8]) -> u64
     requires { ⌜ f < 2 ^ 61 ⌝ }
     ensures { λ r. ⌜ r ≡ rem houseKey (valueFrom f (bits (now (part .entry)))) ⌝ }
 {
-    if part.len() < 384 {
+    if part.len() < 512 {
         return feed_sevens(f, part);
     }
     if part.len() < 8192 {
@@ -199,7 +212,7 @@ pub fn fed_house(f: u64, part: &[u8]) -> u64
 }
 
 // Whether a modulus is the house key.
-fn is_house(p: Modulus) -> bool
+pub fn is_house(p: Modulus) -> bool
     ensures { λ r. ⌜ (r ≡ true → (polynomial p ≡ houseKey) × (p .degree ≡ 61)) ⌝ }
 {
     if p.degree != 61 {

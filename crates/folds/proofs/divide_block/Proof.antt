@@ -12,7 +12,7 @@ use Rattle.files.specs.Files.{bits, valueFrom}
 use Rattle.house.specs.House.{houseKey}
 use Rattle.folds.specs.Folds.{exponents, folded, Word}
 use Rattle.folds.proofs.Folding.{block-fed, nothing-left, rest-all}
-use Rattle.folds.proofs.House.{house-pos, house-last, word-pos}
+use Rattle.folds.proofs.House.{house-pos, house-last}
 use borrow.Author.Needs.{needs}
 use Rattle.folds.proofs.divide_block.Statement.{statement}
 use Rattle.folds.proofs.divide_block.Tie as tie
@@ -59,19 +59,18 @@ lengths : (q src : List ℕ) (s i b : ℕ) → i ≤ b → b ≤ length src → 
 lengths q src s i b l m h =
     rw (length-take-le (b - i) (drop i src) (rw length-drop (omega arith)), rest-all q i, length-drop) (omega arith)
 
-divide-requires : tie.Need-divide-requires Inv-loop μ-loop
-divide-requires c κs =
+divide-piece-requires : tie.Need-divide-piece-requires Inv-loop μ-loop
+divide-piece-requires c κs =
     let s = c .before .before .before .before .before .before in
     let l = c .before .before .before .loop in
-    let w = s .pre .0 in
-    (word-pos w, w .most, lengths (l .q) (s .args .src .now) (s .args .s) (l .i) (l .i + 64) (omega arith) (omega arith) (omega (arith, l .inv .1, s .pre .1)))
+    (s .pre .0, lengths (l .q) (s .args .src .now) (s .args .s) (l .i) (l .i + 64) (omega arith) (omega arith) (omega (arith, l .inv .1, s .pre .1)))
 
 loop-again : tie.Need-loop-again Inv-loop μ-loop
 loop-again c =
     let s = c .before .before .before .before .before .before .before .before .before in
     let a = s .args in
     let l = c .before .before .before .before .before .before .loop in
-    let d = c .before .before .divide in (
+    let d = c .before .before .divide-piece in (
       omega arith,
       same-len-mid (l .i) (length (l .q) - l .i) (l .q) (d .last .0) (d .kept .0) ∙ l .inv .1,
       piece (a .s) (s .pre .0) (l .q) (a .src .now) (d .last .0) (l .i) (l .i + 64) (omega arith) (omega arith) (omega (arith, l .inv .1, s .pre .1)) (d .kept .0)
@@ -79,19 +78,18 @@ loop-again c =
           ∙ l .inv .2,
     )
 
-divide-requires-2 : tie.Need-divide-requires-2 Inv-loop μ-loop
-divide-requires-2 c κs =
+divide-piece-requires-2 : tie.Need-divide-piece-requires-2 Inv-loop μ-loop
+divide-piece-requires-2 c κs =
     let s = c .before .before .before .before .before .before in
     let l = c .before .before .before .loop in
-    let w = s .pre .0 in
-    (word-pos w, w .most, lengths (l .q) (s .args .src .now) (s .args .s) (l .i) (length (s .args .src .now)) (omega arith) (omega arith) (omega (arith, l .inv .1, s .pre .1)))
+    (s .pre .0, lengths (l .q) (s .args .src .now) (s .args .s) (l .i) (length (s .args .src .now)) (omega arith) (omega arith) (omega (arith, l .inv .1, s .pre .1)))
 
 returns : tie.Need-returns Inv-loop μ-loop
 returns c =
     let s = c .before .before .before .before .before .before .before .before .before in
     let a = s .args in
     let l = c .before .before .before .before .before .before .loop in
-    let d = c .before .before .divide2 in
+    let d = c .before .before .divide-piece2 in
     let n = length (a .src .now) in
     sym (nothing-left houseKey (folded exponents (a .s) (drop n (putMid (l .i) (length (l .q) - l .i) (l .q) (d .last .0))) 0) (a .src .now) n (omega arith))
     ∙ piece (a .s) (s .pre .0) (l .q) (a .src .now) (d .last .0) (l .i) n (omega arith) (omega arith) (omega (arith, l .inv .1, s .pre .1)) (d .kept .0) (d .ensures)
@@ -112,7 +110,7 @@ divide-block-spec =
     (λ c. search needs)
     (λ c. search needs)
     (λ c. search needs)
-    divide-requires
+    divide-piece-requires
     (λ c. search needs)
     loop-again
     (λ c. search needs)
@@ -121,6 +119,6 @@ divide-block-spec =
     (λ c. search needs)
     (λ c. search needs)
     (λ c. search needs)
-    divide-requires-2
+    divide-piece-requires-2
     (λ c. search needs)
     returns)

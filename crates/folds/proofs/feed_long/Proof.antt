@@ -1,14 +1,14 @@
 -- `feed_long` meets its contract: what is left has the residue of the whole.
 use mathlib.Core.Path.{refl, _∙_}
+use mathlib.Core.Logic.{inr}
 use native.Mathlib.Omega.{arith}
 use Rattle.folds.specs.Folds.{front}
-use Rattle.folds.proofs.House.{word-sixteen}
 use borrow.Author.Needs.{needs}
 use Rattle.folds.proofs.feed_long.Statement.{statement}
 use Rattle.folds.proofs.feed_long.Tie as tie
 
 fold-from-requires : tie.Need-fold-from-requires
-fold-from-requires c κs = (word-sixteen, omega arith, omega arith, refl)
+fold-from-requires c κs = (inr refl, omega arith, omega arith, refl)
 
 returns : tie.Need-returns
 unfolding front

@@ -1,14 +1,14 @@
 -- `feed_middle` meets its contract: what is left has the residue of the whole.
 use mathlib.Core.Path.{refl, _∙_}
+use mathlib.Core.Logic.{inl}
 use native.Mathlib.Omega.{arith}
 use Rattle.folds.specs.Folds.{front}
-use Rattle.folds.proofs.House.{word-four}
 use borrow.Author.Needs.{needs}
 use Rattle.folds.proofs.feed_middle.Statement.{statement}
 use Rattle.folds.proofs.feed_middle.Tie as tie
 
 fold-from-requires : tie.Need-fold-from-requires
-fold-from-requires c κs = (word-four, omega arith, omega arith, refl)
+fold-from-requires c κs = (inl refl, omega arith, omega arith, refl)
 
 returns : tie.Need-returns
 unfolding front

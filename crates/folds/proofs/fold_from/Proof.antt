@@ -11,7 +11,7 @@ use Rattle.files.specs.Files.{bits, valueFrom}
 use Rattle.house.specs.House.{houseKey}
 use Rattle.folds.specs.Folds.{exponents, front, folded, Word}
 use Rattle.folds.proofs.Folding.{same-start, folded-zeros, rest-all}
-use Rattle.folds.proofs.House.{house-pos, house-last, word-pos}
+use Rattle.folds.proofs.House.{house-pos, house-last, word-most}
 use borrow.Author.Needs.{needs}
 use Rattle.folds.proofs.fold_from.Statement.{statement}
 use Rattle.folds.proofs.fold_from.Tie as tie
@@ -26,19 +26,18 @@ started s w zeros q f start part n l z ef e =
     ∙ ap (rem houseKey)
     (ap (folded exponents s q) (sym n) ∙ e ∙ ap (λ (x : ℕ). valueFrom x (bits start)) (ap (λ (x : List ℕ). folded exponents s x 0) z ∙ folded-zeros exponents s (length zeros)) ∙ ef))
 
-divide-requires : tie.Need-divide-requires
-divide-requires c κs =
-    let w = c .before .before .before .before .before .pre .0 in
-    (word-pos w, w .most, omega arith)
+divide-piece-requires : tie.Need-divide-piece-requires
+divide-piece-requires c κs =
+    (c .before .before .before .before .before .pre .0, omega arith)
 
 flatten-requires : tie.Need-flatten-requires
 flatten-requires c κs =
     let s = c .before .before .before .before .before .before .before .before .before .before .before .before .before in
-    let d = c .before .before .before .before .before .before .before .divide in
+    let d = c .before .before .before .before .before .before .before .divide-piece in
     let g = c .before .before .before .fold in
     let e : length (putMid 16 (length (d .last .0) - 16) (d .last .0) (g .last .0)) ≡ length (d .last .0) =
     same-len-mid 16 (length (d .last .0) - 16) (d .last .0) (g .last .0) (g .kept .0) in
-    (s .pre .0 .most, rw (rest-all, length-drop, e) (omega arith))
+    (word-most (s .pre .0), rw (rest-all, length-drop, e) (omega arith))
 
 -- the list becomes d by the start, g from place 16 on by the part, and h by the sums
 behind-start : (s : ℕ) → Word s → (d g h part : List ℕ) → length g ≡ length (take (length d - 16) (drop 16 d)) → 16 ≤ length d
@@ -59,7 +58,7 @@ returns c =
     let s = c .before .before .before .before .before .before .before .before .before .before .before .before .before .before .before .before in
     let a = s .args in
     let b = c .before .before .before .before .before .before .before .before .before .before .before .before .before .sixteen in
-    let d = c .before .before .before .before .before .before .before .before .before .before .divide in
+    let d = c .before .before .before .before .before .before .before .before .before .before .divide-piece in
     let g = c .before .before .before .before .before .before .fold in
     let h = c .before .before .flatten in
     behind-start (a .s) (s .pre .0) (d .last .0) (g .last .0) (h .last .0) (a .part .now) (g .kept .0) (omega arith) (h .ensures) (g .ensures)
@@ -71,7 +70,7 @@ fold-from-spec =
     (tie.spec
     (λ c κs. search needs)
     (λ c. search needs)
-    divide-requires
+    divide-piece-requires
     (λ c. search needs)
     (λ c. search needs)
     (λ c. search needs)
