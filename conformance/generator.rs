@@ -41,6 +41,17 @@ impl Generator {
         }
     }
 
+    /// An irreducible polynomial of degree k whose coefficients below t^k stand in a random number of low places.
+    pub fn accepted_with_low_part(&mut self, k: u32) -> u64 {
+        loop {
+            let width = 1 + self.below(u64::from(k));
+            let p = 1 << k | self.next() & ((1 << width) - 1) | 1;
+            if reference::irreducible(p) {
+                return p;
+            }
+        }
+    }
+
     pub fn degree(&mut self) -> u32 {
         8 + self.below(56) as u32
     }
@@ -77,6 +88,12 @@ impl Generator {
             _ => self.below(100_000),
         };
         reference::Mark { fingerprint, length }
+    }
+
+    /// A mark under an accepted key to which up to n bytes can be fed.
+    pub fn start(&mut self, key: u64, n: usize) -> reference::Mark {
+        let fingerprint = self.below(1 << reference::degree(key));
+        reference::Mark { fingerprint, length: self.below(reference::LIMIT - n as u64 + 1) }
     }
 
     /// A table under a key: mostly right, sometimes of another size or with one bit changed.

@@ -2,6 +2,7 @@
 //! Usage: conformance [rounds]. The last line counts the comparisons: "N passed, 0 failed".
 mod compose;
 mod draw;
+mod feeding;
 mod generator;
 #[path = "../bindings/rust/gfp.rs"]
 mod gfp;
@@ -19,7 +20,7 @@ pub struct Tally {
 }
 
 impl Tally {
-    pub fn same<T: PartialEq + std::fmt::Debug>(&mut self, what: &str, ours: T, second: T) {
+    pub fn same<T: PartialEq + std::fmt::Debug>(&mut self, what: impl std::fmt::Display, ours: T, second: T) {
         if ours == second {
             self.passed += 1;
             return;
@@ -34,9 +35,10 @@ impl Tally {
 fn main() {
     let rounds = std::env::args().nth(1).map_or(1, |n| n.parse().expect("a number of rounds"));
     let mut tally = Tally { passed: 0, failed: 0 };
-    let suites: [(&str, fn(&mut Tally, u64)); 7] = [
+    let suites: [(&str, fn(&mut Tally, u64)); 8] = [
         ("keys", keys::run),
         ("marks and tables", marks::run),
+        ("feeding at every length", feeding::run),
         ("joining, page change, lists of calls", compose::run),
         ("search", search::run),
         ("page sheets", sheets::run),

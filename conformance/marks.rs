@@ -1,4 +1,4 @@
-//! Beginning and feeding marks, by bits and by tables, and the tables themselves.
+//! Beginning and feeding marks, by bits and by tables, and the tables themselves. Suite feeding.rs has long parts.
 use crate::{generator::Generator, gfp, reference, Tally};
 
 pub fn ours(mark: reference::Mark) -> gfp::Mark {
@@ -116,25 +116,6 @@ fn calls(tally: &mut Tally, generator: &mut Generator) {
     tally.same(&format!("words made, key {key:#x}"), made, second.unwrap_or(words));
 }
 
-/// Long parts, around the sizes at which feeding by tables changes its way.
-fn long_parts(tally: &mut Tally, generator: &mut Generator) {
-    for k in [8, 9, 16, 31, 32, 33, 61, 63] {
-        let key = generator.accepted(k);
-        let words = reference::table(key);
-        for n in [1023, 1024, 2047, 4095, 4096, 4097, 4111, 8192, 65_536, 65_537] {
-            let file = generator.bytes(n);
-            let whole = gfp::Mark { fingerprint: reference::fingerprint(key, &file), length: n as u64 };
-            let empty = gfp::begin(key).expect("an accepted key");
-            tally.same(&format!("key {key:#x}, {n} bytes by table"), after(empty, |m| m.feed_table(key, &words, &file)), (whole, 0));
-            tally.same(&format!("key {key:#x}, {n} bytes by bits"), after(empty, |m| m.feed(key, &file)), (whole, 0));
-        }
-    }
-    let file = generator.bytes(1 << 20);
-    let whole = gfp::Mark { fingerprint: reference::fingerprint(gfp::HOUSE_KEY, &file), length: 1 << 20 };
-    let empty = gfp::begin(gfp::HOUSE_KEY).expect("an accepted key");
-    tally.same("1 MiB under the house key", after(empty, |m| m.feed_house(gfp::HOUSE_KEY, &file)), (whole, 0));
-}
-
 /// Each bit of each word of a table, changed: the table is refused.
 fn damaged_tables(tally: &mut Tally, generator: &mut Generator) {
     for k in [8, 31, 61, 63] {
@@ -153,7 +134,6 @@ pub fn run(tally: &mut Tally, rounds: u64) {
     let mut generator = Generator::new(4);
     readings(tally);
     damaged_tables(tally, &mut generator);
-    long_parts(tally, &mut generator);
     shared_words(tally, &mut generator);
     for _ in 0..rounds * 100 {
         cuts(tally, &mut generator);

@@ -1,5 +1,6 @@
 //! A second implementation, written from document 01's definitions alone and as plainly as they read: long division bit by bit,
-//! trial comparisons, no tables. It shares no code and no method with the library that it is compared with.
+//! trial comparisons, no tables. It shares no code and no method with the library that it is compared with. `ByteSteps` alone has a
+//! table, of its own, for what is compared at many lengths.
 
 pub const LIMIT: u64 = 4_294_967_295;
 
@@ -40,6 +41,42 @@ pub fn residue(key: u64, mut a: u128) -> u64 {
         }
     }
     a as u64
+}
+
+/// Long division a byte at a time, for long parts: whatever byte stands at t^k and above is replaced by its residue. Suite feeding.rs
+/// compares it with `feed`, which goes bit by bit.
+pub struct ByteSteps {
+    degree: u32,
+    /// The residue of i·t^k for each byte i.
+    residues: [u64; 256],
+}
+
+impl ByteSteps {
+    pub fn new(key: u64) -> Self {
+        let degree = degree(key);
+        ByteSteps { degree, residues: std::array::from_fn(|i| residue(key, (i as u128) << degree)) }
+    }
+
+    /// The residue of f·t^8 plus the byte, where f is a residue.
+    pub fn next(&self, f: u64, byte: u8) -> u64 {
+        let value = u128::from(f) << 8 | u128::from(byte);
+        let below = value & ((1 << self.degree) - 1);
+        below as u64 ^ self.residues[(value >> self.degree) as usize]
+    }
+
+    /// The residue behind the whole part.
+    pub fn divide(&self, start: u64, part: &[u8]) -> u64 {
+        part.iter().fold(start, |f, &byte| self.next(f, byte))
+    }
+
+    /// The residue behind each front of the part: at place n the one behind its first n bytes.
+    pub fn behind_each(&self, start: u64, part: &[u8]) -> Vec<u64> {
+        let behind = part.iter().scan(start, |f, &byte| {
+            *f = self.next(*f, byte);
+            Some(*f)
+        });
+        std::iter::once(start).chain(behind).collect()
+    }
 }
 
 pub fn multiply(a: u64, b: u64) -> u128 {

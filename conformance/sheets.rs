@@ -1,5 +1,5 @@
 //! Page sheets: writing, reading, checking, and sheets damaged in every byte.
-use crate::{generator::Generator, gfp, reference, Tally};
+use crate::{feeding::turning_lengths, generator::Generator, gfp, reference, Tally};
 
 fn read(sheet: &[u8]) -> Result<gfp::Sheet, u32> {
     reference::read_sheet(sheet).map(|x| gfp::Sheet {
@@ -96,6 +96,24 @@ fn random(tally: &mut Tally, generator: &mut Generator) {
     }
 }
 
+/// Pages of the lengths beside which feeding may go another way, and of random ones, under the house key and a random one.
+fn page_sizes(tally: &mut Tally, generator: &mut Generator) {
+    let random: Vec<usize> = (0..50).map(|_| 16 + generator.below(4081) as usize).collect();
+    let k = generator.degree();
+    for key in [gfp::HOUSE_KEY, generator.accepted(k)] {
+        for size in turning_lengths(4096).into_iter().chain(random.iter().copied()) {
+            let pages = if generator.one_in(10) { 60 + generator.below(10) } else { generator.below(4) } as usize;
+            let n = pages * size + generator.below(size as u64 + 1) as usize;
+            let mut file = generator.bytes(n + 1);
+            let sheet = write(tally, key, size as u64, &file, 27 + 8 * (pages + 2));
+            let total = reference::sheet_length(n as u64 + 1, size as u64).map_or(0, |total| total as usize);
+            judge(tally, &format!("page size {size}, key {key:#x}"), &sheet[..total], &file);
+            file[generator.below(n as u64 + 1) as usize] ^= 1 << generator.below(8);
+            judge(tally, &format!("one bit of the file changed, page size {size}, key {key:#x}"), &sheet[..total], &file);
+        }
+    }
+}
+
 /// Every byte of a sheet changed, in every bit.
 fn damage(tally: &mut Tally, key: u64, size: u64, file: &[u8]) {
     let sheet = reference::sheet(key, size, file);
@@ -136,6 +154,9 @@ pub fn run(tally: &mut Tally, rounds: u64) {
     damage(tally, 0x11b, 16, b"AB");
     damage(tally, gfp::HOUSE_KEY, 16, b"a file of two pages and a bit more");
     damage(tally, 0x80000009, 20, b"");
+    for _ in 0..rounds {
+        page_sizes(tally, &mut generator);
+    }
     for _ in 0..rounds * 600 {
         random(tally, &mut generator);
     }
