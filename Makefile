@@ -1,4 +1,4 @@
-.PHONY: run test conformance benchmark fmt libraries install
+.PHONY: run test conformance benchmark benchmark-figures fmt libraries install
 
 PREFIX = /usr/local
 
@@ -40,16 +40,23 @@ conformance: libraries
 	@rustc --edition 2021 -O conformance/main.rs -o target/conformance/conformance -L target/staticlib $(LIBRARIES:%=-l static=%)
 	@target/conformance/conformance $(ROUNDS)
 
-# Ours beside the peers, in one run. The peers are Debian packages: libntl-dev libflint-dev libpari-dev golang-go golang-github-restic-chunker-dev
+# Ours beside the peers, in one run; the picture of feeding goes to target/benchmark/feeding.svg. The peers are Debian packages:
+# libntl-dev libflint-dev libpari-dev golang-go golang-github-restic-chunker-dev zlib1g-dev liblzma-dev libssl-dev
+BENCHMARK = target/benchmark
 benchmark: libraries
 	@rt staticlib gf2_measured > /dev/null
-	@mkdir -p target/benchmark
-	@cd benchmark && GO111MODULE=off GOPATH=/usr/share/gocode go build -buildmode=c-archive -o ../target/benchmark/librestic.a restic.go
-	@gcc -O3 -c benchmark/peers.c -o target/benchmark/peers.o
-	@g++ -O3 -Itarget/benchmark benchmark/main.cpp target/benchmark/peers.o $(LIBRARIES:%=target/staticlib/lib%.a) \
-		target/staticlib/libgf2_measured.a target/benchmark/librestic.a -lntl -lflint -lpari -lgmp -lpthread -o target/benchmark/benchmark
-	@target/benchmark/benchmark
+	@mkdir -p $(BENCHMARK)
+	@cd benchmark && GO111MODULE=off GOPATH=/usr/share/gocode go build -buildmode=c-archive -o ../$(BENCHMARK)/librestic.a restic.go
+	@gcc -O3 -c benchmark/peers.c -o $(BENCHMARK)/peers.o
+	@gcc -O3 -mpclmul -mavx -c benchmark/carryless.c -o $(BENCHMARK)/carryless.o
+	@g++ -O3 -I$(BENCHMARK) benchmark/*.cpp $(BENCHMARK)/peers.o $(BENCHMARK)/carryless.o $(LIBRARIES:%=target/staticlib/lib%.a) \
+		target/staticlib/libgf2_measured.a $(BENCHMARK)/librestic.a -lntl -lflint -lpari -lgmp -lz -llzma -lcrypto -lpthread -o $(BENCHMARK)/benchmark
+	@$(BENCHMARK)/benchmark $(BENCHMARK)/feeding.svg
 	@tools/benchmark-program
+
+# The picture of the latest run of the benchmark into the documents.
+benchmark-figures:
+	@cp $(BENCHMARK)/feeding.svg docs/feeding.svg
 
 # Lays every .rt and .antt file out.
 fmt:

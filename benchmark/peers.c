@@ -76,31 +76,6 @@ uint64_t peer_slicing_by_4(uint64_t key, uint64_t f, const uint64_t *words, cons
     return f;
 }
 
-static uint64_t crc_words[4][256];
-
-__attribute__((constructor)) static void crc_fill(void) {
-    for (int s = 0; s < 4; s++)
-        for (int b = 0; b < 256; b++) {
-            uint64_t r = s == 0 ? (uint64_t)b : crc_words[s - 1][b];
-            for (int i = 0; i < 8; i++)
-                r = r & 1 ? r >> 1 ^ UINT64_C(0xC96C5795D7870F42) : r >> 1;
-            crc_words[s][b] = r;
-        }
-}
-
-uint64_t peer_crc64(uint64_t crc, const uint8_t *p, size_t n) {
-    crc = ~crc;
-    for (; n >= 4; n -= 4, p += 4) {
-        uint32_t w;
-        memcpy(&w, p, 4);
-        w ^= (uint32_t)crc;
-        crc = crc_words[3][w & 255] ^ crc_words[2][w >> 8 & 255] ^ crc >> 32 ^ crc_words[1][w >> 16 & 255] ^ crc_words[0][w >> 24];
-    }
-    for (; n > 0; n--, p++)
-        crc = crc_words[0][(*p ^ crc) & 255] ^ crc >> 8;
-    return ~crc;
-}
-
 size_t peer_rabin_karp(const uint8_t *text, size_t n, const uint8_t *pattern, size_t m, uint32_t *places, size_t room) {
     size_t count = 0;
     if (m > n)

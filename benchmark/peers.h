@@ -17,8 +17,12 @@ uint64_t peer_test(uint64_t key, const uint64_t *words);
 /* A fingerprint by slicing by four: four bytes at a time through the table, any degree from 8 to 63. */
 uint64_t peer_slicing_by_4(uint64_t key, uint64_t f, const uint64_t *words, const uint8_t *p, size_t n);
 
-/* CRC-64 (the polynomial of ECMA-182, reflected) by slicing by four. */
-uint64_t peer_crc64(uint64_t crc, const uint8_t *p, size_t n);
+/* A fingerprint under the house key by carry-less multiplication, in registers of 128 bits (PCLMULQDQ) and of 512
+ * (VPCLMULQDQ), and whether this machine has the instructions. */
+uint64_t peer_carryless(uint64_t f, const uint8_t *p, size_t n);
+int peer_carryless_runs(void);
+uint64_t peer_carryless_wide(uint64_t f, const uint8_t *p, size_t n);
+int peer_carryless_wide_runs(void);
 
 /* Rabin and Karp's search modulo 2^32, base 257: the number of places, the first ones written. */
 size_t peer_rabin_karp(const uint8_t *text, size_t n, const uint8_t *pattern, size_t m, uint32_t *places, size_t room);

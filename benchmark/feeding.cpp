@@ -1,0 +1,192 @@
+#define OPENSSL_SUPPRESS_DEPRECATED
+#include "feeding.h"
+#include "../include/gfp.h"
+#include "measure.h"
+#include "peers.h"
+#include <algorithm>
+#include <cstdio>
+#include <cstdlib>
+#include <lzma.h>
+#include <openssl/sha.h>
+#include <zlib.h>
+
+const std::vector<size_t> SIZES = {64, 256, 1024, 4096, 65536, size_t(1) << 20, size_t(64) << 20};
+
+static const uint64_t HOUSE = GFP_HOUSE_KEY;
+static const char *SLICING = "C slicing by 4";
+
+struct Input {
+    uint64_t key;
+    std::vector<uint64_t> words;
+    std::vector<uint8_t> file;
+    Input(uint64_t key, size_t n) : key(key), words(GFP_TABLE_WORDS), file(random_bytes(n)) { gfp_make_table(key, words.data(), words.size()); }
+};
+
+struct Way {
+    std::string name;
+    bool ours;
+    Call call;
+};
+
+static Way by_house(const Input &in) {
+    return {"gfp_feed_house", true, [&in] {
+                uint64_t f = 1, length = 0;
+                gfp_feed_house(in.key, &f, &length, in.file.data(), in.file.size()), sink = f;
+            }};
+}
+
+static Way by_table(const Input &in) {
+    return {"gfp_feed_table", true, [&in] {
+                uint64_t f = 1, length = 0;
+                gfp_feed_table(in.key, &f, &length, in.words.data(), in.words.size(), in.file.data(), in.file.size()), sink = f;
+            }};
+}
+
+static Way without_table(const Input &in) {
+    return {"gfp_feed", true, [&in] {
+                uint64_t f = 1, length = 0;
+                gfp_feed(in.key, &f, &length, in.file.data(), in.file.size()), sink = f;
+            }};
+}
+
+static Way slicing(const Input &in) {
+    return {SLICING, false, [&in] { sink = peer_slicing_by_4(in.key, 1, in.words.data(), in.file.data(), in.file.size()); }};
+}
+
+static Way carryless(const Input &in) {
+    return {"C carry-less", false, [&in] { sink = peer_carryless(1, in.file.data(), in.file.size()); }};
+}
+
+static Way carryless_wide(const Input &in) {
+    return {"C carry-less 512", false, [&in] { sink = peer_carryless_wide(1, in.file.data(), in.file.size()); }};
+}
+
+static Way zlib_crc32(const Input &in) {
+    return {"zlib crc32", false, [&in] { sink = crc32(0, in.file.data(), uInt(in.file.size())); }};
+}
+
+static Way liblzma_crc64(const Input &in) {
+    return {"liblzma crc64", false, [&in] { sink = lzma_crc64(in.file.data(), in.file.size(), 0); }};
+}
+
+// by the functions that OpenSSL 3 calls deprecated: at 64 bytes they take about half the time of the others
+static Way openssl_sha256(const Input &in) {
+    return {"OpenSSL SHA-256", false, [&in] {
+                SHA256_CTX state;
+                uint8_t digest[SHA256_DIGEST_LENGTH];
+                SHA256_Init(&state), SHA256_Update(&state, in.file.data(), in.file.size()), SHA256_Final(digest, &state);
+                sink = digest[0];
+            }};
+}
+
+static std::vector<Way> house_ways(const Input &in) {
+    std::vector<Way> ways = {by_house(in), by_table(in), without_table(in), slicing(in)};
+    if (peer_carryless_runs())
+        ways.push_back(carryless(in));
+    if (peer_carryless_wide_runs())
+        ways.push_back(carryless_wide(in));
+    for (auto &way : {zlib_crc32(in), liblzma_crc64(in), openssl_sha256(in)})
+        ways.push_back(way);
+    return ways;
+}
+
+static std::vector<Way> drawn_ways(const Input &in) { return {by_table(in), slicing(in)}; }
+
+static void same(const char *what, size_t n, uint64_t value, uint64_t ours) {
+    if (value == ours)
+        return;
+    fprintf(stderr, "%s is not ours at %zu bytes: no figures\n", what, n);
+    exit(1);
+}
+
+// one length, behind a residue that depends on it, from an address that does
+static void check_length(const Input &in, size_t n) {
+    const uint8_t *part = in.file.data() + n % 17;
+    uint64_t start = (n + 1) * UINT64_C(0x9e3779b97f4a7c15) >> 3, length = 0, f = start, g = start, h = start;
+    gfp_feed_table(in.key, &f, &length, in.words.data(), in.words.size(), part, n), length = 0;
+    gfp_feed(in.key, &g, &length, part, n), length = 0;
+    same("gfp_feed", n, g, f);
+    same(SLICING, n, peer_slicing_by_4(in.key, start, in.words.data(), part, n), f);
+    if (in.key != HOUSE)
+        return;
+    gfp_feed_house(in.key, &h, &length, part, n);
+    same("gfp_feed_house", n, h, f);
+    if (peer_carryless_runs())
+        same("C carry-less", n, peer_carryless(start, part, n), f);
+    if (peer_carryless_wide_runs())
+        same("C carry-less 512", n, peer_carryless_wide(start, part, n), f);
+}
+
+void check_peers() {
+    for (uint64_t key : {HOUSE, drawn_key()}) {
+        Input in(key, (1 << 20) + 16);
+        for (size_t n = 0; n <= 1 << 20; n += n < 3000 ? 1 : 9973)
+            check_length(in, n);
+    }
+    if (!peer_carryless_runs())
+        printf("C carry-less: not measured, since this machine has no PCLMULQDQ.\n");
+    if (!peer_carryless_wide_runs())
+        printf("C carry-less 512: not measured, since this machine has no VPCLMULQDQ in registers of 512 bits.\n");
+}
+
+// a part of 64 MiB is fed in fewer turns
+static int turns(size_t n) { return n > 1 << 20 ? 7 : 31; }
+
+// each of ours beside C slicing by 4, and the first of ours beside the other peers
+static void print_lines(const std::string &what, const std::vector<Way> &ways, const std::vector<double> &ns) {
+    size_t c = 0;
+    while (ways[c].name != SLICING)
+        c++;
+    for (size_t i = 0; i < ways.size(); i++)
+        if (ways[i].ours)
+            print(i == 0 ? what + ways[i].name : "  " + ways[i].name, ns[i], SLICING, ns[c]);
+        else if (i != c)
+            print("  " + ways[0].name, ns[0], ways[i].name, ns[i]);
+}
+
+static Figures measured(uint64_t key, const std::string &name, std::vector<Way> (*ways_of)(const Input &)) {
+    Figures figures;
+    for (size_t n : SIZES) {
+        Input in(key, n);
+        std::vector<Way> ways = ways_of(in);
+        std::vector<Call> calls;
+        for (auto &way : ways)
+            calls.push_back(way.call);
+        std::vector<double> ns = measure(calls, turns(n));
+        print_lines("feed, " + name + ", " + size_name(n) + ": ", ways, ns);
+        figures.resize(ways.size());
+        for (size_t i = 0; i < ways.size(); i++) {
+            figures[i].name = ways[i].name, figures[i].ours = ways[i].ours;
+            figures[i].ns_a_byte.push_back(ns[i] / double(n));
+        }
+    }
+    return figures;
+}
+
+Figures feed_under_house_key() { return measured(HOUSE, "house key", house_ways); }
+
+Figures feed_under_drawn_key() { return measured(drawn_key(), "drawn key", drawn_ways); }
+
+static void feed_by_table(uint64_t key, const std::string &name, size_t n) {
+    Input in(key, n);
+    std::vector<double> ns = measure({by_table(in).call, slicing(in).call}, turns(n));
+    print("feed by table, " + name + ", " + std::to_string(n) + " bytes", ns[0], SLICING, ns[1]);
+    printf("%-52s      %11.3f ns a byte\n", "", ns[0] / double(n));
+}
+
+static void feed_by_bits(uint64_t key, const std::string &name) {
+    Input in(key, 65536);
+    compare("feed by bits, " + name + ", 65536 bytes", without_table(in).call,
+            {{"C branch-free loop", [&in] { sink = peer_feed_bits(in.key, 1, in.file.data(), in.file.size()); }}});
+}
+
+void feed_in_other_ways() {
+    for (uint64_t degree : {8, 31, 32, 63}) {
+        std::string name = "degree " + std::to_string(degree);
+        for (size_t n : {size_t(64), size_t(4096), size_t(65536), size_t(1) << 20, size_t(64) << 20})
+            feed_by_table(gfp_stock_key(degree), name, n);
+        feed_by_bits(gfp_stock_key(degree), name);
+    }
+    feed_by_bits(HOUSE, "house key");
+    feed_by_bits(drawn_key(), "drawn key");
+}
