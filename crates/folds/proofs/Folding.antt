@@ -273,18 +273,13 @@ done : (x : ℕ) → valueFrom x (bits []) ≡ x
 unfolding bits valueFrom
 done x = refl
 
-zero-first : (file : List ℕ) → valueFrom 0 (bits (0 ∷ file)) ≡ valueFrom 0 (bits file)
-zero-first file = value-byte 0 0 file
-
--- eight zeros and the eight digits of a number to the base 256
+-- the eight digits of a number to the base 256
 pub value-digits : (f : ℕ) → f / 256 / 256 / 256 / 256 / 256 / 256 / 256 < 256
-    → valueFrom 0 (bits (0 ∷ 0 ∷ 0 ∷ 0 ∷ 0 ∷ 0 ∷ 0 ∷ 0
-    ∷ f / 256 / 256 / 256 / 256 / 256 / 256 / 256 ∷ f / 256 / 256 / 256 / 256 / 256 / 256 % 256
+    → valueFrom 0 (bits (f / 256 / 256 / 256 / 256 / 256 / 256 / 256 ∷ f / 256 / 256 / 256 / 256 / 256 / 256 % 256
     ∷ f / 256 / 256 / 256 / 256 / 256 % 256 ∷ f / 256 / 256 / 256 / 256 % 256 ∷ f / 256 / 256 / 256 % 256
     ∷ f / 256 / 256 % 256 ∷ f / 256 % 256 ∷ f % 256 ∷ [])) ≡ f
 value-digits f small =
-    zero-first _ ∙ zero-first _ ∙ zero-first _ ∙ zero-first _ ∙ zero-first _ ∙ zero-first _ ∙ zero-first _ ∙ zero-first _
-    ∙ first (f / 256 / 256 / 256 / 256 / 256 / 256 / 256) _ small
+    first (f / 256 / 256 / 256 / 256 / 256 / 256 / 256) _ small
     ∙ push (f / 256 / 256 / 256 / 256 / 256 / 256) _
     ∙ push (f / 256 / 256 / 256 / 256 / 256) _
     ∙ push (f / 256 / 256 / 256 / 256) _

@@ -17,12 +17,12 @@ use Rattle.folds.proofs.fold_from.Statement.{statement}
 use Rattle.folds.proofs.fold_from.Tie as tie
 
 -- behind zeros the first block alone counts
-started : (s : ℕ) → Word s → (zeros q : List ℕ) (f : ℕ) (start part : List ℕ) → length start ≡ 16 → 16 + 61 * s ≤ length q → zeros ≡ replicate (length zeros) 0
+started : (s : ℕ) → Word s → (zeros q : List ℕ) (f : ℕ) (start part : List ℕ) → length start ≡ 8 → 8 + 61 * s ≤ length q → zeros ≡ replicate (length zeros) 0
     → valueFrom 0 (bits start) ≡ f → folded exponents s q (length start) ≡ valueFrom (folded exponents s zeros 0) (bits start)
-    → rem houseKey (valueFrom (folded exponents s (drop 16 q) 0) (bits part)) ≡ rem houseKey (valueFrom f (bits part))
+    → rem houseKey (valueFrom (folded exponents s (drop 8 q) 0) (bits part)) ≡ rem houseKey (valueFrom f (bits part))
 started s w zeros q f start part n l z ef e =
-    same-start house-pos f (folded exponents s (drop 16 q) 0) (bits part)
-    (sym (house-last s w q 16 l)
+    same-start house-pos f (folded exponents s (drop 8 q) 0) (bits part)
+    (sym (house-last s w q 8 l)
     ∙ ap (rem houseKey)
     (ap (folded exponents s q) (sym n) ∙ e ∙ ap (λ (x : ℕ). valueFrom x (bits start)) (ap (λ (x : List ℕ). folded exponents s x 0) z ∙ folded-zeros exponents s (length zeros)) ∙ ef))
 
@@ -35,29 +35,29 @@ flatten-requires c κs =
     let s = c .before .before .before .before .before .before .before .before .before .before .before .before .before in
     let d = c .before .before .before .before .before .before .before .divide-piece in
     let g = c .before .before .before .fold in
-    let e : length (putMid 16 (length (d .last .0) - 16) (d .last .0) (g .last .0)) ≡ length (d .last .0) =
-    same-len-mid 16 (length (d .last .0) - 16) (d .last .0) (g .last .0) (g .kept .0) in
+    let e : length (putMid 8 (length (d .last .0) - 8) (d .last .0) (g .last .0)) ≡ length (d .last .0) =
+    same-len-mid 8 (length (d .last .0) - 8) (d .last .0) (g .last .0) (g .kept .0) in
     (word-most (s .pre .0), rw (rest-all, length-drop, e) (omega arith))
 
--- the list becomes d by the start, g from place 16 on by the part, and h by the sums
-behind-start : (s : ℕ) → Word s → (d g h part : List ℕ) → length g ≡ length (take (length d - 16) (drop 16 d)) → 16 ≤ length d
-    → let q = putMid 16 (length d - 16) d g in
-    front h (61 * s) ≡ folded exponents s (take (length q - 16) (drop 16 q)) 0
-    → rem houseKey (folded exponents s g 0) ≡ rem houseKey (valueFrom (folded exponents s (take (length d - 16) (drop 16 d)) 0) (bits part))
-    → rem houseKey (front (drop 16 (putMid 16 (length q - 16) q h)) (61 * s)) ≡ rem houseKey (valueFrom (folded exponents s (drop 16 d) 0) (bits part))
+-- the list becomes d by the start, g from place 8 on by the part, and h by the sums
+behind-start : (s : ℕ) → Word s → (d g h part : List ℕ) → length g ≡ length (take (length d - 8) (drop 8 d)) → 8 ≤ length d
+    → let q = putMid 8 (length d - 8) d g in
+    front h (61 * s) ≡ folded exponents s (take (length q - 8) (drop 8 q)) 0
+    → rem houseKey (folded exponents s g 0) ≡ rem houseKey (valueFrom (folded exponents s (take (length d - 8) (drop 8 d)) 0) (bits part))
+    → rem houseKey (front (drop 8 (putMid 8 (length q - 8) q h)) (61 * s)) ≡ rem houseKey (valueFrom (folded exponents s (drop 8 d) 0) (bits part))
 behind-start s w d g h part kept l eh eg =
-    let q = putMid 16 (length d - 16) d g in
-    let size : length q ≡ length d = same-len-mid 16 (length d - 16) d g kept in
-    ap (λ (x : List ℕ). rem houseKey (front x (61 * s))) (put-last 16 q h (omega arith))
-    ∙ ap (rem houseKey) (eh ∙ ap (λ (x : List ℕ). folded exponents s x 0) (rest-all q 16 ∙ put-last 16 d g l))
+    let q = putMid 8 (length d - 8) d g in
+    let size : length q ≡ length d = same-len-mid 8 (length d - 8) d g kept in
+    ap (λ (x : List ℕ). rem houseKey (front x (61 * s))) (put-last 8 q h (omega arith))
+    ∙ ap (rem houseKey) (eh ∙ ap (λ (x : List ℕ). folded exponents s x 0) (rest-all q 8 ∙ put-last 8 d g l))
     ∙ eg
-    ∙ ap (λ (x : List ℕ). rem houseKey (valueFrom (folded exponents s x 0) (bits part))) (rest-all d 16)
+    ∙ ap (λ (x : List ℕ). rem houseKey (valueFrom (folded exponents s x 0) (bits part))) (rest-all d 8)
 
 returns : tie.Need-returns
 returns c =
     let s = c .before .before .before .before .before .before .before .before .before .before .before .before .before .before .before .before in
     let a = s .args in
-    let b = c .before .before .before .before .before .before .before .before .before .before .before .before .before .sixteen in
+    let b = c .before .before .before .before .before .before .before .before .before .before .before .before .before .eight in
     let d = c .before .before .before .before .before .before .before .before .before .before .divide-piece in
     let g = c .before .before .before .before .before .before .fold in
     let h = c .before .before .flatten in
