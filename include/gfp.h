@@ -67,7 +67,8 @@ uint64_t gfp_stock_key(uint64_t degree);
 /* The mark of the empty file: fingerprint 1, length 0. Refusals: 1, 2. Stack: 1,536 bytes. */
 uint32_t gfp_begin(uint64_t key, uint64_t *fingerprint, uint64_t *length);
 
-/* Feeds the next part of a file to a mark, bit by bit. Refusals: 1, 2, 7, 8. Stack: 1,536 bytes. */
+/* Feeds the next part of a file to a mark, with no table: fast under GFP_HOUSE_KEY, several bytes at a time under the
+ * other stock keys from degree 16 on, bit by bit under most other keys. Refusals: 1, 2, 7, 8. Stack: 7,680 bytes. */
 uint32_t gfp_feed(uint64_t key, uint64_t *fingerprint, uint64_t *length, const uint8_t *part, size_t part_length);
 
 /* Fills a lent buffer of 1,024 words with the key's table. Refusals: 1, 2, 5. Stack: 1,536 bytes. */
@@ -76,14 +77,14 @@ uint32_t gfp_make_table(uint64_t key, uint64_t *words, size_t words_length);
 /* Whether the words are the key's table. Refusals: 1, 2, 5, 6. Stack: 1,536 bytes. */
 uint32_t gfp_test_table(uint64_t key, const uint64_t *words, size_t words_length);
 
-/* Feeds the next part by a table: the same mark as gfp_feed, many times faster. All words are tested first.
- * Refusals: 1, 2, 5, 6, 7, 8. Stack: 1,536 bytes. */
+/* Feeds the next part by a table: the same mark as gfp_feed, under a drawn key many times faster. All words are tested
+ * first. Refusals: 1, 2, 5, 6, 7, 8. Stack: 7,680 bytes. */
 uint32_t gfp_feed_table(uint64_t key, uint64_t *fingerprint, uint64_t *length, const uint64_t *words,
                         size_t words_length, const uint8_t *part, size_t part_length);
 
 /* Feeds the next part by the table of GFP_HOUSE_KEY, which the library holds: the same as gfp_feed_table with its
- * words. Under that key no word is tested, since they are proved right; under another key they are, like a lent
- * table. Refusals: 1, 2, 6, 7, 8. Stack: 9,728 bytes. */
+ * words. Under that key no word is tested, since they are proved right, and none is read: that is the fastest way to
+ * feed. Under another key they are tested like a lent table. Refusals: 1, 2, 6, 7, 8. Stack: 9,728 bytes. */
 uint32_t gfp_feed_house(uint64_t key, uint64_t *fingerprint, uint64_t *length, const uint8_t *part, size_t part_length);
 
 /* ---- Site: link libgfp_site.a and libgfp_bench.a */

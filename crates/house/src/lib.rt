@@ -8,7 +8,8 @@ use constant::HOUSE;
 // The house key t^61 + t^5 + t^2 + t + 1.
 pub const KEY: u64 = 0x2000000000000027;
 
-// The words of its table. Their rule is computed here, once: every other function takes them from this one.
+// The words of its table, which document 01 asks for. Their rule is computed here, once: every other function takes them from this one. Feeding under
+// another key reads them, and tests them like a lent table (`marks::Running::feed_house`). Feeding under the house key does not: it folds (crate `folds`).
 pub fn words() -> [u64; 1024]
     ensures { λ r. ⌜ r ≡ houseWords ⌝ }
 {
