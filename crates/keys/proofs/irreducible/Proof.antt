@@ -124,7 +124,7 @@ array-borrow-prefix-rows c = let m = c .before in omega (arith, within m, thirds
 slice-aggregate-independent-squares : tie.Need-slice-aggregate-independent-squares
 slice-aggregate-independent-squares c =
     let m = rows→square-rows c in
-    sym (length-take-le (thirds m) (made m) (omega (arith, within m, thirds-within m)))
+    sym (length-take-le _ (made m) (omega (arith, within m, known (square-rows→start m) .low)))
 
 returns : tie.Need-returns
 returns c =
