@@ -40,14 +40,21 @@ fn chosen_from(x: u64, c: u32, v: u64) -> u64
     v & std::num::wrapping_sub_u64(0, x & bit)
 }
 
-// Clears column c of every row by v.
-fn clear_column(rows: &mut [u64], v: u64, c: u32)
+// A row with column c cleared by v.
+fn cleared(r: u64, v: u64, c: u32) -> u64
     requires { ⌜ (c < 64) × (v % 2 ^ c ≡ 0) ⌝ }
-    ensures { λ r. ⌜ now (rows .exit) ≡ map (clear c v) (now (rows .entry)) ⌝ }
+    ensures { λ x. ⌜ x ≡ clear c v r ⌝ }
+{
+    chosen_from(r, c, v) ^ r
+}
+
+// Clears column c of every row by v, and then column d by w.
+fn clear_columns(rows: &mut [u64], v: u64, c: u32, w: u64, d: u32)
+    requires { ⌜ (c < 64) × (v % 2 ^ c ≡ 0) × (d < 64) × (w % 2 ^ d ≡ 0) ⌝ }
+    ensures { λ r. ⌜ now (rows .exit) ≡ map (clear d w) (map (clear c v) (now (rows .entry))) ⌝ }
 {
     for i in 0..rows.len() {
-        let r = rows[i];
-        rows[i] = chosen_from(r, c, v) ^ r;
+        rows[i] = cleared(cleared(rows[i], v, c), w, d);
     }
 }
 
@@ -59,22 +66,30 @@ fn lowest_one(v: u64) -> u32
     u64::trailing_zeros(v)
 }
 
-// Are the rows independent? By elimination in place: each row, from the last, clears the column of its lowest 1 from the rows before it.
-// From the last, since then every turn's part of the buffer begins at the same place. What is left of the rows is free.
+// Are the rows independent? By elimination in place: each row, from the last, clears the column of its lowest 1 from the rows before it; two
+// rows in one pass. From the last, since then every turn's part of the buffer begins at the same place. What is left of the rows is free.
 pub fn independent(rows: &mut [u64]) -> bool
     ensures { λ r. ⌜ ((r ≡ true) ↔ Independent (now (rows .entry))) × Scratch (now (rows .entry)) (now (rows .exit)) ⌝ }
 {
     let mut n = rows.len();
-    while 0 < n {
-        n -= 1;
-        let v = rows[n];
+    while 1 < n {
+        n -= 2;
+        let v = rows[n + 1];
         if v == 0 {
             return false;
         }
         let c = lowest_one(v);
-        clear_column(&mut rows[..n], v, c);
+        let w = cleared(rows[n], v, c);
+        if w == 0 {
+            return false;
+        }
+        let d = lowest_one(w);
+        clear_columns(&mut rows[..n], v, c, w, d);
     }
-    true
+    if n == 0 {
+        return true;
+    }
+    0 < rows[0]
 }
 
 // Clears column c of every row by v, and adds w to the sums that belong to the rows that change.

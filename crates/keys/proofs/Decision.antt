@@ -31,9 +31,10 @@ square-is : (p i : ℕ) → square p i ≡ rem p (2 ^ i ⊗ 2 ^ i)
 unfolding square
 square-is p i = let e : 2 * i ≡ i + i = omega arith in ap (rem p) (rw e (pow-add 2 i i ∙ sym (⊗-pow i (2 ^ i))))
 
--- ---- the rows of the squares of t^h, .. t^(k - 1), for h half of k, rounded up, and n the other half
+-- ---- the rows of the squares of t^h, .. t^(h + n - 1), for h half of the degree, rounded up, and any n of the other half
 
-module _ (p : ℕ) (pos : 0 < p) (h n : ℕ) (whole : h + n ≡ degree p) (lower : n ≤ h) (upper : h ≤ suc n) (some : 0 < h) (word : degree p < 64) where
+module _ (p : ℕ) (pos : 0 < p) (h n : ℕ) (within : h + n ≤ degree p) (lower : degree p ≤ 2 * h) (upper : 2 * h ≤ suc (degree p)) (some : 0 < h)
+    (word : degree p < 64) where
   small-square : (l : ℕ) → l < 2 ^ h → l ⊗ l < 2 ^ degree p
   small-square l m = go (eq-zero-or-pos l)
     where
@@ -72,7 +73,7 @@ module _ (p : ℕ) (pos : 0 < p) (h n : ℕ) (whole : h + n ≡ degree p) (lower
         ∙ ⊕-swap (rem p (g * 2 ^ h ⊗ (g * 2 ^ h))) (l ⊗ l) (δ (g * 2 ^ h)) (δ l)
 
     abbrev Low : Type 0
-    Low = (x : ℕ) → x < 2 ^ degree p → value x ≡ 0 → x < 2 ^ h
+    Low = (x : ℕ) → x < 2 ^ (n + h) → value x ≡ 0 → x < 2 ^ h
 
     there : Independent rows → Low
     there i x l e =
@@ -89,7 +90,7 @@ module _ (p : ℕ) (pos : 0 < p) (h n : ℕ) (whole : h + n ≡ degree p) (lower
         lo-lt = mod-lt x (pow-pos h)
 
         small : g < 2 ^ n
-        small = let e : n + h ≡ degree p = omega arith in shr-lt n h (rw e l)
+        small = shr-lt n h l
 
         equal : value (g * 2 ^ h) ≡ lo ⊗ lo ⊕ δ lo
         equal =
@@ -102,20 +103,23 @@ module _ (p : ℕ) (pos : 0 < p) (h n : ℕ) (whole : h + n ≡ degree p) (lower
         small : g < 2 ^ n
         small = rw length-list at l
 
-        high-lt : g * 2 ^ h < 2 ^ degree p
-        high-lt = let e : n + h ≡ degree p = omega arith in rw e at (shl-lt n h small)
+        high-lt : g * 2 ^ h < 2 ^ (n + h)
+        high-lt = shl-lt n h small
+
+        residue : g * 2 ^ h < 2 ^ degree p
+        residue = lt-of-lt-of-le high-lt (pow-mono (omega arith))
 
         small-value : value (g * 2 ^ h) < 2 ^ degree p
         small-value =
-            ⊕-lt (degree p) (rem p (g * 2 ^ h ⊗ (g * 2 ^ h))) (δ (g * 2 ^ h)) (rem-lt pos (g * 2 ^ h ⊗ (g * 2 ^ h))) (t .δ-lt (degree p) (g * 2 ^ h) high-lt)
+            ⊕-lt (degree p) (rem p (g * 2 ^ h ⊗ (g * 2 ^ h))) (δ (g * 2 ^ h)) (rem-lt pos (g * 2 ^ h ⊗ (g * 2 ^ h))) (t .δ-lt (degree p) (g * 2 ^ h) residue)
 
         low : (l : ℕ) × (l < 2 ^ h) × (value (g * 2 ^ h) ≡ l ⊗ l ⊕ δ l)
         low =
             t .only-at (value (g * 2 ^ h)) h (lt-of-lt-of-le small-value (pow-mono {j = 64} (omega arith)))
             (lt-of-lt-of-le small-value (pow-mono (omega arith))) (sym (sum-rows g small) ∙ e)
 
-        bound : g * 2 ^ h ⊕ low .0 < 2 ^ degree p
-        bound = ⊕-lt (degree p) (g * 2 ^ h) (low .0) high-lt (lt-of-lt-of-le (low .1) (pow-mono (omega arith)))
+        bound : g * 2 ^ h ⊕ low .0 < 2 ^ (n + h)
+        bound = ⊕-lt (n + h) (g * 2 ^ h) (low .0) high-lt (lt-of-lt-of-le (low .1) (pow-mono (omega arith)))
 
         zero-there : value (g * 2 ^ h ⊕ low .0) ≡ 0
         zero-there = parts g (low .0) (low .1) ∙ rw (← low .2) (⊕-self (value (g * 2 ^ h)))
@@ -123,7 +127,7 @@ module _ (p : ℕ) (pos : 0 < p) (h n : ℕ) (whole : h + n ≡ degree p) (lower
   -- ---- squaring takes no residue to 0 but 0
 
   abbrev NoNilpotent : Type 0
-  NoNilpotent = (x : ℕ) → 0 < x → x < 2 ^ degree p → rem p (x ⊗ x) ≡ 0 → ⊥
+  NoNilpotent = (x : ℕ) → 0 < x → x < 2 ^ (n + h) → rem p (x ⊗ x) ≡ 0 → ⊥
 
   rows-alone : listFrom (λ i. oddPart (square p i ⊕ 0)) h n ≡ squareRows p h n
   unfolding squareRows
@@ -142,14 +146,14 @@ module _ (p : ℕ) (pos : 0 < p) (h n : ℕ) (whole : h + n ≡ degree p) (lower
   squares-back : NoNilpotent → Independent (squareRows p h n)
   squares-back j = rw rows-alone at (back odd-kernel (λ x l e. go x l e (eq-zero-or-pos x)))
     where
-      go : (x : ℕ) → x < 2 ^ degree p → rem p (x ⊗ x) ⊕ 0 ≡ 0 → (x ≡ 0) ⊎ (0 < x) → x < 2 ^ h
+      go : (x : ℕ) → x < 2 ^ (n + h) → rem p (x ⊗ x) ⊕ 0 ≡ 0 → (x ≡ 0) ⊎ (0 < x) → x < 2 ^ h
       go x l e (inl z) = rw z (pow-pos h)
       go x l e (inr q) = absurd (j x q l (sym (⊕-zero (rem p (x ⊗ x))) ∙ e))
 
   -- ---- squaring keeps no residue but 0 and 1
 
   abbrev NoIdempotent : Type 0
-  NoIdempotent = (x : ℕ) → 1 < x → x < 2 ^ degree p → rem p (x ⊗ x) ≡ x → ⊥
+  NoIdempotent = (x : ℕ) → 1 < x → x < 2 ^ (n + h) → rem p (x ⊗ x) ≡ x → ⊥
 
   differences-there : Independent (differenceRows p h n) → NoIdempotent
   unfolding differenceRows
@@ -169,40 +173,55 @@ module _ (p : ℕ) (pos : 0 < p) (h n : ℕ) (whole : h + n ≡ degree p) (lower
   unfolding differenceRows
   differences-back j = back fold-kernel (λ x l e. go x l e (decLt 1 x))
     where
-      go : (x : ℕ) → x < 2 ^ degree p → rem p (x ⊗ x) ⊕ x ≡ 0 → Dec (1 < x) → x < 2 ^ h
+      go : (x : ℕ) → x < 2 ^ (n + h) → rem p (x ⊗ x) ⊕ x ≡ 0 → Dec (1 < x) → x < 2 ^ h
       go x l e (no q) = omega (arith, pow-mono {i = 1} some)
       go x l e (yes q) = absurd (j x q l (⊕-eq (rem p (x ⊗ x)) x e))
 
--- ---- the criterion: the key's number 2
+-- ---- the criterion: the key's number 2. Squares up to two thirds of the degree, differences up to the degree
 
 module _ (p k : ℕ) (proper : 1 < p) (is : k ≡ degree p) (low : 0 < k) (high : k < 64) where
   pos : 0 < p
   pos = omega (arith, proper)
 
-  whole : k - k / 2 + k / 2 ≡ degree p
-  whole = omega arith
-
   word : degree p < 64
   word = omega arith
 
-  pub irreducible-squares : reducible p ≡ false → Independent (squareRows p (k - k / 2) (k / 2))
+  h : ℕ
+  h = k - k / 2
+
+  thirds : ℕ
+  thirds = 2 * k / 3 + 1 - h
+
+  two-thirds : 2 ^ (thirds + h) ≡ 2 ^ (2 * degree p / 3 + 1)
+  unfolding thirds h
+  two-thirds = ap (λ (x : ℕ). 2 ^ x) (omega arith)
+
+  all : 2 ^ (k / 2 + h) ≡ 2 ^ degree p
+  unfolding h
+  all = ap (λ (x : ℕ). 2 ^ x) (omega arith)
+
+  pub irreducible-squares : reducible p ≡ false → Independent (squareRows p (k - k / 2) (2 * k / 3 + 1 - (k - k / 2)))
+  unfolding thirds h
   irreducible-squares e =
-      squares-back p pos (k - k / 2) (k / 2) whole (omega arith) (omega arith) (omega arith) word
-      (irreducible-rigid p (irreducible-of p (omega arith) e) .no-nilpotent)
+      squares-back p pos h thirds (omega arith) (omega arith) (omega arith) (omega arith) word
+      (λ x q l z. irreducible-rigid p (irreducible-of p (omega arith) e) .no-nilpotent x q (rw two-thirds at l) z)
 
   pub irreducible-differences : reducible p ≡ false → Independent (differenceRows p (k - k / 2) (k / 2))
+  unfolding h
   irreducible-differences e =
-      differences-back p pos (k - k / 2) (k / 2) whole (omega arith) (omega arith) (omega arith) word
-      (irreducible-rigid p (irreducible-of p (omega arith) e) .no-idempotent)
+      differences-back p pos h (k / 2) (omega arith) (omega arith) (omega arith) (omega arith) word
+      (λ x q l z. irreducible-rigid p (irreducible-of p (omega arith) e) .no-idempotent x q (rw all at l) z)
 
-  pub both-irreducible : Independent (squareRows p (k - k / 2) (k / 2)) → Independent (differenceRows p (k - k / 2) (k / 2)) → reducible p ≡ false
+  pub both-irreducible : Independent (squareRows p (k - k / 2) (2 * k / 3 + 1 - (k - k / 2))) → Independent (differenceRows p (k - k / 2) (k / 2))
+      → reducible p ≡ false
+  unfolding thirds h
   both-irreducible i j =
       not-reducible p
       (rigid-irreducible p
       (record {
         proper = proper;
-        no-nilpotent = squares-there p pos (k - k / 2) (k / 2) whole (omega arith) (omega arith) (omega arith) word i;
-        no-idempotent = differences-there p pos (k - k / 2) (k / 2) whole (omega arith) (omega arith) (omega arith) word j;
+        no-nilpotent = λ x q l z. squares-there p pos h thirds (omega arith) (omega arith) (omega arith) (omega arith) word i x q (rw two-thirds l) z;
+        no-idempotent = λ x q l z. differences-there p pos h (k / 2) (omega arith) (omega arith) (omega arith) (omega arith) word j x q (rw all l) z;
       }))
 
 -- the rows as the code makes them, of listed squares

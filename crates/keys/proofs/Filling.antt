@@ -2,16 +2,16 @@
 use mathlib.Core.Path.{_≡_, sym, ap, _∙_}
 use mathlib.Core.Bool.{Bool, true}
 use mathlib.Core.Logic.{_↔_}
-use mathlib.Core.List.{List, [], _∷_, _++_, append-nil}
-use Prim.Native.Nat.{ℕ, suc, _+_, _*_, _^_, _≤_, _<_}
+use mathlib.Core.List.{List, [], _∷_, _++_, append-nil, append-assoc}
+use Prim.Native.Nat.{ℕ, suc, _+_, _-_, _*_, _^_, _≤_, _<_}
 use native.Mathlib.Nat.{zero-add, add-zero, pow-suc}
 use native.Mathlib.Omega.{arith}
-use lib.ListN.{length, drop, getD, set, length-append, length-drop}
-use lib.Seq.{drop-cons, drop-length, getD-at}
+use lib.ListN.{length, take, drop, getD, set, length-append, length-drop}
+use lib.Seq.{drop-cons, drop-length, getD-at, take-at}
 use Rattle.gf2.specs.Polynomials.{rem}
 use Rattle.lists.specs.Lists.{listFrom}
 use Rattle.gf2.proofs.Powers.{rem-shl}
-use Rattle.lists.proofs.Lists.{length-list, list-at, list-more, list-same, written-next}
+use Rattle.lists.proofs.Lists.{length-list, list-append, list-at, list-more, list-same, written-next}
 use Rattle.basis.specs.Rows.{Independent}
 use Rattle.keys.specs.Squares.{square}
 
@@ -35,6 +35,15 @@ module _ (f : ℕ → ℕ) (a i : ℕ) (rows : List ℕ) where
 
   pub fill-whole : i ≡ length rows → listFrom f a i ++ drop i rows ≡ listFrom f a (length rows)
   fill-whole e = rw (e, drop-length) (append-nil (listFrom f a (length rows)))
+
+-- the first m of n values in front of a buffer
+pub front-values : (f : ℕ → ℕ) (a m n : ℕ) (rest : List ℕ) → m ≤ n → take m (listFrom f a n ++ rest) ≡ listFrom f a m
+front-values f a m n rest h =
+    let e : n ≡ m + (n - m) = omega arith in
+    ap (λ (x : ℕ). take m (listFrom f a x ++ rest)) e
+    ∙ ap (λ (l : List ℕ). take m (l ++ rest)) (list-append f a m (n - m))
+    ∙ ap (take m) (append-assoc (listFrom f a m) (listFrom f (a + m) (n - m)) rest)
+    ∙ take-at (listFrom f a m) (listFrom f (a + m) (n - m) ++ rest) m (length-list f a m)
 
 -- what is decided of the filled buffer
 pub same-independent : {r : Bool} {xs ys : List ℕ} → xs ≡ ys → (r ≡ true) ↔ Independent xs → (r ≡ true) ↔ Independent ys

@@ -1,7 +1,8 @@
 -- For inner functions: a reader of the promises need not read this page.
 -- The rows that decide whether a polynomial p of degree k is irreducible, after Berlekamp: squaring modulo p is linear. With h half of
--- k, rounded up, the squares of 1, t, .. t^(h - 1) are those without the modulus; what is left to test are the squares of t^h, ..
--- t^(k - 1), modulo all squares, and each less its power of t, modulo all l² ⊕ l (proofs/Decision).
+-- k, rounded up, the squares of 1, t, .. t^(h - 1) are those without the modulus; what is left to test are the squares of t^h and of the
+-- powers behind it up to two thirds of k, modulo all squares, and the squares of t^h, .. t^(k - 1), each less its power of t, modulo all
+-- l² ⊕ l (proofs/Decision).
 use mathlib.Core.List.{List}
 use Prim.Native.Nat.{ℕ, zero, suc, _+_, _*_, _/_, _%_, _^_}
 use lib.Bits.{bitAnd}

@@ -10,6 +10,7 @@ ghost use Rattle.lists.specs.Lists.{listFrom};
 ghost use Rattle.lists.specs.Inner.{Scratch};
 ghost use Rattle.acceptance.specs.Keys.{reducible};
 ghost use Rattle.basis.specs.Rows.{Independent};
+ghost use Rattle.stock.specs.Stock.{stockKey};
 ghost use Rattle.keys.specs.Squares.{square, evenRoot, oddPart, folded};
 ghost use Rattle.keys.specs.Testing.{testKey};
 ghost use Rattle.keys.specs.Answers.{tested};
@@ -94,20 +95,33 @@ fn independent_differences(rows: &mut [u64], h: usize) -> bool
     basis::independent(rows)
 }
 
-// Irreducible, that is: squaring modulo the polynomial takes no residue to 0 but 0 and keeps none but 0 and 1.
+// Irreducible, that is: squaring modulo the polynomial takes no residue of at most two thirds of its degree to 0 but 0, and keeps no residue
+// but 0 and 1.
 fn irreducible(p: Modulus) -> bool
     requires { ⌜ Proper p × (p .degree < 64) ⌝ }
     ensures { λ r. ⌜ r ≡ not (reducible (polynomial p)) ⌝ }
 {
-    let k = p.degree;
-    let n = (k / 2) as usize;
+    let k = p.degree as usize;
+    let n = k / 2;
+    let h = k - n;
+    let thirds = 2 * k / 3 + 1 - h;
     let mut squares: [u64; 32] = [0; 32];
     square_rows(p, &mut squares[..n]);
     let mut rows = squares;
-    if !independent_squares(&mut rows[..n]) {
+    if !independent_squares(&mut rows[..thirds]) {
         return false;
     }
-    independent_differences(&mut squares[..n], k as usize - n)
+    independent_differences(&mut squares[..n], h)
+}
+
+// Is the key the stock key of its degree? The coefficients of a stock key below the leading one are below 256: no other key is looked up.
+fn is_stock(key: u64, p: Modulus) -> bool
+    ensures { λ r. ⌜ (r ≡ true → key ≡ stockKey (p .degree)) ⌝ }
+{
+    if 256 <= p.low {
+        return false;
+    }
+    key == stock::stock_key(p.degree as u64)
 }
 
 // Is the key accepted, and if not, by which number is it refused? The stock key of its degree is known to be accepted. Numbers 1, 2.
@@ -118,7 +132,7 @@ pub fn test(key: u64) -> Tested
         return Tested::Refused(Refusal::KeyBelow256);
     }
     let p = gf2::modulus_of(key);
-    if key == stock::stock_key(p.degree as u64) {
+    if is_stock(key, p) {
         return Tested::Accepted(p);
     }
     if !irreducible(p) {

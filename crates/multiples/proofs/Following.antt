@@ -20,16 +20,12 @@ use Rattle.gf2.proofs.Powers.{rem-shl, rem-⊗-right}
 use Rattle.gf2.proofs.Monics.{monic-pos}
 use Rattle.gf2.proofs.Steps.{residue-small, residue-below}
 use Rattle.multiples.specs.Rows.{Multiples, Rows, SameBefore}
-use Rattle.multiples.proofs.Doubling.{multiple-next}
+use Rattle.multiples.proofs.Doubling.{multiple-next, power-half}
 
 -- the rows of another number with the same residue
 pub rows-same : {key : ℕ} (pos : 0 < key) (w x y c : ℕ) (words : List ℕ) → rem key x ≡ rem key y → Rows w key x c words → Rows w key y c words
 rows-same {key} pos w x y c words e f j l =
     rw (sym (rem-shl pos x (w * j)) ∙ ap (λ (z : ℕ). rem key (z * 2 ^ (w * j))) e ∙ rem-shl pos y (w * j)) at (f j l)
-
-power-half : (w : ℕ) → 0 < w → 2 ^ w / 2 * 2 ≡ 2 ^ w
-power-half zero h = absurd (omega arith)
-power-half (suc v) h = rw pow-suc (omega arith)
 
 -- ---- the places of row j among those of c rows
 

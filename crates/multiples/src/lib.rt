@@ -59,8 +59,40 @@ fn differences(words: &[u64], at: usize, n: usize, y: u64) -> u64
     sum
 }
 
-// Whether word at + i is the residue of i times x, for each i below 2^width.
-fn row_holds(words: &[u64], at: usize, width: u32, p: Modulus, x: u64) -> bool
+// Three doublings in one pass, which reads each word once: zero where the n words behind the n words from place `at` on are those with y added,
+// the 2·n words behind these 2·n are those with z added, and the 4·n words behind these 4·n are those with v added.
+fn differences_of_eight(words: &[u64], at: usize, n: usize, y: u64, z: u64, v: u64) -> u64
+    requires { ⌜ at + n * 2 * 2 * 2 ≤ length (now words) ⌝ }
+    ensures { λ r. ⌜ (r ≡ 0) ↔ (Shifted at (at + n) n y (now (words .entry)) (now (words .entry))
+        × (Shifted at (at + n * 2) (n * 2) z (now (words .entry)) (now (words .entry))
+        × Shifted at (at + n * 2 * 2) (n * 2 * 2) v (now (words .entry)) (now (words .entry)))) ⌝ }
+{
+    let at1 = at + n;
+    let at2 = at1 + n;
+    let at3 = at2 + n;
+    let at4 = at3 + n;
+    let at5 = at4 + n;
+    let at6 = at5 + n;
+    let at7 = at6 + n;
+    let mut sum: u64 = 0;
+    let mut i: usize = 0;
+    while i < n {
+        let w0 = words[at + i];
+        let w1 = words[at1 + i];
+        let w2 = words[at2 + i];
+        let w3 = words[at3 + i];
+        let once = w1 ^ w0 ^ y;
+        let twice = (w2 ^ w0 ^ z) | (w3 ^ w1 ^ z);
+        let low = (words[at4 + i] ^ w0 ^ v) | (words[at5 + i] ^ w1 ^ v);
+        let high = (words[at6 + i] ^ w2 ^ v) | (words[at7 + i] ^ w3 ^ v);
+        sum = sum | (once | twice | low | high);
+        i += 1;
+    }
+    sum
+}
+
+// Whether word at + i is the residue of i times x, for each i below 2^width, by doubling.
+fn first_holds(words: &[u64], at: usize, width: u32, p: Modulus, x: u64) -> bool
     requires { ⌜ Proper p × (x < 2 ^ p .degree) × (at + 2 ^ width ≤ length (now words)) ⌝ }
     ensures { λ r. ⌜ (r ≡ true) ↔ Multiples (polynomial p) x at (2 ^ width) (now (words .entry)) ⌝ }
 {
@@ -82,6 +114,26 @@ fn row_size(width: u32) -> usize
     ensures { λ r. ⌜ r ≡ 2 ^ width ⌝ }
 {
     1 << width
+}
+
+// The same: the first eighth by doubling, and the other seven by it in one pass. The word in the middle of the first eighth, shifted by one
+// place, is the multiple that the second eighth begins with.
+fn row_holds(words: &[u64], at: usize, width: u32, p: Modulus, x: u64) -> bool
+    requires { ⌜ Proper p × (x < 2 ^ p .degree) × (width < 64) × (at + 2 ^ width ≤ length (now words)) ⌝ }
+    ensures { λ r. ⌜ (r ≡ true) ↔ Multiples (polynomial p) x at (2 ^ width) (now (words .entry)) ⌝ }
+{
+    if width < 4 {
+        return first_holds(words, at, width, p, x);
+    }
+    let low = width - 3;
+    if !first_holds(words, at, low, p, x) {
+        return false;
+    }
+    let n = row_size(low);
+    let y = gf2::step(p, words[at + n / 2], 0);
+    let z = gf2::step(p, y, 0);
+    let v = gf2::step(p, z, 0);
+    differences_of_eight(words, at, n, y, z, v) == 0
 }
 
 // Rows one behind the other, each with the multiples of t^width times the start of the row before it: the start of the next row is the word

@@ -7,7 +7,7 @@ use Prim.Native.Nat.{ℕ, zero, suc, _*_, _/_, _%_, _^_, _≤_, _<_}
 use native.Mathlib.Nat.{le-of-eq, mul-one, pow-suc, lt-of-lt-of-le, mod-eq-of-lt}
 use native.Mathlib.Omega.{arith}
 use lib.Dec.{T, eqb, eqb→eq}
-use lib.Pow.{pow-pos}
+use lib.Pow.{pow-pos, pow-mono}
 use Rattle.gf2.specs.Polynomials.{_⊕_, _⊗_, degree, rem, Irreducible}
 use Rattle.gf2.specs.Degrees.{Degree, monic}
 use Rattle.lists.specs.Lists.{listFrom}
@@ -194,7 +194,7 @@ module _ (n : ℕ) (p : Word) (fits : size p ≤ suc n) where
       rigid-irreducible (modulus (suc n) p)
       (record {
         proper = lt-of-lt-of-le (one-lt n) (deg-lo (modulus (suc n) p) (suc n) (modulus-deg (suc n) p));
-        no-nilpotent = λ h l s e. no-nilpotent (and-left (injective n p) (two-fixed n p) t) h l (rw full at s) e;
+        no-nilpotent = λ h l s e. no-nilpotent (and-left (injective n p) (two-fixed n p) t) h l (lt-of-lt-of-le s (pow-mono (omega (arith, full)))) e;
         no-idempotent = λ h l s e. no-idempotent (and-right (injective n p) (two-fixed n p) t) h l (rw full at s) e;
       })
     where

@@ -24,7 +24,7 @@ use Rattle.keys.proofs.test.Tie as tie
 -- ---- the places: from each one to an earlier one
 
 abbrev else2→modulus-of : tie.Else2 → tie.After-modulus-of
-else2→modulus-of c = c .before .before .before
+else2→modulus-of c = c .before .before
 
 returns : tie.Need-returns
 unfolding testKey
@@ -56,11 +56,11 @@ accepted-is key p e a b = ap Done e ∙ sym (rw (a, b))
 
 returns-2 : tie.Need-returns-2
 returns-2 c =
-    let m = c .before .before .before in
+    let m = c .before .before in
     let s = m .before .before in
     let k = m .modulus-of .result .degree in
     let r = in-range m in
-    let is : s .args .key ≡ stockKey k = c .if2 .taken ∙ c .before .stock-key .ensures in
+    let is : s .args .key ≡ stockKey k = c .before .is-stock .ensures (c .if2 .taken) in
     let e = key-iff (s .args .key) (s .fits .key .fits) .0 (ap accepted is ∙ stock-smallest k (r .0) (r .1) .is-accepted) in
     accepted-is (s .args .key) (m .modulus-of .result) (m .modulus-of .ensures) (e .0) (e .1)
 
@@ -90,7 +90,6 @@ test-spec =
     (tie.spec
     returns
     (λ c κs. omega arith)
-    (λ c. search needs)
     (λ c κs. search needs)
     returns-2
     irreducible-requires

@@ -87,6 +87,7 @@ row-holds-requires c κs =
     let n = c .before .before .row-size in (
       s .pre .0,
       residue-below (a .p) (s .pre .0) (l .y) _ (l .inv .1),
+      s .pre .3,
       row-le (a .width) (l .j) (a .rows) (n .result) (length (a .words .now)) (n .ensures) (c .loop-test .taken) (s .pre .4),
     )
 
