@@ -7,12 +7,12 @@ use native.Mathlib.Nat.{zero-add, suc-add, zero-mul, one-mul, pow-suc, pow-succ'
 use native.Mathlib.Nat.{div-div-eq-div-mul, div-eq-of-lt, le-div-iff-mul-le, div-lt-iff-lt-mul}
 use native.Mathlib.Decide.{decLt}
 use native.Mathlib.Omega.{arith}
-use lib.Arith.{half-le}
+use lib.Arith.{half-le, lt-one}
 use lib.Pow.{pow-pos, pow-mono}
 use Rattle.gf2.specs.Polynomials.{_⊕_, _⊗_, halvings, degree}
 use Rattle.gf2.specs.Degrees.{Degree}
-use Rattle.gf2.proofs.Sums.{⊕-zero, ⊕-self, ⊕-shr}
-use Rattle.gf2.proofs.Products.{⊗-step, one-⊗, by-bit}
+use Rattle.gf2.proofs.Sums.{⊕-zero, ⊕-self, ⊕-shr, ⊕-lt}
+use Rattle.gf2.proofs.Products.{⊗-step, zero-⊗, one-⊗, by-bit}
 
 -- ---- as an order: 2 ^ d ≤ n < 2 ^ (d + 1)
 
@@ -90,6 +90,14 @@ deg-⊗ a b (suc d) e h k =
     (deg-⊕ (a / 2 ⊗ b * 2) (a % 2 * b) (suc (d + e))
     (deg-dbl (a / 2 ⊗ b) (d + e) (deg-⊗ (a / 2) b d e (deg-half a d h) k))
     (lt-of-le-of-lt (bit-mul-le a b) (lt-of-lt-of-le (deg-hi b e k) (pow-mono (suc-le-suc (le-add-left e d))))))
+
+-- a product stays below the product of the bounds
+pub ⊗-lt : (d a b e : ℕ) → a < 2 ^ d → b < 2 ^ e → a ⊗ b < 2 ^ (d + e)
+⊗-lt zero a b e h k = rw (lt-one h, zero-⊗) (pow-pos (0 + e))
+⊗-lt (suc d) a b e h k =
+    rw (suc-add, ⊗-step a b)
+    (⊕-lt (suc (d + e)) (a / 2 ⊗ b * 2) (a % 2 * b) (rw pow-suc (omega (arith, ⊗-lt d (a / 2) b e (half-lt a d h) k)))
+    (lt-of-le-of-lt (bit-mul-le a b) (lt-of-lt-of-le k (pow-mono (omega arith)))))
 
 -- ---- the degree, computed
 

@@ -4,7 +4,7 @@ use mathlib.Core.Path.{_≡_}
 use mathlib.Core.List.{List}
 use Prim.Native.Nat.{ℕ, zero, suc, _+_, _*_, _/_, _%_, _^_, _≤_}
 use lib.ListN.{length, getD}
-use Rattle.gf2.specs.Polynomials.{_⊕_}
+use Rattle.gf2.specs.Polynomials.{_⊕_, _⊗_, rem}
 use Rattle.gf2.specs.Moduli.{polynomial, Proper}
 use Rattle.gf2.specs.declared.Modulus.{Modulus}
 use Rattle.multiples.specs.Rows.{Rows}
@@ -26,3 +26,11 @@ Table key words = words ≡ table key
 -- the same of a modulus, of degree at least 8
 abbrev pub TableOf : Modulus → List ℕ → Type 0
 TableOf p words = Proper p × (8 ≤ p .degree) × Table (polynomial p) words
+
+-- two rows for four bits each, of the multiples of their word 1
+abbrev pub TwoRows : Modulus → List ℕ → Type 0
+TwoRows p rows = (length rows ≡ 32) × Rows 4 (polynomial p) (getD rows 1 0) 2 rows
+
+-- y behind x, where t is the power of t by the bits of y
+abbrev pub behind : Modulus → ℕ → ℕ → ℕ → ℕ
+behind p t x y = rem (polynomial p) (x ⊗ t) ⊕ y

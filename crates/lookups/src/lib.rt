@@ -3,13 +3,13 @@
 use gf2::Modulus;
 ghost use mathlib.Core.Path.{_≡_};
 ghost use Prim.Native.Nat.{_+_, _*_, _%_, _^_, _≤_, _<_};
-ghost use lib.ListN.{length, take, drop};
+ghost use lib.ListN.{length, getD, take, drop};
 ghost use mathlib.Core.Bool.{not};
 ghost use Rattle.gf2.specs.Polynomials.{_⊕_, _⊗_, rem};
 ghost use Rattle.gf2.specs.Moduli.{polynomial, Proper};
 ghost use Rattle.files.specs.Files.{bits, valueFrom};
 ghost use Rattle.lookups.specs.Rule.{word, differs};
-ghost use Rattle.lookups.specs.Groups.{Table, TableOf, looked, ReducesByte};
+ghost use Rattle.lookups.specs.Groups.{Table, TableOf, looked, ReducesByte, TwoRows, behind};
 
 // The table of a modulus, which is four rows of multiples: t^k is the coefficients below it.
 pub fn fill_table(words: &mut [u64], p: Modulus)
@@ -196,12 +196,69 @@ pub fn times_plus(p: Modulus, x: u64, t: u64, y: u64) -> u64
     gf2::product(p, x, t) ^ y
 }
 
-// A long part: four lanes of n bytes, joined by t^(8n), and what is left behind them.
+// The square of a residue: the squares of its halves, the low one reduced four bytes at a time behind the high one, which is a residue already
+// since the degree is at most 64.
+fn square(words: &[u64], p: Modulus, x: u64) -> u64
+    requires { ⌜ TableOf p (now words) × (x < 2 ^ p .degree) ⌝ }
+    ensures { λ r. ⌜ r ≡ rem (polynomial p) (x ⊗ x) ⌝ }
+{
+    let high = gf2::square(x / 4294967296);
+    let low = gf2::square(x % 4294967296);
+    let f = feed_four(words, p, high, low / 4294967296);
+    feed_four(words, p, f, low % 4294967296)
+}
+
+// The power t^(32n), by the bits of n from the highest: a square for each, and four bytes of zeros where the bit is one.
+fn power(words: &[u64], p: Modulus, n: u64) -> u64
+    requires { ⌜ TableOf p (now words) × (0 < n) ⌝ }
+    ensures { λ r. ⌜ r ≡ rem (polynomial p) (2 ^ (32 * n)) ⌝ }
+{
+    let mut i = gf2::degree(n);
+    let mut x = feed_four(words, p, 1, 0);
+    while 0 < i {
+        i -= 1;
+        x = square(words, p, x);
+        if (n >> i) % 2 == 1 {
+            x = feed_four(words, p, x, 0);
+        }
+    }
+    x
+}
+
+// The product of x and the residue whose multiples the rows have, which is their word 1: by the bytes of x from the highest.
+fn times(words: &[u64], p: Modulus, rows: &[u64], x: u64) -> u64
+    requires { ⌜ ReducesByte p (now words) × TwoRows p (now rows) ⌝ }
+    ensures { λ r. ⌜ r ≡ rem (polynomial p) (x ⊗ getD (now (rows .entry)) 1 0) ⌝ }
+{
+    let mut sum: u64 = 0;
+    let mut i: u32 = 64;
+    while 0 < i {
+        i -= 8;
+        let b = ((x >> i) % 256) as usize;
+        sum = feed_one(words, p, sum, 0) ^ rows[b % 16] ^ rows[16 + b / 16];
+    }
+    sum
+}
+
+// Four lanes joined, one behind the other, where t is the power of t by the bits of a lane.
+fn join(words: &[u64], p: Modulus, t: u64, x: Lanes) -> u64
+    requires { ⌜ ReducesByte p (now words) × (t < 2 ^ p .degree) ⌝ }
+    ensures { λ r. ⌜ r ≡ behind p t (behind p t (behind p t (x .a) (x .b)) (x .c)) (x .d) ⌝ }
+{
+    let mut rows: [u64; 32] = [0; 32];
+    multiples::fill_rows(&mut rows, 4, 2, p, t);
+    let ab = times(words, p, &rows, x.a) ^ x.b;
+    let abc = times(words, p, &rows, ab) ^ x.c;
+    times(words, p, &rows, abc) ^ x.d
+}
+
+// A long part: four lanes of n times four bytes, joined by t^(32n), and what is left behind them.
 fn feed_long(words: &[u64], p: Modulus, f: u64, part: &[u8]) -> u64
-    requires { ⌜ TableOf p (now words) × (f < 2 ^ p .degree) ⌝ }
+    requires { ⌜ TableOf p (now words) × (f < 2 ^ p .degree) × (16 ≤ length (now part)) ⌝ }
     ensures { λ r. ⌜ r ≡ rem (polynomial p) (valueFrom f (bits (now (part .entry)))) ⌝ }
 {
-    let one = part.len() / 16 * 4;
+    let n = part.len() / 16;
+    let one = 4 * n;
     let two = 2 * one;
     let three = 3 * one;
     let four = 4 * one;
@@ -220,10 +277,8 @@ fn feed_long(words: &[u64], p: Modulus, f: u64, part: &[u8]) -> u64
         &part[two..three],
         &part[three..four],
     );
-    let t = gf2::power_of_t(p, 8 * (one as u64));
-    let ab = times_plus(p, x.a, t, x.b);
-    let abc = times_plus(p, ab, t, x.c);
-    let abcd = times_plus(p, abc, t, x.d);
+    let t = power(words, p, n as u64);
+    let abcd = join(words, p, t, x);
     feed_lane(words, p, abcd, &part[four..])
 }
 
