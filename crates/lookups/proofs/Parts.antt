@@ -1,7 +1,7 @@
 -- Laws of feeding a part by pieces: some bytes at a time, and in lanes that are joined.
-use mathlib.Core.Path.{_≡_, sym, ap, ap₂, _∙_}
+use mathlib.Core.Path.{_≡_, refl, sym, ap, ap₂, _∙_}
 use mathlib.Core.List.{List, [], _++_}
-use Prim.Native.Nat.{ℕ, _+_, _-_, _*_, _^_, _≤_, _<_}
+use Prim.Native.Nat.{ℕ, _+_, _-_, _*_, _%_, _^_, _≤_, _<_}
 use native.Mathlib.Nat.{le-refl, mod-eq-of-lt}
 use native.Mathlib.Omega.{arith}
 use lib.ListN.{length, getD, take, drop, take-append-drop, length-drop, drop-of-length-le}
@@ -94,6 +94,10 @@ fed-all {key} pos p i x l h = rw (drop-of-length-le p {i = i} l) (unfold valueFr
 abbrev pub Going : Modulus → ℕ → List ℕ → ℕ → ℕ → ℕ → Type 0
 Going p f part from i x =
     (x < 2 ^ p .degree) × (rem (polynomial p) (valueFrom x (bits (drop i part))) ≡ rem (polynomial p) (valueFrom f (bits (drop from part))))
+
+-- before the first byte
+pub going-first : (p : Modulus) (f : ℕ) (part : List ℕ) → f < 2 ^ p .degree → Going p f part 0 0 (f % 2 ^ p .degree)
+going-first p f part l = rw (mod-eq-of-lt l) (l, refl)
 
 module _ (p : Modulus) (proper : Proper p) (f : ℕ) (part : List ℕ) (from i x : ℕ) (g : Going p f part from i x) where
   pos : 0 < polynomial p

@@ -9,7 +9,7 @@ ghost use Rattle.gf2.specs.Polynomials.{_⊕_, _⊗_, rem};
 ghost use Rattle.gf2.specs.Moduli.{polynomial, Proper};
 ghost use Rattle.files.specs.Files.{bits, valueFrom};
 ghost use Rattle.lookups.specs.Rule.{word, differs};
-ghost use Rattle.lookups.specs.Groups.{Table, TableOf, looked, ReducesByte, TwoRows, behind};
+ghost use Rattle.lookups.specs.Groups.{Table, TableOf, looked, ReducesByte, Appended, FourMore, TwoRows, behind};
 
 // The table of a modulus, which is four rows of multiples: t^k is the coefficients below it.
 pub fn fill_table(words: &mut [u64], p: Modulus)
@@ -80,20 +80,50 @@ fn look_up(words: &[u64], below: u64, above: u64) -> u64
     below ^ look_two(words, 0, above) ^ look_two(words, 2, above / 65536)
 }
 
-// Four bytes behind a residue. The branch is on the degree alone, so the compiler takes it out of a loop.
+// Four bytes behind a residue. Of x the coefficients below t^k are the residue; those above are left over from the step before and count for
+// nothing, here as in the result: so no step has to clear them. Where the degree is below 32, some of the new bits reach t^k themselves.
+fn append_low(words: &[u64], p: Modulus, x: u64, v: u64) -> u64
+    requires { ⌜ TableOf p (now words) × (p .degree < 32) × (v < 2 ^ 32) ⌝ }
+    ensures { λ r. ⌜ Appended p x v r ⌝ }
+{
+    let y = x % 4294967296 * 4294967296 + v;
+    look_up(words, y, y >> p.degree)
+}
+
+// The same where the degree is at least 32: what reaches t^k is known before the new bits are.
+fn append_high(words: &[u64], p: Modulus, x: u64, v: u64) -> u64
+    requires { ⌜ TableOf p (now words) × (32 ≤ p .degree) × (v < 2 ^ 32) ⌝ }
+    ensures { λ r. ⌜ Appended p x v r ⌝ }
+{
+    look_up(words, x % 4294967296 * 4294967296 + v, x >> (p.degree - 32))
+}
+
+// The same for every degree. In a loop of one lane the compiler takes the branch, which is on the degree alone, out of it.
+fn append(words: &[u64], p: Modulus, x: u64, v: u64) -> u64
+    requires { ⌜ TableOf p (now words) × (v < 2 ^ 32) ⌝ }
+    ensures { λ r. ⌜ Appended p x v r ⌝ }
+{
+    if p.degree < 32 {
+        return append_low(words, p, x, v);
+    }
+    append_high(words, p, x, v)
+}
+
+// The coefficients below t^k.
+fn below(p: Modulus, x: u64) -> u64
+    requires { ⌜ Proper p ⌝ }
+    ensures { λ r. ⌜ r ≡ x % 2 ^ p .degree ⌝ }
+{
+    let above = 64 - p.degree;
+    (x << above) >> above
+}
+
+// Four bytes behind a residue, cleared.
 fn feed_four(words: &[u64], p: Modulus, f: u64, v: u64) -> u64
     requires { ⌜ TableOf p (now words) × (f < 2 ^ p .degree) × (v < 2 ^ 32) ⌝ }
     ensures { λ r. ⌜ r ≡ rem (polynomial p) (f * 2 ^ 32 + v) ⌝ }
 {
-    let k = p.degree;
-    if k < 32 {
-        let x = f * 4294967296 + v;
-        let below = gf2::low_bits(x, k);
-        return look_up(words, below, x >> k);
-    }
-    let cut = k - 32;
-    let rest = gf2::low_bits(f, cut);
-    look_up(words, rest * 4294967296 + v, f >> cut)
+    below(p, append(words, p, f, v))
 }
 
 // One byte behind a residue.
@@ -148,10 +178,10 @@ fn feed_lane(words: &[u64], p: Modulus, f: u64, part: &[u8]) -> u64
     let mut x = f;
     let mut i: usize = 0;
     while 4 <= part.len() - i {
-        x = feed_four(words, p, x, four_at(part, i));
+        x = append(words, p, x, four_at(part, i));
         i += 4;
     }
-    feed_tail(words, p, x, part, i)
+    feed_tail(words, p, below(p, x), part, i)
 }
 
 // Four lanes: a residue each.
@@ -160,6 +190,54 @@ pub struct Lanes {
     pub b: u64,
     pub c: u64,
     pub d: u64,
+}
+
+// The four bytes of a part from place i on behind a residue, where the degree is below 32.
+fn next_low(words: &[u64], p: Modulus, x: u64, part: &[u8], i: usize) -> u64
+    requires { ⌜ TableOf p (now words) × (p .degree < 32) × (i + 4 ≤ length (now part)) ⌝ }
+    ensures { λ r. ⌜ FourMore p (now (part .entry)) i x r ⌝ }
+{
+    append_low(words, p, x, four_at(part, i))
+}
+
+// The same where it is at least 32.
+fn next_high(words: &[u64], p: Modulus, x: u64, part: &[u8], i: usize) -> u64
+    requires { ⌜ TableOf p (now words) × (32 ≤ p .degree) × (i + 4 ≤ length (now part)) ⌝ }
+    ensures { λ r. ⌜ FourMore p (now (part .entry)) i x r ⌝ }
+{
+    append_high(words, p, x, four_at(part, i))
+}
+
+// Four bytes more in each of four lanes. The branch stands before the four steps: out of a loop of four lanes the compiler does not take it.
+fn feed_turn(
+    words: &[u64],
+    p: Modulus,
+    x: Lanes,
+    q: &[u8],
+    r: &[u8],
+    s: &[u8],
+    t: &[u8],
+    i: usize,
+) -> Lanes
+    requires { ⌜ TableOf p (now words)
+        × (i + 4 ≤ length (now q)) × (i + 4 ≤ length (now r)) × (i + 4 ≤ length (now s)) × (i + 4 ≤ length (now t)) ⌝ }
+    ensures { λ y. ⌜ FourMore p (now (q .entry)) i (x .a) (y .a) × FourMore p (now (r .entry)) i (x .b) (y .b)
+        × FourMore p (now (s .entry)) i (x .c) (y .c) × FourMore p (now (t .entry)) i (x .d) (y .d) ⌝ }
+{
+    if p.degree < 32 {
+        return Lanes {
+            a: next_low(words, p, x.a, q, i),
+            b: next_low(words, p, x.b, r, i),
+            c: next_low(words, p, x.c, s, i),
+            d: next_low(words, p, x.d, t, i),
+        };
+    }
+    Lanes {
+        a: next_high(words, p, x.a, q, i),
+        b: next_high(words, p, x.b, r, i),
+        c: next_high(words, p, x.c, s, i),
+        d: next_high(words, p, x.d, t, i),
+    }
 }
 
 // Four lanes of equal length side by side, each behind its own residue: four chains of look-ups that do not wait for each other.
@@ -173,19 +251,18 @@ fn feed_lanes(words: &[u64], p: Modulus, f: Lanes, q: &[u8], r: &[u8], s: &[u8],
         × (x .c ≡ rem (polynomial p) (valueFrom (f .c) (bits (now (s .entry)))))
         × (x .d ≡ rem (polynomial p) (valueFrom (f .d) (bits (now (t .entry))))) ⌝ }
 {
-    let mut a = f.a;
-    let mut b = f.b;
-    let mut c = f.c;
-    let mut d = f.d;
+    let mut x = f;
     let mut i: usize = 0;
     while i < q.len() {
-        a = feed_four(words, p, a, four_at(q, i));
-        b = feed_four(words, p, b, four_at(r, i));
-        c = feed_four(words, p, c, four_at(s, i));
-        d = feed_four(words, p, d, four_at(t, i));
+        x = feed_turn(words, p, x, q, r, s, t, i);
         i += 4;
     }
-    Lanes { a, b, c, d }
+    Lanes {
+        a: below(p, x.a),
+        b: below(p, x.b),
+        c: below(p, x.c),
+        d: below(p, x.d),
+    }
 }
 
 // x·t + y: a lane with the residue y behind what has the residue x, where t is the power of t by the bits of the lane.
