@@ -36,6 +36,10 @@ Appended p x v r = r % 2 ^ p .degree ≡ rem (polynomial p) (x % 2 ^ p .degree *
 abbrev pub FourMore : Modulus → List ℕ → ℕ → ℕ → ℕ → Type 0
 FourMore p part i x r = Appended p x (valueFrom 0 (bits (take 4 (drop i part)))) r
 
+-- r is the residue of the n bytes of a part from place a on, behind f
+abbrev pub FedLane : Modulus → ℕ → List ℕ → ℕ → ℕ → ℕ → Type 0
+FedLane p f part a n r = r ≡ rem (polynomial p) (valueFrom f (bits (take n (drop a part))))
+
 -- two rows for four bits each, of the multiples of their word 1
 abbrev pub TwoRows : Modulus → List ℕ → Type 0
 TwoRows p rows = (length rows ≡ 32) × Rows 4 (polynomial p) (getD rows 1 0) 2 rows

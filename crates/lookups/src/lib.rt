@@ -9,7 +9,7 @@ ghost use Rattle.gf2.specs.Polynomials.{_⊕_, _⊗_, rem};
 ghost use Rattle.gf2.specs.Moduli.{polynomial, Proper};
 ghost use Rattle.files.specs.Files.{bits, valueFrom};
 ghost use Rattle.lookups.specs.Rule.{word, differs};
-ghost use Rattle.lookups.specs.Groups.{Table, TableOf, looked, ReducesByte, Appended, FourMore, TwoRows, behind};
+ghost use Rattle.lookups.specs.Groups.{Table, TableOf, looked, ReducesByte, Appended, FourMore, FedLane, TwoRows, behind};
 
 // The table of a modulus, which is four rows of multiples: t^k is the coefficients below it.
 pub fn fill_table(words: &mut [u64], p: Modulus)
@@ -27,14 +27,14 @@ pub fn table_holds(words: &[u64], p: Modulus) -> bool
     multiples::rows_hold(words, 8, 4, p, p.low)
 }
 
-fn wide(x: u8) -> u64
+fn wide(x: u8) -> u32
     ensures { λ r. ⌜ (r ≡ x) × (r < 256) ⌝ }
 {
-    x as u64
+    x as u32
 }
 
 // One byte as a number.
-fn byte_at(part: &[u8], i: usize) -> u64
+fn byte_at(part: &[u8], i: usize) -> u32
     requires { ⌜ i < length (now part) ⌝ }
     ensures { λ r. ⌜ r ≡ valueFrom 0 (bits (take 1 (drop i (now (part .entry))))) ⌝ }
 {
@@ -42,7 +42,7 @@ fn byte_at(part: &[u8], i: usize) -> u64
 }
 
 // Four bytes as one number, the first highest. In one expression, which the compiler knows as one load.
-fn four_at(part: &[u8], i: usize) -> u64
+fn four_at(part: &[u8], i: usize) -> u32
     requires { ⌜ i + 4 ≤ length (now part) ⌝ }
     ensures { λ r. ⌜ r ≡ valueFrom 0 (bits (take 4 (drop i (now (part .entry))))) ⌝ }
 {
@@ -58,7 +58,7 @@ pub fn eight_at(part: &[u8], i: usize) -> u64
     requires { ⌜ i + 8 ≤ length (now part) ⌝ }
     ensures { λ r. ⌜ r ≡ valueFrom 0 (bits (take 8 (drop i (now (part .entry))))) ⌝ }
 {
-    four_at(part, i) * 4294967296 + four_at(part, i + 4)
+    four_at(part, i) as u64 * 4294967296 + four_at(part, i + 4) as u64
 }
 
 // The words of two bytes of h, the low one looked up in the given row, added up.
@@ -82,25 +82,29 @@ fn look_up(words: &[u64], below: u64, above: u64) -> u64
 
 // Four bytes behind a residue. Of x the coefficients below t^k are the residue; those above are left over from the step before and count for
 // nothing, here as in the result: so no step has to clear them. Where the degree is below 32, some of the new bits reach t^k themselves.
-fn append_low(words: &[u64], p: Modulus, x: u64, v: u64) -> u64
-    requires { ⌜ TableOf p (now words) × (p .degree < 32) × (v < 2 ^ 32) ⌝ }
+fn append_low(words: &[u64], p: Modulus, x: u64, v: u32) -> u64
+    requires { ⌜ TableOf p (now words) × (p .degree < 32) ⌝ }
     ensures { λ r. ⌜ Appended p x v r ⌝ }
 {
-    let y = x % 4294967296 * 4294967296 + v;
+    let y = x % 4294967296 * 4294967296 + v as u64;
     look_up(words, y, y >> p.degree)
 }
 
 // The same where the degree is at least 32: what reaches t^k is known before the new bits are.
-fn append_high(words: &[u64], p: Modulus, x: u64, v: u64) -> u64
-    requires { ⌜ TableOf p (now words) × (32 ≤ p .degree) × (v < 2 ^ 32) ⌝ }
+fn append_high(words: &[u64], p: Modulus, x: u64, v: u32) -> u64
+    requires { ⌜ TableOf p (now words) × (32 ≤ p .degree) ⌝ }
     ensures { λ r. ⌜ Appended p x v r ⌝ }
 {
-    look_up(words, x % 4294967296 * 4294967296 + v, x >> (p.degree - 32))
+    look_up(
+        words,
+        x % 4294967296 * 4294967296 + v as u64,
+        x >> (p.degree - 32),
+    )
 }
 
 // The same for every degree. In a loop of one lane the compiler takes the branch, which is on the degree alone, out of it.
-fn append(words: &[u64], p: Modulus, x: u64, v: u64) -> u64
-    requires { ⌜ TableOf p (now words) × (v < 2 ^ 32) ⌝ }
+fn append(words: &[u64], p: Modulus, x: u64, v: u32) -> u64
+    requires { ⌜ TableOf p (now words) ⌝ }
     ensures { λ r. ⌜ Appended p x v r ⌝ }
 {
     if p.degree < 32 {
@@ -123,7 +127,7 @@ fn feed_four(words: &[u64], p: Modulus, f: u64, v: u64) -> u64
     requires { ⌜ TableOf p (now words) × (f < 2 ^ p .degree) × (v < 2 ^ 32) ⌝ }
     ensures { λ r. ⌜ r ≡ rem (polynomial p) (f * 2 ^ 32 + v) ⌝ }
 {
-    below(p, append(words, p, f, v))
+    below(p, append(words, p, f, v as u32))
 }
 
 // One byte behind a residue.
@@ -134,7 +138,7 @@ pub fn feed_one(words: &[u64], p: Modulus, f: u64, b: u8) -> u64
     let cut = p.degree - 8;
     let rest = gf2::low_bits(f, cut);
     let top = (f >> cut) as usize;
-    (rest * 256 + wide(b)) ^ words[top]
+    (rest * 256 + b as u64) ^ words[top]
 }
 
 // The residue of a number of 64 bits: its last byte, or its last four, behind the bytes in front, which are a residue already where the
@@ -192,69 +196,48 @@ pub struct Lanes {
     pub d: u64,
 }
 
-// The four bytes of a part from place i on behind a residue, where the degree is below 32.
-fn next_low(words: &[u64], p: Modulus, x: u64, part: &[u8], i: usize) -> u64
-    requires { ⌜ TableOf p (now words) × (p .degree < 32) × (i + 4 ≤ length (now part)) ⌝ }
-    ensures { λ r. ⌜ FourMore p (now (part .entry)) i x r ⌝ }
+// Four bytes more in each of four lanes of n bytes. The branch stands once before the four steps, so that the compiler takes it out of the loop,
+// and the bytes are read before it, so that it knows four of them as one load.
+fn feed_turn(words: &[u64], p: Modulus, x: Lanes, part: &[u8], n: usize, i: usize) -> Lanes
+    requires { ⌜ TableOf p (now words) × (i + 4 ≤ n) × (4 * n ≤ length (now part)) ⌝ }
+    ensures { λ y. ⌜ FourMore p (now (part .entry)) i (x .a) (y .a) × FourMore p (now (part .entry)) (i + n) (x .b) (y .b)
+        × FourMore p (now (part .entry)) (i + n + n) (x .c) (y .c) × FourMore p (now (part .entry)) (i + n + n + n) (x .d) (y .d) ⌝ }
 {
-    append_low(words, p, x, four_at(part, i))
-}
-
-// The same where it is at least 32.
-fn next_high(words: &[u64], p: Modulus, x: u64, part: &[u8], i: usize) -> u64
-    requires { ⌜ TableOf p (now words) × (32 ≤ p .degree) × (i + 4 ≤ length (now part)) ⌝ }
-    ensures { λ r. ⌜ FourMore p (now (part .entry)) i x r ⌝ }
-{
-    append_high(words, p, x, four_at(part, i))
-}
-
-// Four bytes more in each of four lanes. The branch stands before the four steps: out of a loop of four lanes the compiler does not take it.
-fn feed_turn(
-    words: &[u64],
-    p: Modulus,
-    x: Lanes,
-    q: &[u8],
-    r: &[u8],
-    s: &[u8],
-    t: &[u8],
-    i: usize,
-) -> Lanes
-    requires { ⌜ TableOf p (now words)
-        × (i + 4 ≤ length (now q)) × (i + 4 ≤ length (now r)) × (i + 4 ≤ length (now s)) × (i + 4 ≤ length (now t)) ⌝ }
-    ensures { λ y. ⌜ FourMore p (now (q .entry)) i (x .a) (y .a) × FourMore p (now (r .entry)) i (x .b) (y .b)
-        × FourMore p (now (s .entry)) i (x .c) (y .c) × FourMore p (now (t .entry)) i (x .d) (y .d) ⌝ }
-{
+    let a = four_at(part, i);
+    let b = four_at(part, i + n);
+    let c = four_at(part, i + n + n);
+    let d = four_at(part, i + n + n + n);
     if p.degree < 32 {
         return Lanes {
-            a: next_low(words, p, x.a, q, i),
-            b: next_low(words, p, x.b, r, i),
-            c: next_low(words, p, x.c, s, i),
-            d: next_low(words, p, x.d, t, i),
+            a: append_low(words, p, x.a, a),
+            b: append_low(words, p, x.b, b),
+            c: append_low(words, p, x.c, c),
+            d: append_low(words, p, x.d, d),
         };
     }
     Lanes {
-        a: next_high(words, p, x.a, q, i),
-        b: next_high(words, p, x.b, r, i),
-        c: next_high(words, p, x.c, s, i),
-        d: next_high(words, p, x.d, t, i),
+        a: append_high(words, p, x.a, a),
+        b: append_high(words, p, x.b, b),
+        c: append_high(words, p, x.c, c),
+        d: append_high(words, p, x.d, d),
     }
 }
 
-// Four lanes of equal length side by side, each behind its own residue: four chains of look-ups that do not wait for each other.
-fn feed_lanes(words: &[u64], p: Modulus, f: Lanes, q: &[u8], r: &[u8], s: &[u8], t: &[u8]) -> Lanes
-    requires { ⌜ TableOf p (now words)
-        × (f .a < 2 ^ p .degree) × (f .b < 2 ^ p .degree) × (f .c < 2 ^ p .degree) × (f .d < 2 ^ p .degree)
-        × (length (now q) % 4 ≡ 0)
-        × (length (now r) ≡ length (now q)) × (length (now s) ≡ length (now q)) × (length (now t) ≡ length (now q)) ⌝ }
-    ensures { λ x. ⌜ (x .a ≡ rem (polynomial p) (valueFrom (f .a) (bits (now (q .entry)))))
-        × (x .b ≡ rem (polynomial p) (valueFrom (f .b) (bits (now (r .entry)))))
-        × (x .c ≡ rem (polynomial p) (valueFrom (f .c) (bits (now (s .entry)))))
-        × (x .d ≡ rem (polynomial p) (valueFrom (f .d) (bits (now (t .entry))))) ⌝ }
+// Four lanes of n bytes side by side, the first behind f, the others behind nothing: four chains of look-ups that do not wait for each other.
+fn feed_lanes(words: &[u64], p: Modulus, f: u64, part: &[u8], n: usize) -> Lanes
+    requires { ⌜ TableOf p (now words) × (f < 2 ^ p .degree) × (n % 4 ≡ 0) × (4 * n ≤ length (now part)) ⌝ }
+    ensures { λ x. ⌜ FedLane p f (now (part .entry)) 0 n (x .a) × FedLane p 0 (now (part .entry)) n n (x .b)
+        × FedLane p 0 (now (part .entry)) (2 * n) n (x .c) × FedLane p 0 (now (part .entry)) (3 * n) n (x .d) ⌝ }
 {
-    let mut x = f;
+    let mut x = Lanes {
+        a: f,
+        b: 0,
+        c: 0,
+        d: 0,
+    };
     let mut i: usize = 0;
-    while i < q.len() {
-        x = feed_turn(words, p, x, q, r, s, t, i);
+    while i < n {
+        x = feed_turn(words, p, x, part, n, i);
         i += 4;
     }
     Lanes {
@@ -335,25 +318,9 @@ fn feed_long(words: &[u64], p: Modulus, f: u64, part: &[u8]) -> u64
     ensures { λ r. ⌜ r ≡ rem (polynomial p) (valueFrom f (bits (now (part .entry)))) ⌝ }
 {
     let n = part.len() / 16;
-    let one = 4 * n;
-    let two = 2 * one;
-    let three = 3 * one;
-    let four = 4 * one;
-    let start = Lanes {
-        a: f,
-        b: 0,
-        c: 0,
-        d: 0,
-    };
-    let x = feed_lanes(
-        words,
-        p,
-        start,
-        &part[..one],
-        &part[one..two],
-        &part[two..three],
-        &part[three..four],
-    );
+    let lane = 4 * n;
+    let four = 4 * lane;
+    let x = feed_lanes(words, p, f, part, lane);
     let t = power(words, p, n as u64);
     let abcd = join(words, p, t, x);
     feed_lane(words, p, abcd, &part[four..])

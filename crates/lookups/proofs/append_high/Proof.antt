@@ -18,7 +18,7 @@ returns c =
     let t = s .pre .0 in
     let rows = table-rows (a .p) (a .words .now) t in
     ap (λ (x : ℕ). x % 2 ^ a .p .degree) (c .look-up .ensures)
-    ∙ cut-loose 8 (a .p) (t .0) (a .words .now) 4 rows 4 (a .x) (a .v) (omega arith) (s .pre .2) (a .p .degree - 32) (omega (arith, s .pre .1))
+    ∙ cut-loose 8 (a .p) (t .0) (a .words .now) 4 rows 4 (a .x) (a .v) (omega arith) (s .fits .v .fits) (a .p .degree - 32) (omega (arith, s .pre .1))
     (omega (arith, t .0 .1))
 
 pub append-high-spec : {M : Type 1} → statement M

@@ -15,4 +15,4 @@ returns c =
     c .below .ensures ∙ c .before .append .ensures ∙ ap (λ (f : ℕ). rem (polynomial (a .p)) (f * 2 ^ 32 + a .v)) (mod-eq-of-lt (s .pre .1))
 
 pub feed-four-spec : {M : Type 1} → statement M
-feed-four-spec = tie.close (tie.spec (λ c κs. search needs) (λ c κs. search needs) returns)
+feed-four-spec = tie.close (tie.spec (λ c. search needs) (λ c κs. search needs) (λ c κs. search needs) returns)

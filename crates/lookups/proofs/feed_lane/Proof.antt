@@ -6,7 +6,7 @@ use lib.ListN.{length, drop}
 use Rattle.gf2.specs.Polynomials.{rem}
 use Rattle.gf2.specs.Moduli.{polynomial}
 use Rattle.files.specs.Files.{bits, valueFrom}
-use Rattle.lookups.proofs.Parts.{piece-lt, Going, going-first, going-four}
+use Rattle.lookups.proofs.Parts.{Going, going-first, going-four}
 use Rattle.lookups.proofs.feed_lane.Statement.{statement}
 use Rattle.lookups.proofs.feed_lane.Tie as tie
 
@@ -33,10 +33,7 @@ loop-holds c =
     (omega arith, going-first (s .args .p) (s .args .f) (s .args .part .now) (s .pre .1))
 
 append-requires : tie.Need-append-requires Inv-loop μ-loop
-append-requires c κs =
-    let s = four-at→start c in
-    let l = c .before .before .loop in
-    (s .pre .0, piece-lt (s .args .part .now) (l .i) 4 (c .four-at .result) (omega arith) (c .four-at .ensures))
+append-requires c κs = four-at→start c .pre .0
 
 loop-again : tie.Need-loop-again Inv-loop μ-loop
 loop-again c =

@@ -1,79 +1,68 @@
 -- `feed_lanes` meets its contract: each lane stands for its start and its bytes before i.
-use mathlib.Core.Path.{_≡_, refl, _∙_}
-use Prim.Native.Nat.{_+_, _-_, _%_, _^_, _≤_}
+use mathlib.Core.Path.{_≡_, refl}
+use Prim.Native.Nat.{_+_, _-_, _*_, _%_, _^_, _≤_}
 use native.Mathlib.Omega.{arith}
-use lib.ListN.{length}
+use lib.ListN.{take, drop}
+use lib.Pow.{pow-pos}
 use Rattle.gf2.specs.Moduli.{Proper}
-use Rattle.lookups.proofs.Parts.{Going, going-first, going-four, going-all}
+use Rattle.lookups.proofs.Parts.{Going, going-first, lane-more, lane-fed}
 use Rattle.lookups.proofs.feed_lanes.Statement.{statement}
 use Rattle.lookups.proofs.feed_lanes.Tie as tie
 
 abbrev Inv-loop : tie.InvT-loop
-Inv-loop words p q r s t x₀ i₀ x i =
-    (i ≤ length q) × (i % 4 ≡ 0)
-    × Going p (x₀ .a) q 0 i (x .a % 2 ^ p .degree) × Going p (x₀ .b) r 0 i (x .b % 2 ^ p .degree)
-    × Going p (x₀ .c) s 0 i (x .c % 2 ^ p .degree) × Going p (x₀ .d) t 0 i (x .d % 2 ^ p .degree)
+Inv-loop words p f part n x₀ i₀ x i =
+    (i ≤ n) × (i % 4 ≡ 0)
+    × Going p f (take n (drop 0 part)) 0 i (x .a % 2 ^ p .degree) × Going p 0 (take n (drop n part)) 0 i (x .b % 2 ^ p .degree)
+    × Going p 0 (take n (drop (2 * n) part)) 0 i (x .c % 2 ^ p .degree) × Going p 0 (take n (drop (3 * n) part)) 0 i (x .d % 2 ^ p .degree)
 
 abbrev μ-loop : tie.MeasureT-loop
-μ-loop words p q r s t x₀ i₀ x i = length q - i
+μ-loop words p f part n x₀ i₀ x i = n - i
 
 -- ---- the places: from each one to an earlier one
 
-abbrev shared-slice-known5→start : tie.After-shared-slice-known5 Inv-loop μ-loop → tie.Start Inv-loop μ-loop
-shared-slice-known5→start c = c .before .before .before .before .before
-
 abbrev at-loop→start : tie.At-loop Inv-loop μ-loop → tie.Start Inv-loop μ-loop
-at-loop→start c = shared-slice-known5→start (c .before)
+at-loop→start c = c .before .before .before
 
-abbrev below→start : tie.After-below Inv-loop μ-loop → tie.Start Inv-loop μ-loop
-below→start c = at-loop→start (c .before .before)
-
-abbrev below4→below : tie.After-below4 Inv-loop μ-loop → tie.After-below Inv-loop μ-loop
-below4→below c = c .before .before .before
+abbrev below4→loop : tie.After-below4 Inv-loop μ-loop → tie.After-loop Inv-loop μ-loop
+below4→loop c = c .before .before .before .before
 
 -- four bytes are left in each lane
-left-four : (c : tie.In-loop Inv-loop μ-loop) → let a = at-loop→start (c .before) .args in let i = c .before .loop .i in
-    (i + 4 ≤ length (a .q .now)) × (i + 4 ≤ length (a .r .now)) × (i + 4 ≤ length (a .s .now)) × (i + 4 ≤ length (a .t .now))
-left-four c =
-    let s = at-loop→start (c .before) in
-    let l = c .before .loop in
-    let g : l .i + 4 ≤ length (s .args .q .now) = omega (arith, c .loop-test .taken, l .inv .1, s .pre .5) in
-    (g, omega (arith, s .pre .6), omega (arith, s .pre .7), omega (arith, s .pre .8))
+left-four : (c : tie.In-loop Inv-loop μ-loop) → c .before .loop .i + 4 ≤ at-loop→start (c .before) .args .n
+left-four c = let l = c .before .loop in omega (arith, c .loop-test .taken, l .inv .1, at-loop→start (c .before) .pre .2)
 
 -- ---- the needs
 
 loop-holds : tie.Need-loop-holds Inv-loop μ-loop
 loop-holds c =
-    let s = shared-slice-known5→start c in
+    let s = c .before .before in
     let a = s .args in
-    let first = going-first (a .p) in (
+    let zero = pow-pos (a .p .degree) in (
       omega arith,
       refl,
-      first (a .f .a) (a .q .now) (s .pre .1),
-      first (a .f .b) (a .r .now) (s .pre .2),
-      first (a .f .c) (a .s .now) (s .pre .3),
-      first (a .f .d) (a .t .now) (s .pre .4),
+      going-first (a .p) (a .f) (take (a .n) (drop 0 (a .part .now))) (s .pre .1),
+      going-first (a .p) 0 (take (a .n) (drop (a .n) (a .part .now))) zero,
+      going-first (a .p) 0 (take (a .n) (drop (2 * a .n) (a .part .now))) zero,
+      going-first (a .p) 0 (take (a .n) (drop (3 * a .n) (a .part .now))) zero,
     )
 
 feed-turn-requires : tie.Need-feed-turn-requires Inv-loop μ-loop
-feed-turn-requires c κs =
-    let g = left-four c in
-    (at-loop→start (c .before) .pre .0, g .0, g .1, g .2, g .3)
+feed-turn-requires c κs = let s = at-loop→start (c .before) in (s .pre .0, left-four c, s .pre .3)
 
 loop-again : tie.Need-loop-again Inv-loop μ-loop
 loop-again c =
     let s = at-loop→start (c .before .before) in
     let a = s .args in
+    let n = a .n in
     let l = c .before .before .loop in
     let g = left-four (c .before) in
     let e = c .feed-turn .ensures in
-    let more = going-four (a .p) (s .pre .0 .0) in (
-      g .0,
+    let more = lane-more (a .p) (s .pre .0 .0) in (
+      g,
       omega (arith, l .inv .1),
-      more (a .f .a) (a .q .now) 0 (l .i) _ (l .inv .2) _ _ (g .0) refl (e .0),
-      more (a .f .b) (a .r .now) 0 (l .i) _ (l .inv .3) _ _ (g .1) refl (e .1),
-      more (a .f .c) (a .s .now) 0 (l .i) _ (l .inv .4) _ _ (g .2) refl (e .2),
-      more (a .f .d) (a .t .now) 0 (l .i) _ (l .inv .5) _ _ (g .3) refl (e .3),
+      more (a .f) (a .part .now) 0 n (omega (arith, s .pre .3)) (l .i) (l .i) _ _ g (omega arith) (l .inv .2) (e .0),
+      more 0 (a .part .now) n n (omega (arith, s .pre .3)) (l .i) (l .i + n) _ _ g (omega arith) (l .inv .3) (e .1),
+      more 0 (a .part .now) (2 * n) n (omega (arith, s .pre .3)) (l .i) (l .i + n + n) _ _ g (omega arith) (l .inv .4) (e .2),
+      more 0 (a .part .now) (3 * n) n (omega (arith, s .pre .3)) (l .i) (l .i + n + n + n) _ _ g (omega arith) (l .inv .5) (e .3),
     )
 
 proper : (c : tie.After-loop Inv-loop μ-loop) → Proper (at-loop→start (c .before) .args .p)
@@ -81,15 +70,17 @@ proper c = at-loop→start (c .before) .pre .0 .0
 
 returns : tie.Need-returns Inv-loop μ-loop
 returns c =
-    let s = below→start (below4→below c) in
+    let end = below4→loop c in
+    let s = at-loop→start (end .before) in
     let a = s .args in
-    let l = below4→below c .before .before .loop in
-    let left = below4→below c .before .loop-test .left in
-    let all = going-all (a .p) (s .pre .0 .0) in (
-      below4→below c .below .ensures ∙ all (a .f .a) (a .q .now) 0 (l .i) _ (l .inv .2) left,
-      c .before .before .below2 .ensures ∙ all (a .f .b) (a .r .now) 0 (l .i) _ (l .inv .3) (omega (arith, s .pre .6)),
-      c .before .below3 .ensures ∙ all (a .f .c) (a .s .now) 0 (l .i) _ (l .inv .4) (omega (arith, s .pre .7)),
-      c .below4 .ensures ∙ all (a .f .d) (a .t .now) 0 (l .i) _ (l .inv .5) (omega (arith, s .pre .8)),
+    let n = a .n in
+    let l = end .before .loop in
+    let left = end .loop-test .left in
+    let fed = lane-fed (a .p) (proper end) in (
+      fed (a .f) (a .part .now) 0 n (omega (arith, s .pre .3)) (l .i) _ _ left (l .inv .2) (c .before .before .before .below .ensures),
+      fed 0 (a .part .now) n n (omega (arith, s .pre .3)) (l .i) _ _ left (l .inv .3) (c .before .before .below2 .ensures),
+      fed 0 (a .part .now) (2 * n) n (omega (arith, s .pre .3)) (l .i) _ _ left (l .inv .4) (c .before .below3 .ensures),
+      fed 0 (a .part .now) (3 * n) n (omega (arith, s .pre .3)) (l .i) _ _ left (l .inv .5) (c .below4 .ensures),
     )
 
 pub feed-lanes-spec : {M : Type 1} → statement M
@@ -100,8 +91,8 @@ feed-lanes-spec =
     μ-loop
     loop-holds
     feed-turn-requires
-    (λ c. omega (arith, left-four (c .before) .0))
-    (λ c. omega (arith, left-four (c .before) .0))
+    (λ c. omega (arith, left-four (c .before)))
+    (λ c. omega (arith, left-four (c .before)))
     loop-again
     (λ c κs. proper c)
     (λ c κs. proper (c .before))
