@@ -1,6 +1,7 @@
 pub mod Sums
 pub mod Products
 pub mod Linear
+pub mod Squares
 pub mod Degrees
 pub mod Divisors
 pub mod Residues

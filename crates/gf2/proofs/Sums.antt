@@ -5,7 +5,7 @@ use native.Mathlib.Nat.{add-zero}
 use native.Mathlib.Omega.{arith}
 use lib.Arith.{bin-ind}
 use lib.Pow.{pow-pos}
-use lib.Bits.{xor-comm, xor-self, xor-zero-r, xor-shr, xor-lt, xor-shifted, xor-block, xor-add-and}
+use lib.Bits.{xor-comm, xor-self, xor-zero-r, xor-shr, xor-mod, xor-lt, xor-shifted, xor-block, xor-add-and}
 use Rattle.gf2.specs.Polynomials.{_⊕_}
 
 pub ⊕-comm : (a b : ℕ) → a ⊕ b ≡ b ⊕ a
@@ -89,3 +89,7 @@ pub ⊕-bit : (a c : ℕ) → c < 2 → a * 2 ⊕ c ≡ a * 2 + c
 pub ⊕-lt : (k a b : ℕ) → a < 2 ^ k → b < 2 ^ k → a ⊕ b < 2 ^ k
 unfolding _⊕_
 ⊕-lt = xor-lt
+
+pub ⊕-mod : (k a b : ℕ) → (a ⊕ b) % 2 ^ k ≡ a % 2 ^ k ⊕ b % 2 ^ k
+unfolding _⊕_
+⊕-mod k a b = xor-mod a b k

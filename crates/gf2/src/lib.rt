@@ -81,6 +81,18 @@ pub fn product(p: Modulus, a: u64, b: u64) -> u64
     sum
 }
 
+// The square of a polynomial below t^32: every coefficient moves to twice its place.
+pub fn square(x: u64) -> u64
+    requires { ⌜ x < 2 ^ 32 ⌝ }
+    ensures { λ r. ⌜ r ≡ x ⊗ x ⌝ }
+{
+    let a = (x ^ (x * 65536)) & 0x0000FFFF0000FFFF;
+    let b = (a ^ (a * 256)) & 0x00FF00FF00FF00FF;
+    let c = (b ^ (b * 16)) & 0x0F0F0F0F0F0F0F0F;
+    let d = (c ^ (c * 4)) & 0x3333333333333333;
+    (d ^ (d * 2)) & 0x5555555555555555
+}
+
 // How many of the low bits of n to leave, so that the bits above them name a power of t below t^k.
 fn low_places(k: u32, n: u64) -> u32
     requires { ⌜ 0 < k ⌝ }

@@ -1,3 +1,4 @@
 pub mod Rule
 pub mod Cut
 pub mod Parts
+pub mod Powers

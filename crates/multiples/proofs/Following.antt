@@ -15,8 +15,8 @@ use lib.Pow.{pow-add, pow-pos}
 use Rattle.gf2.specs.Polynomials.{_⊗_, rem}
 use Rattle.gf2.specs.Moduli.{polynomial, Proper}
 use Rattle.gf2.specs.declared.Modulus.{Modulus}
-use Rattle.gf2.proofs.Products.{⊗-comm, ⊗-pow}
-use Rattle.gf2.proofs.Powers.{rem-shl, rem-⊗-right}
+use Rattle.gf2.proofs.Products.{one-⊗, ⊗-comm, ⊗-pow}
+use Rattle.gf2.proofs.Powers.{rem-rem, rem-shl, rem-⊗-right}
 use Rattle.gf2.proofs.Monics.{monic-pos}
 use Rattle.gf2.proofs.Steps.{residue-small, residue-below}
 use Rattle.multiples.specs.Rows.{Multiples, Rows, SameBefore}
@@ -26,6 +26,16 @@ use Rattle.multiples.proofs.Doubling.{multiple-next, power-half}
 pub rows-same : {key : ℕ} (pos : 0 < key) (w x y c : ℕ) (words : List ℕ) → rem key x ≡ rem key y → Rows w key x c words → Rows w key y c words
 rows-same {key} pos w x y c words e f j l =
     rw (sym (rem-shl pos x (w * j)) ∙ ap (λ (z : ℕ). rem key (z * 2 ^ (w * j))) e ∙ rem-shl pos y (w * j)) at (f j l)
+
+-- word 1 of the rows is the number itself, reduced
+pub first-multiple : {key : ℕ} (pos : 0 < key) (w x c : ℕ) (words : List ℕ) → 1 < 2 ^ w → 0 < c → Rows w key x c words → getD words 1 0 ≡ rem key x
+first-multiple {key} pos w x c words l h f =
+    let z : 0 * 2 ^ w + 1 ≡ 1 = omega arith in
+    ap (λ (n : ℕ). getD words n 0) (sym z)
+    ∙ f 0 h 1 l
+    ∙ ap (rem key) (one-⊗ (rem key (x * 2 ^ (w * 0))))
+    ∙ rem-rem pos (x * 2 ^ (w * 0))
+    ∙ ap (rem key) (rw mul-zero (mul-one x))
 
 -- ---- the places of row j among those of c rows
 

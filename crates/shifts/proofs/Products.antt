@@ -2,15 +2,13 @@
 use mathlib.Core.Path.{_≡_, sym, ap, _∙_}
 use mathlib.Core.List.{List}
 use Prim.Native.Nat.{ℕ, zero, suc, _+_, _-_, _*_, _/_, _%_, _^_, _<_}
-use native.Mathlib.Nat.{mul-one}
 use native.Mathlib.Numerals.{add-one}
 use native.Mathlib.Omega.{arith}
 use lib.ListN.{getD}
 use Rattle.gf2.specs.Polynomials.{_⊕_, degree, rem}
 use Rattle.gf2.proofs.Sums.{⊕-assoc, ⊕-zero}
-use Rattle.gf2.proofs.Products.{one-⊗}
 use Rattle.gf2.proofs.Residues.{rem-small, rem-⊕}
-use Rattle.gf2.proofs.Powers.{rem-rem}
+use Rattle.multiples.proofs.Following.{first-multiple}
 use Rattle.lookups.specs.Groups.{looked}
 use Rattle.lookups.proofs.Cut.{looked-shift}
 use Rattle.shifts.specs.Shifts.{Shifts}
@@ -21,11 +19,7 @@ shifted pos e words f s h = looked-shift 8 pos e 8 words (s .rows) 8 f (omega ar
 -- a mark joined behind another of residue f, by the table
 module _ {key : ℕ} (pos : 0 < key) (e : ℕ) (words : List ℕ) (s : Shifts key e words) where
   pub word-one : getD words 1 0 ≡ rem key (2 ^ e)
-  word-one =
-      s .rows 0 (omega arith) 1 (omega arith)
-      ∙ ap (rem key) (one-⊗ (rem key (2 ^ e * 2 ^ (8 * 0))))
-      ∙ rem-rem pos (2 ^ e * 2 ^ (8 * 0))
-      ∙ ap (rem key) (mul-one (2 ^ e))
+  word-one = first-multiple pos 8 (2 ^ e) 8 words (omega arith) (omega arith) (s .rows)
 
   pub joined-by-table : (f g : ℕ) → f < 2 ^ 64 → g < 2 ^ degree key → looked 8 words 8 0 f ⊕ g ⊕ getD words 1 0 ≡ rem key (f * 2 ^ e ⊕ g ⊕ 2 ^ e)
   joined-by-table f g hf hg =

@@ -54,7 +54,7 @@ fn feed_ones(p: Modulus, f: u64, part: &[u8], from: usize) -> u64
     let mut x = f;
     let mut i = from;
     while i < part.len() {
-        x = behind(p, 1, x, lookups::byte_at(part, i));
+        x = behind(p, 1, x, lookups::byte_at(part, i) as u64);
         i += 1;
     }
     x

@@ -1,4 +1,5 @@
 -- `eight_at` meets its contract: four bytes, and four behind them.
+use Prim.Native.Nat.{_+_, _^_, _<_}
 use native.Mathlib.Omega.{arith}
 use borrow.Author.Needs.{needs}
 use Rattle.lookups.proofs.Parts.{piece-lt, value-join, join-lt}
@@ -10,10 +11,14 @@ use Rattle.lookups.proofs.eight_at.Tie as tie
 abbrev four-at2→start : tie.After-four-at2 → tie.Start
 four-at2→start c = c .before .before .before
 
-mul-result : tie.Need-mul-result
-mul-result c =
-    let s = c .before .before in
-    omega (arith, piece-lt (s .args .part .now) (s .args .i) 4 (c .four-at .result) (omega arith) (c .four-at .ensures))
+-- four bytes are a number of 32 bits
+four-lt : (c : tie.After-four-at) → c .four-at .result < 2 ^ 32
+four-lt c = let s = c .before .before in piece-lt (s .args .part .now) (s .args .i) 4 (c .four-at .result) (omega arith) (c .four-at .ensures)
+
+four-lt-2 : (c : tie.After-four-at2) → c .four-at2 .result < 2 ^ 32
+four-lt-2 c =
+    let s = four-at2→start c in
+    piece-lt (s .args .part .now) (s .args .i + 4) 4 (c .four-at2 .result) (omega arith) (c .four-at2 .ensures)
 
 add-result : tie.Need-add-result
 add-result c =
@@ -28,4 +33,14 @@ returns c =
     value-join (s .args .part .now) (s .args .i) 4 4 (front .result) (c .four-at2 .result) (omega arith) (front .ensures) (c .four-at2 .ensures)
 
 pub eight-at-spec : {M : Type 1} → statement M
-eight-at-spec = tie.close (tie.spec (λ c κs. search needs) mul-result (λ c. search needs) (λ c κs. search needs) add-result returns)
+eight-at-spec =
+    tie.close
+    (tie.spec
+    (λ c κs. search needs)
+    (λ c. omega (arith, four-lt c))
+    (λ c. omega (arith, four-lt c))
+    (λ c. search needs)
+    (λ c κs. search needs)
+    (λ c. omega (arith, four-lt-2 c))
+    add-result
+    returns)

@@ -1,15 +1,17 @@
 -- `feed_lane` meets its contract: x stands for f and the bytes before i.
-use mathlib.Core.Path.{refl, _∙_}
-use Prim.Native.Nat.{_-_, _≤_}
+use mathlib.Core.Path.{ap, _∙_}
+use Prim.Native.Nat.{ℕ, _-_, _%_, _^_, _≤_}
 use native.Mathlib.Omega.{arith}
-use lib.ListN.{length}
-use Rattle.lookups.proofs.Parts.{piece-lt, Going, going-four}
+use lib.ListN.{length, drop}
+use Rattle.gf2.specs.Polynomials.{rem}
+use Rattle.gf2.specs.Moduli.{polynomial}
+use Rattle.files.specs.Files.{bits, valueFrom}
+use Rattle.lookups.proofs.Parts.{Going, going-first, going-four}
 use Rattle.lookups.proofs.feed_lane.Statement.{statement}
 use Rattle.lookups.proofs.feed_lane.Tie as tie
 
 abbrev Inv-loop : tie.InvT-loop
-Inv-loop words p f part x₀ i₀ x i =
-    (i ≤ length part) × Going p f part 0 i x
+Inv-loop words p f part x₀ i₀ x i = (i ≤ length part) × Going p f part 0 i (x % 2 ^ p .degree)
 
 abbrev μ-loop : tie.MeasureT-loop
 μ-loop words p f part x₀ i₀ x i = length part - i
@@ -22,14 +24,16 @@ shared-slice-known2→start c = c .before .before
 abbrev four-at→start : tie.After-four-at Inv-loop μ-loop → tie.Start Inv-loop μ-loop
 four-at→start c = shared-slice-known2→start (c .before .before .before)
 
-loop-holds : tie.Need-loop-holds Inv-loop μ-loop
-loop-holds c = (omega arith, (c .before .before .pre .1, refl))
+abbrev loop→start : tie.After-loop Inv-loop μ-loop → tie.Start Inv-loop μ-loop
+loop→start c = shared-slice-known2→start (c .before .before)
 
-feed-four-requires : tie.Need-feed-four-requires Inv-loop μ-loop
-feed-four-requires c κs =
-    let s = four-at→start c in
-    let l = c .before .before .loop in
-    (s .pre .0, l .inv .1 .0, piece-lt (s .args .part .now) (l .i) 4 (c .four-at .result) (omega arith) (c .four-at .ensures))
+loop-holds : tie.Need-loop-holds Inv-loop μ-loop
+loop-holds c =
+    let s = shared-slice-known2→start c in
+    (omega arith, going-first (s .args .p) (s .args .f) (s .args .part .now) (s .pre .1))
+
+append-requires : tie.Need-append-requires Inv-loop μ-loop
+append-requires c κs = four-at→start c .pre .0
 
 loop-again : tie.Need-loop-again Inv-loop μ-loop
 loop-again c =
@@ -38,17 +42,22 @@ loop-again c =
     let l = c .before .before .before .loop in
     let v = c .before .four-at in (
       omega arith,
-      going-four (a .p) (s .pre .0 .0) (a .f) (a .part .now) 0 (l .i) (l .x) (l .inv .1) (v .result) (c .feed-four .result) (omega arith) (v .ensures)
-          (c .feed-four .ensures),
+      going-four (a .p) (s .pre .0 .0) (a .f) (a .part .now) 0 (l .i) _ (l .inv .1) (v .result) _ (omega arith) (v .ensures) (c .append .ensures),
     )
 
 feed-tail-requires : tie.Need-feed-tail-requires Inv-loop μ-loop
 feed-tail-requires c κs =
-    let l = c .before .loop in
-    (shared-slice-known2→start (c .before .before) .pre .0, l .inv .1 .0, l .inv .0)
+    let s = loop→start (c .before) in
+    let l = c .before .before .loop in
+    (s .pre .0, rw (c .below .ensures) (l .inv .1 .0), l .inv .0)
 
 returns : tie.Need-returns Inv-loop μ-loop
-returns c = c .feed-tail .ensures ∙ c .before .before .loop .inv .1 .1
+returns c =
+    let s = loop→start (c .before .before) in
+    let l = c .before .before .before .loop in
+    c .feed-tail .ensures
+    ∙ ap (λ (x : ℕ). rem (polynomial (s .args .p)) (valueFrom x (bits (drop (l .i) (s .args .part .now))))) (c .before .below .ensures)
+    ∙ l .inv .1 .1
 
 pub feed-lane-spec : {M : Type 1} → statement M
 feed-lane-spec =
@@ -59,9 +68,10 @@ feed-lane-spec =
     loop-holds
     (λ c. omega arith)
     (λ c κs. omega arith)
-    feed-four-requires
+    append-requires
     (λ c. omega arith)
     (λ c. omega arith)
     loop-again
+    (λ c κs. loop→start c .pre .0 .0)
     feed-tail-requires
     returns)

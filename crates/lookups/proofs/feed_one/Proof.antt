@@ -14,11 +14,8 @@ use Rattle.lookups.proofs.feed_one.Tie as tie
 abbrev low-bits→start : tie.After-low-bits → tie.Start
 low-bits→start c = c .before .before .before
 
-abbrev wide→start : tie.After-wide → tie.Start
-wide→start c = low-bits→start (c .before)
-
 abbrev shared-slice-known2→start : tie.After-shared-slice-known2 → tie.Start
-shared-slice-known2→start c = wide→start (c .before)
+shared-slice-known2→start c = low-bits→start (c .before)
 
 mul-result : tie.Need-mul-result
 mul-result c =
@@ -28,13 +25,13 @@ mul-result c =
 
 add-result : tie.Need-add-result
 add-result c =
-    let s = wide→start c in
-    let e = c .before .low-bits .ensures in
-    omega (arith, below-fits (s .args .f) (c .wide .result) 8 (s .args .p .degree - 8) (c .wide .ensures .1) (omega arith))
+    let s = low-bits→start c in
+    let e = c .low-bits .ensures in
+    omega (arith, below-fits (s .args .f) (s .args .b) 8 (s .args .p .degree - 8) (s .fits .b .fits) (omega arith))
 
 mul-result-2 : tie.Need-mul-result-2
 mul-result-2 c =
-    let s = wide→start c in
+    let s = low-bits→start c in
     omega (arith, top-lt (s .args .f) 8 (s .args .p .degree) (s .pre .0 .1) (s .pre .1), s .pre .0 .2)
 
 shared-slice-read-result : tie.Need-shared-slice-read-result
@@ -50,11 +47,9 @@ returns c =
     let p = s .pre in
     let ws = a .words .now in
     let cut = a .p .degree - 8 in
-    let rest = c .before .before .low-bits in
-    let b : a .b < 2 ^ 8 = omega (arith, c .before .wide .ensures) in
-    ap (λ (y : ℕ). (rest .result * 256 + y) ⊕ getD ws (a .f / 2 ^ cut) 0) (c .before .wide .ensures .0)
-    ∙ look-one ws (rest .result * 256 + a .b) (a .f / 2 ^ cut) (top-lt (a .f) 8 (a .p .degree) (p .0 .1) (p .1))
-    ∙ cut-high 8 (a .p) (p .0 .0) ws 1 (p .0 .3) 1 (a .f) (a .b) (omega arith) (p .1) b cut (rest .result) (omega arith) (rest .ensures)
+    let rest = c .before .low-bits in
+    look-one ws (rest .result * 256 + a .b) (a .f / 2 ^ cut) (top-lt (a .f) 8 (a .p .degree) (p .0 .1) (p .1))
+    ∙ cut-high 8 (a .p) (p .0 .0) ws 1 (p .0 .3) 1 (a .f) (a .b) (omega arith) (p .1) (s .fits .b .fits) cut (rest .result) (omega arith) (rest .ensures)
 
 pub feed-one-spec : {M : Type 1} → statement M
 feed-one-spec =
@@ -65,7 +60,6 @@ feed-one-spec =
     (λ c. search needs)
     (λ c. search needs)
     mul-result
-    (λ c κs. search needs)
     add-result
     mul-result-2
     shared-slice-read-result

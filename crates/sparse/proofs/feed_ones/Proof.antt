@@ -3,6 +3,7 @@ use mathlib.Core.Path.{refl}
 use Prim.Native.Nat.{_-_, _≤_}
 use native.Mathlib.Omega.{arith}
 use lib.ListN.{length}
+use borrow.Author.Needs.{needs}
 use Rattle.lookups.proofs.Parts.{piece-lt, Going, going, going-all}
 use Rattle.sparse.proofs.feed_ones.Statement.{statement}
 use Rattle.sparse.proofs.feed_ones.Tie as tie
@@ -48,6 +49,7 @@ feed-ones-spec =
     μ-loop
     loop-holds
     (λ c κs. omega arith)
+    (λ c. search needs)
     behind-requires
     (λ c. omega arith)
     (λ c. omega arith)
