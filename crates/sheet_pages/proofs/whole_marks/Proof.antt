@@ -1,18 +1,41 @@
--- `whole_marks` meets its contract.
-use mathlib.Core.Path.{_∙_}
+-- `whole_marks` meets its contract, by folding or by the tables.
+use mathlib.Core.Path.{sym, ap, _∙_}
+use Prim.Native.Nat.{ℕ}
 use native.Mathlib.Omega.{arith}
 use Rattle.gf2.specs.Moduli.{polynomial}
+use Rattle.house.specs.House.{houseKey}
+use Rattle.sheets.specs.Sheets.{pageFingerprints}
 use Rattle.sheet_pages.proofs.Blocks.{block-is}
 use borrow.Author.Needs.{needs}
 use Rattle.sheet_pages.proofs.whole_marks.Statement.{statement}
 use Rattle.sheet_pages.proofs.whole_marks.Tie as tie
 
--- the pages are begun, and finished
+-- the start, before the choice and behind it; the pages are begun, and finished
+abbrev entry : tie.After-folding → tie.Start
+entry c = c .before .before .before .before .before
+
+abbrev folded : tie.After-fold-pages-arg → tie.After-folding
+folded c = c .before .before
+
+abbrev start : tie.After-begin-pages-arg → tie.Start
+start c = entry (c .before .before)
+
 abbrev begun : tie.After-finish-pages → tie.After-begin-pages
 begun c = c .before .before .before .before
 
-abbrev start : tie.After-begin-pages-arg → tie.Start
-start c = c .before .before .before .before .before
+fold-pages-requires : tie.Need-fold-pages-requires
+fold-pages-requires c κs = let s = entry (folded c) in (s .pre .2, s .pre .3)
+
+returns : tie.Need-returns
+returns c =
+    let f = c .before .before in
+    let g = folded (f .before) in
+    let s = entry g in
+    let a = s .args in (
+      block-is houseKey (a .size) (a .n) (a .pages .now) _ (s .pre .2) (omega (arith, f .fold-pages .kept .0)) (f .fold-pages .ensures .0)
+          ∙ ap (λ (key : ℕ). pageFingerprints key (a .size) (a .n) (a .pages .now)) (sym (g .folding .ensures (f .before .before .if1 .taken))),
+      f .fold-pages .ensures .1,
+    )
 
 begin-pages-requires : tie.Need-begin-pages-requires
 begin-pages-requires c κs = let s = start c in (s .pre .0 .shifts .long, omega arith, omega arith, omega arith, s .pre .2, s .pre .3)
@@ -29,8 +52,8 @@ finish-pages-requires c κs =
           (s .pre .0 .shifts),
     )
 
-returns : tie.Need-returns
-returns c =
+returns-2 : tie.Need-returns-2
+returns-2 c =
     let f = c .before .before in
     let b = begun f in
     let s = start (b .before) in
@@ -42,4 +65,14 @@ returns c =
 
 pub whole-marks-spec : {M : Type 1} → statement M
 whole-marks-spec =
-    tie.close (tie.spec (λ c. search needs) begin-pages-requires finish-pages-requires (λ c. search needs) returns)
+    tie.close
+    (tie.spec
+    (λ c κs. search needs)
+    fold-pages-requires
+    (λ c. search needs)
+    returns
+    (λ c. search needs)
+    begin-pages-requires
+    finish-pages-requires
+    (λ c. search needs)
+    returns-2)
