@@ -84,7 +84,7 @@ uint32_t gfp_feed_table(uint64_t key, uint64_t *fingerprint, uint64_t *length, c
 
 /* Feeds the next part by the table of GFP_HOUSE_KEY, which the library holds: the same as gfp_feed_table with its
  * words. Under that key no word is tested, since they are proved right, and none is read: that is the fastest way to
- * feed. Under another key they are tested like a lent table. Refusals: 1, 2, 6, 7, 8. Stack: 9,728 bytes. */
+ * feed. Under another key they are tested like a lent table. Refusals: 1, 2, 6, 7, 8. Stack: 15,360 bytes. */
 uint32_t gfp_feed_house(uint64_t key, uint64_t *fingerprint, uint64_t *length, const uint8_t *part, size_t part_length);
 
 /* ---- Site: link libgfp_site.a and libgfp_bench.a */
@@ -125,7 +125,7 @@ uint32_t gfp_sheet_length(uint64_t file_length, uint64_t page_size, uint64_t *sh
  * bytes, and the sheet takes 27 + 8 * pages bytes, pages being the file's length over the page size, rounded up: the
  * letters GFP, a version of 2 bytes, the key (8), the file's length (4), the page size (2), the fingerprint of each
  * page (8 each, the last page filled up with zero bytes) and the file's (8), high byte first.
- * Refusals: 1, 2, 7, 12, 13. Stack: 26,112 bytes. */
+ * Refusals: 1, 2, 7, 12, 13. Stack: 31,744 bytes. */
 uint32_t gfp_write_sheet(uint64_t key, uint64_t page_size, const uint8_t *file, size_t file_length, uint8_t *sheet,
                          size_t sheet_length);
 
@@ -146,14 +146,14 @@ uint32_t gfp_read_pages(const uint8_t *sheet, size_t sheet_length, uint64_t *fin
 
 /* Checks a file against a page sheet: *outcome is GFP_SAME, GFP_PAGE with the first page whose fingerprint differs,
  * counted from 0, in *page, or GFP_OTHER_LENGTH. *page is 0 where the outcome is not GFP_PAGE.
- * Refusals, those of gfp_read_sheet first: 14, 1, 2, 12, 14, 7. Stack: 26,112 bytes. */
+ * Refusals, those of gfp_read_sheet first: 14, 1, 2, 12, 14, 7. Stack: 31,744 bytes. */
 uint32_t gfp_check_file(const uint8_t *sheet, size_t sheet_length, const uint8_t *file, size_t file_length,
                         uint32_t *outcome, uint32_t *page);
 
 /* Checks a file as gfp_check_file does, and names the bytes of the page: where *outcome is GFP_PAGE, they stand from
  * *from on, and end before *to, which is the file's end where the last page is not full. *from and *to are 0 where the
  * outcome is not GFP_PAGE.
- * Refusals, those of gfp_read_sheet first: 14, 1, 2, 12, 14, 7. Stack: 26,624 bytes. */
+ * Refusals, those of gfp_read_sheet first: 14, 1, 2, 12, 14, 7. Stack: 31,744 bytes. */
 uint32_t gfp_changed_range(const uint8_t *sheet, size_t sheet_length, const uint8_t *file, size_t file_length,
                            uint32_t *outcome, uint64_t *from, uint64_t *to);
 

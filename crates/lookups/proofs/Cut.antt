@@ -154,7 +154,8 @@ module _ (w : ℕ) (p : Modulus) (proper : Proper p) (words : List ℕ) (c : ℕ
         let e : y % 2 ^ (w * n + k) ≡ f * 2 ^ (w * n) + v = kept x v (w * n) k hv le in
         loose y (y / 2 ^ k) (sym (mod-mod-pow y (w * n) k) ∙ ap (λ (z : ℕ). z % 2 ^ k) e) (sym (field y (w * n) k) ∙ ap (λ (z : ℕ). z / 2 ^ k) e)
 
-    pub cut-loose : (j : ℕ) → p .degree ≡ w * n + j → j ≤ w * n → (y ⊕ looked w words n 0 (x / 2 ^ j)) % 2 ^ p .degree ≡ rem (polynomial p) (f * 2 ^ (w * n) + v)
+    pub cut-loose : (j : ℕ) → p .degree ≡ w * n + j → j ≤ w * n
+        → (y ⊕ looked w words n 0 (x / 2 ^ j)) % 2 ^ p .degree ≡ rem (polynomial p) (f * 2 ^ (w * n) + v)
     cut-loose j e le = loose y (x / 2 ^ j) low-part top-part
       where
         stays : f % 2 ^ j ≡ x % 2 ^ j

@@ -35,7 +35,9 @@ high-below k x w l = go (decLt k 32)
     go (no h) =
         let e : k ≡ (k - 32) + 32 = omega arith in
         let b : x / 2 ^ 32 < 2 ^ (k - 32) = shr-lt (k - 32) 32 (rw e at l) in
-        lt-of-lt-of-le (⊗-lt (x / 2 ^ 32) (x / 2 ^ 32) (k - 32) (k - 32) b (lt-of-lt-of-le b (pow-mono {i = k - 32} {j = suc (k - 32)} (omega arith)))) (pow-mono (omega arith))
+        lt-of-lt-of-le
+        (⊗-lt (x / 2 ^ 32) (x / 2 ^ 32) (k - 32) (k - 32) b (lt-of-lt-of-le b (pow-mono {i = k - 32} {j = suc (k - 32)} (omega arith))))
+        (pow-mono (omega arith))
 
 -- the low half four bytes at a time behind the high one
 pub square-halves : {p : ℕ} (pos : 0 < p) (x low : ℕ) → low ≡ x % 2 ^ 32 ⊗ (x % 2 ^ 32)

@@ -73,7 +73,8 @@ loop-again c =
     let d = c .before .before .divide-piece in (
       omega arith,
       same-len-mid (l .i) (length (l .q) - l .i) (l .q) (d .last .0) (d .kept .0) ∙ l .inv .1,
-      piece (a .s) (s .pre .0) (l .q) (a .src .now) (d .last .0) (l .i) (l .i + 64) (omega arith) (omega arith) (omega (arith, l .inv .1, s .pre .1)) (d .kept .0)
+      piece (a .s) (s .pre .0) (l .q) (a .src .now) (d .last .0) (l .i) (l .i + 64) (omega arith) (omega arith) (omega (arith, l .inv .1, s .pre .1))
+          (d .kept .0)
           (d .ensures)
           ∙ l .inv .2,
     )
@@ -82,7 +83,8 @@ divide-piece-requires-2 : tie.Need-divide-piece-requires-2 Inv-loop μ-loop
 divide-piece-requires-2 c κs =
     let s = c .before .before .before .before .before .before in
     let l = c .before .before .before .loop in
-    (s .pre .0, lengths (l .q) (s .args .src .now) (s .args .s) (l .i) (length (s .args .src .now)) (omega arith) (omega arith) (omega (arith, l .inv .1, s .pre .1)))
+    let n = length (s .args .src .now) in
+    (s .pre .0, lengths (l .q) (s .args .src .now) (s .args .s) (l .i) n (omega arith) (omega arith) (omega (arith, l .inv .1, s .pre .1)))
 
 returns : tie.Need-returns Inv-loop μ-loop
 returns c =
@@ -92,7 +94,8 @@ returns c =
     let d = c .before .before .divide-piece2 in
     let n = length (a .src .now) in
     sym (nothing-left houseKey (folded exponents (a .s) (drop n (putMid (l .i) (length (l .q) - l .i) (l .q) (d .last .0))) 0) (a .src .now) n (omega arith))
-    ∙ piece (a .s) (s .pre .0) (l .q) (a .src .now) (d .last .0) (l .i) n (omega arith) (omega arith) (omega (arith, l .inv .1, s .pre .1)) (d .kept .0) (d .ensures)
+    ∙ piece (a .s) (s .pre .0) (l .q) (a .src .now) (d .last .0) (l .i) n (omega arith) (omega arith) (omega (arith, l .inv .1, s .pre .1)) (d .kept .0)
+    (d .ensures)
     ∙ l .inv .2
 
 pub divide-block-spec : {M : Type 1} → statement M

@@ -24,7 +24,10 @@ started s w zeros q f start part n l z ef e =
     same-start house-pos f (folded exponents s (drop 8 q) 0) (bits part)
     (sym (house-last s w q 8 l)
     ∙ ap (rem houseKey)
-    (ap (folded exponents s q) (sym n) ∙ e ∙ ap (λ (x : ℕ). valueFrom x (bits start)) (ap (λ (x : List ℕ). folded exponents s x 0) z ∙ folded-zeros exponents s (length zeros)) ∙ ef))
+    (ap (folded exponents s q) (sym n)
+    ∙ e
+    ∙ ap (λ (x : ℕ). valueFrom x (bits start)) (ap (λ (x : List ℕ). folded exponents s x 0) z ∙ folded-zeros exponents s (length zeros))
+    ∙ ef))
 
 divide-piece-requires : tie.Need-divide-piece-requires
 divide-piece-requires c κs =

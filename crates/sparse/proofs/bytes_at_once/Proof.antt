@@ -24,7 +24,8 @@ module _ (p : Modulus) (proper : Proper p) (some : 0 < p .low) where
     few,
     low,
     omega arith,
-    lt-of-lt-of-le (deg-hi (p .low) (degree (p .low)) (degree-is (p .low) some)) (pow-mono {i = suc (degree (p .low))} {j = p .degree - 8 * n + 1} (omega arith)),
+    lt-of-lt-of-le (deg-hi (p .low) (degree (p .low)) (degree-is (p .low) some))
+        (pow-mono {i = suc (degree (p .low))} {j = p .degree - 8 * n + 1} (omega arith)),
   )
 
 sub-n : tie.Need-sub-n

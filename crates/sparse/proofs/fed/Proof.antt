@@ -38,7 +38,8 @@ value-in : (c : tie.After-eight-at Inv-loop μ-loop) → let a = c .before .befo
     c .eight-at .result / 2 ^ (64 - 8 * a .n) ≡ valueFrom 0 (bits (take (a .n) (drop (c .before .before .loop .i) (a .part .now))))
 value-in c =
     let s = c .before .before .before .before in
-    first-bytes (s .args .part .now) (c .before .before .loop .i) (s .args .n) (c .eight-at .result) (omega (arith, s .pre .0 .2)) (omega arith) (c .eight-at .ensures)
+    first-bytes (s .args .part .now) (c .before .before .loop .i) (s .args .n) (c .eight-at .result) (omega (arith, s .pre .0 .2)) (omega arith)
+    (c .eight-at .ensures)
 
 behind-requires : tie.Need-behind-requires Inv-loop μ-loop
 behind-requires c κs =
