@@ -104,7 +104,7 @@ fn fold_pages(marks: &mut [u64], size: usize, n: usize, pages: &[u8])
     let mut i: usize = 0;
     while i < n {
         let a = i * size;
-        marks[i] = folds::fed_house(1, &pages[a..a + size]);
+        marks[i] = folds::fed_page(1, &pages[a..a + size]);
         i += 1;
     }
 }
@@ -149,6 +149,17 @@ pub struct LastPage {
     pub filled: u64,
 }
 
+// The residue of what a file has behind its whole pages, with the leading 1.
+fn fed_last(words: &[u64], p: Modulus, rest: &[u8]) -> u64
+    requires { ⌜ TableOf p (now words) ⌝ }
+    ensures { λ r. ⌜ r ≡ rem (polynomial p) (valueFrom 1 (bits (now (rest .entry)))) ⌝ }
+{
+    if folds::is_house(p) {
+        return folds::fed_page(1, rest);
+    }
+    lookups::fed(words, p, 1, rest)
+}
+
 // The bytes are fed once: zero bytes behind them come in as one power of t.
 pub fn last_page(words: &[u64], p: Modulus, size: usize, file: &[u8]) -> LastPage
     requires { ⌜ TableOf p (now words) × (0 < size) × (size ≤ 4096) ⌝ }
@@ -159,7 +170,7 @@ pub fn last_page(words: &[u64], p: Modulus, size: usize, file: &[u8]) -> LastPag
     if from == file.len() {
         return LastPage { own: 1, filled: 1 };
     }
-    let own = folds::fed(words, p, 1, &file[from..]);
+    let own = fed_last(words, p, &file[from..]);
     let zeros = size - (file.len() - from);
     let t = gf2::power_of_t(p, 8 * zeros as u64);
     LastPage {

@@ -21,7 +21,7 @@ abbrev μ-loop : tie.MeasureT-loop
 μ-loop marks₀ size n pages i₀ marks i = n - i
 
 -- the turn, and the start
-abbrev turn : tie.After-fed-house Inv-loop μ-loop → tie.In-loop Inv-loop μ-loop
+abbrev turn : tie.After-fed-page Inv-loop μ-loop → tie.In-loop Inv-loop μ-loop
 turn c = c .before .before
 
 abbrev start : tie.In-loop Inv-loop μ-loop → tie.Start Inv-loop μ-loop
@@ -47,7 +47,7 @@ loop-again c =
     let t = turn c in
     let l = t .before .loop in
     let a = start t .args in
-    let x = c .fed-house in (
+    let x = c .fed-page in (
       omega arith,
       simp length-set (l .inv .1),
       finished-more houseKey (a .size) 0 (a .pages .now) (l .marks) (l .i) (x .result) (omega (arith, start t .pre .1, l .inv .1, t .loop-test .taken))

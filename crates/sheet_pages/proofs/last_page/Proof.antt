@@ -4,7 +4,6 @@ use mathlib.Core.List.{List}
 use Prim.Native.Nat.{ℕ, _+_, _-_, _*_, _/_, _^_, _≤_, _<_}
 use native.Mathlib.Omega.{arith}
 use lib.ListN.{length, drop, length-drop, drop-of-length-le}
-use lib.Pow.{pow-lt}
 use Rattle.gf2.specs.Polynomials.{_⊗_, rem}
 use Rattle.gf2.specs.Moduli.{polynomial, Proper}
 use Rattle.gf2.specs.declared.Modulus.{Modulus}
@@ -24,7 +23,7 @@ use Rattle.sheet_pages.proofs.last_page.Tie as tie
 abbrev begun : tie.Else1 → tie.Start
 begun c = c .before .before .before
 
-abbrev start : tie.After-fed-arg → tie.Start
+abbrev start : tie.After-fed-last-arg → tie.Start
 start c = begun (c .before)
 
 abbrev key : tie.Start → ℕ
@@ -40,11 +39,12 @@ ends s = whole-fits (s .args .size) (length (file s))
 short : (s : tie.Start) → length (file s) < length (file s) / s .args .size * s .args .size + s .args .size
 short s = last-short (s .args .size) (length (file s)) (s .pre .1)
 
-own : (c : tie.After-fed) → c .fed .result ≡ fingerprint (key (start (c .before))) (lastPage (start (c .before) .args .size) (file (start (c .before))))
+own : (c : tie.After-fed-last)
+    → c .fed-last .result ≡ fingerprint (key (start (c .before))) (lastPage (start (c .before) .args .size) (file (start (c .before))))
 unfolding fingerprint value
 own c =
     let s = start (c .before) in
-    c .fed .ensures ∙ ap (λ (q : List ℕ). rem (key s) (valueFrom 1 (bits q))) (all-left (file s) (length (file s) / s .args .size * s .args .size))
+    c .fed-last .ensures ∙ ap (λ (q : List ℕ). rem (key s) (valueFrom 1 (bits q))) (all-left (file s) (length (file s) / s .args .size * s .args .size))
 
 -- nothing is left: the fingerprint of no bytes is 1
 none-left : (p : Modulus) → Proper p → (file : List ℕ) (n : ℕ) → length file ≤ n → 1 ≡ fingerprint (polynomial p) (drop n file)
@@ -62,14 +62,14 @@ returns c =
     let whole = length (file s) / s .args .size * s .args .size in
     (none-left (s .args .p) (s .pre .0 .0) (file s) whole (omega arith), λ some. absurd (omega (arith, length-drop whole (file s))))
 
-sub-fed : tie.Need-sub-fed
-sub-fed c = omega (arith, ends (begun c))
+sub-fed-last : tie.Need-sub-fed-last
+sub-fed-last c = omega (arith, ends (begun c))
 
-part-fed-start : tie.Need-part-fed-start
-part-fed-start c = omega (arith, ends (begun c))
+part-fed-last-start : tie.Need-part-fed-last-start
+part-fed-last-start c = omega (arith, ends (begun c))
 
-fed-requires : tie.Need-fed-requires
-fed-requires c κs = let s = start c in (s .pre .0, pow-lt {i = 0} {j = s .args .p .degree} (s .pre .0 .0 .0))
+fed-last-requires : tie.Need-fed-last-requires
+fed-last-requires c κs = start c .pre .0
 
 sub-zeros : tie.Need-sub-zeros
 sub-zeros c = omega (arith, ends (start (c .before)))
@@ -90,7 +90,7 @@ below s x y e = rw e (residue-lt (s .args .p .degree) (s .args .p .low) (s .pre 
 product-requires : tie.Need-product-requires
 product-requires c κs =
     let s = start (c .before .before) in
-    (s .pre .0 .0, below s _ _ (c .before .fed .ensures), below s _ _ (c .power-of-t .ensures))
+    (s .pre .0 .0, below s _ _ (c .before .fed-last .ensures), below s _ _ (c .power-of-t .ensures))
 
 returns-2 : tie.Need-returns-2
 unfolding filled
@@ -116,10 +116,10 @@ last-page-spec =
     (λ c. search needs)
     mul-from
     returns
-    sub-fed
-    part-fed-start
+    sub-fed-last
+    part-fed-last-start
     (λ c. search needs)
-    fed-requires
+    fed-last-requires
     sub-zeros
     sub-zeros-2
     mul-power-of-t
