@@ -125,7 +125,7 @@ uint32_t gfp_sheet_length(uint64_t file_length, uint64_t page_size, uint64_t *sh
  * bytes, and the sheet takes 27 + 8 * pages bytes, pages being the file's length over the page size, rounded up: the
  * letters GFP, a version of 2 bytes, the key (8), the file's length (4), the page size (2), the fingerprint of each
  * page (8 each, the last page filled up with zero bytes) and the file's (8), high byte first.
- * Refusals: 1, 2, 7, 12, 13. Stack: 31,744 bytes. */
+ * Refusals: 1, 2, 7, 12, 13. Stack: 26,624 bytes. */
 uint32_t gfp_write_sheet(uint64_t key, uint64_t page_size, const uint8_t *file, size_t file_length, uint8_t *sheet,
                          size_t sheet_length);
 
@@ -146,7 +146,7 @@ uint32_t gfp_read_pages(const uint8_t *sheet, size_t sheet_length, uint64_t *fin
 
 /* Checks a file against a page sheet: *outcome is GFP_SAME, GFP_PAGE with the first page whose fingerprint differs,
  * counted from 0, in *page, or GFP_OTHER_LENGTH. *page is 0 where the outcome is not GFP_PAGE.
- * Refusals, those of gfp_read_sheet first: 14, 1, 2, 12, 14, 7. Stack: 31,744 bytes. */
+ * Refusals, those of gfp_read_sheet first: 14, 1, 2, 12, 14, 7. Stack: 26,624 bytes. */
 uint32_t gfp_check_file(const uint8_t *sheet, size_t sheet_length, const uint8_t *file, size_t file_length,
                         uint32_t *outcome, uint32_t *page);
 
