@@ -153,7 +153,7 @@ uint32_t gfp_check_file(const uint8_t *sheet, size_t sheet_length, const uint8_t
 /* Checks a file as gfp_check_file does, and names the bytes of the page: where *outcome is GFP_PAGE, they stand from
  * *from on, and end before *to, which is the file's end where the last page is not full. *from and *to are 0 where the
  * outcome is not GFP_PAGE.
- * Refusals, those of gfp_read_sheet first: 14, 1, 2, 12, 14, 7. Stack: 31,744 bytes. */
+ * Refusals, those of gfp_read_sheet first: 14, 1, 2, 12, 14, 7. Stack: 26,624 bytes. */
 uint32_t gfp_changed_range(const uint8_t *sheet, size_t sheet_length, const uint8_t *file, size_t file_length,
                            uint32_t *outcome, uint64_t *from, uint64_t *to);
 
