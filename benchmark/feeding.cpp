@@ -174,9 +174,9 @@ static void feed_by_table(uint64_t key, const std::string &name, size_t n) {
     printf("%-52s      %11.3f ns a byte\n", "", ns[0] / double(n));
 }
 
-static void feed_by_bits(uint64_t key, const std::string &name) {
+static void feed_alone(uint64_t key, const std::string &name) {
     Input in(key, 65536);
-    compare("feed by bits, " + name + ", 65536 bytes", without_table(in).call,
+    compare("feed with no table, " + name + ", 65536 bytes", without_table(in).call,
             {{"C branch-free loop", [&in] { sink = peer_feed_bits(in.key, 1, in.file.data(), in.file.size()); }}});
 }
 
@@ -185,8 +185,8 @@ void feed_in_other_ways() {
         std::string name = "degree " + std::to_string(degree);
         for (size_t n : {size_t(64), size_t(4096), size_t(65536), size_t(1) << 20, size_t(64) << 20})
             feed_by_table(gfp_stock_key(degree), name, n);
-        feed_by_bits(gfp_stock_key(degree), name);
+        feed_alone(gfp_stock_key(degree), name);
     }
-    feed_by_bits(HOUSE, "house key");
-    feed_by_bits(drawn_key(), "drawn key");
+    feed_alone(HOUSE, "house key");
+    feed_alone(drawn_key(), "drawn key");
 }

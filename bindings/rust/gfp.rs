@@ -84,7 +84,7 @@ pub fn begin(key: u64) -> Result<Mark, Refusal> {
 }
 
 impl Mark {
-    /// Feeds the next part of a file, bit by bit. On refusal the mark is unchanged.
+    /// Feeds the next part of a file, with no table. On refusal the mark is unchanged.
     pub fn feed(&mut self, key: u64, part: &[u8]) -> Result<(), Refusal> {
         answer(unsafe { raw::gfp_feed(key, &mut self.fingerprint, &mut self.length, part.as_ptr(), part.len()) }, ())
     }
