@@ -53,8 +53,8 @@ fn divide_piece(q: &mut [u8], s: usize, src: &[u8])
     }
 }
 
-// A block behind what the 61 words in front stand for: then those behind as many bytes stand for it. Pieces of 64 bytes, so that the compiler loads
-// no byte of a piece twice.
+// A block behind what the 61 words in front stand for: then those behind as many bytes stand for it. It goes in pieces of 64 bytes, of which the
+// compiler loads none twice where a word has 16 bytes.
 fn divide_block(q: &mut [u8], s: usize, src: &[u8])
     requires { ⌜ Word s × (length (now src) + 61 * s ≤ length (now q)) ⌝ }
     ensures { λ r. ⌜ rem houseKey (folded exponents s (drop (length (now (src .entry))) (now (q .exit))) 0)
