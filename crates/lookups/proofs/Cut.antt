@@ -48,9 +48,6 @@ pub below-fits : (f v n j : ℕ) → v < 2 ^ n → j + n ≤ 64 → f % 2 ^ j * 
 below-fits f v n j h l = lt-of-lt-of-le (rw (← (pow-add 2 j n)) at (digits-lt {q = f % 2 ^ j} {m = 2 ^ j} (mod-lt f (pow-pos j)) h))
     (pow-mono {i = j + n} {j = 64} l)
 
-pub all-fits : (f v n k : ℕ) → f < 2 ^ k → v < 2 ^ n → k + n ≤ 64 → f * 2 ^ n + v < 2 ^ 64
-all-fits f v n k hf h l = lt-of-lt-of-le (rw (← (pow-add 2 k n)) at (digits-lt hf h)) (pow-mono {i = k + n} {j = 64} l)
-
 shift-over : (w h y : ℕ) → h ⊗ (y * 2 ^ w) ≡ h * 2 ^ w ⊗ y
 shift-over w h y = ⊗-shl w h y ∙ ap (λ (z : ℕ). z * 2 ^ w) (⊗-comm h y) ∙ sym (⊗-shl w y h) ∙ ⊗-comm y (h * 2 ^ w)
 
@@ -154,7 +151,8 @@ module _ (w : ℕ) (p : Modulus) (proper : Proper p) (words : List ℕ) (c : ℕ
         let e : y % 2 ^ (w * n + k) ≡ f * 2 ^ (w * n) + v = kept x v (w * n) k hv le in
         loose y (y / 2 ^ k) (sym (mod-mod-pow y (w * n) k) ∙ ap (λ (z : ℕ). z % 2 ^ k) e) (sym (field y (w * n) k) ∙ ap (λ (z : ℕ). z / 2 ^ k) e)
 
-    pub cut-loose : (j : ℕ) → p .degree ≡ w * n + j → j ≤ w * n → (y ⊕ looked w words n 0 (x / 2 ^ j)) % 2 ^ p .degree ≡ rem (polynomial p) (f * 2 ^ (w * n) + v)
+    pub cut-loose : (j : ℕ) → p .degree ≡ w * n + j → j ≤ w * n
+        → (y ⊕ looked w words n 0 (x / 2 ^ j)) % 2 ^ p .degree ≡ rem (polynomial p) (f * 2 ^ (w * n) + v)
     cut-loose j e le = loose y (x / 2 ^ j) low-part top-part
       where
         stays : f % 2 ^ j ≡ x % 2 ^ j
