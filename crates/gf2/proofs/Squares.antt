@@ -1,6 +1,6 @@
 -- Squares: every coefficient moves to twice its place. The code moves them by masks and shifts, all at a time.
 use mathlib.Core.Path.{_≡_, sym, ap, ap₂, _∙_}
-use Prim.Native.Nat.{ℕ, zero, suc, _+_, _*_, _^_, _<_}
+use Prim.Native.Nat.{ℕ, _+_, _*_, _^_, _<_}
 use native.Mathlib.Nat.{mul-assoc}
 use lib.Bits.{bitAnd}
 use lib.Pow.{pow-add}

@@ -48,9 +48,6 @@ pub below-fits : (f v n j : ℕ) → v < 2 ^ n → j + n ≤ 64 → f % 2 ^ j * 
 below-fits f v n j h l = lt-of-lt-of-le (rw (← (pow-add 2 j n)) at (digits-lt {q = f % 2 ^ j} {m = 2 ^ j} (mod-lt f (pow-pos j)) h))
     (pow-mono {i = j + n} {j = 64} l)
 
-pub all-fits : (f v n k : ℕ) → f < 2 ^ k → v < 2 ^ n → k + n ≤ 64 → f * 2 ^ n + v < 2 ^ 64
-all-fits f v n k hf h l = lt-of-lt-of-le (rw (← (pow-add 2 k n)) at (digits-lt hf h)) (pow-mono {i = k + n} {j = 64} l)
-
 shift-over : (w h y : ℕ) → h ⊗ (y * 2 ^ w) ≡ h * 2 ^ w ⊗ y
 shift-over w h y = ⊗-shl w h y ∙ ap (λ (z : ℕ). z * 2 ^ w) (⊗-comm h y) ∙ sym (⊗-shl w y h) ∙ ⊗-comm y (h * 2 ^ w)
 

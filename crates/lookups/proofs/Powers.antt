@@ -2,15 +2,15 @@
 use mathlib.Core.Path.{_≡_, sym, ap, ap₂, _∙_}
 use mathlib.Core.List.{List}
 use Prim.Native.Nat.{ℕ, suc, _+_, _-_, _*_, _/_, _%_, _^_, _≤_, _<_}
-use native.Mathlib.Nat.{lt-of-lt-of-le, add-zero, mul-assoc, mod-lt, div-eq-of-lt}
+use native.Mathlib.Nat.{lt-of-lt-of-le, add-zero, mod-lt, div-eq-of-lt}
 use native.Mathlib.Decide.{decLt}
 use native.Mathlib.Omega.{arith}
 use lib.ListN.{length, getD}
-use lib.Pow.{pow-pos, pow-mono, pow-add, shr-lt, shr-shr, split}
+use lib.Pow.{pow-pos, pow-mono, shr-lt, shr-shr, split}
 use Rattle.gf2.specs.Polynomials.{_⊕_, _⊗_, rem}
 use Rattle.gf2.specs.Moduli.{polynomial, Proper}
 use Rattle.gf2.specs.declared.Modulus.{Modulus}
-use Rattle.gf2.proofs.Sums.{⊕-append, ⊕-assoc, ⊕-comm, ⊕-zero}
+use Rattle.gf2.proofs.Sums.{⊕-append, ⊕-assoc, ⊕-zero}
 use Rattle.gf2.proofs.Products.{zero-⊗, ⊗-comm, ⊗-shl, ⊕-⊗}
 use Rattle.gf2.proofs.Squares.{square-append}
 use Rattle.gf2.proofs.Degrees.{⊗-lt}

@@ -16,9 +16,9 @@ returns c =
     let s = c .before .before .before in
     let a = s .args in
     let t = s .pre .0 in
+    let rows = table-rows (a .p) (a .words .now) t in
     ap (λ (x : ℕ). x % 2 ^ a .p .degree) (c .look-up .ensures)
-    ∙ cut-low 8 (a .p) (t .0) (a .words .now) 4 (table-rows (a .p) (a .words .now) t) 4 (a .x) (a .v) (omega arith) (s .fits .v .fits)
-    (omega (arith, s .pre .1))
+    ∙ cut-low 8 (a .p) (t .0) (a .words .now) 4 rows 4 (a .x) (a .v) (omega arith) (s .fits .v .fits) (omega (arith, s .pre .1))
 
 pub append-low-spec : {M : Type 1} → statement M
 append-low-spec = tie.close (tie.spec (λ c. search needs) (λ c. search needs) (λ c. search needs) (λ c. search needs) look-up-requires returns)

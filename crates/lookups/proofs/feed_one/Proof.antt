@@ -1,9 +1,8 @@
 -- `feed_one` meets its contract: the cut with one group of eight bits.
-use mathlib.Core.Path.{ap, _∙_}
-use Prim.Native.Nat.{ℕ, _+_, _-_, _*_, _/_, _^_, _<_}
+use mathlib.Core.Path.{_∙_}
+use Prim.Native.Nat.{_+_, _-_, _*_, _/_, _^_}
 use native.Mathlib.Omega.{arith}
 use borrow.Author.Needs.{needs}
-use lib.ListN.{getD}
 use Rattle.gf2.specs.Polynomials.{_⊕_}
 use Rattle.lookups.proofs.Cut.{below-fits, top-lt, cut-high, look-one}
 use Rattle.lookups.proofs.feed_one.Statement.{statement}

@@ -1,6 +1,5 @@
 -- `join` meets its contract: the rows have the multiples of t, and three products join the lanes.
-use mathlib.Core.Path.{_≡_, _∙_}
-use native.Mathlib.Omega.{arith}
+use mathlib.Core.Path.{_≡_}
 use borrow.Author.Needs.{needs}
 use lib.ListN.{getD}
 use Rattle.gf2.specs.Polynomials.{_⊕_}

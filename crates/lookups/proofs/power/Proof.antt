@@ -73,11 +73,9 @@ loop-again c =
     let y = c .before .before in
     let s = square→start y in
     let l = y .before .before .loop in
-    let four = c .feed-four2 .ensures ∙ ap (rem (polynomial (s .args .p))) (four-zeros (y .square .result)) in (
-      omega arith,
-      times-next (pos s) (2 ^ 32) (s .args .n) (l .i) (l .x) (y .square .result) (omega arith) (l .inv .1) (y .square .ensures) _ four
-          (c .before .if1 .taken),
-    )
+    let four = c .feed-four2 .ensures ∙ ap (rem (polynomial (s .args .p))) (four-zeros (y .square .result)) in
+    let is = times-next (pos s) (2 ^ 32) (s .args .n) (l .i) (l .x) (y .square .result) (omega arith) (l .inv .1) (y .square .ensures) in
+    (omega arith, is _ four (c .before .if1 .taken))
 
 loop-again-2 : tie.Need-loop-again-2 Inv-loop μ-loop
 loop-again-2 c =

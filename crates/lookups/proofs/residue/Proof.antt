@@ -1,13 +1,12 @@
 -- `residue` meets its contract.
-use mathlib.Core.Path.{_≡_, sym, ap, _∙_}
+use mathlib.Core.Path.{_≡_, ap, _∙_}
 use Prim.Native.Nat.{ℕ, _+_, _*_, _/_, _%_, _^_, _<_}
 use native.Mathlib.Nat.{lt-of-lt-of-le}
 use native.Mathlib.Omega.{arith}
 use lib.Pow.{pow-pos, pow-mono}
-use Rattle.gf2.specs.Polynomials.{_⊕_, rem}
+use Rattle.gf2.specs.Polynomials.{rem}
 use Rattle.gf2.specs.Moduli.{polynomial}
-use Rattle.gf2.proofs.Residues.{rem-append}
-use Rattle.gf2.proofs.Powers.{rem-rem}
+use Rattle.gf2.proofs.Powers.{rem-behind}
 use Rattle.gf2.proofs.Monics.{monic-pos}
 use Rattle.gf2.proofs.Steps.{residue-lt}
 use Rattle.lookups.proofs.Rule.{first-row}
@@ -32,11 +31,7 @@ halves {key} pos x =
     let v = x % 4294967296 in
     let z : 0 * 2 ^ 32 + h ≡ h = omega arith in
     let e : h * 2 ^ 32 + v ≡ x = omega arith in
-    ap (λ (y : ℕ). rem key (rem key y * 2 ^ 32 + v)) z
-    ∙ rem-append pos (rem key h) 32 v (omega arith)
-    ∙ ap (λ (y : ℕ). rem key (y * 2 ^ 32 ⊕ v)) (rem-rem pos h)
-    ∙ sym (rem-append pos h 32 v (omega arith))
-    ∙ ap (rem key) e
+    ap (λ (y : ℕ). rem key (rem key y * 2 ^ 32 + v)) z ∙ rem-behind pos h 32 v (omega arith) ∙ ap (rem key) e
 
 feed-one-requires : tie.Need-feed-one-requires
 feed-one-requires c κs =
