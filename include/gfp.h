@@ -67,8 +67,9 @@ uint64_t gfp_stock_key(uint64_t degree);
 /* The mark of the empty file: fingerprint 1, length 0. Refusals: 1, 2. Stack: 1,536 bytes. */
 uint32_t gfp_begin(uint64_t key, uint64_t *fingerprint, uint64_t *length);
 
-/* Feeds the next part of a file to a mark, with no table: fast under GFP_HOUSE_KEY, by one to seven bytes at a time under
- * the other stock keys from degree 16 on, bit by bit under most other keys. Refusals: 1, 2, 7, 8. Stack: 7,680 bytes. */
+/* Feeds the next part of a file to a mark, with no table: fast under GFP_HOUSE_KEY, one to seven bytes at a time under
+ * the other stock keys from degree 16 on, bit by bit under most other keys.
+ * Refusals: 1, 2, 7, 8. Stack: 7,680 bytes. */
 uint32_t gfp_feed(uint64_t key, uint64_t *fingerprint, uint64_t *length, const uint8_t *part, size_t part_length);
 
 /* Fills a lent buffer of 1,024 words with the key's table. Refusals: 1, 2, 5. Stack: 1,536 bytes. */
