@@ -107,6 +107,8 @@ static void check_length(const Input &in, size_t n) {
     gfp_feed(in.key, &g, &length, part, n), length = 0;
     same("gfp_feed", n, g, f);
     same(SLICING, n, peer_slicing_by_4(in.key, start, in.words.data(), part, n), f);
+    same("C branch-free loop", n, peer_feed_bits(in.key, start, part, n), f);
+    same("C loop with an if", n, peer_feed_bits_by_if(in.key, start, part, n), f);
     if (in.key != HOUSE)
         return;
     gfp_feed_house(in.key, &h, &length, part, n);
@@ -174,10 +176,20 @@ static void feed_by_table(uint64_t key, const std::string &name, size_t n) {
     printf("%-52s      %11.3f ns a byte\n", "", ns[0] / double(n));
 }
 
-static void feed_alone(uint64_t key, const std::string &name) {
+static Peer branch_free_loop(const Input &in) {
+    return {"C branch-free loop", [&in] { sink = peer_feed_bits(in.key, 1, in.file.data(), in.file.size()); }};
+}
+
+static Peer loop_with_an_if(const Input &in) {
+    return {"C loop with an if", [&in] { sink = peer_feed_bits_by_if(in.key, 1, in.file.data(), in.file.size()); }};
+}
+
+static void feed_alone(uint64_t key, const std::string &name, const std::vector<Peer (*)(const Input &)> &loops) {
     Input in(key, 65536);
-    compare("feed with no table, " + name + ", 65536 bytes", without_table(in).call,
-            {{"C branch-free loop", [&in] { sink = peer_feed_bits(in.key, 1, in.file.data(), in.file.size()); }}});
+    std::vector<Peer> peers;
+    for (auto &loop : loops)
+        peers.push_back(loop(in));
+    compare("feed with no table, " + name + ", 65536 bytes", without_table(in).call, peers);
 }
 
 void feed_in_other_ways() {
@@ -185,8 +197,8 @@ void feed_in_other_ways() {
         std::string name = "degree " + std::to_string(degree);
         for (size_t n : {size_t(64), size_t(4096), size_t(65536), size_t(1) << 20, size_t(64) << 20})
             feed_by_table(gfp_stock_key(degree), name, n);
-        feed_alone(gfp_stock_key(degree), name);
+        feed_alone(gfp_stock_key(degree), name, {branch_free_loop});
     }
-    feed_alone(HOUSE, "house key");
-    feed_alone(drawn_key(), "drawn key");
+    feed_alone(HOUSE, "house key", {branch_free_loop});
+    feed_alone(drawn_key(), "drawn key", {branch_free_loop, loop_with_an_if});
 }

@@ -10,6 +10,9 @@ extern "C" {
 /* A fingerprint bit by bit, with no branch on the data. */
 uint64_t peer_feed_bits(uint64_t key, uint64_t f, const uint8_t *p, size_t n);
 
+/* The same loop with the step written by an `if`, and compiled so that it stays a branch. */
+uint64_t peer_feed_bits_by_if(uint64_t key, uint64_t f, const uint8_t *p, size_t n);
+
 /* The table of 1,024 words, and its test by linearity: 0 where the words are right. */
 void peer_fill(uint64_t key, uint64_t *words);
 uint64_t peer_test(uint64_t key, const uint64_t *words);

@@ -1,6 +1,8 @@
 // Readings of document 01 that the arithmetic can express, printed and compared with their figures: fingerprints under key 0x11B fed bit by
-// bit behind the 1, table words of that key as products, and 0x1071F as a product. Key 0x11B is of degree 8, with the low word 0x1B.
-ghost use Prim.Native.Nat.{_<_};
+// bit behind the 1, table words of that key as products, and 0x1071F as a product. Key 0x11B is of degree 8, with the low word 0x1B. Then the step at
+// its edges, whose figures tools/test-step compares with long division.
+ghost use Prim.Native.Nat.{_^_, _≤_, _<_};
+ghost use Rattle.gf2.specs.Moduli.{Proper};
 use gf2::Modulus;
 
 // The key 0x11B.
@@ -58,6 +60,45 @@ fn show(what: &[u8], x: u64) {
     io::write_all(1, b"\n");
 }
 
+fn show_word(x: u64) {
+    io::write_all(1, b" ");
+    io::print_hex(1, x, 1);
+}
+
+// The step behind a residue, with the bit 0 and with the bit 1: a line with the degree, the coefficients below, the residue and both results.
+fn show_steps(p: Modulus, f: u64)
+    requires { ⌜ Proper p × (f < 2 ^ p .degree) ⌝ }
+{
+    io::write_all(1, b"step ");
+    io::print_decimal(1, p.degree as u64);
+    show_word(p.low);
+    show_word(f);
+    io::write_all(1, b":");
+    show_word(gf2::step(p, f, 0));
+    show_word(gf2::step(p, f, 1));
+    io::write_all(1, b"\n");
+}
+
+// The same behind the largest residue from which a 0 falls out, and behind the smallest and the largest from which a 1 does.
+fn show_residues(degree: u32, low: u64, ones: u64)
+    requires { ⌜ (0 < degree) × (degree ≤ 64) × (low < 2 ^ degree) × (ones < 2 ^ degree) ⌝ }
+{
+    let p = Modulus { degree, low };
+    show_steps(p, ones / 2);
+    show_steps(p, ones - ones / 2);
+    show_steps(p, ones);
+}
+
+// The same under the degree with no coefficient below, with the last alone, and with all.
+fn show_edges(degree: u32)
+    requires { ⌜ (0 < degree) × (degree ≤ 64) ⌝ }
+{
+    let ones: u64 = 0xFFFFFFFFFFFFFFFF >> (64 - degree);
+    show_residues(degree, 0, ones);
+    show_residues(degree, 1, ones);
+    show_residues(degree, ones, ones);
+}
+
 fn main() {
     show(b"empty file: ", 1);
     show(b"file 00: ", fed(1, 0x00));
@@ -76,4 +117,13 @@ fn main() {
     show(b"word 257: ", word(1, 1));
     show(b"11b times 11d: ", gf2::product(WIDE, 0x11B, 0x11D));
     show(b"degree of 1071f: ", gf2::degree(0x1071F) as u64);
+    show_edges(1);
+    show_edges(2);
+    show_edges(8);
+    show_edges(31);
+    show_edges(32);
+    show_edges(33);
+    show_edges(61);
+    show_edges(63);
+    show_edges(64);
 }
