@@ -18,23 +18,6 @@ uint64_t peer_feed_bits(uint64_t key, uint64_t f, const uint8_t *p, size_t n) {
     return f;
 }
 
-/* The same step by a branch. */
-static inline uint64_t step_by_if(uint64_t f, unsigned bit, uint64_t key, int k) {
-    uint64_t v = f << 1 | bit;
-    if (v >> k)
-        v ^= key;
-    return v;
-}
-
-/* gcc would make a conditional move of the branch. */
-__attribute__((optimize("no-if-conversion", "no-if-conversion2"))) uint64_t peer_feed_bits_by_if(uint64_t key, uint64_t f, const uint8_t *p, size_t n) {
-    int k = degree(key);
-    for (size_t i = 0; i < n; i++)
-        for (int j = 7; j >= 0; j--)
-            f = step_by_if(f, p[i] >> j & 1, key, k);
-    return f;
-}
-
 void peer_fill(uint64_t key, uint64_t *words) {
     int k = degree(key);
     uint64_t w = key ^ UINT64_C(1) << k;
@@ -132,4 +115,21 @@ size_t peer_memmem(const uint8_t *text, size_t n, const uint8_t *pattern, size_t
         at = (size_t)(found - text) + 1;
     }
     return count;
+}
+
+/* One bit behind a residue, by a branch. */
+static inline uint64_t step_by_if(uint64_t f, unsigned bit, uint64_t key, int k) {
+    uint64_t v = f << 1 | bit;
+    if (v >> k)
+        v ^= key;
+    return v;
+}
+
+/* gcc would make a conditional move of the branch. */
+__attribute__((optimize("no-if-conversion", "no-if-conversion2"))) uint64_t peer_feed_bits_by_if(uint64_t key, uint64_t f, const uint8_t *p, size_t n) {
+    int k = degree(key);
+    for (size_t i = 0; i < n; i++)
+        for (int j = 7; j >= 0; j--)
+            f = step_by_if(f, p[i] >> j & 1, key, k);
+    return f;
 }
