@@ -60,6 +60,7 @@ fn show(what: &[u8], x: u64) {
     io::write_all(1, b"\n");
 }
 
+// A number behind a space.
 fn show_word(x: u64) {
     io::write_all(1, b" ");
     io::print_hex(1, x, 1);
