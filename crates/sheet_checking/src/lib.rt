@@ -29,8 +29,8 @@ fn compare(sheet: &[u8], x: Sheet, file: &[u8]) -> Checked
     }
     let p = gf2::modulus_of(key);
     let mut none = [0u8; 0];
-    let pass = sheet_pass::over_pages(&mut none, layout::page_fields(sheet), p, size, file);
-    let same = pass.same as u64;
+    let known = layout::page_fields(sheet, x.version);
+    let same = sheet_pass::over_pages(&mut none, known, p, size, x.version, file) as u64;
     if same < fields::page_count(x.size, n) {
         return Checked::Page(same as u32);
     }

@@ -1,18 +1,19 @@
 // The fingerprints of a file's pages, by tables, or by folding under the house key. These functions are for the project's own crates: what they
 // require, every caller proves.
 use gf2::Modulus;
+use sheets::layout;
 ghost use mathlib.Core.Path.{_≡_};
 ghost use mathlib.Core.Bool.{true};
 ghost use Prim.Native.Nat.{_+_, _-_, _*_, _/_, _%_, _≤_, _<_, min};
-ghost use lib.ListN.{length, take};
+ghost use lib.ListN.{length};
 ghost use Rattle.gf2.specs.Polynomials.{rem};
 ghost use Rattle.gf2.specs.Moduli.{polynomial, Proper};
-ghost use Rattle.files.specs.Files.{bits, valueFrom, fingerprint};
+ghost use Rattle.files.specs.Files.{bits, valueFrom};
 ghost use Rattle.multiples.specs.Rows.{SameFrom};
 ghost use Rattle.lookups.specs.Groups.{TableOf};
 ghost use Rattle.house.specs.House.{houseKey};
-ghost use Rattle.sheets.specs.Sheets.{filled, pageFingerprints};
-ghost use Rattle.sheets.specs.Parts.{lastPage, LastFilled};
+ghost use Rattle.sheets.specs.Layout.{layoutOf};
+ghost use Rattle.sheets.specs.Parts.{LastTaken};
 ghost use Rattle.sheet_pages.specs.Blocks.{PageTables, Begun, BegunBy, Finished, NextPages};
 
 // The two tables that pages are fed by: four bytes at a time, and eight.
@@ -131,8 +132,7 @@ fn whole_marks(
     pages: &[u8],
 )
     requires { ⌜ PageTables p (now words) (now eights) × (8 ≤ size) × (n * size ≤ length (now pages)) × (n ≤ length (now marks)) ⌝ }
-    ensures { λ r. ⌜ (take n (now (marks .exit)) ≡ pageFingerprints (polynomial p) size n (now (pages .entry)))
-        × SameFrom n (now (marks .entry)) (now (marks .exit)) ⌝ }
+    ensures { λ r. ⌜ Finished (polynomial p) size n (now (pages .entry)) (now (marks .exit)) × SameFrom n (now (marks .entry)) (now (marks .exit)) ⌝ }
 {
     if folding(p, size) {
         fold_pages(marks, size, n, pages);
@@ -141,12 +141,6 @@ fn whole_marks(
     let whole = size / 8 * 8;
     begin_pages(marks, eights, size, whole, n, pages);
     finish_pages(marks, words, p, size, whole, n, pages);
-}
-
-// The fingerprint of what a file has behind its whole pages, and that of the page filled up with zero bytes, where something is left.
-pub struct LastPage {
-    pub own: u64,
-    pub filled: u64,
 }
 
 // The residue of what a file has behind its whole pages, with the leading 1.
@@ -160,37 +154,37 @@ fn fed_last(words: &[u64], p: Modulus, rest: &[u8]) -> u64
     lookups::fed(words, p, 1, rest)
 }
 
-// The bytes are fed once: zero bytes behind them come in as one power of t.
-pub fn last_page(words: &[u64], p: Modulus, size: usize, file: &[u8]) -> LastPage
+// The fingerprint of what a file has behind its whole pages, as the version takes it: zero bytes behind it come in as one power of t.
+pub fn last_page(words: &[u64], p: Modulus, size: usize, version: u64, file: &[u8]) -> u64
     requires { ⌜ TableOf p (now words) × (0 < size) × (size ≤ 4096) ⌝ }
-    ensures { λ r. ⌜ (r .own ≡ fingerprint (polynomial p) (lastPage size (now (file .entry))))
-        × LastFilled (polynomial p) size (now (file .entry)) (r .filled) ⌝ }
+    ensures { λ r. ⌜ LastTaken (layoutOf version) (polynomial p) size (now (file .entry)) r ⌝ }
 {
     let from = file.len() / size * size;
     if from == file.len() {
-        return LastPage { own: 1, filled: 1 };
+        return 1;
     }
     let own = fed_last(words, p, &file[from..]);
-    let zeros = size - (file.len() - from);
-    let t = gf2::power_of_t(p, 8 * zeros as u64);
-    LastPage {
-        own: own,
-        filled: gf2::product(p, own, t),
+    if layout::fills(version) {
+        let zeros = size - (file.len() - from);
+        return files::with_zeros(p, own, zeros as u64);
     }
+    own
 }
 
-// How a file is cut into pages: the opened key, the bytes of a page, and the fingerprint of a last page that is not whole.
+// How a file is cut into pages: the opened key, the bytes of a page, the sheet's version, and the fingerprint of a last page that is not whole,
+// as the version takes it.
 pub struct Paging {
     pub p: Modulus,
     pub size: usize,
+    pub version: u64,
     pub last: u64,
 }
 
 // The fingerprints of the next pages, at most 64, into the first places: how many.
 pub fn next_pages(marks: &mut [u64], words: &[u64], eights: &[u64], x: Paging, rest: &[u8]) -> usize
     requires { ⌜ PageTables (x .p) (now words) (now eights) × (8 ≤ x .size) × (x .size ≤ 4096) × (64 ≤ length (now marks))
-        × LastFilled (polynomial (x .p)) (x .size) (now rest) (x .last) ⌝ }
-    ensures { λ r. ⌜ NextPages (polynomial (x .p)) (x .size) (now (rest .entry)) r (now (marks .entry)) (now (marks .exit)) ⌝ }
+        × LastTaken (layoutOf (x .version)) (polynomial (x .p)) (x .size) (now rest) (x .last) ⌝ }
+    ensures { λ r. ⌜ NextPages (layoutOf (x .version)) (polynomial (x .p)) (x .size) (now (rest .entry)) r (now (marks .entry)) (now (marks .exit)) ⌝ }
 {
     let size = x.size;
     let n = block(rest.len(), size);

@@ -1,4 +1,4 @@
--- `pages_joined` meets its contract.
+-- `join_run` meets its contract.
 use mathlib.Core.Path.{_≡_, _∙_}
 use Prim.Native.Nat.{ℕ, _*_, _/_, _^_, _<_}
 use native.Mathlib.Nat.{mul-le-mul-right, mod-lt}
@@ -7,8 +7,8 @@ use lib.Pow.{pow-pos}
 use Rattle.gf2.proofs.Steps.{residue-lt}
 use Rattle.sheet_joining.proofs.Joining.{bits-none, bits-all, few-joined, times-low, all-joined}
 use borrow.Author.Needs.{needs}
-use Rattle.sheet_joining.proofs.pages_joined.Statement.{statement}
-use Rattle.sheet_joining.proofs.pages_joined.Tie as tie
+use Rattle.sheet_joining.proofs.join_run.Statement.{statement}
+use Rattle.sheet_joining.proofs.join_run.Tie as tie
 
 -- the table of the shift by a page
 abbrev table : tie.After-shift2 → tie.After-fill
@@ -95,8 +95,8 @@ returns-2 c =
           (c .join-lane2 .ensures .1);
     }
 
-pub pages-joined-spec : {M : Type 1} → statement M
-pages-joined-spec =
+pub join-run-spec : {M : Type 1} → statement M
+join-run-spec =
     tie.close
     (tie.spec
     (λ c. search needs)
