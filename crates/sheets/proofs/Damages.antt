@@ -91,33 +91,33 @@ later s a b i e f =
     before zero l = rw (zero-mul s) e
     before (suc j) l = further a j ∙ f .before j (omega arith) ∙ sym (further b j)
 
-pub some-altered : SomeAltered
-some-altered s a b pos = search (length a) a b (le-refl (length a))
+altered-within : (s : ℕ) → 0 < s → (n : ℕ) (a b : List ℕ) → length a ≤ n → length a ≡ length b → a ≢ b → (i : ℕ) × FirstAltered s a b i
+altered-within s pos zero a b l e ne = absurd (ne (sym (take-all 0 a l) ∙ take-all 0 b (omega arith)))
+altered-within s pos (suc n) a b l e ne =
+    go (List-discrete ℕ-discrete (take s a) (take s b))
+    (altered-within s pos n (drop s a) (drop s b) (omega (arith, length-drop s a)) (omega (arith, length-drop s a, length-drop s b)))
   where
-    search : (n : ℕ) (a b : List ℕ) → length a ≤ n → length a ≡ length b → a ≢ b → (i : ℕ) × FirstAltered s a b i
-    search n a b l e ne = go n l (List-discrete ℕ-discrete (take s a) (take s b))
-      where
-        go : (n : ℕ) → length a ≤ n → Dec (take s a ≡ take s b) → (i : ℕ) × FirstAltered s a b i
-        go n l (no d) = (0, record { altered = λ h. d (rw (zero-mul s) at h); before = λ j h. absurd (not-suc-le-zero h) })
-        go zero l (yes d) = absurd (ne (sym (take-all s a (omega arith)) ∙ d ∙ take-all s b (omega arith)))
-        go (suc n) l (yes d) =
-            let r =
-            search n (drop s a) (drop s b) (omega (arith, length-drop s a)) (omega (arith, length-drop s a, length-drop s b))
-            (λ h. ne (sym (take-append-drop s a) ∙ ap₂ (λ (u w : List ℕ). u ++ w) d h ∙ take-append-drop s b)) in
-            (suc (r .0), later s a b (r .0) d (r .1))
+    go : Dec (take s a ≡ take s b) → (drop s a ≢ drop s b → (i : ℕ) × FirstAltered s (drop s a) (drop s b) i) → (i : ℕ) × FirstAltered s a b i
+    go (no d) rest = (0, record { altered = λ h. d (rw (zero-mul s) at h); before = λ j h. absurd (not-suc-le-zero h) })
+    go (yes d) rest =
+        let r = rest (λ h. ne (sym (take-append-drop s a) ∙ ap₂ (λ (u w : List ℕ). u ++ w) d h ∙ take-append-drop s b)) in
+        (suc (r .0), later s a b (r .0) d (r .1))
+
+pub some-altered : SomeAltered
+some-altered s a b pos e ne = altered-within s pos (length a) a b (le-refl (length a)) e ne
 
 -- ---- a change inside k neighbouring bits
 
 -- pages of one length, whichever way a version takes them
 taken-cancels : (v : Layout) (key s : ℕ) (a b : List ℕ) → accepted key ≡ true → length a ≡ length b
     → fingerprint key (pageOf v s a) ≡ fingerprint key (pageOf v s b) → fingerprint key a ≡ fingerprint key b
+unfolding filled
 taken-cancels v key s a b acc e = go (v .filled)
   where
     pos : 0 < key
     pos = accepted-pos key acc
 
     go : (f : Bool) → fingerprint key (cond f (filled s a) a) ≡ fingerprint key (cond f (filled s b) b) → fingerprint key a ≡ fingerprint key b
-    unfolding filled
     go false h = h
     go true h =
         let i = accepted-iff key .0 acc in

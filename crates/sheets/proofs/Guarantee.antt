@@ -1,5 +1,5 @@
 -- What the calls promise together, over the definitions that their contracts cite.
-use mathlib.Core.Path.{_≡_, refl, sym, ap, _∙_}
+use mathlib.Core.Path.{_≡_, refl, sym, ap, ap₂, _∙_}
 use mathlib.Core.Bool.{false, or-true}
 use mathlib.Core.List.{List, [], _∷_}
 use Prim.Native.Nat.{ℕ, _-_, _^_, _≤_, _<_}
@@ -15,7 +15,7 @@ use Rattle.refusals.specs.Refusals.{Done, _⇒_, passes, longest}
 use Rattle.refusals.proofs.Laws.{Clear, clear-done, clear-append, done-clear}
 use Rattle.lists.proofs.Truth.{or-neither}
 use Rattle.acceptance.proofs.Laws.{key-iff}
-use Rattle.sheets.specs.Layout.{numberAt, newest, layouts, layoutOf, pagePlace, sheetLength, pageCount, Contents, sheetBytes, contentsIn}
+use Rattle.sheets.specs.Layout.{numberAt, Layout, newest, layouts, layoutOf, pagePlace, sheetLength, pageCount, Contents, sheetBytes, contentsIn}
 use Rattle.sheets.specs.Sheets.{contentsOf, writeTests, writeSheet, readTests, readSheet, readPages, Page}
 use Rattle.sheets.specs.Claims.{SoundContents, WellFormed, First, ReadIff, OtherVersion, PagesGiven, WrittenReads, WrittenFingerprint, Checks, OtherLengthTold}
 use Rattle.sheets.specs.Claims.{PageIff, SameIff}
@@ -73,7 +73,10 @@ module _ (key s : ℕ) (file buffer after : List ℕ) (fits : key < 2 ^ 64) (don
 
   length-written : length sheet ≡ total
   unfolding contentsOf
-  length-written = length-sheet (contentsOf (newest .version) key s file) ∙ ap (sheetLength newest) (length-pages (layoutOf (newest .version)) key (pageCount s (length file)) s file)
+  length-written =
+      length-sheet (contentsOf (newest .version) key s file)
+      ∙ ap₂ (λ (v : Layout) (c : ℕ). sheetLength v c) newest-is
+      (length-pages (layoutOf (newest .version)) key (pageCount s (length file)) s file)
 
   cleared : Clear (writeTests key s file buffer) × (overlay sheet buffer ≡ after)
   unfolding writeSheet
@@ -106,8 +109,8 @@ pub written-fingerprint : WrittenFingerprint
 unfolding contentsOf
 written-fingerprint key s file buffer after fits done =
     rw (written-bytes key s file buffer after fits done)
-    (ap (λ (c : ℕ). numberAt (pagePlace newest c) 8 (sheetBytes (contentsOf (newest .version) key s file)))
-    (sym (length-pages (layoutOf (newest .version)) key (pageCount s (length file)) s file))
+    (ap₂ (λ (v : Layout) (c : ℕ). numberAt (pagePlace v c) (v .fingerprintWidth) (sheetBytes (contentsOf (newest .version) key s file)))
+    (sym newest-is) (sym (length-pages (layoutOf (newest .version)) key (pageCount s (length file)) s file))
     ∙ fingerprint-back (contentsOf (newest .version) key s file) (sound-fits (contentsOf (newest .version) key s file) (sound key s file buffer after fits done)))
 
 -- ---- checking a file against a well-formed sheet

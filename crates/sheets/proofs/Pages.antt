@@ -105,7 +105,8 @@ unfolding laidPages filled
 pages-filled v f zero s [] h = rw (zero-mul s)
 pages-filled v f zero s (b ∷ file) h = absurd (omega (arith, zero-mul s))
 pages-filled v f (suc c) s file h =
-    rw f (go (decLe s (length file)) (pages-filled v f c s (drop s file) (rw (length-drop s file) (omega arith))))
+    ap (λ (b : Bool). cond b (filled s (take s file)) (take s file) ++ laidPages v s c (drop s file)) f
+    ∙ go (decLe s (length file)) (pages-filled v f c s (drop s file) (rw (length-drop s file) (omega arith)))
   where
     go : Dec (s ≤ length file) → laidPages v s c (drop s file) ≡ drop s file ++ replicate (c * s - length (drop s file)) 0
         → filled s (take s file) ++ laidPages v s c (drop s file) ≡ file ++ replicate (suc c * s - length file) 0
@@ -124,7 +125,9 @@ unfolding laidPages
 pages-own v f zero s file = ap (λ (k : ℕ). take k file) (sym (zero-mul s))
 pages-own v f (suc c) s file =
     let e : s + c * s ≡ suc c * s = omega (arith, suc-mul c s) in
-    rw f (ap (λ (l : List ℕ). take s file ++ l) (pages-own v f c s (drop s file)) ∙ sym (take-add s (c * s) file) ∙ ap (λ (k : ℕ). take k file) e)
+    ap₂ (λ (b : Bool) (l : List ℕ). cond b (filled s (take s file)) (take s file) ++ l) f (pages-own v f c s (drop s file))
+    ∙ sym (take-add s (c * s) file)
+    ∙ ap (λ (k : ℕ). take k file) e
 
 -- all pages of a file: the file, and zero bytes where they are filled up
 pages-are : (v : Layout) (s : ℕ) (file : List ℕ) → 0 < s

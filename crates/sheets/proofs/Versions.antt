@@ -1,36 +1,38 @@
 -- Laws of the versions: what the layouts that are read have in common.
 use mathlib.Core.Path.{_≡_, refl, sym, ap, ap₂, _∙_}
 use mathlib.Core.Logic.{_≢_}
-use mathlib.Core.Bool.{Bool, true, false, _||_}
+use mathlib.Core.Bool.{true, false≢true}
 use mathlib.Core.List.{List, [], _∷_}
 use Prim.Native.Nat.{ℕ, _+_, _*_, _^_, _≤_, _<_}
 use native.Mathlib.Decide.{ℕ-discrete}
 use native.Mathlib.Omega.{arith}
 use lib.Dec.{lit<}
 use borrow.Author.Tests.{ne-eqb}
-use Rattle.sheets.specs.Layout.{Layout, version1, version2, newest, layouts, known, layoutAmong, layoutOf, pagePlace, sheetLength}
+use Rattle.sheets.specs.Layout.{numberAt, Layout, version1, version2, newest, layouts, known, layoutAmong, layoutOf}
+use Rattle.sheets.specs.Layout.{pagePlace, sheetLength, fieldIn}
+use Rattle.sheets.specs.declared.layout.Fields.{Fields}
+use Rattle.sheets.specs.Parts.{LaidOut}
 
--- the layout of a version is one of two
-pub data Which (n : ℕ) : Type 0 where
-  first : n ≡ 1 → layoutOf n ≡ version1 → Which n
-  second : n ≢ 1 → layoutOf n ≡ version2 → Which n
-
-pub which : (n : ℕ) → Which n
+-- version 1, and every other number
+pub first-is : (n : ℕ) → n ≡ 1 → layoutOf n ≡ version1
 unfolding layoutAmong
-which n = go (ℕ-discrete 1 n) (ℕ-discrete 2 n)
+first-is n e = rw e
+
+pub other-is : (n : ℕ) → n ≢ 1 → layoutOf n ≡ version2
+unfolding layoutAmong
+other-is n e = go (ℕ-discrete 2 n)
   where
-    go : Dec (1 ≡ n) → Dec (2 ≡ n) → Which n
-    go (yes e) d = first (sym e) (rw (← e))
-    go (no e) (yes d) = second (λ h. e (sym h)) (rw (← d))
-    go (no e) (no d) = second (λ h. e (sym h)) (rw (ne-eqb 1 n e, ne-eqb 2 n d))
+    go : Dec (2 ≡ n) → layoutOf n ≡ version2
+    go (yes d) = rw (← d)
+    go (no d) = rw (ne-eqb 1 n (λ h. e (sym h)), ne-eqb 2 n d)
 
 -- what holds of both holds of every version's
 pub of-each : (P : Layout → Type 0) → P version1 → P version2 → (n : ℕ) → P (layoutOf n)
-of-each P a b n = go (which n)
+of-each P a b n = go (ℕ-discrete n 1)
   where
-    go : Which n → P (layoutOf n)
-    go (first e l) = rw l a
-    go (second e l) = rw l b
+    go : Dec (n ≡ 1) → P (layoutOf n)
+    go (yes e) = rw (first-is n e) a
+    go (no e) = rw (other-is n e) b
 
 pub widths-are : (n : ℕ) → layoutOf n .widths ≡ 8 ∷ 4 ∷ 2 ∷ []
 widths-are = of-each (λ v. v .widths ≡ 8 ∷ 4 ∷ 2 ∷ []) refl refl
@@ -69,4 +71,19 @@ known-small n e = go (ℕ-discrete 1 n) (ℕ-discrete 2 n)
     go : Dec (1 ≡ n) → Dec (2 ≡ n) → n < 2 ^ 16
     go (yes d) c = rw (← d) (lit< tt)
     go (no d) (yes c) = rw (← c) (lit< tt)
-    go (no d) (no c) = absurd (rw (ne-eqb 1 n d, ne-eqb 2 n c) at e)
+    go (no d) (no c) = absurd (false≢true (rw (ne-eqb 1 n d, ne-eqb 2 n c) at e))
+
+-- ---- a layout as the code has it
+
+module _ {v : Layout} {r : Fields} (h : LaidOut v r) where
+  pub place-laid : pagePlace v 0 ≡ 5 + r .key + r .length + r .size
+  place-laid = rw (h .widths, h .fingerprints) (omega arith)
+
+  pub key-laid : (sheet : List ℕ) → fieldIn v 2 sheet ≡ numberAt 5 (r .key) sheet
+  key-laid sheet = rw (h .widths)
+
+  pub length-laid : (sheet : List ℕ) → fieldIn v 3 sheet ≡ numberAt (5 + r .key) (r .length) sheet
+  length-laid sheet = rw (h .widths) (ap (λ (n : ℕ). numberAt n (r .length) sheet) (omega arith))
+
+  pub size-laid : (sheet : List ℕ) → fieldIn v 4 sheet ≡ numberAt (5 + r .key + r .length) (r .size) sheet
+  size-laid sheet = rw (h .widths) (ap (λ (n : ℕ). numberAt n (r .size) sheet) (omega arith))

@@ -8,7 +8,7 @@ use lib.ListN.{length, getD, take, drop}
 use Rattle.lists.specs.Lists.{All, overlay}
 use Rattle.gf2.specs.Polynomials.{degree}
 use Rattle.refusals.specs.declared.Refusal.the-variants.{SheetMalformed}
-use Rattle.refusals.specs.Refusals.{Done, Refused, firstOf, longest}
+use Rattle.refusals.specs.Refusals.{Answer, Done, Refused, firstOf, longest}
 use Rattle.acceptance.specs.Keys.{accepted}
 use Rattle.files.specs.Files.{Bytes, fingerprint}
 use Rattle.files.specs.Bursts.{Burst}
@@ -44,7 +44,7 @@ ReadIff = (sheet : List ℕ) → Bytes sheet → (readSheet sheet ≡ Done (cont
 abbrev pub OtherVersion : Type 0
 OtherVersion =
     (vs : List Layout) (sheet : List ℕ) (x : Contents) → known vs (versionIn sheet) ≡ false
-    → firstOf (readTests vs sheet) tt x ≡ Refused SheetMalformed tt
+    → _≡_ {A = Answer Unit Contents} (firstOf (readTests vs sheet) tt x) (Refused SheetMalformed tt)
 
 -- the page fingerprints of a sheet are given in lent places
 abbrev pub PagesGiven : Type 0

@@ -72,7 +72,7 @@ pub fn fills(version: u64) -> bool
 
 // Where the fingerprints begin.
 pub fn pages_place(version: u64) -> usize
-    ensures { λ r. ⌜ (r ≡ pagePlace (layoutOf version) 0) × (r ≤ 19) ⌝ }
+    ensures { λ r. ⌜ (r ≡ pagePlace (layoutOf version) 0) × (r < 32) ⌝ }
 {
     let v = fields_of(version);
     KEY_PLACE + v.key + v.length + v.size
