@@ -3,7 +3,8 @@ use mathlib.Core.Path.{_≡_, refl, sym, ap, ap₂, _∙_}
 use mathlib.Core.Bool.{Bool, true, false, cond, _||_, or-assoc, or-false}
 use mathlib.Core.List.{List, [], _∷_, _++_}
 use Prim.Native.Nat.{ℕ, suc, _+_, _-_, _*_, _%_, _^_, _≤_, _<_, min}
-use native.Mathlib.Nat.{lt-of-lt-of-le, add-comm, mul-assoc, mul-zero, mul-one, mul-suc, suc-mul, zero-mul, sub-zero, mul-le-mul-right, mod-eq-of-lt}
+use native.Mathlib.Nat.{lt-of-lt-of-le, zero-add, add-comm, mul-assoc, mul-zero, mul-one, mul-suc, suc-mul, zero-mul, sub-zero, mul-le-mul-right}
+use native.Mathlib.Nat.{mod-eq-of-lt}
 use native.Mathlib.Omega.{arith}
 use lib.Bits.{bitOr}
 use lib.Dec.{leb}
@@ -28,8 +29,9 @@ use Rattle.shifts.proofs.Products.{joined-by-table}
 use Rattle.sheets.specs.Layout.{numberAt, numbersAt, Layout}
 use Rattle.sheets.specs.Sheets.{someUnreduced, pageLength, joinedPages}
 use Rattle.sheets.proofs.Numbers.{numbers-next, numbers-done, numbers-append, length-numbersAt}
+use Rattle.sheet_joining.specs.declared.Joined.{Joined}
 use Rattle.sheet_joining.specs.declared.Lanes.{Lanes}
-use Rattle.sheet_joining.specs.Joining.{chained, looping, BitsOf, LanesJoined}
+use Rattle.sheet_joining.specs.Joining.{chained, looping, BitsOf, LanesJoined, RunJoined, LastJoined, PagesJoined}
 
 -- ---- as the code goes: one field a turn
 
@@ -333,7 +335,7 @@ joined-append v key s left m (f ∷ fs) gs =
     let first = joined key m (record { fingerprint = f; length = pageLength v s left }) in
     joined-append v key s (left - s) first fs gs ∙ ap (λ (n : ℕ). joinedPages v key s n (joinedPages v key s (left - s) first fs) gs) e
 
-module _ (p : Modulus) (md : Proper p) (v : Layout) (s n : ℕ) (some : 0 < s) where
+module _ (p : Modulus) (md : Proper p) (v : Layout) (s n : ℕ) where
   empty : markOf (polynomial p) [] .fingerprint ≡ 1
   empty = ap (λ (m : Mark). m .fingerprint) (empty-mark (polynomial p) (of-degree-one (p .degree) (p .low) (md .0) (md .2)))
 
@@ -363,3 +365,42 @@ module _ (p : Modulus) (md : Proper p) (v : Layout) (s n : ℕ) (some : 0 < s) w
       ∙ rw (mod-eq-of-lt (chain-lt p md (8 * s) x fs ex), mod-eq-of-lt lg)
       (ap₂ (λ (z m : ℕ). rem (polynomial p) (z * 2 ^ (8 * m) ⊕ g ⊕ 2 ^ (8 * m))) (ex ∙ whole-run fs (omega arith)) (sym counts))
       ∙ ap (λ (m : Mark). m .fingerprint) (sym (joined-append v (polynomial p) s n (markOf (polynomial p) []) fs (g ∷ [])))
+
+-- ---- the same of what the code has
+
+module _ {p : Modulus} (md : Proper p) (v : Layout) (s n : ℕ) (fields : List ℕ) where
+  pub filled-joined : (c : ℕ) (r : Joined) → v .filled ≡ true → RunJoined (polynomial p) (p .degree) s (numbersAt 0 8 c fields) r
+      → PagesJoined v (polynomial p) (p .degree) s n (numbersAt 0 8 c fields) r
+  filled-joined c r f h = record { mark = λ u. h .mark u ∙ filled-run p md v s n f (numbersAt 0 8 c fields); bits = h .bits }
+
+  pub whole-joined : (c : ℕ) (r : Joined) → c * s ≤ n → RunJoined (polynomial p) (p .degree) s (numbersAt 0 8 c fields) r
+      → PagesJoined v (polynomial p) (p .degree) s n (numbersAt 0 8 c fields) r
+  whole-joined c r l h =
+      record {
+        mark = λ u. h .mark u ∙ whole-run p md v s n (numbersAt 0 8 c fields) (rw (length-numbersAt 0 8 c fields) l);
+        bits = h .bits;
+      }
+
+  one-more : (c : ℕ) → numbersAt 0 8 (c + 1) fields ≡ numbersAt 0 8 c fields ++ numberAt (8 * c) 8 fields ∷ []
+  unfolding numbersAt
+  one-more c = numbers-append 0 8 c 1 fields ∙ ap (λ (m : ℕ). numbersAt 0 8 c fields ++ numberAt m 8 fields ∷ []) (zero-add (8 * c))
+
+  pub last-joined : (c left g : ℕ) (x r : Joined) → v .filled ≡ false → c * s + left ≡ n → left < s → g ≡ numberAt (8 * c) 8 fields
+      → RunJoined (polynomial p) (p .degree) s (numbersAt 0 8 c fields) x → LastJoined (polynomial p) (p .degree) x g left r
+      → PagesJoined v (polynomial p) (p .degree) s n (numbersAt 0 8 (c + 1) fields) r
+  last-joined c left g x r f e short eg h l =
+      let fs = numbersAt 0 8 c fields in
+      rw (one-more c, ← eg)
+      (record {
+        mark = mark;
+        bits = rw (l .bits) (bits-last fs (x .bits) g (h .bits));
+      })
+    where
+      mark : someUnreduced (p .degree) (numbersAt 0 8 c fields ++ g ∷ []) ≡ false
+          → r .mark ≡ joinedPages v (polynomial p) s n (markOf (polynomial p) []) (numbersAt 0 8 c fields ++ g ∷ []) .fingerprint
+      mark u =
+          let fs = numbersAt 0 8 c fields in
+          let o = reduced-split (p .degree) fs (g ∷ []) u in
+          last-run p md v s n f fs (x .mark) g (r .mark) left (rw (length-numbersAt 0 8 c fields) e) short (h .mark (o .0))
+          (reduced-first (p .degree) g [] (o .1) .0)
+          (l .mark)

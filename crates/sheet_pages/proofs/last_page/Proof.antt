@@ -1,18 +1,15 @@
--- `last_page` meets its contract.
-use mathlib.Core.Path.{_≡_, sym, ap, ap₂, _∙_}
+-- `last_page` meets its contract: its own fingerprint, or with zero bytes behind it, as the version says.
+use mathlib.Core.Path.{_≡_, sym, ap, _∙_}
+use mathlib.Core.Bool.{Bool, true, false, cond}
 use mathlib.Core.List.{List}
 use Prim.Native.Nat.{ℕ, _+_, _-_, _*_, _/_, _^_, _≤_, _<_}
 use native.Mathlib.Omega.{arith}
-use lib.ListN.{length, drop, length-drop, drop-of-length-le}
-use Rattle.gf2.specs.Polynomials.{_⊗_, rem}
-use Rattle.gf2.specs.Moduli.{polynomial, Proper}
-use Rattle.gf2.specs.declared.Modulus.{Modulus}
-use Rattle.gf2.proofs.Powers.{rem-⊗-pow}
-use Rattle.gf2.proofs.Monics.{monic-pos, of-degree-one}
+use lib.ListN.{length, length-drop}
+use Rattle.gf2.specs.Polynomials.{rem}
+use Rattle.gf2.specs.Moduli.{polynomial}
+use Rattle.gf2.proofs.Monics.{monic-pos}
 use Rattle.gf2.proofs.Steps.{residue-lt}
-use Rattle.files.specs.declared.Mark.{Mark}
-use Rattle.files.specs.Files.{bits, valueFrom, value, fingerprint, markOf}
-use Rattle.files.proofs.Marks.{empty-mark}
+use Rattle.files.specs.Files.{bits, valueFrom, value, fingerprint}
 use Rattle.sheets.specs.Sheets.{filled}
 use Rattle.sheets.specs.Parts.{lastPage}
 use Rattle.sheets.proofs.Pages.{whole-fits, last-short, all-left, with-zeros}
@@ -25,6 +22,10 @@ begun c = c .before .before .before
 
 abbrev start : tie.After-fed-last-arg → tie.Start
 start c = begun (c .before)
+
+-- the choice of the version, behind the bytes that are left
+abbrev fed : tie.After-fills → tie.After-fed-last
+fed c = c .before
 
 abbrev key : tie.Start → ℕ
 key s = polynomial (s .args .p)
@@ -46,21 +47,14 @@ own c =
     let s = start (c .before) in
     c .fed-last .ensures ∙ ap (λ (q : List ℕ). rem (key s) (valueFrom 1 (bits q))) (all-left (file s) (length (file s) / s .args .size * s .args .size))
 
--- nothing is left: the fingerprint of no bytes is 1
-none-left : (p : Modulus) → Proper p → (file : List ℕ) (n : ℕ) → length file ≤ n → 1 ≡ fingerprint (polynomial p) (drop n file)
-unfolding markOf
-none-left p h file n l =
-    sym (ap (λ (m : Mark). m .fingerprint) (empty-mark (polynomial p) (of-degree-one (p .degree) (p .low) (h .0) (h .2))))
-    ∙ ap (fingerprint (polynomial p)) (sym (drop-of-length-le file {i = n} l))
-
 mul-from : tie.Need-mul-from
 mul-from c = omega (arith, ends (c .before .before))
 
 returns : tie.Need-returns
-returns c =
+returns c some =
     let s = c .before .before .before in
     let whole = length (file s) / s .args .size * s .args .size in
-    (none-left (s .args .p) (s .pre .0 .0) (file s) whole (omega arith), λ some. absurd (omega (arith, length-drop whole (file s))))
+    absurd (omega (arith, length-drop whole (file s)))
 
 sub-fed-last : tie.Need-sub-fed-last
 sub-fed-last c = omega (arith, ends (begun c))
@@ -71,4 +65,58 @@ part-fed-last-start c = omega (arith, ends (begun c))
 fed-last-requires : tie.Need-fed-last-requires
 fed-last-requires c κs = start c .pre .0
 
-?
+sub-zeros : tie.Need-sub-zeros
+sub-zeros c = ends (start (fed (c .before) .before))
+
+sub-zeros-2 : tie.Need-sub-zeros-2
+sub-zeros-2 c = omega (arith, short (start (fed (c .before) .before)))
+
+with-zeros-requires : tie.Need-with-zeros-requires
+with-zeros-requires c κs =
+    let f = fed (c .before) in
+    let s = start (f .before) in
+    (s .pre .0 .0, below (f .fed-last .ensures) (residue-lt (s .args .p .degree) (s .args .p .low) (s .pre .0 .0 .2) _), omega (arith, s .pre .2))
+  where
+    below : {x y b : ℕ} → x ≡ y → y < b → x < b
+    below e h = rw e h
+
+returns-2 : tie.Need-returns-2
+unfolding filled
+returns-2 c some =
+    let f = fed (c .before .before) in
+    let s = start (f .before) in
+    let a = s .args in
+    let last = lastPage (a .size) (file s) in
+    let left = length-drop (length (file s) / a .size * a .size) (file s) in
+    let fills = sym (c .before .before .fills .ensures) ∙ c .before .if2 .taken in
+    c .with-zeros .ensures
+    ∙ ap (λ (x : ℕ). rem (key s) (x * 2 ^ (8 * (a .size - (length (file s) - length (file s) / a .size * a .size))))) (own f)
+    ∙ ap (λ (n : ℕ). rem (key s) (fingerprint (key s) last * 2 ^ (8 * (a .size - n)))) (sym left)
+    ∙ with-zeros (monic-pos (a .p .degree) (a .p .low) (s .pre .0 .0 .2)) (a .size - length last) last
+    ∙ ap (λ (b : Bool). fingerprint (key s) (cond b (filled (a .size) last) last)) (sym fills)
+
+returns-3 : tie.Need-returns-3
+returns-3 c some =
+    let f = fed (c .before) in
+    let s = start (f .before) in
+    let last = lastPage (s .args .size) (file s) in
+    let fills = sym (c .before .fills .ensures) ∙ c .if2 .left in
+    own f ∙ ap (λ (b : Bool). fingerprint (key s) (cond b (filled (s .args .size) last) last)) (sym fills)
+
+pub last-page-spec : {M : Type 1} → statement M
+last-page-spec =
+    tie.close
+    (tie.spec
+    (λ c. search needs)
+    mul-from
+    returns
+    sub-fed-last
+    part-fed-last-start
+    (λ c. search needs)
+    fed-last-requires
+    (λ c κs. search needs)
+    sub-zeros
+    sub-zeros-2
+    with-zeros-requires
+    returns-2
+    returns-3)

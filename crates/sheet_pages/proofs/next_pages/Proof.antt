@@ -59,21 +59,21 @@ whole-marks-requires c κs =
     let s = start b in
     (s .pre .0, s .pre .1, fits b, omega (arith, s .pre .3))
 
--- the fingerprints of the whole pages, as the version takes them
-prints : (c : tie.After-whole-marks) (v : Layout)
-    → take (c .before .block .result) (c .whole-marks .last .0)
-    ≡ pageFingerprints v (polynomial (start (c .before) .args .x .p)) (start (c .before) .args .x .size) (c .before .block .result) (rest (start (c .before)))
+-- the fingerprints of the whole pages, as a version takes them
+prints : (c : tie.After-slice-known2) (v : Layout)
+    → take (block c .block .result) (whole-marks c .whole-marks .last .0)
+    ≡ pageFingerprints v (polynomial (start (block c) .args .x .p)) (start (block c) .args .x .size) (block c .block .result) (rest (start (block c)))
 prints c v =
-    let b = c .before in
+    let b = block c in
     let s = start b in
-    block-is v (polynomial (s .args .x .p)) (s .args .x .size) (b .block .result) (rest s) _ (fits b) (omega (arith, s .pre .3, c .whole-marks .kept .0))
-    (c .whole-marks .ensures .0)
+    let w = whole-marks c .whole-marks in
+    block-is v (polynomial (s .args .x .p)) (s .args .x .size) (b .block .result) (rest s) _ (fits b) (omega (arith, s .pre .3, w .kept .0)) (w .ensures .0)
 
 returns : tie.Need-returns
 returns c =
     let b = block (c .before) in
     let w = whole-marks (c .before) .whole-marks in
-    record { count = omega (arith, begin b, c .if1 .taken); prints = prints (whole-marks (c .before)) _; behind = w .ensures .1 }
+    record { count = omega (arith, begin b, c .if1 .taken); prints = prints (c .before) _; behind = w .ensures .1 }
 
 mul-if2 : tie.Need-mul-if2
 mul-if2 c = omega (arith, fits (block (c .before)))
@@ -85,7 +85,7 @@ returns-2 c =
     let s = start b in
     let w = whole-marks d .whole-marks in
     let all = count-reached (s .args .x .size) (length (rest s)) (b .block .result) (omega (arith, s .pre .1)) (c .if2 .taken) in
-    record { count = omega (arith, begin b, all, b .block .ensures); prints = prints (whole-marks d) _; behind = w .ensures .1 }
+    record { count = omega (arith, begin b, all, b .block .ensures); prints = prints d _; behind = w .ensures .1 }
 
 slice-write-marks : tie.Need-slice-write-marks
 slice-write-marks c = let d = c .before .before in omega (arith, start (block d) .pre .3, whole-marks d .whole-marks .kept .0)
@@ -111,7 +111,7 @@ returns-3 c =
       count = omega (arith, more, no-more, b .block .ensures, all);
       prints =
           block-last (layoutOf (a .version)) (polynomial (a .p)) (a .size) n (a .last) (rest s) _ (omega arith) all (omega (arith, s .pre .3, w .kept .0)) (s .pre .4 some-left)
-          (prints (whole-marks d) _);
+          (prints d _);
       behind = λ j l. getD-set-other (w .last .0) n j (a .last) 0 (λ e. omega (arith, e, l)) ∙ w .ensures .1 j (omega (arith, l));
     }
 

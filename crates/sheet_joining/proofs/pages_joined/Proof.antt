@@ -1,0 +1,115 @@
+-- `pages_joined` meets its contract.
+use mathlib.Core.Path.{_≡_, sym, _∙_}
+use Prim.Native.Nat.{ℕ, _+_, _-_, _*_, _/_, _^_, _≤_, _<_}
+use native.Mathlib.Omega.{arith}
+use lib.ListN.{length}
+use Rattle.sheets.specs.Layout.{numberAt, layoutOf, pageCount}
+use Rattle.sheets.proofs.Pages.{count-small, count-whole, count-exact, count-more, whole-fits, last-short}
+use Rattle.sheet_joining.proofs.Joining.{filled-joined, whole-joined, last-joined}
+use borrow.Author.Needs.{needs}
+use Rattle.sheet_joining.proofs.pages_joined.Statement.{statement}
+use Rattle.sheet_joining.proofs.pages_joined.Tie as tie
+
+-- the start, behind the choice of the version; the whole pages joined; something is left
+abbrev start : tie.After-fills → tie.Start
+start c = c .before .before
+
+abbrev filled : tie.After-page-count → tie.Start
+filled c = start (c .before .before)
+
+abbrev own : tie.Else1 → tie.Start
+own c = start (c .before)
+
+abbrev run : tie.Else2 → tie.After-join-run2
+run c = c .before
+
+abbrev some : (s : tie.Start) → 0 < s .args .size
+some s = omega (arith, s .pre .2)
+
+-- the number of pages is small, and all fields are there
+few : (s : tie.Start) → pageCount (s .args .size) (s .args .n) < 2 ^ 29
+few s = count-small (s .args .size) (s .args .n) (s .pre .2) (s .pre .3) (s .pre .4)
+
+whole : (s : tie.Start) → s .args .n / s .args .size ≤ pageCount (s .args .size) (s .args .n)
+whole s = count-whole (s .args .size) (s .args .n) (some s)
+
+ends : (s : tie.Start) → s .args .n / s .args .size * s .args .size ≤ s .args .n
+ends s = whole-fits (s .args .size) (s .args .n)
+
+join-run-requires : tie.Need-join-run-requires
+join-run-requires c κs =
+    let s = filled c in
+    (s .pre .0, s .pre .1, s .pre .3, omega (arith, few s, c .page-count .ensures), omega (arith, s .pre .5, c .page-count .ensures))
+
+returns : tie.Need-returns
+returns c =
+    let p = c .before in
+    let s = filled p in
+    let a = s .args in
+    let f = sym (p .before .before .fills .ensures) ∙ p .before .if1 .taken in
+    rw (← (p .page-count .ensures))
+    (filled-joined (s .pre .0) (layoutOf (a .version)) (a .size) (a .n) (a .fields .now) (p .page-count .result) _ f (c .join-run .ensures))
+
+join-run-requires-2 : tie.Need-join-run-requires-2
+join-run-requires-2 c κs =
+    let s = own c in
+    (s .pre .0, s .pre .1, s .pre .3, omega (arith, few s, whole s), omega (arith, s .pre .5, whole s))
+
+mul-left : tie.Need-mul-left
+mul-left c = let s = own (c .before) in omega (arith, ends s)
+
+sub-left : tie.Need-sub-left
+sub-left c = ends (own (c .before))
+
+returns-2 : tie.Need-returns-2
+returns-2 c =
+    let r = c .before in
+    let s = own (r .before) in
+    let a = s .args in
+    rw (count-exact (a .size) (a .n) (some s) (omega arith))
+    (whole-joined (s .pre .0) (layoutOf (a .version)) (a .size) (a .n) (a .fields .now) (a .n / a .size) _ (ends s) (r .join-run2 .ensures))
+
+-- something is left: the last page has a field
+more : (c : tie.Else2) → own (run c .before) .args .n / own (run c .before) .args .size * own (run c .before) .args .size < own (run c .before) .args .n
+more c = let s = own (run c .before) in omega (arith, ends s, c .if2 .left)
+
+count : (c : tie.Else2) → pageCount (own (run c .before) .args .size) (own (run c .before) .args .n) ≡ own (run c .before) .args .n / own (run c .before) .args .size + 1
+count c = let s = own (run c .before) in count-more (s .args .size) (s .args .n) (some s) (more c)
+
+mul-eight-at : tie.Need-mul-eight-at
+mul-eight-at c = let s = own (run c .before) in omega (arith, few s, whole s)
+
+eight-at-requires : tie.Need-eight-at-requires
+eight-at-requires c κs = let s = own (run c .before) in omega (arith, s .pre .5, count c)
+
+returns-3 : tie.Need-returns-3
+unfolding numberAt
+returns-3 c =
+    let e = c .before .before in
+    let r = run e in
+    let s = own (r .before) in
+    let a = s .args in
+    let w = a .n / a .size in
+    let f = sym (r .before .before .fills .ensures) ∙ r .before .if1 .left in
+    let short = last-short (a .size) (a .n) (some s) in
+    rw (count e)
+    (last-joined (s .pre .0) (layoutOf (a .version)) (a .size) (a .n) (a .fields .now) w (a .n - w * a .size) _ _ _ f (omega (arith, ends s))
+    (omega (arith, short)) (c .before .eight-at .ensures) (r .join-run2 .ensures) (c .join-last .ensures))
+
+pub pages-joined-spec : {M : Type 1} → statement M
+pages-joined-spec =
+    tie.close
+    (tie.spec
+    (λ c. search needs)
+    (λ c κs. search needs)
+    (λ c κs. search needs)
+    join-run-requires
+    returns
+    join-run-requires-2
+    mul-left
+    sub-left
+    returns-2
+    mul-eight-at
+    eight-at-requires
+    (λ c κs. search needs)
+    returns-3)
