@@ -9,13 +9,23 @@ use Rattle.refusals.specs.declared.Refusal.{Refusal}
 use Rattle.refusals.proofs.Laws.{Clear, clear-done, done-clear, more-refused}
 use Rattle.refusals.specs.Refusals.{Answer, Done, Refused, Test, firstOf}
 use Rattle.sheets.specs.declared.Sheet.{Sheet}
-use Rattle.sheets.specs.Layout.{versionIn, layouts, layoutOf, pagePlace, sheetLength, Contents, pagesIn, contentsIn}
+use Rattle.sheets.specs.Layout.{numbersAt, versionIn, layouts, layoutOf, pagePlace, sheetLength, Contents, pagesIn, contentsIn}
 use Rattle.sheets.specs.Sheets.{readTests, readSheet, readPages}
 use Rattle.sheets.specs.Answers.{numbersOf, sheetRead}
 use Rattle.sheets.specs.Claims.{SoundContents}
-use Rattle.sheets.specs.Parts.{ReadAs}
-use Rattle.sheets.proofs.Numbers.{length-numbersAt}
+use Rattle.sheets.specs.Parts.{ReadAs, fingerprintsPart}
+use Rattle.sheets.proofs.Numbers.{length-numbersAt, numbers-of-part}
+use Rattle.sheets.proofs.Versions.{eight-wide}
 use Rattle.sheets.proofs.Sound.{clear-total, clear-contents}
+
+-- the page fingerprints, in the part that begins with them
+pub pages-in : (sheet : List ℕ)
+    → contentsIn sheet .pages ≡ numbersAt 0 8 (pagesIn (layoutOf (versionIn sheet)) sheet) (fingerprintsPart (versionIn sheet) sheet)
+unfolding contentsIn
+pages-in sheet =
+    let v = layoutOf (versionIn sheet) in
+    let n = pagesIn v sheet in
+    ap (λ (w : ℕ). numbersAt (pagePlace v 0) w n sheet) (eight-wide (versionIn sheet)) ∙ sym (numbers-of-part (pagePlace v 0) 8 n sheet)
 
 -- ---- what reading says
 
@@ -45,6 +55,10 @@ module _ (sheet : List ℕ) {x : Sheet} (r : ReadAs sheet x) where
 
   pub total : length sheet ≡ sheetLength (layoutOf (versionIn sheet)) (pagesIn (layoutOf (versionIn sheet)) sheet)
   total = clear-total sheet tests-clear
+
+  pub version-read : x .version ≡ versionIn sheet
+  unfolding contentsIn
+  version-read = ap (λ (y : Sheet). y .version) (r .numbers)
 
   pub pages-counted : x .pages ≡ pagesIn (layoutOf (versionIn sheet)) sheet
   unfolding contentsIn

@@ -29,15 +29,13 @@ over-blocks-requires c κs =
     let l = last c in
     let t = tables l in
     let s = start (t .before) in
-    (t .fill-tables .ensures, s .pre .2, s .pre .3, s .pre .4, l .last-page .ensures .1, s .pre .5, s .pre .6)
+    (t .fill-tables .ensures, s .pre .2, s .pre .3, s .pre .4, l .last-page .ensures, s .pre .5, s .pre .6)
 
 same-length : tie.Need-same-length
 same-length c = c .before .before .over-blocks .kept .0
 
 returns : tie.Need-returns
-returns c =
-    let p = c .before .before in
-    (p .over-blocks .ensures, last (p .before) .last-page .ensures .0)
+returns c = c .before .before .over-blocks .ensures
 
 pub over-pages-spec : {M : Type 1} → statement M
 over-pages-spec =
