@@ -16,7 +16,7 @@ ghost use Rattle.gf2.specs.Moduli.{polynomial, Proper};
 ghost use Rattle.refusals.specs.Answers.{reply};
 ghost use Rattle.acceptance.specs.Opened.{Opened};
 ghost use Rattle.files.specs.Files.{fingerprint};
-ghost use Rattle.sheets.specs.Layout.{bytesOf, fieldsOf, numbersAt, newest, sheetLength, pageCount, sheetBytes};
+ghost use Rattle.sheets.specs.Layout.{bytesOf, fieldsOf, numbersAt, newest, layoutOf, sheetLength, pageCount, sheetBytes};
 ghost use Rattle.sheets.specs.Sheets.{pageFingerprints, contentsOf, lengthFor, writeSheet};
 ghost use Rattle.sheets.specs.Answers.{lengthAnswer};
 
@@ -25,7 +25,7 @@ fn file_mark(fields: &[u8], p: Modulus, size: u64, file: &[u8]) -> u64
     requires { ⌜ Proper p × (p .degree < 64) × (16 ≤ size) × (size ≤ 4096) × (length (now file) < 2 ^ 32)
         × (8 * pageCount size (length (now file)) ≤ length (now fields))
         × (numbersAt 0 8 (pageCount size (length (now file))) (now fields)
-        ≡ pageFingerprints newest (polynomial p) size (pageCount size (length (now file))) (now file)) ⌝ }
+        ≡ pageFingerprints (layoutOf (newest .version)) (polynomial p) size (pageCount size (length (now file))) (now file)) ⌝ }
     ensures { λ r. ⌜ r ≡ fingerprint (polynomial p) (now (file .entry)) ⌝ }
 {
     sheet_joining::pages_joined(fields, p, size, file.len() as u64, layout::NEWEST).mark
@@ -36,7 +36,7 @@ fn put_fingerprints(fields: &mut [u8], p: Modulus, size: u64, file: &[u8])
     requires { ⌜ Proper p × (8 ≤ p .degree) × (p .degree < 64) × (16 ≤ size) × (size ≤ 4096) × (length (now file) < 2 ^ 32)
         × (8 * pageCount size (length (now file)) + 8 ≤ length (now fields)) ⌝ }
     ensures { λ r. ⌜ now (fields .exit) ≡ sets (now (fields .entry)) 0
-        (fieldsOf 8 (pageFingerprints newest (polynomial p) size (pageCount size (length (now (file .entry)))) (now (file .entry)))
+        (fieldsOf 8 (pageFingerprints (layoutOf (newest .version)) (polynomial p) size (pageCount size (length (now (file .entry)))) (now (file .entry)))
         ++ bytesOf 8 (fingerprint (polynomial p) (now (file .entry)))) ⌝ }
 {
     let none = [0u8; 0];
@@ -49,9 +49,9 @@ fn put_fingerprints(fields: &mut [u8], p: Modulus, size: u64, file: &[u8])
 // Writes the sheet; the buffer's further bytes keep their value.
 fn put_sheet(buffer: &mut [u8], key: u64, p: Modulus, size: u64, file: &[u8])
     requires { ⌜ Opened key p × (16 ≤ size) × (size ≤ 4096) × (length (now file) < 2 ^ 32)
-        × (sheetLength newest (pageCount size (length (now file))) ≤ length (now buffer)) ⌝ }
+        × (sheetLength (layoutOf (newest .version)) (pageCount size (length (now file))) ≤ length (now buffer)) ⌝ }
     ensures { λ r. ⌜ now (buffer .exit) ≡ sheetBytes (contentsOf (newest .version) key size (now (file .entry)))
-        ++ drop (sheetLength newest (pageCount size (length (now (file .entry))))) (now (buffer .entry)) ⌝ }
+        ++ drop (sheetLength (layoutOf (newest .version)) (pageCount size (length (now (file .entry))))) (now (buffer .entry)) ⌝ }
 {
     let head = Head {
         version: layout::NEWEST,

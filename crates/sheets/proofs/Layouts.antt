@@ -2,7 +2,7 @@
 use mathlib.Core.Path.{_≡_, refl, sym, ap, ap₂, _∙_}
 use mathlib.Core.List.{List, [], _∷_, _++_, append-assoc, append-nil}
 use Prim.Native.Nat.{ℕ, zero, suc, _+_, _*_, _^_, _≤_, _<_}
-use native.Mathlib.Nat.{mul-zero, add-zero, zero-add, add-assoc}
+use native.Mathlib.Nat.{add-zero, zero-add, add-assoc}
 use native.Mathlib.Omega.{arith}
 use lib.ListN.{length, getD, take, drop, length-append}
 use lib.Seq.{take-add, take-all, drop-drop}
@@ -11,6 +11,7 @@ use Rattle.files.specs.Files.{Bytes}
 use Rattle.sheets.specs.Layout.{bytesOf, fieldsOf, numberAt, numbersAt}
 use Rattle.sheets.specs.Layout.{letters, versionIn, Layout, layoutOf, width, fieldWidths, pagePlace, sheetLength, pageCount, Contents, headOf, bytesIn}
 use Rattle.sheets.specs.Layout.{sheetBytes, fieldIn, pagesIn, contentsIn}
+use Rattle.sheets.proofs.Versions.{place-first}
 use Rattle.sheets.proofs.Numbers.{length-bytesOf, length-fieldsOf, number-seam, number-behind, numbers-seam, bytes-number, fields-numbers}
 
 pub contents-eq : {v v' k k' n n' s s' f f' : ℕ} {g g' : List ℕ} → v ≡ v' → k ≡ k' → n ≡ n' → s ≡ s' → g ≡ g' → f ≡ f'
@@ -106,8 +107,7 @@ module _ (x : Contents) where
     pages-back : numbersAt (pagePlace v 0) (v .fingerprintWidth) (length (x .pages)) (sheetBytes x) ≡ x .pages
     unfolding sheetBytes
     pages-back =
-        let none : width (fieldWidths v) ≡ pagePlace v 0 = sym (rw (mul-zero (v .fingerprintWidth)) (add-zero (width (fieldWidths v)))) in
-        rw append-assoc (numbers-seam (x .pages) head last (pagePlace v 0) (v .fingerprintWidth) (length-head ∙ none) (fits .pages))
+        rw append-assoc (numbers-seam (x .pages) head last (pagePlace v 0) (v .fingerprintWidth) (length-head ∙ place-first v) (fits .pages))
 
     pub fingerprint-back : numberAt (pagePlace (layoutOf (x .version)) (length (x .pages))) (layoutOf (x .version) .fingerprintWidth) (sheetBytes x)
         ≡ x .fingerprint
@@ -154,7 +154,7 @@ module _ (sheet : List ℕ) (h : Bytes sheet) (three : length (layoutOf (version
       let f = w .fingerprintWidth in
       let c = pagesIn w sheet in
       let p = width (fieldWidths w) in
-      let start : pagePlace w 0 ≡ p = rw (mul-zero f) (add-zero p) in
+      let start : pagePlace w 0 ≡ p = sym (place-first w) in
       ap₂ (λ (a b : List ℕ). a ++ b)
       (ap₂ (λ (a b : List ℕ). a ++ b) (fields-written sheet h (fieldWidths w) (headOf (contentsIn sheet)) 0 (λ i l. rw zero-add (agree i l)) (omega (arith, total)))
       (fields-numbers sheet h c (pagePlace w 0) f (omega (arith, start, total)) ∙ ap (λ (n : ℕ). take (f * c) (drop n sheet)) start)

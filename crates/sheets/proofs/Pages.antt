@@ -171,6 +171,14 @@ module _ {p : ℕ} (pos : 0 < p) where
   pages-joined-print v s file h =
       ap (λ (m : Mark). m .fingerprint) (pages-joined v s file h) ∙ sym (with-zeros pos (zerosBehind v s (length file)) file)
 
+  -- where pages are not filled up: the file's own mark
+  pub own-joined : (v : Layout) → v .filled ≡ false → (s : ℕ) (file : List ℕ) → 0 < s
+      → joinedPages v p s (length file) (markOf p []) (pageFingerprints v p s (pageCount s (length file)) file) ≡ markOf p file
+  own-joined v f s file h =
+      pages-joined v s file h
+      ∙ ap (λ (b : Bool). markOf p (file ++ replicate (cond b (pageCount s (length file) * s - length file) 0) 0)) f
+      ∙ ap (markOf p) (append-nil file)
+
 -- ---- the length of marks joined
 
 min-step : (m s left : ℕ) → min s left + min m (left - s) ≡ min (s + m) left
@@ -297,35 +305,6 @@ pages-last v p s file h =
 -- the bytes from a place on, as the code lends them
 pub all-left : (file : List ℕ) (at : ℕ) → take (length file - at) (drop at file) ≡ drop at file
 all-left file at = take-all (length file - at) (drop at file) (rw (length-drop at file) (le-refl (length file - at)))
-
--- ---- the whole pages
-
-whole-pages : (v : Layout) (s m : ℕ) (file : List ℕ) → m * s ≤ length file → laidPages v s m file ≡ take (m * s) file
-unfolding laidPages
-whole-pages v s zero file h = ap (λ (k : ℕ). take k file) (sym (zero-mul s))
-whole-pages v s (suc m) file h =
-    let e : s + m * s ≡ suc m * s = omega (arith, suc-mul m s) in
-    ap₂ (λ (a b : List ℕ). a ++ b) (page-whole v s (take s file) (length-take-le s file (omega (arith, suc-mul m s))))
-    (whole-pages v s m (drop s file) (rw (length-drop s file) (omega (arith, suc-mul m s))))
-    ∙ sym (take-add s (m * s) file)
-    ∙ ap (λ (k : ℕ). take k file) e
-
--- their marks joined
-pub whole-joined : {p : ℕ} (pos : 0 < p) (v : Layout) (s m : ℕ) (file : List ℕ) → m * s ≤ length file
-    → joinedPages v p s (length file) (markOf p []) (pageFingerprints v p s m file) .fingerprint ≡ fingerprint p (take (m * s) file)
-unfolding markOf
-whole-joined {p} pos v s m file h =
-    ap (λ (k : Mark). k .fingerprint) (joined-pages pos v m s [] file) ∙ ap (fingerprint p) (whole-pages v s m file h)
-
--- and the last page's joined behind them
-pub last-joined : {p : ℕ} (pos : 0 < p) (s : ℕ) (file : List ℕ) (f g : ℕ) → f ≡ fingerprint p (take (length file / s * s) file)
-    → g ≡ fingerprint p (lastPage s file)
-    → rem p (f * 2 ^ (8 * (length file - length file / s * s)) ⊕ g ⊕ 2 ^ (8 * (length file - length file / s * s))) ≡ fingerprint p file
-unfolding joined markOf
-last-joined {p} pos s file f g ef eg =
-    let n = length file / s * s in
-    rw (ef, eg, ← (length-drop n file))
-    (ap (λ (m : Mark). m .fingerprint) (joined-true pos (take n file) (drop n file)) ∙ ap (fingerprint p) (take-append-drop n file))
 
 pub count-whole : (s n : ℕ) → 0 < s → n / s ≤ pageCount s n
 count-whole s n h = le-div-iff-mul-le h .1 (omega (arith, div-add-mod' n s))

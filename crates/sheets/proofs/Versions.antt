@@ -4,12 +4,13 @@ use mathlib.Core.Logic.{_≢_}
 use mathlib.Core.Bool.{true, false≢true}
 use mathlib.Core.List.{List, [], _∷_}
 use Prim.Native.Nat.{ℕ, _+_, _*_, _^_, _≤_, _<_}
+use native.Mathlib.Nat.{mul-zero, add-zero}
 use native.Mathlib.Decide.{ℕ-discrete}
 use native.Mathlib.Omega.{arith}
 use lib.Dec.{lit<}
 use borrow.Author.Tests.{ne-eqb}
 use Rattle.sheets.specs.Layout.{numberAt, Layout, version1, version2, newest, layouts, known, layoutAmong, layoutOf}
-use Rattle.sheets.specs.Layout.{pagePlace, sheetLength, fieldIn}
+use Rattle.sheets.specs.Layout.{width, fieldWidths, pagePlace, sheetLength, fieldIn}
 use Rattle.sheets.specs.declared.layout.Fields.{Fields}
 use Rattle.sheets.specs.Parts.{LaidOut}
 
@@ -48,6 +49,10 @@ newest-is = refl
 pub newest-known : known layouts (newest .version) ≡ true
 unfolding known
 newest-known = refl
+
+-- the fingerprints begin behind the fields
+pub place-first : (v : Layout) → width (fieldWidths v) ≡ pagePlace v 0
+place-first v = sym (rw (mul-zero (v .fingerprintWidth)) (add-zero (width (fieldWidths v))))
 
 -- where the fingerprint behind i others stands
 pub place-from : (n i : ℕ) → pagePlace (layoutOf n) i ≡ pagePlace (layoutOf n) 0 + 8 * i
