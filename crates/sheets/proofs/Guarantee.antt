@@ -1,15 +1,18 @@
 -- What the calls promise together, over the definitions that their contracts cite.
 use mathlib.Core.Path.{_≡_, refl, sym, ap, ap₂, _∙_}
-use mathlib.Core.Bool.{false, or-true}
+use mathlib.Core.Bool.{Bool, false, cond, or-true}
 use mathlib.Core.List.{List, [], _∷_}
-use Prim.Native.Nat.{ℕ, _-_, _^_, _≤_, _<_}
-use native.Mathlib.Nat.{zero-add}
+use Prim.Native.Nat.{ℕ, _+_, _-_, _*_, _^_, _≤_, _<_, min}
+use native.Mathlib.Nat.{zero-add, mul-one}
 use lib.Dec.{ltb}
 use lib.ListN.{length, take, drop}
 use lib.Seq.{take-at}
 use borrow.Author.Tests.{eq-eqb, ne-eqb, le-ltb, ltb-false}
 use Rattle.lists.specs.Lists.{overlay}
 use Rattle.lists.proofs.Lent.{overlay-fits}
+use Rattle.gf2.specs.Polynomials.{rem}
+use Rattle.gf2.proofs.Residues.{rem-small}
+use Rattle.files.specs.Files.{markOf}
 use Rattle.refusals.specs.declared.Refusal.the-variants.{TooLong}
 use Rattle.refusals.specs.Refusals.{Done, _⇒_, passes, longest}
 use Rattle.refusals.proofs.Laws.{Clear, clear-done, clear-append, done-clear}
@@ -18,11 +21,12 @@ use Rattle.acceptance.proofs.Laws.{key-iff}
 use Rattle.sheets.specs.Layout.{numberAt, Layout, newest, layouts, layoutOf, pagePlace, sheetLength, pageCount, Contents, sheetBytes, contentsIn}
 use Rattle.sheets.specs.Sheets.{contentsOf, writeTests, writeSheet, readTests, readSheet, readPages, Page}
 use Rattle.sheets.specs.Claims.{SoundContents, WellFormed, First, ReadIff, OtherVersion, PagesGiven, WrittenReads, WrittenFingerprint, Checks, OtherLengthTold}
-use Rattle.sheets.specs.Claims.{PageIff, SameIff}
+use Rattle.sheets.specs.Claims.{PagesGiveFile, OwnCompared, FilledCompared, PageIff, SameIff}
+use Rattle.sheets.specs.Parts.{zerosBehind}
 use Rattle.sheets.specs.Sheets.{firstChange, pagesNow, compared, checkTests, checkSheet}
 use Rattle.sheets.proofs.Versions.{newest-is, newest-known}
 use Rattle.sheets.proofs.Layouts.{length-sheet, fingerprint-back}
-use Rattle.sheets.proofs.Pages.{length-pages}
+use Rattle.sheets.proofs.Pages.{length-pages, own-joined, joined-length, zeros-are}
 use Rattle.sheets.proofs.Sound.{size-bounds, sound-fits, sound-back, sound-clear, clear-sound, file-sound}
 use Rattle.sheets.proofs.Changes.{same-equal, equal-same, page-first, first-page}
 
@@ -61,6 +65,31 @@ unfolding readPages
 pages-given sheet w words =
     clear-done (readTests layouts sheet) words _ (rw (← (w .bytes)) at (sound-clear (w .contents) (w .sound)))
     ∙ ap (λ (y : Contents). Done (overlay (y .pages) words)) (contents-back sheet w)
+
+-- ---- the page marks joined
+
+pub pages-give-file : PagesGiveFile
+unfolding contentsOf
+pages-give-file key s file pos some =
+    own-joined pos (layoutOf (newest .version)) (ap (λ (v : Layout). v .filled) newest-is) s file some
+
+pub own-compared : OwnCompared
+own-compared x f pos some count small =
+    let n = x .length in
+    let v = layoutOf (x .version) in
+    let none : zerosBehind v (x .pageSize) n ≡ 0 = ap (λ (b : Bool). cond b (pageCount (x .pageSize) n * x .pageSize - n) 0) f in
+    ap (λ (m : ℕ). rem (x .key) (x .fingerprint * 2 ^ (8 * m))) (zeros-are v (x .key) (x .pageSize) n (x .pages) some count ∙ none)
+    ∙ ap (rem (x .key)) (mul-one (x .fingerprint))
+    ∙ rem-small pos (x .fingerprint) small
+
+pub filled-compared : FilledCompared
+unfolding markOf
+filled-compared x f =
+    let c = length (x .pages) in
+    ap (λ (m : ℕ). rem (x .key) (x .fingerprint * 2 ^ (8 * (m - x .length))))
+    (joined-length (layoutOf (x .version)) (x .key) (x .pageSize) (x .length) (markOf (x .key) []) (x .pages)
+    ∙ ap (λ (b : Bool). 0 + cond b (c * x .pageSize) (min (c * x .pageSize) (x .length))) f
+    ∙ zero-add (c * x .pageSize))
 
 -- ---- writing, then reading
 

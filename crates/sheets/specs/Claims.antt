@@ -3,16 +3,16 @@ use mathlib.Core.Path.{_≡_}
 use mathlib.Core.Logic.{_≢_, _↔_}
 use mathlib.Core.Bool.{true, false}
 use mathlib.Core.List.{List}
-use Prim.Native.Nat.{ℕ, _*_, _^_, _≤_, _<_}
+use Prim.Native.Nat.{ℕ, _-_, _*_, _^_, _≤_, _<_}
 use lib.ListN.{length, getD, take, drop}
 use Rattle.lists.specs.Lists.{All, overlay}
-use Rattle.gf2.specs.Polynomials.{degree}
+use Rattle.gf2.specs.Polynomials.{degree, rem}
 use Rattle.refusals.specs.declared.Refusal.the-variants.{SheetMalformed}
 use Rattle.refusals.specs.Refusals.{Answer, Done, Refused, firstOf, longest}
 use Rattle.acceptance.specs.Keys.{accepted}
-use Rattle.files.specs.Files.{Bytes, fingerprint}
+use Rattle.files.specs.Files.{Bytes, fingerprint, markOf}
 use Rattle.files.specs.Bursts.{Burst}
-use Rattle.sheets.specs.Layout.{numberAt, versionIn, Layout, newest, layouts, known}
+use Rattle.sheets.specs.Layout.{numberAt, versionIn, Layout, newest, layouts, known, layoutOf}
 use Rattle.sheets.specs.Layout.{pagePlace, sheetLength, pageCount, Contents, sheetBytes, contentsIn}
 use Rattle.sheets.specs.Sheets.{contentsOf, pagesJoined, fileFilled, writeSheet, readTests, readSheet, readPages, Same, Page, OtherLength}
 use Rattle.sheets.specs.Sheets.{pagesNow, compared, checkSheet}
@@ -49,6 +49,25 @@ OtherVersion =
 -- the page fingerprints of a sheet are given in lent places
 abbrev pub PagesGiven : Type 0
 PagesGiven = (sheet : List ℕ) (w : WellFormed sheet) (words : List ℕ) → readPages sheet words ≡ Done (overlay (w .contents .pages) words)
+
+-- ---- the page marks joined, in each version
+
+-- "The page marks of a sheet, each with its own length, joined, must give the file's fingerprint": those of a written sheet do,
+abbrev pub PagesGiveFile : Type 0
+PagesGiveFile =
+    (key s : ℕ) (file : List ℕ) → 0 < key → 0 < s → pagesJoined (contentsOf (newest .version) key s file) ≡ markOf key file
+
+-- "and number 14 reads so": where pages are not filled up, it compares them with the file's fingerprint as it stands,
+abbrev pub OwnCompared : Type 0
+OwnCompared =
+    (x : Contents) → layoutOf (x .version) .filled ≡ false → 0 < x .key → 0 < x .pageSize
+    → lib.ListN.length (x .pages) ≡ pageCount (x .pageSize) (x .length) → x .fingerprint < 2 ^ degree (x .key) → fileFilled x ≡ x .fingerprint
+
+-- where they are, with the file's fingerprint times t^(8 × (c × s − n)), as document 01 has it
+abbrev pub FilledCompared : Type 0
+FilledCompared =
+    (x : Contents) → layoutOf (x .version) .filled ≡ true
+    → fileFilled x ≡ rem (x .key) (x .fingerprint * 2 ^ (8 * (lib.ListN.length (x .pages) * x .pageSize - x .length)))
 
 -- ---- writing, then reading
 
