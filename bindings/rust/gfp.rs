@@ -48,7 +48,7 @@ pub mod refusal {
 }
 
 /// The version of the C interface that this wrapper is for (`GFP_INTERFACE`).
-pub const INTERFACE: u32 = 2;
+pub const INTERFACE: u32 = 3;
 
 pub const HOUSE_KEY: u64 = 0x2000_0000_0000_0027;
 pub const TABLE_WORDS: usize = 1024;
