@@ -36,7 +36,13 @@ pub fn body_right(sheet: &[u8], head: Head, p: Modulus) -> bool
     if sheet.len() as u64 != layout::sheet_length(version, count) {
         return false;
     }
-    let joined = sheet_joining::pages_joined(layout::page_fields(sheet, version), p, size, n, version);
+    let joined = sheet_joining::pages_joined(
+        layout::page_fields(sheet, version),
+        p,
+        size,
+        n,
+        version,
+    );
     let file = layout::fingerprint_at(sheet, version, count);
     if !gf2::is_residue(p, joined.bits | file) {
         return false;

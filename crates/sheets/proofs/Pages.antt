@@ -318,5 +318,8 @@ count-exact s n h l = omega (arith, count-reached s n (n / s) h l, count-whole s
 -- else one
 pub count-more : (s n : ℕ) → 0 < s → n / s * s < n → pageCount s n ≡ n / s + 1
 count-more s n h l =
-    omega (arith, count-le s n (n / s + 1) h (omega (arith, add-mul (n / s) 1 s)),
-    count-reached s n (n / s + 1) h (omega (arith, add-mul (n / s) 1 s, last-short s n h)))
+    omega (
+      arith,
+      count-le s n (n / s + 1) h (omega (arith, add-mul (n / s) 1 s)),
+      count-reached s n (n / s + 1) h (omega (arith, add-mul (n / s) 1 s, last-short s n h)),
+    )
