@@ -36,13 +36,8 @@ pub fn body_right(sheet: &[u8], head: Head, p: Modulus) -> bool
     if sheet.len() as u64 != layout::sheet_length(version, count) {
         return false;
     }
-    let joined = sheet_joining::pages_joined(
-        layout::page_fields(sheet, version),
-        p,
-        size,
-        n,
-        version,
-    );
+    let pages = layout::page_fields(sheet, version);
+    let joined = sheet_joining::pages_joined(pages, p, size, n, version);
     let file = layout::fingerprint_at(sheet, version, count);
     if !gf2::is_residue(p, joined.bits | file) {
         return false;

@@ -125,12 +125,12 @@ SomeAltered = (s : ℕ) (a b : List ℕ) → 0 < s → length a ≡ length b →
 abbrev pub BurstFound : Type 0
 BurstFound =
     (version key s : ℕ) (a b : List ℕ) → known layouts version ≡ true → accepted key ≡ true → length a ≤ longest → 16 ≤ s → s ≤ 4096
-    → Bytes a → Bytes b → Burst (degree key) a b
-    → (i : ℕ) → FirstAltered s a b i → checkSheet (sheetBytes (contentsOf version key s a)) b ≡ Done (Page i)
+    → Bytes a → Bytes b → Burst (degree key) a b → (i : ℕ) → FirstAltered s a b i
+    → checkSheet (sheetBytes (contentsOf version key s a)) b ≡ Done (Page i)
 
 -- so a file that differs inside k neighbouring bits is never the same
 abbrev pub NoBurstSame : Type 0
 NoBurstSame =
     (version key s : ℕ) (a b : List ℕ) → known layouts version ≡ true → accepted key ≡ true → length a ≤ longest → 16 ≤ s → s ≤ 4096
-    → Bytes a → Bytes b → Burst (degree key) a b
-    → a ≢ b → checkSheet (sheetBytes (contentsOf version key s a)) b ≡ Done Same → ⊥
+    → Bytes a → Bytes b → Burst (degree key) a b → a ≢ b
+    → checkSheet (sheetBytes (contentsOf version key s a)) b ≡ Done Same → ⊥
