@@ -5,7 +5,7 @@ use mathlib.Core.List.{List, [], _∷_, _++_}
 use Prim.Native.Nat.{ℕ, zero, suc, _+_, _-_, _*_, _≤_, _<_}
 use native.Mathlib.Decide.{decLt}
 use native.Mathlib.Omega.{arith}
-use lib.ListN.{length, getD, take, drop, length-take, length-drop, drop-of-length-le}
+use lib.ListN.{getD, take, drop, length-take, length-drop, drop-of-length-le}
 use lib.Seq.{getD-take, getD-drop, drop-drop, drop-at, take-at, take-add, take-all}
 use Rattle.files.specs.Files.{lowBits, bits}
 use Rattle.files.specs.Bursts.{Burst}

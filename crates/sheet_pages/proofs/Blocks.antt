@@ -84,7 +84,8 @@ block-is v key s n pages marks h l f =
 -- ---- the last page among them
 
 -- the whole pages are few, and bytes are left behind them
-pub block-last : (v : Layout) (key s n last : ℕ) (rest marks : List ℕ) → 0 < s → n ≡ length rest / s → n < length marks → last ≡ fingerprint key (pageOf v s (lastPage s rest))
+pub block-last : (v : Layout) (key s n last : ℕ) (rest marks : List ℕ) → 0 < s → n ≡ length rest / s → n < length marks
+    → last ≡ fingerprint key (pageOf v s (lastPage s rest))
     → take n marks ≡ pageFingerprints v key s n rest → take (n + 1) (set marks n last) ≡ pageFingerprints v key s (n + 1) rest
 block-last v key s n last rest marks h e l el et =
     ap (λ (m : ℕ). take m (set marks n last)) (add-one n)

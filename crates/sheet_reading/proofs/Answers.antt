@@ -19,6 +19,7 @@ use Rattle.keys.specs.declared.Tested.the-variants as tested-cases
 use Rattle.keys.specs.Testing.{testKey}
 use Rattle.keys.specs.Answers.{tested}
 use Rattle.keys.proofs.Laws.{refused}
+use Rattle.sheets.specs.declared.Sheet.{Sheet}
 use Rattle.sheets.specs.declared.layout.Head.{Head}
 use Rattle.sheets.specs.Layout.{numberAt, versionIn, Layout, layouts, layoutOf, pagePlace, sheetLength, pageCount, Contents, fieldIn, pagesIn, contentsIn}
 use Rattle.sheets.specs.Sheets.{someUnreduced, pagesJoined, fileFilled, pageSizeTest, headWrong, bodyWrong, readSheet}
@@ -40,7 +41,10 @@ unfolding contentsIn
 numbers-are sheet head c f h ec ef =
     let v = layoutOf (versionIn sheet) in
     rw (length-numbersAt (pagePlace v 0) (v .fingerprintWidth) (pagesIn v sheet) sheet, ← (h .key), ← (h .length), ← (h .size), ← ec, ← (h .version), ef)
-    (ap (λ (w : ℕ). record { version = head .version; key = head .key; length = head .length; size = head .size; pages = c; fingerprint = numberAt (pagePlace (layoutOf (head .version)) c) w sheet }) (eight-wide (head .version)))
+    (ap numbers (ap (λ (w : ℕ). numberAt (pagePlace (layoutOf (head .version)) c) w sheet) (eight-wide (head .version))))
+  where
+    numbers : ℕ → Sheet
+    numbers g = record { version = head .version; key = head .key; length = head .length; size = head .size; pages = c; fingerprint = g }
 
 pub body-total : (sheet : List ℕ) → bodyWrong (length sheet) (contentsIn sheet) ≡ false
     → length sheet ≡ sheetLength (layoutOf (versionIn sheet)) (pagesIn (layoutOf (versionIn sheet)) sheet)
@@ -80,7 +84,8 @@ module _ (sheet : List ℕ) where
     pub read-opened : (p : Modulus) → Opened (fieldIn (layoutOf (versionIn sheet)) 2 sheet) p → readSheet sheet ≡ readBody sheet
     read-opened p o = after-head ∙ opened-first o rest tt x
 
-  pub body-size : (ltb (fieldIn (layoutOf (versionIn sheet)) 4 sheet) 16 || ltb 4096 (fieldIn (layoutOf (versionIn sheet)) 4 sheet)) ≡ true → readBody sheet ≡ Refused PageSize tt
+  pub body-size : (ltb (fieldIn (layoutOf (versionIn sheet)) 4 sheet) 16 || ltb 4096 (fieldIn (layoutOf (versionIn sheet)) 4 sheet)) ≡ true
+      → readBody sheet ≡ Refused PageSize tt
   unfolding contentsIn
   body-size e = first-true (ltb (x .pageSize) 16 || ltb 4096 (x .pageSize)) PageSize (bodyWrong (length sheet) x ⇒ SheetMalformed ∷ []) tt x e
 

@@ -12,7 +12,8 @@ use Rattle.gf2.specs.Moduli.{polynomial, Proper}
 use Rattle.gf2.specs.declared.Modulus.{Modulus}
 use Rattle.lists.proofs.Lists.{all-map}
 use Rattle.gf2.proofs.Monics.{monic-pos, monic-degree}
-use Rattle.sheets.specs.Layout.{bytesOf, fieldsOf, numbersAt, Layout, layoutOf, fieldWidths, pagePlace, pageCount, sheetLength, Contents, headOf, bytesIn, sheetBytes}
+use Rattle.sheets.specs.Layout.{bytesOf, fieldsOf, numbersAt, Layout, layoutOf, fieldWidths, pagePlace, pageCount, sheetLength}
+use Rattle.sheets.specs.Layout.{Contents, headOf, bytesIn, sheetBytes}
 use Rattle.sheets.specs.Sheets.{pageFingerprints}
 use Rattle.sheets.proofs.Numbers.{length-bytesOf, length-fieldsOf, sets-front, numbers-stored}
 use Rattle.sheets.proofs.Versions.{eight-wide, place-first, length-from}

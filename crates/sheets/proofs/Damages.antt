@@ -8,7 +8,7 @@ use Prim.Native.Nat.{ℕ, zero, suc, _+_, _-_, _*_, _^_, _≤_, _<_}
 use native.Mathlib.Nat.{zero-mul, suc-mul, not-suc-le-zero, le-refl}
 use native.Mathlib.Decide.{ℕ-discrete, decLt}
 use native.Mathlib.Omega.{arith}
-use lib.ListN.{length, getD, take, drop, replicate, length-drop, drop-of-length-le, take-append-drop}
+use lib.ListN.{length, take, drop, replicate, length-drop, drop-of-length-le, take-append-drop}
 use lib.Seq.{drop-drop, take-all}
 use Rattle.gf2.specs.Polynomials.{rem, degree}
 use Rattle.gf2.proofs.Congruences.{shift-cancels}
@@ -20,8 +20,8 @@ use Rattle.files.specs.Files.{fingerprint, markOf, Bytes}
 use Rattle.files.specs.Bursts.{Burst}
 use Rattle.files.proofs.Confusions.{burst-differs}
 use Rattle.files.proofs.Bursts.{part-burst}
-use Rattle.sheets.specs.Layout.{Layout, layouts, known, layoutOf, pageCount, Contents, sheetBytes}
-use Rattle.sheets.specs.Sheets.{filled, pageOf, contentsOf, joinedPages, Same, Page, pagesNow, compared, checkSheet}
+use Rattle.sheets.specs.Layout.{Layout, layoutOf, pageCount, Contents, sheetBytes}
+use Rattle.sheets.specs.Sheets.{filled, pageOf, contentsOf, joinedPages, Same, pagesNow, compared, checkSheet}
 use Rattle.sheets.specs.Parts.{zerosBehind}
 use Rattle.sheets.specs.Claims.{WellFormed, First, FirstAltered, SomeAltered, BurstFound, NoBurstSame}
 use Rattle.sheets.proofs.Numbers.{bytes-take, bytes-drop}

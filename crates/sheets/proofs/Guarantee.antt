@@ -20,8 +20,8 @@ use Rattle.lists.proofs.Truth.{or-neither}
 use Rattle.acceptance.proofs.Laws.{key-iff}
 use Rattle.sheets.specs.Layout.{numberAt, Layout, newest, layouts, layoutOf, pagePlace, sheetLength, pageCount, Contents, sheetBytes, contentsIn}
 use Rattle.sheets.specs.Sheets.{contentsOf, writeTests, writeSheet, readTests, readSheet, readPages, Page}
-use Rattle.sheets.specs.Claims.{SoundContents, WellFormed, First, ReadIff, OtherVersion, PagesGiven, WrittenReads, WrittenFingerprint, Checks, OtherLengthTold}
-use Rattle.sheets.specs.Claims.{PagesGiveFile, OwnCompared, FilledCompared, PageIff, SameIff}
+use Rattle.sheets.specs.Claims.{SoundContents, WellFormed, First, ReadIff, OtherVersion, PagesGiven, WrittenReads, WrittenFingerprint, Checks}
+use Rattle.sheets.specs.Claims.{OtherLengthTold, PagesGiveFile, OwnCompared, FilledCompared, PageIff, SameIff}
 use Rattle.sheets.specs.Parts.{zerosBehind}
 use Rattle.sheets.specs.Sheets.{firstChange, pagesNow, compared, checkTests, checkSheet}
 use Rattle.sheets.proofs.Versions.{newest-is, newest-known}
@@ -140,7 +140,8 @@ written-fingerprint key s file buffer after fits done =
     rw (written-bytes key s file buffer after fits done)
     (ap₂ (λ (v : Layout) (c : ℕ). numberAt (pagePlace v c) (v .fingerprintWidth) (sheetBytes (contentsOf (newest .version) key s file)))
     (sym newest-is) (sym (length-pages (layoutOf (newest .version)) key (pageCount s (length file)) s file))
-    ∙ fingerprint-back (contentsOf (newest .version) key s file) (sound-fits (contentsOf (newest .version) key s file) (sound key s file buffer after fits done)))
+    ∙ fingerprint-back (contentsOf (newest .version) key s file)
+    (sound-fits (contentsOf (newest .version) key s file) (sound key s file buffer after fits done)))
 
 -- ---- checking a file against a well-formed sheet
 
@@ -163,7 +164,10 @@ module _ (x : Contents) (sound : SoundContents x) (file : List ℕ) (e : length 
 
   as-many : length (x .pages) ≡ length (pagesNow x file)
   unfolding contentsOf
-  as-many = sound .count ∙ ap (pageCount (x .pageSize)) (sym e) ∙ sym (length-pages (layoutOf (x .version)) (x .key) (pageCount (x .pageSize) (length file)) (x .pageSize) file)
+  as-many =
+      sound .count
+      ∙ ap (pageCount (x .pageSize)) (sym e)
+      ∙ sym (length-pages (layoutOf (x .version)) (x .key) (pageCount (x .pageSize) (length file)) (x .pageSize) file)
 
 pub page-iff : PageIff
 page-iff x sound file e i = (there, back)

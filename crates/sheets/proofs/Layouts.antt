@@ -156,7 +156,8 @@ module _ (sheet : List ℕ) (h : Bytes sheet) (three : length (layoutOf (version
       let p = width (fieldWidths w) in
       let start : pagePlace w 0 ≡ p = sym (place-first w) in
       ap₂ (λ (a b : List ℕ). a ++ b)
-      (ap₂ (λ (a b : List ℕ). a ++ b) (fields-written sheet h (fieldWidths w) (headOf (contentsIn sheet)) 0 (λ i l. rw zero-add (agree i l)) (omega (arith, total)))
+      (ap₂ (λ (a b : List ℕ). a ++ b)
+      (fields-written sheet h (fieldWidths w) (headOf (contentsIn sheet)) 0 (λ i l. rw zero-add (agree i l)) (omega (arith, total)))
       (fields-numbers sheet h c (pagePlace w 0) f (omega (arith, start, total)) ∙ ap (λ (n : ℕ). take (f * c) (drop n sheet)) start)
       ∙ sym (take-add p (f * c) sheet))
       (bytes-number sheet h (pagePlace w c) f (omega (arith, total)))

@@ -11,7 +11,7 @@ use native.Mathlib.Omega.{arith}
 use lib.ListN.{length, getD, take, drop, replicate, length-append, length-replicate, length-drop, length-take, drop-of-length-le, take-append-drop}
 use lib.ListN.{replicate-append-replicate}
 use lib.Seq.{drop-drop, length-take-le, take-add, take-all, take-at, drop-at}
-use Rattle.gf2.specs.Polynomials.{_⊕_, rem, degree}
+use Rattle.gf2.specs.Polynomials.{rem, degree}
 use Rattle.lists.specs.Lists.{All}
 use Rattle.gf2.proofs.Residues.{rem-lt}
 use Rattle.files.specs.declared.Mark.{Mark}
@@ -192,7 +192,8 @@ joined-length v key s left m [] = go (v .filled)
     go : (b : Bool) → m .length ≡ m .length + cond b (0 * s) (min (0 * s) left)
     go true = omega (arith, zero-mul s)
     go false = omega (arith, zero-mul s)
-joined-length v key s left m (f ∷ fs) = joined-length v key s (left - s) (joined key m (record { fingerprint = f; length = pageLength v s left })) fs ∙ go (v .filled)
+joined-length v key s left m (f ∷ fs) =
+    joined-length v key s (left - s) (joined key m (record { fingerprint = f; length = pageLength v s left })) fs ∙ go (v .filled)
   where
     go : (b : Bool) → m .length + cond b s (min s left) + cond b (length fs * s) (min (length fs * s) (left - s))
         ≡ m .length + cond b (suc (length fs) * s) (min (suc (length fs) * s) left)
@@ -203,7 +204,9 @@ joined-length v key s left m (f ∷ fs) = joined-length v key s (left - s) (join
 pub zeros-are : (v : Layout) (key s n : ℕ) (fs : List ℕ) → 0 < s → length fs ≡ pageCount s n
     → joinedPages v key s n (markOf key []) fs .length - n ≡ zerosBehind v s n
 unfolding markOf
-zeros-are v key s n fs h c = ap (λ (m : ℕ). m - n) (joined-length v key s n (markOf key []) fs ∙ ap (λ (m : ℕ). 0 + cond (v .filled) (m * s) (min (m * s) n)) c) ∙ go (v .filled)
+zeros-are v key s n fs h c =
+    ap (λ (m : ℕ). m - n) (joined-length v key s n (markOf key []) fs ∙ ap (λ (m : ℕ). 0 + cond (v .filled) (m * s) (min (m * s) n)) c)
+    ∙ go (v .filled)
   where
     go : (b : Bool) → 0 + cond b (pageCount s n * s) (min (pageCount s n * s) n) - n ≡ cond b (pageCount s n * s - n) 0
     go true = omega arith
@@ -220,7 +223,8 @@ count-after s n i h l =
     let e : n + s - 1 ≡ i * s + (n - i * s + s - 1) = omega arith in
     ap (λ (m : ℕ). m / s) e ∙ mul-add-div-right h i (n - i * s + s - 1)
 
-pub pages-split : (v : Layout) (p s m n : ℕ) (file : List ℕ) → pageFingerprints v p s (m + n) file ≡ pageFingerprints v p s m file ++ pageFingerprints v p s n (drop (m * s) file)
+pub pages-split : (v : Layout) (p s m n : ℕ) (file : List ℕ)
+    → pageFingerprints v p s (m + n) file ≡ pageFingerprints v p s m file ++ pageFingerprints v p s n (drop (m * s) file)
 unfolding pageFingerprints
 pages-split v p s zero n file = ap₂ (λ (c : ℕ) (l : List ℕ). pageFingerprints v p s c l) (zero-add n) (ap (λ (k : ℕ). drop k file) (sym (zero-mul s)))
 pages-split v p s (suc m) n file =

@@ -3,10 +3,9 @@
 use mathlib.Core.Path.{_≡_, refl, sym, ap, _∙_}
 use mathlib.Core.List.{List, [], _∷_}
 use Prim.Native.Nat.{ℕ, zero, suc, _+_, _*_, _^_, _≤_, _<_}
-use native.Mathlib.Nat.{zero-mul, suc-mul}
 use native.Mathlib.Omega.{arith}
 use lib.ListN.{length, getD, take, drop, length-take, List·getD-append}
-use lib.Seq.{take-take, drop-drop, getD-take}
+use lib.Seq.{take-take, getD-take}
 use Rattle.lists.specs.Lists.{overlay}
 use Rattle.refusals.specs.Refusals.{Done}
 use Rattle.refusals.proofs.Laws.{done-clear, done-eq}
@@ -43,7 +42,9 @@ module _ (key s : ℕ) (file buffer after : List ℕ) (fits : key < 2 ^ 64) (don
 
   numbers : contentsIn sheet ≡ contentsOf (newest .version) key s file
   unfolding readSheet
-  numbers = done-clear (readTests layouts sheet) tt (contentsIn sheet) (contentsOf (newest .version) key s file) (written-reads key s file buffer after fits done) .1
+  numbers =
+      done-clear (readTests layouts sheet) tt (contentsIn sheet) (contentsOf (newest .version) key s file)
+      (written-reads key s file buffer after fits done) .1
 
   version-is : versionIn sheet ≡ newest .version
   unfolding contentsIn contentsOf
@@ -81,7 +82,9 @@ module _ (sheet : List ℕ) (w : WellFormed sheet) (file : List ℕ) (size : w .
       (checks sheet w file (omega arith) ∙ ap Done (same-iff (w .contents) (w .sound) file (sym size) .1 pages)))
 
   of-page : (words after : List ℕ) (i : ℕ) → readPages sheet words ≡ Done after → i < length (w .contents .pages) → i < length words
-      → getD after i 0 ≡ fingerprint (w .contents .key) (pageOf (layoutOf (w .contents .version)) (w .contents .pageSize) (take (w .contents .pageSize) (drop (i * w .contents .pageSize) file)))
+      → getD after i 0
+      ≡ fingerprint (w .contents .key)
+      (pageOf (layoutOf (w .contents .version)) (w .contents .pageSize) (take (w .contents .pageSize) (drop (i * w .contents .pageSize) file)))
   unfolding contentsOf overlay
   of-page words after i e l m =
       let x = w .contents in

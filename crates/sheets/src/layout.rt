@@ -6,7 +6,7 @@ ghost use mathlib.Core.Bool.{not};
 ghost use Prim.Native.Nat.{_≤_, _<_, _^_};
 ghost use lib.ListN.{length};
 ghost use lib.Seq.{sets};
-ghost use Rattle.sheets.specs.Layout.{numberAt, versionIn, layouts, known, layoutOf, fieldWidths, pagePlace, sheetLength, headOf, bytesIn};
+ghost use Rattle.sheets.specs.Layout.{numberAt, layouts, known, layoutOf, fieldWidths, pagePlace, sheetLength, headOf, bytesIn};
 ghost use Rattle.sheets.specs.Sheets.{headWrong};
 ghost use Rattle.sheets.specs.Parts.{LaidOut, HeadOf, fingerprintsPart, headOnly};
 

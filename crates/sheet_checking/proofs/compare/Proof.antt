@@ -111,7 +111,9 @@ page-count-requires c κs = let z = size (start (begin (c .before))) in (omega (
 
 -- the fingerprints of the file's pages
 abbrev prints : tie.After-over-pages → List ℕ
-prints c = let s = start (begin c) in pageFingerprints (layout s) (polynomial (opened (fields-read c) .modulus-of .result)) (s .args .x .size) (count s) (file s)
+prints c =
+    let s = start (begin c) in
+    pageFingerprints (layout s) (polynomial (opened (fields-read c) .modulus-of .result)) (s .args .x .size) (count s) (file s)
 
 long : (c : tie.After-over-pages) → length (prints c) ≡ count (start (begin c))
 long c =
@@ -132,7 +134,8 @@ answer c =
     let s = start e in
     let x = s .args .x in
     let fields = fields-read c .page-fields in
-    compare-pages (sheet s) (file s) (omega arith) (x .version) (x .key) (x .size) (version-is (sheet s) (s .pre)) (key-is (sheet s) (s .pre)) (size-is (sheet s) (s .pre))
+    compare-pages (sheet s) (file s) (omega arith) (x .version) (x .key) (x .size) (version-is (sheet s) (s .pre)) (key-is (sheet s) (s .pre))
+    (size-is (sheet s) (s .pre))
     (e .if2 .left ∙ length-is (sheet s) (s .pre)) (fields .result .now) (fields .ensures)
     ∙ ap (λ (m : ℕ). Done (firstChange 0 (numbersAt 0 8 (count s) (fields .result .now)) (pageFingerprints (layout s) m (x .size) (count s) (file s))))
     (sym (opened-whole (key-held (opened (fields-read c)))))

@@ -1,8 +1,7 @@
 -- `pages_joined` meets its contract.
 use mathlib.Core.Path.{_≡_, sym, _∙_}
-use Prim.Native.Nat.{ℕ, _+_, _-_, _*_, _/_, _^_, _≤_, _<_}
+use Prim.Native.Nat.{_+_, _-_, _*_, _/_, _^_, _≤_, _<_}
 use native.Mathlib.Omega.{arith}
-use lib.ListN.{length}
 use Rattle.sheets.specs.Layout.{numberAt, layoutOf, pageCount}
 use Rattle.sheets.proofs.Pages.{count-small, count-whole, count-exact, count-more, whole-fits, last-short}
 use Rattle.sheet_joining.proofs.Joining.{filled-joined, whole-joined, last-joined}
@@ -70,17 +69,17 @@ returns-2 c =
     (whole-joined (s .pre .0) (layoutOf (a .version)) (a .size) (a .n) (a .fields .now) (a .n / a .size) _ (ends s) (r .join-run2 .ensures))
 
 -- something is left: the last page has a field
-more : (c : tie.Else2) → own (run c .before) .args .n / own (run c .before) .args .size * own (run c .before) .args .size < own (run c .before) .args .n
-more c = let s = own (run c .before) in omega (arith, ends s, c .if2 .left)
+abbrev begun : tie.Else2 → tie.Start
+begun c = own (run c .before)
 
-count : (c : tie.Else2) → pageCount (own (run c .before) .args .size) (own (run c .before) .args .n) ≡ own (run c .before) .args .n / own (run c .before) .args .size + 1
-count c = let s = own (run c .before) in count-more (s .args .size) (s .args .n) (some s) (more c)
+count : (c : tie.Else2) → pageCount (begun c .args .size) (begun c .args .n) ≡ begun c .args .n / begun c .args .size + 1
+count c = let s = begun c in count-more (s .args .size) (s .args .n) (some s) (omega (arith, ends s, c .if2 .left))
 
 mul-eight-at : tie.Need-mul-eight-at
-mul-eight-at c = let s = own (run c .before) in omega (arith, few s, whole s)
+mul-eight-at c = let s = begun c in omega (arith, few s, whole s)
 
 eight-at-requires : tie.Need-eight-at-requires
-eight-at-requires c κs = let s = own (run c .before) in omega (arith, s .pre .5, count c)
+eight-at-requires c κs = let s = begun c in omega (arith, s .pre .5, count c)
 
 returns-3 : tie.Need-returns-3
 unfolding numberAt

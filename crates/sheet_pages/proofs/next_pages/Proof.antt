@@ -110,7 +110,8 @@ returns-3 c =
     record {
       count = omega (arith, more, no-more, b .block .ensures, all);
       prints =
-          block-last (layoutOf (a .version)) (polynomial (a .p)) (a .size) n (a .last) (rest s) _ (omega arith) all (omega (arith, s .pre .3, w .kept .0)) (s .pre .4 some-left)
+          block-last (layoutOf (a .version)) (polynomial (a .p)) (a .size) n (a .last) (rest s) _ (omega arith) all (omega (arith, s .pre .3, w .kept .0))
+          (s .pre .4 some-left)
           (prints d _);
       behind = λ j l. getD-set-other (w .last .0) n j (a .last) 0 (λ e. omega (arith, e, l)) ∙ w .ensures .1 j (omega (arith, l));
     }

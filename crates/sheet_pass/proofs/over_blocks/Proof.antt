@@ -7,7 +7,7 @@ use native.Mathlib.Omega.{arith}
 use lib.ListN.{length, take, drop, drop-of-length-le}
 use lib.Seq.{sets, length-take-le}
 use Rattle.gf2.specs.Moduli.{polynomial}
-use Rattle.sheets.specs.Layout.{fieldsOf, layoutOf, pageCount}
+use Rattle.sheets.specs.Layout.{fieldsOf, Layout, layoutOf, pageCount}
 use Rattle.sheets.specs.Sheets.{pageFingerprints}
 use Rattle.sheets.specs.Parts.{agreeing}
 use Rattle.sheets.proofs.Pages.{length-pages, page-begins, count-small, count-reached}
@@ -53,6 +53,9 @@ put c = c .before .before
 abbrev key : tie.Start Inv-loop μ-loop → ℕ
 key s = polynomial (s .args .x .p)
 
+abbrev layout : tie.Start Inv-loop μ-loop → Layout
+layout s = layoutOf (s .args .x .version)
+
 abbrev file : tie.Start Inv-loop μ-loop → List ℕ
 file s = s .args .file .now
 
@@ -60,7 +63,7 @@ abbrev count : tie.Start Inv-loop μ-loop → ℕ
 count s = pageCount (s .args .x .size) (length (file s))
 
 abbrev prints : tie.Start Inv-loop μ-loop → List ℕ
-prints s = pageFingerprints (layoutOf (s .args .x .version)) (key s) (s .args .x .size) (count s) (file s)
+prints s = pageFingerprints (layout s) (key s) (s .args .x .size) (count s) (file s)
 
 positive : (s : tie.Start Inv-loop μ-loop) → 0 < s .args .x .size
 positive s = omega (arith, s .pre .1)
@@ -69,7 +72,7 @@ small : (s : tie.Start Inv-loop μ-loop) → count s < 2 ^ 29
 small s = count-small (s .args .x .size) (length (file s)) (s .pre .1) (s .pre .2) (s .pre .3)
 
 many : (s : tie.Start Inv-loop μ-loop) → length (prints s) ≡ count s
-many s = length-pages (layoutOf (s .args .x .version)) (key s) (count s) (s .args .x .size) (file s)
+many s = length-pages (layout s) (key s) (count s) (s .args .x .size) (file s)
 
 more : (c : tie.After-marks Inv-loop μ-loop) → loop c .loop .page * start (loop c) .args .x .size < length (file (start (loop c)))
 more c = c .before .loop-test .taken
@@ -78,13 +81,13 @@ more c = c .before .loop-test .taken
 within : (c : tie.After-next-pages Inv-loop μ-loop) → begun c .loop .page + c .next-pages .result ≤ count (start (begun c))
 within c =
     let s = start (begun c) in
-    turn-within (layoutOf (s .args .x .version)) (key s) (s .args .x .size) (file s) (begun c .loop .page) (positive s) (more (c .before .before)) (c .next-pages .result) _ _
+    turn-within (layout s) (key s) (s .args .x .size) (file s) (begun c .loop .page) (positive s) (more (c .before .before)) (c .next-pages .result) _ _
     (c .next-pages .ensures)
 
 some : (c : tie.After-next-pages Inv-loop μ-loop) → 0 < c .next-pages .result
 some c =
     let s = start (begun c) in
-    turn-some (layoutOf (s .args .x .version)) (key s) (s .args .x .size) (file s) (begun c .loop .page) (positive s) (more (c .before .before)) (c .next-pages .result) _ _
+    turn-some (layout s) (key s) (s .args .x .size) (file s) (begun c .loop .page) (positive s) (more (c .before .before)) (c .next-pages .result) _ _
     (c .next-pages .ensures)
 
 -- the marks of the block, as they are lent
@@ -94,7 +97,7 @@ block c = take (c .next-pages .result) (c .next-pages .last .0)
 marks : (c : tie.After-next-pages Inv-loop μ-loop) → block c ≡ take (c .next-pages .result) (drop (begun c .loop .page) (prints (start (begun c))))
 marks c =
     let s = start (begun c) in
-    turn-marks (layoutOf (s .args .x .version)) (key s) (s .args .x .size) (file s) (begun c .loop .page) (positive s) (more (c .before .before)) (c .next-pages .result) _ _
+    turn-marks (layout s) (key s) (s .args .x .size) (file s) (begun c .loop .page) (positive s) (more (c .before .before)) (c .next-pages .result) _ _
     (c .next-pages .ensures)
 
 fits : (c : tie.After-next-pages Inv-loop μ-loop) → begun c .loop .page + c .next-pages .result ≤ length (prints (start (begun c)))
@@ -146,7 +149,7 @@ next-pages-requires : tie.Need-next-pages-requires Inv-loop μ-loop
 next-pages-requires c κs =
     let l = loop (c .before) in
     let s = start l in
-    let last = turn-last (layoutOf (s .args .x .version)) (key s) (s .args .x .size) (file s) (l .loop .page) (positive s) (more (c .before)) (s .args .x .last) (s .pre .4) in
+    let last = turn-last (layout s) (key s) (s .args .x .size) (file s) (l .loop .page) (positive s) (more (c .before)) (s .args .x .last) (s .pre .4) in
     (s .pre .0, omega (arith, s .pre .1), s .pre .2, omega (arith, l .loop .inv .1), last)
 
 mul-agreeing : tie.Need-mul-agreeing Inv-loop μ-loop

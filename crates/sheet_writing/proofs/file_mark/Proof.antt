@@ -2,7 +2,7 @@
 use mathlib.Core.Path.{_≡_, ap, _∙_}
 use mathlib.Core.Bool.{false}
 use mathlib.Core.List.{List, []}
-use Prim.Native.Nat.{ℕ, _^_, _<_}
+use Prim.Native.Nat.{ℕ}
 use native.Mathlib.Omega.{arith}
 use lib.ListN.{length}
 use Rattle.gf2.specs.Moduli.{polynomial}
@@ -14,7 +14,6 @@ use Rattle.sheets.specs.Sheets.{pageFingerprints, joinedPages}
 use Rattle.sheets.proofs.Versions.{newest-is}
 use Rattle.sheets.proofs.Pages.{fingerprints-lt, own-joined}
 use Rattle.sheets.proofs.Sound.{list-reduced}
-use borrow.Author.Needs.{needs}
 use Rattle.sheet_writing.proofs.file_mark.Statement.{statement}
 use Rattle.sheet_writing.proofs.file_mark.Tie as tie
 

@@ -35,7 +35,8 @@ fits : (c : tie.After-pages-place)
 fits c =
     let h = head c in
     let a = start h .args in
-    omega (arith, h .put-head .kept .0, start h .pre .4, c .pages-place .ensures .0, length-from (newest .version) (pageCount (a .size) (length (a .file .now))))
+    let from = length-from (newest .version) (pageCount (a .size) (length (a .file .now))) in
+    omega (arith, h .put-head .kept .0, start h .pre .4, c .pages-place .ensures .0, from)
 
 put-head-requires : tie.Need-put-head-requires
 put-head-requires c κs =
@@ -79,7 +80,8 @@ returns c =
     ap (λ (l : List ℕ). take n b ++ (part ++ l)) none
     ∙ ap (λ (l : List ℕ). take n b ++ l) (append-nil part)
     ∙ ap (λ (m : ℕ). take m b ++ part) from
-    ∙ sheet-stores (contentsOf (newest .version) (a .key) (a .size) file) count (a .buffer .now) b part (length-pages v (a .key) count (a .size) file) (s .pre .4)
+    ∙ sheet-stores (contentsOf (newest .version) (a .key) (a .size) file) count (a .buffer .now) b part
+    (length-pages v (a .key) count (a .size) file) (s .pre .4)
     (h .put-head .ensures)
     (stored
     ∙ ap (λ (m : ℕ). sets (drop m b) 0 (fieldsOf 8 (pageFingerprints v (a .key) (a .size) count file) ++ bytesOf 8 (fingerprint (a .key) file))) from)

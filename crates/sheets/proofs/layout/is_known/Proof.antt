@@ -1,10 +1,10 @@
 -- `is_known` meets its contract.
-use mathlib.Core.Path.{_≡_, refl, sym}
+use mathlib.Core.Path.{_≡_, sym}
 use mathlib.Core.Bool.{_||_, false}
 use Prim.Native.Nat.{ℕ}
 use native.Mathlib.Decide.{ℕ-discrete}
 use lib.Dec.{eqb}
-use borrow.Author.Tests.{eq-eqb, ne-eqb}
+use borrow.Author.Tests.{ne-eqb}
 use Rattle.sheets.specs.Layout.{known}
 use Rattle.sheets.proofs.layout.is_known.Statement.{statement}
 use Rattle.sheets.proofs.layout.is_known.Tie as tie

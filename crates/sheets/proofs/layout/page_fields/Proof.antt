@@ -1,6 +1,5 @@
 -- `page_fields` meets its contract.
 use mathlib.Core.Path.{ap, _∙_}
-use mathlib.Core.List.{List}
 use Prim.Native.Nat.{ℕ}
 use lib.ListN.{drop}
 use Rattle.sheets.proofs.Pages.{all-left}
