@@ -101,7 +101,7 @@ static void sheets() {
     std::vector<uint8_t> file = random_bytes(n);
     static uint64_t words[1024];
     gfp_make_table(HOUSE, words, 1024);
-    uint64_t f, length;
+    uint64_t f, length, key, s, c;
     uint32_t outcome, page;
     std::vector<Peer> peers = {
         {"our feed by table", [&] { f = 1, length = 0, gfp_feed_table(HOUSE, &f, &length, words, 1024, file.data(), n), sink = f; }},
@@ -110,6 +110,7 @@ static void sheets() {
         std::vector<uint8_t> sheet(GFP_SHEET_BYTES + 8 * ((n + size - 1) / size));
         std::string pages = "16 MiB, pages of " + std::to_string(size) + " bytes";
         compare("write a sheet, " + pages, [&] { sink = gfp_write_sheet(HOUSE, size, file.data(), n, sheet.data(), sheet.size()); }, peers);
+        compare("read a sheet, " + pages, [&] { sink = gfp_read_sheet(sheet.data(), sheet.size(), &key, &length, &s, &c, &f); }, peers);
         compare("check a file, " + pages, [&] { sink = gfp_check_file(sheet.data(), sheet.size(), file.data(), n, &outcome, &page); }, peers);
     }
 }

@@ -74,8 +74,8 @@ fn join_lanes(shift: &[u64], fields: &[u8], q: u64) -> Lanes
     Lanes { a, b, c, d, bits }
 }
 
-// The first n page marks of a sheet joined, each of a whole page. Many of them in four lanes, which cost a power of t and three products. A field that is not
-// below 2^k shows in the bits. The mark then means nothing: a lane may reach 2^k too, and the products take its low bits.
+// The first n page marks of a sheet joined, each of a whole page. Many of them in four lanes, which cost a power of t and three products. A
+// field that is not below 2^k shows in the bits. The mark then means nothing: a lane may reach 2^k too, and the products take its low bits.
 fn join_run(fields: &[u8], p: Modulus, size: u64, n: u64) -> Joined
     requires { ⌜ Proper p × (p .degree < 64) × (size ≤ 4096) × (n < 2 ^ 29) × (8 * n ≤ length (now fields)) ⌝ }
     ensures { λ r. ⌜ RunJoined (polynomial p) (p .degree) size (numbersAt 0 8 n (now (fields .entry))) r ⌝ }

@@ -35,7 +35,8 @@ BegunBy eights s w n pages marks = (p : Modulus) → Proper p → Shifts (polyno
 abbrev pub Finished : ℕ → ℕ → ℕ → List ℕ → List ℕ → Type 0
 Finished key s n pages marks = (i : ℕ) → i < n → getD marks i 0 ≡ fingerprint key (pageFront s s pages i)
 
--- the next n pages of what is left of a file, as a version takes them: all of them, at most 64. Their fingerprints stand in the first n places, the others stay.
+-- the next n pages of what is left of a file, as a version takes them: all of them, at most 64. Their fingerprints stand in the first n
+-- places, the others stay.
 pub record NextPages (v : Layout) (key s : ℕ) (rest : List ℕ) (n : ℕ) (before marks : List ℕ) : Type 0 where
   pub count : n ≡ min (pageCount s (length rest)) 64
   pub prints : take n marks ≡ pageFingerprints v key s n rest

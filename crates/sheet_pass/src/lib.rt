@@ -63,7 +63,8 @@ fn over_blocks(
     requires { ⌜ PageTables (x .p) (now words) (now eights) × (16 ≤ x .size) × (x .size ≤ 4096) × (length (now file) < 2 ^ 32)
         × LastTaken (layoutOf (x .version)) (polynomial (x .p)) (x .size) (now file) (x .last)
         × Room (8 * pageCount (x .size) (length (now file))) (now out) × Room (8 * pageCount (x .size) (length (now file))) (now known) ⌝ }
-    ensures { λ r. ⌜ Passed (pageFingerprints (layoutOf (x .version)) (polynomial (x .p)) (x .size) (pageCount (x .size) (length (now (file .entry)))) (now (file .entry)))
+    ensures { λ r. ⌜ Passed
+        (pageFingerprints (layoutOf (x .version)) (polynomial (x .p)) (x .size) (pageCount (x .size) (length (now (file .entry)))) (now (file .entry)))
         (now (known .entry)) (now (out .entry)) (now (out .exit)) r ⌝ }
 {
     let size = x.size;
@@ -82,7 +83,8 @@ fn over_blocks(
     page
 }
 
-// The pass under an opened key, with the pages as a version takes them: how many, from the first on, have the expected fingerprints. An empty `known` means that nothing is known, an empty `out` that nothing is to be written.
+// The pass under an opened key, with the pages as a version takes them: how many, from the first on, have the expected fingerprints. An empty
+// `known` means that nothing is known, an empty `out` that nothing is to be written.
 pub fn over_pages(
     out: &mut [u8],
     known: &[u8],
@@ -93,7 +95,8 @@ pub fn over_pages(
 ) -> usize
     requires { ⌜ Proper p × (8 ≤ p .degree) × (16 ≤ size) × (size ≤ 4096) × (length (now file) < 2 ^ 32)
         × Room (8 * pageCount size (length (now file))) (now out) × Room (8 * pageCount size (length (now file))) (now known) ⌝ }
-    ensures { λ r. ⌜ Passed (pageFingerprints (layoutOf version) (polynomial p) size (pageCount size (length (now (file .entry)))) (now (file .entry)))
+    ensures { λ r. ⌜ Passed
+        (pageFingerprints (layoutOf version) (polynomial p) size (pageCount size (length (now (file .entry)))) (now (file .entry)))
         (now (known .entry)) (now (out .entry)) (now (out .exit)) r ⌝ }
 {
     let mut words = [0u64; 1024];

@@ -24,7 +24,7 @@ mod wellformed;
 
 // What stands behind a head that is right, under its opened key. Numbers 12, 14 (total, fingerprints, joining).
 fn read_under(p: Modulus, sheet: &[u8], head: Head) -> Reading
-    requires { ⌜ (27 ≤ length (now sheet)) × HeadOf (now sheet) head × Opened (head .key) p ⌝ }
+    requires { ⌜ HeadOf (now sheet) head × Opened (head .key) p ⌝ }
     ensures { λ r. ⌜ reading r ≡ sheetRead (readBody (now (sheet .entry))) ⌝ }
 {
     if !fields::size_right(head.size) {

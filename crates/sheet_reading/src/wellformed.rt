@@ -25,8 +25,7 @@ fn zeros_behind(version: u64, size: u64, n: u64) -> u64
 
 // Are total, fingerprints and joining right?
 pub fn body_right(sheet: &[u8], head: Head, p: Modulus) -> bool
-    requires { ⌜ (27 ≤ length (now sheet)) × HeadOf (now sheet) head × (16 ≤ head .size) × (head .size ≤ 4096)
-        × Opened (head .key) p ⌝ }
+    requires { ⌜ HeadOf (now sheet) head × (16 ≤ head .size) × (head .size ≤ 4096) × Opened (head .key) p ⌝ }
     ensures { λ r. ⌜ r ≡ not (bodyWrong (length (now (sheet .entry))) (contentsIn (now (sheet .entry)))) ⌝ }
 {
     let version = head.version;

@@ -61,10 +61,7 @@ place-from n i = of-each (λ v. pagePlace v i ≡ pagePlace v 0 + 8 * i) (omega 
 pub length-from : (n c : ℕ) → sheetLength (layoutOf n) c ≡ pagePlace (layoutOf n) 0 + 8 * c + 8
 length-from n c = of-each (λ v. sheetLength v c ≡ pagePlace v 0 + 8 * c + 8) (omega arith) (omega arith) n
 
--- 27 bytes are enough for a sheet without pages, and no sheet has fewer
-pub least-enough : (n : ℕ) → sheetLength (layoutOf n) 0 ≤ 27
-least-enough = of-each (λ v. sheetLength v 0 ≤ 27) (omega arith) (omega arith)
-
+-- no sheet has fewer than 27 bytes
 pub least-needed : (n : ℕ) → 27 ≤ sheetLength (layoutOf n) 0
 least-needed = of-each (λ v. 27 ≤ sheetLength v 0) (omega arith) (omega arith)
 

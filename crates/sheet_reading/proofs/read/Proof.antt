@@ -49,7 +49,7 @@ read-head-requires c κs = long c
 read-under-requires : tie.Need-read-under-requires
 read-under-requires c κs =
     let h = accepted (c .before) .before in
-    (long (h .before), h .read-head .ensures, key-opened (c .before))
+    (h .read-head .ensures, key-opened (c .before))
 
 returns-2 : tie.Need-returns-2
 returns-2 c =

@@ -59,7 +59,7 @@ abbrev all : tie.Start → List ℕ
 all s = numbersAt 0 8 (count s) (fingerprintsPart (head s .version) (sheet s)) ++ numberAt (pagePlace (layoutOf (head s .version)) (count s)) 8 (sheet s) ∷ []
 
 small : (s : tie.Start) → count s < 2 ^ 29
-small s = count-small (head s .size) (head s .length) (s .pre .2) (s .pre .3) (s .pre .1 .length-fits)
+small s = count-small (head s .size) (head s .length) (s .pre .1) (s .pre .2) (s .pre .0 .length-fits)
 
 -- the sheet has as many bytes as it should
 total : (c : tie.Else1) → length (sheet (start (counted c))) ≡ sheetLength (layoutOf (head (start (counted c)) .version)) (count (start (counted c)))
@@ -83,7 +83,7 @@ bits : (c : tie.After-is-residue)
 bits c =
     let j = joined c in
     let s = begun j in
-    bits-are (sheet s) (head s) (s .pre .1) (s .pre .2) (s .args .p) (s .pre .4) (j .pages-joined .result .bits) _ (part j)
+    bits-are (sheet s) (head s) (s .pre .0) (s .pre .1) (s .args .p) (s .pre .3) (j .pages-joined .result .bits) _ (part j)
     (j .before .page-fields .ensures) (file (c .before .before)) (j .pages-joined .ensures .bits)
 
 -- no bit stands too high: the pages' fields and the file's are reduced
@@ -99,7 +99,7 @@ fields c =
     (sym (j .pages-joined .ensures .bits k) ∙ o .0, leb-false (2 ^ k) f (o .1))
 
 page-count-requires : tie.Need-page-count-requires
-page-count-requires c κs = let s = c .before in (omega (arith, s .pre .2), s .pre .3, s .pre .1 .length-fits)
+page-count-requires c κs = let s = c .before in (omega (arith, s .pre .1), s .pre .2, s .pre .0 .length-fits)
 
 sheet-length-requires : tie.Need-sheet-length-requires
 sheet-length-requires c κs = omega (arith, small (start c), c .page-count .ensures)
@@ -110,7 +110,7 @@ returns c =
     let s = start n in
     let v = layoutOf (head s .version) in
     rw (
-      body-is (sheet s) (head s) (s .pre .1) (s .pre .2),
+      body-is (sheet s) (head s) (s .pre .0) (s .pre .1),
       ne-eqb (length (sheet s)) (sheetLength v (count s))
           (λ e. c .if1 .taken (e ∙ sym (c .before .sheet-length .ensures ∙ ap (sheetLength v) (n .page-count .ensures)))),
     )
@@ -126,7 +126,7 @@ pages-joined-requires c κs =
     let s = start (counted e) in
     let part = ap length (c .page-fields .ensures) ∙ length-drop (pagePlace (layoutOf (head s .version)) 0) (sheet s) in
     let from = length-from (head s .version) (count s) in
-    (opened-proper (s .pre .4), opened-word (s .pre .4), s .pre .2, s .pre .3, s .pre .1 .length-fits, omega (arith, part, total e, from))
+    (opened-proper (s .pre .3), opened-word (s .pre .3), s .pre .1, s .pre .2, s .pre .0 .length-fits, omega (arith, part, total e, from))
 
 fingerprint-at-requires : tie.Need-fingerprint-at-requires
 fingerprint-at-requires c κs =
@@ -135,7 +135,7 @@ fingerprint-at-requires c κs =
     omega (arith, total (long c), ap (sheetLength v) (n .page-count .ensures))
 
 is-residue-requires : tie.Need-is-residue-requires
-is-residue-requires c κs = opened-proper (begun (c .before .before) .pre .4)
+is-residue-requires c κs = opened-proper (begun (c .before .before) .pre .3)
 
 returns-2 : tie.Need-returns-2
 returns-2 c =
@@ -143,20 +143,20 @@ returns-2 c =
     let s = begun (joined r) in
     let t : someUnreduced (degree (head s .key)) (all s) ≡ true = sym (bits r) ∙ holds _ _ (r .is-residue .ensures) (c .if2 .taken) in
     rw (
-      body-is (sheet s) (head s) (s .pre .1) (s .pre .2),
+      body-is (sheet s) (head s) (s .pre .0) (s .pre .1),
       eq-eqb (length (sheet s)) (sheetLength (layoutOf (head s .version)) (count s))
           (total (long (joined r))),
       t,
     )
 
 zeros-behind-requires : tie.Need-zeros-behind-requires
-zeros-behind-requires c κs = let s = begun (joined (c .before)) in (s .pre .2, s .pre .3, s .pre .1 .length-fits)
+zeros-behind-requires c κs = let s = begun (joined (c .before)) in (s .pre .1, s .pre .2, s .pre .0 .length-fits)
 
 with-zeros-requires : tie.Need-with-zeros-requires
 with-zeros-requires c κs =
     let e = c .before in
     let s = begun (joined (e .before)) in
-    (opened-proper (s .pre .4), fields e .1, omega (arith, c .zeros-behind .ensures .1, s .pre .3))
+    (opened-proper (s .pre .3), fields e .1, omega (arith, c .zeros-behind .ensures .1, s .pre .2))
 
 returns-3 : tie.Need-returns-3
 returns-3 c =
@@ -168,11 +168,11 @@ returns-3 c =
     let s = begun j in
     let a = s .args in
     let t : someUnreduced (degree (head s .key)) (all s) ≡ false = sym (bits r) ∙ fails _ _ (r .is-residue .ensures) (e .if2 .left) in
-    let mark = joined-are (sheet s) (head s) (s .pre .1) (s .pre .2) (a .p) (s .pre .4) (j .pages-joined .result .mark) (part j)
+    let mark = joined-are (sheet s) (head s) (s .pre .0) (s .pre .1) (a .p) (s .pre .3) (j .pages-joined .result .mark) (part j)
     (j .before .page-fields .ensures) (j .pages-joined .ensures .mark (fields e .0)) in
-    let filled = filled-is (sheet s) (head s) (s .pre .1) (s .pre .2) (a .p) (s .pre .4) _ (w .with-zeros .result) (z .zeros-behind .result)
+    let filled = filled-is (sheet s) (head s) (s .pre .0) (s .pre .1) (a .p) (s .pre .3) _ (w .with-zeros .result) (z .zeros-behind .result)
     (file (r .before .before)) (z .zeros-behind .ensures .0) (w .with-zeros .ensures) in
-    body-joined (sheet s) (head s) (s .pre .1) (s .pre .2) (j .pages-joined .result .mark) (w .with-zeros .result) (total (long j)) t mark filled
+    body-joined (sheet s) (head s) (s .pre .0) (s .pre .1) (j .pages-joined .result .mark) (w .with-zeros .result) (total (long j)) t mark filled
 
 pub body-right-spec : {M : Type 1} → statement M
 body-right-spec =
