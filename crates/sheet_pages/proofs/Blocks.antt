@@ -1,7 +1,7 @@
 -- Laws of a block of whole pages.
 use mathlib.Core.Path.{_≡_, sym, ap, ap₂, _∙_}
 use mathlib.Core.List.{List, [], _∷_, _++_}
-use Prim.Native.Nat.{ℕ, _+_, _-_, _*_, _/_, _≤_, _<_}
+use Prim.Native.Nat.{ℕ, _+_, _-_, _*_, _≤_, _<_}
 use native.Mathlib.Nat.{mul-le-mul-right, suc-mul}
 use native.Mathlib.Numerals.{add-one}
 use native.Mathlib.Omega.{arith}
@@ -14,7 +14,6 @@ use Rattle.files.proofs.Values.{rem-from}
 use Rattle.files.proofs.Marks.{fed}
 use Rattle.sheets.specs.Layout.{Layout}
 use Rattle.sheets.specs.Sheets.{pageOf, pageFingerprints}
-use Rattle.sheets.specs.Parts.{lastPage}
 use Rattle.sheets.proofs.Pages.{length-pages, page-whole, page-at, pages-last}
 use Rattle.sheet_pages.specs.Blocks.{pageFront, Begun, Finished}
 
@@ -83,13 +82,12 @@ block-is v key s n pages marks h l f =
 
 -- ---- the last page among them
 
--- the whole pages are few, and bytes are left behind them
-pub block-last : (v : Layout) (key s n last : ℕ) (rest marks : List ℕ) → 0 < s → n ≡ length rest / s → n < length marks
-    → last ≡ fingerprint key (pageOf v s (lastPage s rest))
+-- a page that is not whole behind n others
+pub block-last : (v : Layout) (key s n last : ℕ) (rest marks : List ℕ) → length rest ≤ n * s + s → n < length marks
+    → last ≡ fingerprint key (pageOf v s (drop (n * s) rest))
     → take n marks ≡ pageFingerprints v key s n rest → take (n + 1) (set marks n last) ≡ pageFingerprints v key s (n + 1) rest
-block-last v key s n last rest marks h e l el et =
+block-last v key s n last rest marks h l el et =
     ap (λ (m : ℕ). take m (set marks n last)) (add-one n)
     ∙ take-suc-set marks n last l
-    ∙ ap₂ (λ (us : List ℕ) (x : ℕ). us ++ x ∷ []) (et ∙ ap (λ (m : ℕ). pageFingerprints v key s m rest) e) el
-    ∙ sym (pages-last v key s rest h)
-    ∙ ap (λ (m : ℕ). pageFingerprints v key s (m + 1) rest) (sym e)
+    ∙ ap₂ (λ (us : List ℕ) (x : ℕ). us ++ x ∷ []) et el
+    ∙ sym (pages-last v key s n rest h)

@@ -8,12 +8,12 @@ ghost use Prim.Native.Nat.{_+_, _-_, _*_, _/_, _%_, _≤_, _<_, min};
 ghost use lib.ListN.{length};
 ghost use Rattle.gf2.specs.Polynomials.{rem};
 ghost use Rattle.gf2.specs.Moduli.{polynomial, Proper};
-ghost use Rattle.files.specs.Files.{bits, valueFrom};
+ghost use Rattle.files.specs.Files.{bits, valueFrom, fingerprint};
 ghost use Rattle.multiples.specs.Rows.{SameFrom};
 ghost use Rattle.lookups.specs.Groups.{TableOf};
 ghost use Rattle.house.specs.House.{houseKey};
 ghost use Rattle.sheets.specs.Layout.{layoutOf};
-ghost use Rattle.sheets.specs.Parts.{LastTaken};
+ghost use Rattle.sheets.specs.Sheets.{pageOf};
 ghost use Rattle.sheet_pages.specs.Blocks.{PageTables, Begun, BegunBy, Finished, NextPages};
 
 // The two tables that pages are fed by: four bytes at a time, and eight.
@@ -143,47 +143,39 @@ fn whole_marks(
     finish_pages(marks, words, p, size, whole, n, pages);
 }
 
-// The residue of what a file has behind its whole pages, with the leading 1.
-fn fed_last(words: &[u64], p: Modulus, rest: &[u8]) -> u64
+// The residue of a page that is not whole, with the leading 1.
+fn fed_last(words: &[u64], p: Modulus, page: &[u8]) -> u64
     requires { ⌜ TableOf p (now words) ⌝ }
-    ensures { λ r. ⌜ r ≡ rem (polynomial p) (valueFrom 1 (bits (now (rest .entry)))) ⌝ }
+    ensures { λ r. ⌜ r ≡ rem (polynomial p) (valueFrom 1 (bits (now (page .entry)))) ⌝ }
 {
     if folds::is_house(p) {
-        return folds::fed_page(1, rest);
+        return folds::fed_page(1, page);
     }
-    lookups::fed(words, p, 1, rest)
+    lookups::fed(words, p, 1, page)
 }
 
-// The fingerprint of what a file has behind its whole pages, as the version takes it: zero bytes behind it come in as one power of t.
-pub fn last_page(words: &[u64], p: Modulus, size: usize, version: u64, file: &[u8]) -> u64
-    requires { ⌜ TableOf p (now words) × (0 < size) × (size ≤ 4096) ⌝ }
-    ensures { λ r. ⌜ LastTaken (layoutOf version) (polynomial p) size (now (file .entry)) r ⌝ }
-{
-    let from = file.len() / size * size;
-    if from == file.len() {
-        return 1;
-    }
-    let own = fed_last(words, p, &file[from..]);
-    if layout::fills(version) {
-        let zeros = size - (file.len() - from);
-        return files::with_zeros(p, own, zeros as u64);
-    }
-    own
-}
-
-// How a file is cut into pages: the opened key, the bytes of a page, the sheet's version, and the fingerprint of a last page that is not whole,
-// as the version takes it.
+// How a file is cut into pages: the opened key, the bytes of a page, and the sheet's version.
 pub struct Paging {
     pub p: Modulus,
     pub size: usize,
     pub version: u64,
-    pub last: u64,
+}
+
+// The fingerprint of a page that is not whole, as the version takes it: zero bytes behind it come in as one power of t.
+fn last_page(words: &[u64], x: Paging, page: &[u8]) -> u64
+    requires { ⌜ TableOf (x .p) (now words) × (length (now page) ≤ x .size) × (x .size ≤ 4096) ⌝ }
+    ensures { λ r. ⌜ r ≡ fingerprint (polynomial (x .p)) (pageOf (layoutOf (x .version)) (x .size) (now (page .entry))) ⌝ }
+{
+    let own = fed_last(words, x.p, page);
+    if layout::fills(x.version) {
+        return files::with_zeros(x.p, own, (x.size - page.len()) as u64);
+    }
+    own
 }
 
 // The fingerprints of the next pages, at most 64, into the first places: how many.
 pub fn next_pages(marks: &mut [u64], words: &[u64], eights: &[u64], x: Paging, rest: &[u8]) -> usize
-    requires { ⌜ PageTables (x .p) (now words) (now eights) × (8 ≤ x .size) × (x .size ≤ 4096) × (64 ≤ length (now marks))
-        × LastTaken (layoutOf (x .version)) (polynomial (x .p)) (x .size) (now rest) (x .last) ⌝ }
+    requires { ⌜ PageTables (x .p) (now words) (now eights) × (8 ≤ x .size) × (x .size ≤ 4096) × (64 ≤ length (now marks)) ⌝ }
     ensures { λ r. ⌜ NextPages (layoutOf (x .version)) (polynomial (x .p)) (x .size) (now (rest .entry)) r (now (marks .entry)) (now (marks .exit)) ⌝ }
 {
     let size = x.size;
@@ -195,6 +187,6 @@ pub fn next_pages(marks: &mut [u64], words: &[u64], eights: &[u64], x: Paging, r
     if rest.len() <= n * size {
         return n;
     }
-    marks[n] = x.last;
+    marks[n] = last_page(words, x, &rest[n * size..]);
     n + 1
 }

@@ -6,14 +6,10 @@ use native.Mathlib.Omega.{arith}
 use lib.ListN.{length, take, drop, length-drop}
 use Rattle.sheets.specs.Layout.{Layout, pageCount}
 use Rattle.sheets.specs.Sheets.{pageFingerprints}
-use Rattle.sheets.specs.Parts.{LastTaken}
-use Rattle.sheets.proofs.Pages.{count-le, block-within, pages-from, last-after, all-left}
+use Rattle.sheets.proofs.Pages.{count-le, block-within, pages-from, all-left}
 use Rattle.sheet_pages.specs.Blocks.{NextPages}
 
 module _ (v : Layout) (key s : ℕ) (file : List ℕ) (i : ℕ) (pos : 0 < s) (more : i * s < length file) where
-  pub turn-last : (last : ℕ) → LastTaken v key s file last → LastTaken v key s (take (length file - i * s) (drop (i * s) file)) last
-  turn-last last e = rw (all-left file (i * s), last-after s i file pos (omega arith)) e
-
   -- n pages, whose fingerprints are the first of the marks
   module _ (n : ℕ) (before marks : List ℕ) (h : NextPages v key s (take (length file - i * s) (drop (i * s) file)) n before marks) where
     pub turn-few : n ≤ 64

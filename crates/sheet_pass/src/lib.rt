@@ -10,7 +10,7 @@ ghost use lib.Seq.{sets};
 ghost use Rattle.gf2.specs.Moduli.{polynomial, Proper};
 ghost use Rattle.sheets.specs.Layout.{fieldsOf, layoutOf, pageCount};
 ghost use Rattle.sheets.specs.Sheets.{pageFingerprints};
-ghost use Rattle.sheets.specs.Parts.{agreeing, LastTaken};
+ghost use Rattle.sheets.specs.Parts.{agreeing};
 ghost use Rattle.sheet_pages.specs.Blocks.{PageTables};
 ghost use Rattle.sheet_pass.specs.Passes.{Room, expected, Passed};
 
@@ -61,7 +61,6 @@ fn over_blocks(
     file: &[u8],
 ) -> usize
     requires { ⌜ PageTables (x .p) (now words) (now eights) × (16 ≤ x .size) × (x .size ≤ 4096) × (length (now file) < 2 ^ 32)
-        × LastTaken (layoutOf (x .version)) (polynomial (x .p)) (x .size) (now file) (x .last)
         × Room (8 * pageCount (x .size) (length (now file))) (now out) × Room (8 * pageCount (x .size) (length (now file))) (now known) ⌝ }
     ensures { λ r. ⌜ Passed
         (pageFingerprints (layoutOf (x .version)) (polynomial (x .p)) (x .size) (pageCount (x .size) (length (now (file .entry)))) (now (file .entry)))
@@ -106,7 +105,6 @@ pub fn over_pages(
         p: p,
         size: size,
         version: version,
-        last: sheet_pages::last_page(&words, p, size, version, file),
     };
     over_blocks(out, known, &words, &eights, x, file)
 }

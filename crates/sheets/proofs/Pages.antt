@@ -21,7 +21,7 @@ use Rattle.files.proofs.Marks.{fed, joined-true}
 use Rattle.sheets.specs.Layout.{Layout, pageCount}
 use Rattle.sheets.proofs.Numbers.{pow-next}
 use Rattle.sheets.specs.Sheets.{filled, pageOf, pageFingerprints, pageLength, joinedPages}
-use Rattle.sheets.specs.Parts.{lastPage, zerosBehind}
+use Rattle.sheets.specs.Parts.{zerosBehind}
 
 -- ---- the number of pages
 
@@ -285,26 +285,14 @@ whole-fits s n = omega (arith, div-add-mod' n s)
 pub last-short : (s n : ℕ) → 0 < s → n < n / s * s + s
 last-short s n h = omega (arith, div-add-mod' n s, mod-lt n h)
 
--- it is the same from page i on
-pub last-after : (s i : ℕ) (file : List ℕ) → 0 < s → i * s ≤ length file → lastPage s (drop (i * s) file) ≡ lastPage s file
-last-after s i file h l =
-    let left : length (drop (i * s) file) ≡ length file - i * s = length-drop (i * s) file in
-    let q = (length file - i * s) / s in
-    let e : length file ≡ i * s + (length file - i * s) = omega arith in
-    let whole : length file / s ≡ i + q = ap (λ (n : ℕ). n / s) e ∙ mul-add-div-right h i (length file - i * s) in
-    ap (λ (n : ℕ). drop (n / s * s) (drop (i * s) file)) left
-    ∙ drop-drop (q * s) (i * s) file
-    ∙ ap (λ (n : ℕ). drop n file) (sym (add-mul i q s) ∙ ap (λ (n : ℕ). n * s) (sym whole))
-
--- the whole pages, and the last one as the version takes it
-pub pages-last : (v : Layout) (p s : ℕ) (file : List ℕ) → 0 < s
-    → pageFingerprints v p s (length file / s + 1) file ≡ pageFingerprints v p s (length file / s) file ++ fingerprint p (pageOf v s (lastPage s file)) ∷ []
+-- n pages, and one more with what is left
+pub pages-last : (v : Layout) (p s n : ℕ) (file : List ℕ) → length file ≤ n * s + s
+    → pageFingerprints v p s (n + 1) file ≡ pageFingerprints v p s n file ++ fingerprint p (pageOf v s (drop (n * s) file)) ∷ []
 unfolding pageFingerprints
-pages-last v p s file h =
-    let w = length file / s in
-    pages-split v p s w 1 file
-    ∙ ap (λ (l : List ℕ). pageFingerprints v p s w file ++ fingerprint p (pageOf v s l) ∷ [])
-    (take-all s (lastPage s file) (rw (length-drop (w * s) file) (omega (arith, last-short s (length file) h))))
+pages-last v p s n file h =
+    pages-split v p s n 1 file
+    ∙ ap (λ (l : List ℕ). pageFingerprints v p s n file ++ fingerprint p (pageOf v s l) ∷ [])
+    (take-all s (drop (n * s) file) (rw (length-drop (n * s) file) (omega arith)))
 
 -- the bytes from a place on, as the code lends them
 pub all-left : (file : List ℕ) (at : ℕ) → take (length file - at) (drop at file) ≡ drop at file

@@ -2,7 +2,7 @@
 use mathlib.Core.Path.{_≡_}
 use mathlib.Core.Bool.{cond}
 use mathlib.Core.List.{List, [], _∷_}
-use Prim.Native.Nat.{ℕ, suc, _-_, _*_, _/_, _^_, _≤_, _<_}
+use Prim.Native.Nat.{ℕ, suc, _-_, _*_, _^_, _≤_, _<_}
 use lib.Dec.{eqb}
 use lib.ListN.{length, drop}
 use Rattle.refusals.specs.declared.Refusal.the-variants.{TooLong, SheetMalformed}
@@ -15,18 +15,10 @@ use Rattle.sheets.specs.declared.Changed.{Changed}
 use Rattle.sheets.specs.declared.layout.Head.{Head}
 use Rattle.sheets.specs.declared.layout.Fields.{Fields}
 use Rattle.sheets.specs.Layout.{versionIn, Layout, layoutOf, pagePlace, pageCount, Contents, fieldIn, contentsIn}
-use Rattle.sheets.specs.Sheets.{pageOf, pageSizeTest, bodyWrong, readSheet, Outcome, compared}
+use Rattle.sheets.specs.Sheets.{pageSizeTest, bodyWrong, readSheet, Outcome, compared}
 use Rattle.sheets.specs.Answers.{Range, rangeOf}
 use Rattle.sheets.specs.Answers.{numbersOf}
 use Rattle.sheets.specs.Answers.{checkAnswer, changeAnswer}
-
--- what a file has behind its whole pages, of s bytes each
-abbrev pub lastPage : ℕ → List ℕ → List ℕ
-lastPage s file = drop (length file / s * s) file
-
--- the fingerprint of a last page that is not whole, as the version takes it; any number where there is none
-abbrev pub LastTaken : Layout → ℕ → ℕ → List ℕ → ℕ → Type 0
-LastTaken v key s file last = 0 < length (lastPage s file) → last ≡ fingerprint key (pageOf v s (lastPage s file))
 
 -- how many zero bytes the pages of a file of n bytes have behind it: none where they are not filled up
 abbrev pub zerosBehind : Layout → ℕ → ℕ → ℕ

@@ -14,7 +14,7 @@ use Rattle.sheets.proofs.Pages.{length-pages, page-begins, count-small, count-r
 use Rattle.sheets.proofs.Changes.{agree-le}
 use Rattle.sheet_pass.specs.Passes.{expected}
 use Rattle.sheet_pass.proofs.Passes.{block-long, block-few, block-ends, block-agrees, block-written}
-use Rattle.sheet_pass.proofs.Turns.{turn-last, turn-within, turn-some, turn-marks}
+use Rattle.sheet_pass.proofs.Turns.{turn-within, turn-some, turn-marks}
 use Rattle.sheet_pass.proofs.over_blocks.Statement.{statement}
 use Rattle.sheet_pass.proofs.over_blocks.Tie as tie
 
@@ -149,8 +149,7 @@ next-pages-requires : tie.Need-next-pages-requires Inv-loop μ-loop
 next-pages-requires c κs =
     let l = loop (c .before) in
     let s = start l in
-    let last = turn-last (layout s) (key s) (s .args .x .size) (file s) (l .loop .page) (positive s) (more (c .before)) (s .args .x .last) (s .pre .4) in
-    (s .pre .0, omega (arith, s .pre .1), s .pre .2, omega (arith, l .loop .inv .1), last)
+    (s .pre .0, omega (arith, s .pre .1), s .pre .2, omega (arith, l .loop .inv .1))
 
 mul-agreeing : tie.Need-mul-agreeing Inv-loop μ-loop
 mul-agreeing c = omega (arith, within (c .before), small (start (begun (c .before))))
@@ -162,7 +161,7 @@ slice-aggregate-agreeing : tie.Need-slice-aggregate-agreeing Inv-loop μ-loop
 slice-aggregate-agreeing c = sym (long (c .before .before))
 
 agreeing-requires : tie.Need-agreeing-requires Inv-loop μ-loop
-agreeing-requires c κs lent = let n = c .before .before in omega (arith, long n, within n, start (begun n) .pre .6 lent)
+agreeing-requires c κs lent = let n = c .before .before in omega (arith, long n, within n, start (begun n) .pre .5 lent)
 
 mul-put-fields : tie.Need-mul-put-fields Inv-loop μ-loop
 mul-put-fields c = let n = next (c .before) in omega (arith, within n, small (start (begun n)))
@@ -178,7 +177,7 @@ put-fields-requires c κs lent =
     let a = c .before .before in
     let n = next a in
     let l = begun n .loop in
-    omega (arith, taken a, few a, within n, l .inv .2, start (begun n) .pre .5 (omega (arith, l .inv .2)))
+    omega (arith, taken a, few a, within n, l .inv .2, start (begun n) .pre .4 (omega (arith, l .inv .2)))
 
 add-page : tie.Need-add-page Inv-loop μ-loop
 add-page c = let a = agreed (put c) in omega (arith, few a, within (next a), small (start (begun (next a))))
