@@ -7,7 +7,6 @@ use lib.Dec.{eqb}
 use lib.ListN.{length, drop}
 use Rattle.refusals.specs.declared.Refusal.the-variants.{TooLong, SheetMalformed}
 use Rattle.refusals.specs.Refusals.{Answer, Done, Refused, _⇒_, firstOf, passes}
-use Rattle.files.specs.Files.{fingerprint}
 use Rattle.sheets.specs.declared.Sheet.{Sheet}
 use Rattle.sheets.specs.declared.Checked.{Checked}
 use Rattle.sheets.specs.declared.Checked.the-variants as checked-cases
