@@ -211,7 +211,7 @@ fn refused(tally: &mut Tally, what: &str, sheet: &[u8], file: &[u8], number: u32
     tally.same(&format!("range, {what}"), gfp::changed_range(sheet, file), Err(number));
 }
 
-/// Sheets of every other version are refused with 14. The version has two bytes: 257 and 258 are 01 01 and 01 02.
+/// Sheets of ten other versions are refused with 14. The version has two bytes: 257 and 258 are 01 01 and 01 02.
 fn other_versions(tally: &mut Tally) {
     for number in [0, 3, 4, 255, 256, 257, 258, 512, 513, 65_535] {
         for filled in [true, false] {

@@ -29,8 +29,8 @@ extern "C" {
 
 /* The version of this interface. It counts the breaks: a program that was right with one number may be wrong with a
  * higher one, and stays right while the number stays. 2: gfp_feed_house takes the key. 3: gfp_write_sheet writes sheets
- * of version 2, which a library of a lower number refuses. A new function is no break; the minor number of the
- * pkg-config version counts these additions. */
+ * of version 2, which a library of a lower number refuses, and in which a last page's fingerprint is that of the bytes
+ * it has. A new function is no break; the minor number of the pkg-config version counts these additions. */
 #define GFP_INTERFACE 3
 
 /* What a function returns: not refused, or one of 14 refusals. */

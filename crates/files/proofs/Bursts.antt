@@ -1,4 +1,4 @@
--- A change inside k neighbouring bits of a file is one inside k neighbouring bits of each part of the file.
+-- A change inside k neighbouring bits of a file, k above 0, is one inside k neighbouring bits of each part of the file.
 use mathlib.Core.Path.{_≡_, refl, sym, ap, ap₂, _∙_}
 use mathlib.Core.Logic.{_≢_}
 use mathlib.Core.List.{List, [], _∷_, _++_}

@@ -178,7 +178,7 @@ burst-found version key s a b kn acc n lo hi ha hb burst i f =
     ∙ ap Done
     (page-iff x sound b (sym (burst .same-length)) i .1 (first-differs version key s a b acc (omega arith) ha hb burst i f))
 
--- so no file that differs inside k neighbouring bits is the same
+-- so no file that differs inside k neighbouring bits is told as the same
 pub no-burst-same : NoBurstSame
 no-burst-same version key s a b kn acc n lo hi ha hb burst ne same =
     let r = some-altered s a b (omega arith) (burst .same-length) ne in

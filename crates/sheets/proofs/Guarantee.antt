@@ -52,14 +52,14 @@ read-iff sheet b = (there, back)
     back : WellFormed sheet → readSheet sheet ≡ Done (contentsIn sheet)
     back w = clear-done (readTests layouts sheet) tt (contentsIn sheet) (rw (← (w .bytes)) at (sound-clear (w .contents) (w .sound)))
 
--- a sheet of another version is refused with 14
+-- a sheet of a version that the reader's list has not is refused with 14
 pub other-version : OtherVersion
 other-version vs sheet x e = rw (e, or-true)
 
 contents-back : (sheet : List ℕ) (w : WellFormed sheet) → contentsIn sheet ≡ w .contents
 contents-back sheet w = ap contentsIn (w .bytes) ∙ sound-back (w .contents) (w .sound)
 
--- its pages' fingerprints are given in lent words
+-- the page fingerprints of a well-formed sheet are given in lent words
 pub pages-given : PagesGiven
 unfolding readPages
 pages-given sheet w words =

@@ -27,7 +27,7 @@ other-is n e = go (ℕ-discrete 2 n)
     go (yes d) = rw (← d)
     go (no d) = rw (ne-eqb 1 n (λ h. e (sym h)), ne-eqb 2 n d)
 
--- what holds of both holds of every version's
+-- what holds of both holds of the layout of every number
 pub of-each : (P : Layout → Type 0) → P version1 → P version2 → (n : ℕ) → P (layoutOf n)
 of-each P a b n = go (ℕ-discrete n 1)
   where

@@ -1,4 +1,5 @@
--- What the calls on sheets promise together: what is written reads back, which bytes are read, and what a check's answer means.
+-- What the calls on sheets promise together: what is written reads back, which bytes are read, what the page marks joined give, what a
+-- check's answer means, and that a change inside k neighbouring bits is found.
 use mathlib.Core.Path.{_≡_}
 use mathlib.Core.Logic.{_≢_, _↔_}
 use mathlib.Core.Bool.{true, false}
@@ -128,7 +129,7 @@ BurstFound =
     → Bytes a → Bytes b → Burst (degree key) a b → (i : ℕ) → FirstAltered s a b i
     → checkSheet (sheetBytes (contentsOf version key s a)) b ≡ Done (Page i)
 
--- so a file that differs inside k neighbouring bits is never the same
+-- so a file that differs inside k neighbouring bits is never told as the same
 abbrev pub NoBurstSame : Type 0
 NoBurstSame =
     (version key s : ℕ) (a b : List ℕ) → known layouts version ≡ true → accepted key ≡ true → length a ≤ longest → 16 ≤ s → s ≤ 4096
