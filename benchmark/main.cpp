@@ -96,22 +96,28 @@ static void searching() {
     }
 }
 
-static void sheets() {
+static void sheets_under(uint64_t key, const std::string &whose) {
     size_t n = size_t(16) << 20;
     std::vector<uint8_t> file = random_bytes(n);
     static uint64_t words[1024];
-    gfp_make_table(HOUSE, words, 1024);
-    uint64_t f, length;
+    gfp_make_table(key, words, 1024);
+    uint64_t k, f, length, s, c;
     uint32_t outcome, page;
     std::vector<Peer> peers = {
-        {"our feed by table", [&] { f = 1, length = 0, gfp_feed_table(HOUSE, &f, &length, words, 1024, file.data(), n), sink = f; }},
-        {"C slicing by 4", [&] { sink = peer_slicing_by_4(HOUSE, 1, words, file.data(), n); }}};
+        {"our feed by table", [&] { f = 1, length = 0, gfp_feed_table(key, &f, &length, words, 1024, file.data(), n), sink = f; }},
+        {"C slicing by 4", [&] { sink = peer_slicing_by_4(key, 1, words, file.data(), n); }}};
     for (uint64_t size : {16, 4096}) {
         std::vector<uint8_t> sheet(GFP_SHEET_BYTES + 8 * ((n + size - 1) / size));
-        std::string pages = "16 MiB, pages of " + std::to_string(size) + " bytes";
-        compare("write a sheet, " + pages, [&] { sink = gfp_write_sheet(HOUSE, size, file.data(), n, sheet.data(), sheet.size()); }, peers);
+        std::string pages = whose + "16 MiB, pages of " + std::to_string(size) + " bytes";
+        compare("write a sheet, " + pages, [&] { sink = gfp_write_sheet(key, size, file.data(), n, sheet.data(), sheet.size()); }, peers);
+        compare("read a sheet, " + pages, [&] { sink = gfp_read_sheet(sheet.data(), sheet.size(), &k, &length, &s, &c, &f); }, peers);
         compare("check a file, " + pages, [&] { sink = gfp_check_file(sheet.data(), sheet.size(), file.data(), n, &outcome, &page); }, peers);
     }
+}
+
+static void sheets() {
+    sheets_under(HOUSE, "");
+    sheets_under(drawn_key(), "drawn key, ");
 }
 
 static void drawing() {

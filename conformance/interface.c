@@ -176,8 +176,8 @@ static void searching(void) {
 }
 
 static void sheets(void) {
-    static const uint8_t expected[35] = {'G', 'F', 'P', 0, 1, 0, 0, 0, 0, 0, 0, 1,    0x1b, 0, 0, 0, 2, 0,
-                                         16,  0,   0,   0, 0, 0, 0, 0, 0xac, 0, 0, 0, 0,    0, 0, 0, 0x9d};
+    static const uint8_t expected[35] = {'G', 'F', 'P', 0, 2, 0, 0, 0, 0, 0, 0, 1,    0x1b, 0, 0, 0, 2, 0,
+                                         16,  0,   0,   0, 0, 0, 0, 0, 0x9d, 0, 0, 0, 0,    0, 0, 0, 0x9d};
     uint8_t sheet[36];
     uint64_t key = NONE, length = NONE, size = NONE, pages = NONE, f = NONE, fingerprints[2] = {7, 7};
     uint32_t outcome = NONE32, page = NONE32;
@@ -190,6 +190,7 @@ static void sheets(void) {
     same("write_sheet", sheet[0] == 9 && sheet[34] == 9, 1);
     same("write_sheet", gfp_write_sheet(KEY, 16, AB, 2, sheet, 36), GFP_OK);
     same("write_sheet", memcmp(sheet, expected, 35) == 0 && sheet[35] == 9, 1);
+    same("GFP_SHEET_VERSION", (unsigned)sheet[3] << 8 | sheet[4], GFP_SHEET_VERSION);
     same("read_sheet", gfp_read_sheet(sheet, 36, &key, &length, &size, &pages, &f), GFP_SHEET_MALFORMED);
     same("read_sheet", key == NONE && length == NONE && size == NONE && pages == NONE && f == NONE, 1);
     same("read_sheet", gfp_read_sheet(sheet, 35, &key, &length, &size, &pages, &f), GFP_OK);
@@ -197,7 +198,7 @@ static void sheets(void) {
     same("read_pages", gfp_read_pages(sheet, 36, fingerprints, 2), GFP_SHEET_MALFORMED);
     same("read_pages", fingerprints[0], 7);
     same("read_pages", gfp_read_pages(sheet, 35, fingerprints, 2), GFP_OK);
-    same("read_pages", fingerprints[0] == 0xac && fingerprints[1] == 7, 1);
+    same("read_pages", fingerprints[0] == 0x9d && fingerprints[1] == 7, 1);
     same("check_file", gfp_check_file(sheet, 35, too_long, TOO_LONG, &outcome, &page), GFP_TOO_LONG);
     same("check_file", gfp_check_file(sheet, 34, AB, 2, &outcome, &page), GFP_SHEET_MALFORMED);
     same("check_file", outcome == NONE32 && page == NONE32, 1);
@@ -215,6 +216,29 @@ static void sheets(void) {
     same("read_sheet", gfp_read_sheet(sheet, 35, &key, &length, &size, &pages, &f), GFP_KEY_BELOW_256);
     sheet[11] = 1, sheet[12] = 1;
     same("read_sheet", gfp_read_sheet(sheet, 35, &key, &length, &size, &pages, &f), GFP_KEY_REDUCIBLE);
+}
+
+/* the sheet of 41 42 in version 1: its page is filled up with zero bytes */
+static void sheets_of_version_1(void) {
+    uint8_t sheet[35] = {'G', 'F', 'P', 0, 1, 0, 0, 0, 0, 0, 0, 1,    0x1b, 0, 0, 0, 2, 0,
+                         16,  0,   0,   0, 0, 0, 0, 0, 0xac, 0, 0, 0, 0,    0, 0, 0, 0x9d};
+    uint64_t key = NONE, length = NONE, size = NONE, pages = NONE, f = NONE, fingerprints[2] = {7, 7};
+    uint64_t from = NONE, to = NONE;
+    uint32_t outcome = NONE32, page = NONE32;
+    same("read_sheet", gfp_read_sheet(sheet, 35, &key, &length, &size, &pages, &f), GFP_OK);
+    same("read_sheet", key == KEY && length == 2 && size == 16 && pages == 1 && f == 0x9d, 1);
+    same("read_pages", gfp_read_pages(sheet, 35, fingerprints, 2), GFP_OK);
+    same("read_pages", fingerprints[0] == 0xac && fingerprints[1] == 7, 1);
+    same("check_file", gfp_check_file(sheet, 35, AB, 2, &outcome, &page), GFP_OK);
+    same("check_file", outcome == GFP_SAME && page == 0, 1);
+    same("changed_range", gfp_changed_range(sheet, 35, CD, 2, &outcome, &from, &to), GFP_OK);
+    same("changed_range", outcome == GFP_PAGE && from == 0 && to == 2, 1);
+    sheet[4] = 2;
+    same("read_sheet", gfp_read_sheet(sheet, 35, &key, &length, &size, &pages, &f), GFP_SHEET_MALFORMED);
+    sheet[4] = 3;
+    same("read_sheet", gfp_read_sheet(sheet, 35, &key, &length, &size, &pages, &f), GFP_SHEET_MALFORMED);
+    sheet[3] = 1, sheet[4] = 1;
+    same("check_file", gfp_check_file(sheet, 35, AB, 2, &outcome, &page), GFP_SHEET_MALFORMED);
 }
 
 static void ranges(void) {
@@ -402,23 +426,54 @@ static size_t taken(uint8_t *stack) {
     return (size_t)(top - (stack + i));
 }
 
+/* Turns the sheet of m bytes, with pages of 32, into one of version 1: zero bytes are fed behind a short last page. */
+static void to_version_1(uint64_t key, size_t m) {
+    static const uint8_t zeros[32] = {0};
+    uint8_t *field = sheet + GFP_SHEET_BYTES - 8 + 8 * (m / 32);
+    uint64_t fingerprint = 0, length = 0;
+    int i;
+    sheet[4] = 1;
+    if (m % 32 == 0)
+        return;
+    for (i = 0; i < 8; i++)
+        fingerprint = fingerprint << 8 | field[i];
+    gfp_feed(key, &fingerprint, &length, zeros, 32 - m % 32);
+    for (i = 7; i >= 0; i--, fingerprint >>= 8)
+        field[i] = (uint8_t)fingerprint;
+}
+
+/* the sheet that the functions are measured with, of version 1 or 2 */
+static void make_sheet(uint64_t key, size_t m, int version) {
+    uint32_t outcome = NONE32, page;
+    gfp_write_sheet(key, 32, file, m, sheet, sizeof sheet);
+    if (version == 1)
+        to_version_1(key, m);
+    if (gfp_check_file(sheet, GFP_SHEET_BYTES + 8 * ((m + 31) / 32), file, m, &outcome, &page) != GFP_OK
+        || outcome != GFP_SAME) {
+        fprintf(stderr, "no sheet of version %d\n", version);
+        exit(2);
+    }
+}
+
 static void measure(void) {
     static const size_t SIZES[5] = {0, 9, 1000, 4999, FILE_BYTES};
     uint8_t *stack = (uint8_t *)area(STACK);
     size_t i, j, k;
+    int version;
     for (i = 0; i < FILE_BYTES; i++)
         file[i] = (uint8_t)(i * i >> 7);
     for (i = 0; i < sizeof RUNS / sizeof RUNS[0]; i++) {
         size_t most = 0;
         for (j = 0; j < 4; j++)
-            for (k = 0; k < 5; k++) {
-                gfp_make_table(KEYS[j], words, GFP_TABLE_WORDS);
-                gfp_write_sheet(KEYS[j], 32, file, SIZES[k], sheet, sizeof sheet);
-                now_running = i, now_key = KEYS[j], now_m = SIZES[k];
-                size_t bytes = taken(stack);
-                if (most < bytes)
-                    most = bytes;
-            }
+            for (k = 0; k < 5; k++)
+                for (version = 1; version <= 2; version++) {
+                    gfp_make_table(KEYS[j], words, GFP_TABLE_WORDS);
+                    make_sheet(KEYS[j], SIZES[k], version);
+                    now_running = i, now_key = KEYS[j], now_m = SIZES[k];
+                    size_t bytes = taken(stack);
+                    if (most < bytes)
+                        most = bytes;
+                }
         printf("%s %lu\n", RUNS[i].name, (unsigned long)most);
     }
 }
@@ -435,6 +490,7 @@ int main(int argc, char **argv) {
     page_change();
     searching();
     sheets();
+    sheets_of_version_1();
     ranges();
     drawing();
     read_only();

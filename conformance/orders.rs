@@ -123,43 +123,52 @@ fn sheets(tally: &mut Tally, long: &[u8]) {
             tally.same(&what, number, expected);
             tally.same(&what, sheet == before, expected != 0);
         });
-        // faults: letters, version, page size, total, a fingerprint, the joining, the file's length, under 27 bytes
-        each(8, |fault| {
-            let mut sheet = reference::sheet(GOOD, 16, b"AB");
-            sheet[5..13].copy_from_slice(&key.to_be_bytes());
-            if fault(0) {
-                sheet[1] = b'f';
-            }
-            if fault(1) {
-                sheet[4] = 2;
-            }
-            if fault(2) {
-                sheet[17] = 0x11;
-            }
-            if fault(4) {
-                sheet[25] = 1;
-            }
-            if fault(5) {
-                sheet[26] ^= 1;
-            }
-            if fault(3) {
-                sheet.push(0);
-            }
-            if fault(7) {
-                sheet.truncate(26);
-            }
-            let what = format!("order, sheet {sheet:02x?}");
-            let second = reference::read_sheet(&sheet);
-            tally.same(&what, gfp::read_sheet(&sheet).map(|x| x.fingerprint), second.clone().map(|x| x.fingerprint));
-            let mut words = [7; 2];
-            let number = gfp::read_pages(&sheet, &mut words).err();
-            tally.same(&what, (number, words), (second.clone().err(), if second.is_ok() { [0xac, 7] } else { [7; 2] }));
-            let file = if fault(6) { long } else { b"AB" };
-            let number = second.err().or(if fault(6) { Some(7) } else { None });
-            tally.same(&what, gfp::check_file(&sheet, file).err(), number);
-            tally.same(&what, gfp::changed_range(&sheet, file).err(), number);
-        });
+        for version in reference::VERSIONS {
+            sheet_faults(tally, long, key, version);
+        }
     }
+}
+
+/// Sheets of a version, read and checked.
+fn sheet_faults(tally: &mut Tally, long: &[u8], key: u64, version: reference::Version) {
+    let page = if version.filled { 0xac } else { 0x9d };
+    // faults: letters, version, page size, total, a fingerprint, the joining, the file's length, under 27 bytes
+    each(8, |fault| {
+        let mut sheet = reference::sheet(version, GOOD, 16, b"AB");
+        sheet[5..13].copy_from_slice(&key.to_be_bytes());
+        if fault(0) {
+            sheet[1] = b'f';
+        }
+        if fault(1) {
+            // 257 or 258: the version has two bytes
+            sheet[3] = 1;
+        }
+        if fault(2) {
+            sheet[17] = 0x11;
+        }
+        if fault(4) {
+            sheet[25] = 1;
+        }
+        if fault(5) {
+            sheet[26] ^= 1;
+        }
+        if fault(3) {
+            sheet.push(0);
+        }
+        if fault(7) {
+            sheet.truncate(26);
+        }
+        let what = format!("order, sheet {sheet:02x?}");
+        let second = reference::read_sheet(&sheet);
+        tally.same(&what, gfp::read_sheet(&sheet).map(|x| x.fingerprint), second.clone().map(|x| x.fingerprint));
+        let mut words = [7; 2];
+        let number = gfp::read_pages(&sheet, &mut words).err();
+        tally.same(&what, (number, words), (second.clone().err(), if second.is_ok() { [page, 7] } else { [7; 2] }));
+        let file = if fault(6) { long } else { b"AB" };
+        let number = second.err().or(if fault(6) { Some(7) } else { None });
+        tally.same(&what, gfp::check_file(&sheet, file).err(), number);
+        tally.same(&what, gfp::changed_range(&sheet, file).err(), number);
+    });
 }
 
 /// The size of a sheet. Faults: the file's length, the page size.

@@ -1,5 +1,5 @@
-//! A second implementation, written from document 01's definitions alone and as plainly as they read: long division bit by bit,
-//! trial comparisons, no tables. It shares no code and no method with the library that it is compared with. `ByteSteps` alone has a
+//! A second implementation, written from document 01's definitions and document 02's wishes alone and as plainly as they read: long division
+//! bit by bit, trial comparisons, no tables. It shares no code and no method with the library that it is compared with. `ByteSteps` alone has a
 //! table, of its own, for what is compared at many lengths.
 
 pub const LIMIT: u64 = 4_294_967_295;
@@ -277,22 +277,37 @@ fn pages(n: u64, s: u64) -> u64 {
     (u128::from(n) + u128::from(s) - 1).div_euclid(u128::from(s)) as u64
 }
 
-/// Each page, the last one filled up with zero bytes.
-fn filled_pages(file: &[u8], s: usize) -> impl Iterator<Item = Vec<u8>> + '_ {
-    file.chunks(s).map(move |page| {
-        let mut page = page.to_vec();
-        page.resize(s, 0);
-        page
+/// A version of page sheets: its number, and whether a last page shorter than the page size is taken as filled up with zero bytes.
+#[derive(Clone, Copy, Debug, PartialEq, Eq)]
+pub struct Version {
+    pub number: u64,
+    pub filled: bool,
+}
+
+/// The versions that are read.
+pub const VERSIONS: [Version; 2] = [Version { number: 1, filled: true }, Version { number: 2, filled: false }];
+/// The version that is written.
+pub const WRITTEN: Version = VERSIONS[1];
+
+/// The fingerprint of each page of a file.
+fn page_fingerprints(version: Version, key: u64, s: usize, file: &[u8]) -> impl Iterator<Item = u64> + '_ {
+    file.chunks(s).map(move |bytes| {
+        let mut page = bytes.to_vec();
+        if version.filled {
+            page.resize(s, 0);
+        }
+        fingerprint(key, &page)
     })
 }
 
-pub fn sheet(key: u64, s: u64, file: &[u8]) -> Vec<u8> {
-    let mut bytes = b"GFP\x00\x01".to_vec();
+pub fn sheet(version: Version, key: u64, s: u64, file: &[u8]) -> Vec<u8> {
+    let mut bytes = b"GFP".to_vec();
+    bytes.extend((version.number as u16).to_be_bytes());
     bytes.extend(key.to_be_bytes());
     bytes.extend((file.len() as u32).to_be_bytes());
     bytes.extend((s as u16).to_be_bytes());
-    for page in filled_pages(file, s as usize) {
-        bytes.extend(fingerprint(key, &page).to_be_bytes());
+    for f in page_fingerprints(version, key, s as usize, file) {
+        bytes.extend(f.to_be_bytes());
     }
     bytes.extend(fingerprint(key, file).to_be_bytes());
     bytes
@@ -303,7 +318,7 @@ pub fn write_sheet(key: u64, s: u64, file: &[u8], buffer: &[u8]) -> Answer<Vec<u
     test_key(key)?;
     refuse(&[(7, too_long(&[file.len() as u128])), (12, !(16..=4096).contains(&s))])?;
     refuse(&[(13, (buffer.len() as u64) < 27 + 8 * pages(file.len() as u64, s))])?;
-    let mut after = sheet(key, s, file);
+    let mut after = sheet(WRITTEN, key, s, file);
     after.extend(&buffer[after.len()..]);
     Ok(after)
 }
@@ -315,6 +330,7 @@ pub fn sheet_length(n: u64, s: u64) -> Answer<u64> {
 
 #[derive(Clone, Debug, PartialEq, Eq)]
 pub struct Sheet {
+    pub version: Version,
     pub key: u64,
     pub length: u64,
     pub page_size: u64,
@@ -326,26 +342,49 @@ fn number(bytes: &[u8]) -> u64 {
     bytes.iter().fold(0, |n, &b| n << 8 | u64::from(b))
 }
 
+/// Page fingerprints joined behind f, each page b bytes long: F·t^(8b) + G + t^(8b). No length is limited.
+fn joined_pages(key: u64, f: u64, pages: &[u64], b: u64) -> u64 {
+    let power = power_of_t(key, 8 * b);
+    pages.iter().fold(f, |f, g| multiply_modulo(key, f, power) ^ g ^ power)
+}
+
+/// Version 1: the page marks joined, each of length s, give the file's fingerprint times t^(8 × (c × s − n)); no pages give 1.
+fn joins_filled(x: &Sheet) -> bool {
+    let whole = joined_pages(x.key, residue(x.key, 1), &x.pages, x.page_size);
+    let behind = x.pages.len() as u64 * x.page_size - x.length;
+    whole == multiply_modulo(x.key, x.fingerprint, power_of_t(x.key, 8 * behind))
+}
+
+/// Version 2: the page marks joined, each of its own length, give the file's fingerprint; no pages give 1.
+fn joins_unfilled(x: &Sheet) -> bool {
+    let one = residue(x.key, 1);
+    let Some((&last, front)) = x.pages.split_last() else {
+        return x.fingerprint == one;
+    };
+    let front_joined = joined_pages(x.key, one, front, x.page_size);
+    let last_length = x.length - front.len() as u64 * x.page_size;
+    joined_pages(x.key, front_joined, &[last], last_length) == x.fingerprint
+}
+
 pub fn read_sheet(bytes: &[u8]) -> Answer<Sheet> {
-    if bytes.len() < 27 || bytes[..3] != *b"GFP" || number(&bytes[3..5]) != 1 {
+    if bytes.len() < 27 || bytes[..3] != *b"GFP" {
         return Err(14);
     }
+    let version_number = number(&bytes[3..5]);
+    let version = VERSIONS.into_iter().find(|v| v.number == version_number).ok_or(14u32)?;
     let key = number(&bytes[5..13]);
     let length = number(&bytes[13..17]);
     let page_size = number(&bytes[17..19]);
     test_key(key)?;
     refuse(&[(12, !(16..=4096).contains(&page_size))])?;
-    let c = pages(length, page_size);
-    refuse(&[(14, bytes.len() as u64 != 27 + 8 * c)])?;
+    refuse(&[(14, bytes.len() as u64 != 27 + 8 * pages(length, page_size))])?;
     let fields: Vec<u64> = bytes[19..].chunks(8).map(number).collect();
     refuse(&[(14, fields.iter().any(|&f| unreduced(key, f)))])?;
     let (&fingerprint, page_marks) = fields.split_last().expect("the file's field");
-    // the page marks joined, each of length s: F·t^(8s) + G + t^(8s) from 1
-    let power = power_of_t(key, 8 * page_size);
-    let whole = page_marks.iter().fold(residue(key, 1), |f, g| multiply_modulo(key, f, power) ^ g ^ power);
-    let filled = power_of_t(key, 8 * (c * page_size - length));
-    refuse(&[(14, whole != multiply_modulo(key, fingerprint, filled))])?;
-    Ok(Sheet { key, length, page_size, pages: page_marks.to_vec(), fingerprint })
+    let sheet = Sheet { version, key, length, page_size, pages: page_marks.to_vec(), fingerprint };
+    let joins = if version.filled { joins_filled(&sheet) } else { joins_unfilled(&sheet) };
+    refuse(&[(14, !joins)])?;
+    Ok(sheet)
 }
 
 #[derive(Clone, Copy, Debug, PartialEq, Eq)]
@@ -361,7 +400,8 @@ pub fn check_file(bytes: &[u8], file: &[u8]) -> Answer<Check> {
     if file.len() as u64 != sheet.length {
         return Ok(Check::OtherLength);
     }
-    let changed = filled_pages(file, sheet.page_size as usize).zip(&sheet.pages).position(|(page, &f)| fingerprint(sheet.key, &page) != f);
+    let now = page_fingerprints(sheet.version, sheet.key, sheet.page_size as usize, file);
+    let changed = now.zip(&sheet.pages).position(|(f, &g)| f != g);
     Ok(changed.map_or(Check::Same, |i| Check::Page(i as u64)))
 }
 

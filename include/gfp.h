@@ -28,9 +28,10 @@ extern "C" {
 #endif
 
 /* The version of this interface. It counts the breaks: a program that was right with one number may be wrong with a
- * higher one, and stays right while the number stays. 2: gfp_feed_house takes the key. A new function is no break; the
- * minor number of the pkg-config version counts these additions. */
-#define GFP_INTERFACE 2
+ * higher one, and stays right while the number stays. 2: gfp_feed_house takes the key. 3: gfp_write_sheet writes sheets
+ * of version 2, which a library of a lower number refuses, and in which a last page's fingerprint is that of the bytes
+ * it has. A new function is no break; the minor number of the pkg-config version counts these additions. */
+#define GFP_INTERFACE 3
 
 /* What a function returns: not refused, or one of 14 refusals. */
 #define GFP_OK 0
@@ -115,8 +116,13 @@ uint32_t gfp_replace_page(uint64_t key, uint64_t *fingerprint, uint64_t *length,
 uint32_t gfp_search(uint64_t key, const uint8_t *text, size_t text_length, const uint8_t *pattern,
                     size_t pattern_length, uint32_t *places, size_t places_length, uint32_t *count, uint32_t *alarms);
 
-/* The bytes of a sheet without pages; each page adds 8. */
+/* The bytes of a sheet without pages, of either version; each page adds 8. */
 #define GFP_SHEET_BYTES 27
+
+/* The version of the sheets that gfp_write_sheet writes; sheets of version 1 are read and checked too. The versions
+ * differ in a last page that is shorter than the page size. In version 2 its fingerprint is that of the bytes it has,
+ * in version 1 that of the page filled up with zero bytes to the page size. */
+#define GFP_SHEET_VERSION 2
 
 /* The bytes of the sheet of a file of the given length, with pages of the given size, to *sheet_length: 27 + 8 * pages.
  * Refusals: 7, 12. Stack: 512 bytes. */
@@ -124,20 +130,26 @@ uint32_t gfp_sheet_length(uint64_t file_length, uint64_t page_size, uint64_t *sh
 
 /* Writes the page sheet of a file into the lent bytes; further bytes keep their value. The page size is 16 to 4,096
  * bytes, and the sheet takes 27 + 8 * pages bytes, pages being the file's length over the page size, rounded up: the
- * letters GFP, a version of 2 bytes, the key (8), the file's length (4), the page size (2), the fingerprint of each
- * page (8 each, the last page filled up with zero bytes) and the file's (8), high byte first.
+ * letters GFP, the version GFP_SHEET_VERSION (2 bytes), the key (8), the file's length (4), the page size (2), the
+ * fingerprint of each page (8 each, the last page as long as it is, without filling) and the file's (8), high byte
+ * first.
  * Refusals: 1, 2, 7, 12, 13. Stack: 26,624 bytes. */
 uint32_t gfp_write_sheet(uint64_t key, uint64_t page_size, const uint8_t *file, size_t file_length, uint8_t *sheet,
                          size_t sheet_length);
 
-/* Reads a page sheet: its key, the file's length, the page size, the number of pages and the file's fingerprint.
+/* Reads a page sheet of version 1 or 2: its key, the file's length, the page size, the number of pages and the file's
+ * fingerprint. It does not tell the version. The joining of number 14: in version 2 the page marks joined, each with
+ * its own length, must give the file's fingerprint; in version 1 the page marks joined, each as long as the page size,
+ * must give that of the file with zero bytes behind it, as many as its last page is filled up with. Without pages the
+ * file's fingerprint must be 1 in both.
  * Refusals, in this order: 14 (size, letters, version), 1, 2, 12, 14 (total, fingerprints, joining).
  * Stack: 17,408 bytes. */
 uint32_t gfp_read_sheet(const uint8_t *sheet, size_t sheet_length, uint64_t *key, uint64_t *length, uint64_t *page_size,
                         uint64_t *pages, uint64_t *fingerprint);
 
 /* The page fingerprints of a page sheet into the lent places: the first ones, as far as they reach; further ones keep
- * their value. A sheet has as many as gfp_read_sheet writes to *pages.
+ * their value. A sheet has as many as gfp_read_sheet writes to *pages. They are given as the sheet has them: the last
+ * one is that of the page filled up in version 1, and of the page as long as it is in version 2.
  * Refusals, as of gfp_read_sheet: 14, 1, 2, 12, 14. Stack: 17,408 bytes. */
 uint32_t gfp_read_pages(const uint8_t *sheet, size_t sheet_length, uint64_t *fingerprints, size_t fingerprints_length);
 
@@ -146,7 +158,8 @@ uint32_t gfp_read_pages(const uint8_t *sheet, size_t sheet_length, uint64_t *fin
 #define GFP_OTHER_LENGTH 2
 
 /* Checks a file against a page sheet: *outcome is GFP_SAME, GFP_PAGE with the first page whose fingerprint differs,
- * counted from 0, in *page, or GFP_OTHER_LENGTH. *page is 0 where the outcome is not GFP_PAGE.
+ * counted from 0, in *page, or GFP_OTHER_LENGTH. *page is 0 where the outcome is not GFP_PAGE. Against a sheet of
+ * version 1 the file's last page is filled up with zero bytes to the page size, against one of version 2 it is not.
  * Refusals, those of gfp_read_sheet first: 14, 1, 2, 12, 14, 7. Stack: 26,624 bytes. */
 uint32_t gfp_check_file(const uint8_t *sheet, size_t sheet_length, const uint8_t *file, size_t file_length,
                         uint32_t *outcome, uint32_t *page);

@@ -48,10 +48,14 @@ pub mod refusal {
 }
 
 /// The version of the C interface that this wrapper is for (`GFP_INTERFACE`).
-pub const INTERFACE: u32 = 2;
+pub const INTERFACE: u32 = 3;
 
 pub const HOUSE_KEY: u64 = 0x2000_0000_0000_0027;
 pub const TABLE_WORDS: usize = 1024;
+
+/// The version of the sheets that `write_sheet` writes (`GFP_SHEET_VERSION`); sheets of version 1 are read and checked too. A last page shorter
+/// than the page size is fingerprinted in version 2 over the bytes it has, in version 1 filled up with zero bytes to the page size.
+pub const SHEET_VERSION: u16 = 2;
 
 /// A fingerprint and a length in bytes.
 #[derive(Clone, Copy, Debug, PartialEq, Eq)]
@@ -152,7 +156,7 @@ pub fn sheet_length(length: u64, page_size: u64) -> Result<u64, Refusal> {
     answer(number, bytes)
 }
 
-/// Writes the page sheet of a file: 27 + 8 × pages bytes.
+/// Writes the page sheet of a file, of version `SHEET_VERSION`: 27 + 8 × pages bytes.
 pub fn write_sheet(key: u64, page_size: u64, file: &[u8], sheet: &mut [u8]) -> Result<(), Refusal> {
     answer(unsafe { raw::gfp_write_sheet(key, page_size, file.as_ptr(), file.len(), sheet.as_mut_ptr(), sheet.len()) }, ())
 }
@@ -167,6 +171,9 @@ pub struct Sheet {
     pub fingerprint: u64,
 }
 
+/// Reads a page sheet of version 1 or 2; it does not tell the version. The joining of number 14: in version 2 the page marks joined, each with its
+/// own length, must give the file's fingerprint; in version 1 the page marks joined, each as long as the page size, must give that of the file with
+/// zero bytes behind it, as many as its last page is filled up with. Without pages the file's fingerprint must be 1 in both.
 pub fn read_sheet(sheet: &[u8]) -> Result<Sheet, Refusal> {
     let mut x = Sheet::default();
     let number = unsafe {
@@ -175,7 +182,8 @@ pub fn read_sheet(sheet: &[u8]) -> Result<Sheet, Refusal> {
     answer(number, x)
 }
 
-/// The page fingerprints of a page sheet, the first ones into `fingerprints`, as far as they reach.
+/// The page fingerprints of a page sheet, the first ones into `fingerprints`, as far as they reach. The last one is that of the page filled up
+/// in version 1, and of the page as long as it is in version 2.
 pub fn read_pages(sheet: &[u8], fingerprints: &mut [u64]) -> Result<(), Refusal> {
     answer(unsafe { raw::gfp_read_pages(sheet.as_ptr(), sheet.len(), fingerprints.as_mut_ptr(), fingerprints.len()) }, ())
 }
@@ -189,6 +197,8 @@ pub enum Check {
     OtherLength,
 }
 
+/// Checks a file against a page sheet. Against one of version 1 the file's last page is filled up with zero bytes to the page size, against one of
+/// version 2 it is not.
 pub fn check_file(sheet: &[u8], file: &[u8]) -> Result<Check, Refusal> {
     let (mut outcome, mut page) = (0, 0);
     let number = unsafe { raw::gfp_check_file(sheet.as_ptr(), sheet.len(), file.as_ptr(), file.len(), &mut outcome, &mut page) };

@@ -53,6 +53,14 @@ pub fn joined_residue(p: Modulus, f: u64, g: u64, b: u64) -> u64
     gf2::product(p, f, shift) ^ g ^ shift
 }
 
+// The residue of a file with n zero bytes behind it, F·t^(8n), from the file's residue.
+pub fn with_zeros(p: Modulus, f: u64, n: u64) -> u64
+    requires { ⌜ Proper p × (f < 2 ^ p .degree) × (n < 2 ^ 32) ⌝ }
+    ensures { λ r. ⌜ r ≡ rem (polynomial p) (f * 2 ^ (8 * n)) ⌝ }
+{
+    gf2::product(p, f, gf2::power_of_t(p, 8 * n))
+}
+
 // The difference of the residues of two pages of one length: the residue of their difference, without the leading 1 of either.
 fn difference(p: Modulus, old: &[u8], new: &[u8]) -> u64
     requires { ⌜ Proper p × (length (now old) ≡ length (now new)) ⌝ }

@@ -10,7 +10,7 @@ use Rattle.files.specs.declared.Mark.{Mark}
 use Rattle.files.specs.Files.{joined, replaced}
 use Rattle.compose.specs.Composing.{joinBehind, joinInFront, replacePage}
 use Rattle.search.specs.Searching.{counts, search}
-use Rattle.sheets.specs.Layout.{version1, sheetLength, pageCount, sheetBytes, contentsIn}
+use Rattle.sheets.specs.Layout.{newest, sheetLength, pageCount, sheetBytes, contentsIn}
 use Rattle.sheets.specs.Sheets.{contentsOf, lengthFor, writeSheet, readSheet, readPages, compared, checkSheet}
 use Rattle.gfp_site.specs.Calls.{EachMarkCall, EachFileCall}
 
@@ -28,9 +28,9 @@ unfolding search lengthFor writeSheet readSheet readPages checkSheet rising
 each-file-call key n s file pattern sheet buffer words =
     record {
       find = gives-lowest tt (counts key file pattern) refl refl tt;
-      sheet-length = gives-lowest tt (sheetLength version1 (pageCount s n)) refl refl tt;
-      write-sheet = gives-lowest buffer (overlay (sheetBytes version1 (contentsOf key s file)) buffer) refl refl tt;
-      read-sheet = gives-first tt (contentsIn version1 sheet) refl refl;
-      read-pages = gives-first words (overlay (contentsIn version1 sheet .pages) words) refl refl;
-      check-file = gives-first tt (compared (contentsIn version1 sheet) file) refl refl;
+      sheet-length = gives-lowest tt (sheetLength newest (pageCount s n)) refl refl tt;
+      write-sheet = gives-lowest buffer (overlay (sheetBytes (contentsOf (newest .version) key s file)) buffer) refl refl tt;
+      read-sheet = gives-first tt (contentsIn sheet) refl refl;
+      read-pages = gives-first words (overlay (contentsIn sheet .pages) words) refl refl;
+      check-file = gives-first tt (compared (contentsIn sheet) file) refl refl;
     }

@@ -7,12 +7,12 @@ use native.Mathlib.Omega.{arith}
 use lib.Dec.{ltb, ltb→lt}
 use lib.ListN.{replicate}
 use Rattle.refusals.specs.Refusals.{Done}
-use Rattle.sheets.specs.Layout.{bytesOf, fieldsOf, numberAt, numbersAt, bytesIn, sheetBytes, contentsIn}
+use Rattle.sheets.specs.Layout.{bytesOf, fieldsOf, numberAt, numbersAt, version1, version2, known, layoutAmong, bytesIn, sheetBytes, contentsIn}
 use Rattle.sheets.specs.Sheets.{filled, pageFingerprints, contentsOf, writeSheet, joinedPages, someUnreduced, readSheet, readPages}
 use Rattle.sheets.proofs.Guarantee.{written-reads}
 use Rattle.lists.proofs.Lists.{all-map, every, all-by-test}
 use Rattle.gf2.specs.Polynomials.{_⊕_, halvings, degree, reduce, longDivision, rem}
-use Rattle.lists.specs.Lists.{anyBelow, overlay}
+use Rattle.lists.specs.Lists.{listFrom, anyBelow, overlay}
 use Rattle.acceptance.specs.Keys.{reducible}
 use Rattle.files.specs.declared.Mark.{Mark}
 use Rattle.files.specs.Files.{lowBits, bits, valueFrom, value, fingerprint, markOf, fedMark, joined, replaced}
@@ -77,18 +77,23 @@ the-list-is-honest = (
   ),
 )
 
--- ---- routes through the sheet of the file 41 42, with pages of 16 bytes
+-- ---- routes through the sheets of the file 41 42, with pages of 16 bytes: its one page is not whole
 
 abbrev two : List ℕ
 two = 0x41 ∷ 0x42 ∷ []
 
+-- of a version, with a page fingerprint and the file's
+abbrev sheetWith : ℕ → ℕ → ℕ → List ℕ
+sheetWith version page file =
+    0x47 ∷ 0x46 ∷ 0x50 ∷ 0x00 ∷ version ∷ 0x00 ∷ 0x00 ∷ 0x00 ∷ 0x00 ∷ 0x00 ∷ 0x00 ∷ 0x01 ∷ 0x1B ∷ 0x00 ∷ 0x00 ∷ 0x00 ∷ 0x02 ∷ 0x00 ∷ 0x10
+    ∷ 0x00 ∷ 0x00 ∷ 0x00 ∷ 0x00 ∷ 0x00 ∷ 0x00 ∷ 0x00 ∷ page ∷ 0x00 ∷ 0x00 ∷ 0x00 ∷ 0x00 ∷ 0x00 ∷ 0x00 ∷ 0x00 ∷ file ∷ []
+
+-- what is written: version 2, the page as it is
 sheet : List ℕ
-sheet =
-    0x47 ∷ 0x46 ∷ 0x50 ∷ 0x00 ∷ 0x01 ∷ 0x00 ∷ 0x00 ∷ 0x00 ∷ 0x00 ∷ 0x00 ∷ 0x00 ∷ 0x01 ∷ 0x1B ∷ 0x00 ∷ 0x00 ∷ 0x00 ∷ 0x02 ∷ 0x00 ∷ 0x10
-    ∷ 0x00 ∷ 0x00 ∷ 0x00 ∷ 0x00 ∷ 0x00 ∷ 0x00 ∷ 0x00 ∷ 0xAC ∷ 0x00 ∷ 0x00 ∷ 0x00 ∷ 0x00 ∷ 0x00 ∷ 0x00 ∷ 0x00 ∷ 0x9D ∷ []
+sheet = sheetWith 0x02 0x9D 0x9D
 
 written-sheet : writeSheet 0x11B 16 two (replicate 35 0) ≡ Done sheet
-unfolding sheet writeSheet overlay sheetBytes bytesIn fieldsOf bytesOf contentsOf pageFingerprints filled
+unfolding sheet writeSheet overlay sheetBytes layoutAmong bytesIn fieldsOf bytesOf contentsOf pageFingerprints filled
     reducible anyBelow fingerprint value valueFrom bits lowBits rem longDivision reduce degree halvings _⊕_
 written-sheet = refl
 
@@ -96,11 +101,11 @@ pub last-field : Route 0x11B two 0x9D
 unfolding sheet numberAt valueFrom bits lowBits
 last-field = InSheet 16 (replicate 35 0) sheet written-sheet refl
 
-pub page-field : Route 0x11B (two ++ replicate 14 0) 0xAC
+pub page-field : Route 0x11B two 0x9D
 unfolding sheet filled numberAt valueFrom bits lowBits
 page-field = InPageField 16 0 two (replicate 35 0) sheet written-sheet (omega arith) refl refl
 
-true-pages : TruePages 0x11B two sheet (contentsOf 0x11B 16 two)
+true-pages : TruePages 0x11B two sheet (contentsOf 2 0x11B 16 two)
 unfolding sheet every contentsOf
 true-pages =
     record {
@@ -113,12 +118,45 @@ true-pages =
 
 pub read-9D : Route 0x11B two 0x9D
 unfolding contentsOf fingerprint value valueFrom bits lowBits rem longDivision reduce degree halvings _⊕_
-read-9D = ByReading sheet (contentsOf 0x11B 16 two) true-pages refl
+read-9D = ByReading sheet (contentsOf 2 0x11B 16 two) true-pages refl
+
+-- version 1 is read by its filling: document 01's sheet of 41 42
+old-sheet : List ℕ
+old-sheet = sheetWith 0x01 0xAC 0x9D
+
+old-pages : TruePages 0x11B two old-sheet (contentsOf 1 0x11B 16 two)
+unfolding old-sheet every overlay filled contentsOf pageFingerprints readSheet contentsIn known layoutAmong numbersAt numberAt
+    fingerprint value valueFrom bits lowBits joinedPages joined someUnreduced markOf reducible anyBelow rem longDivision reduce degree halvings _⊕_
+old-pages =
+    record {
+      bytes = all-map (λ b t. ltb→lt b 256 t) old-sheet (all-by-test (λ b. ltb b 256) old-sheet tt);
+      read = refl;
+      same-key = refl;
+      same-length = refl;
+      same-pages = refl;
+    }
 
 pub read-AC : Route 0x11B (two ++ replicate 14 0) 0xAC
-unfolding sheet overlay filled contentsOf pageFingerprints readPages readSheet contentsIn numbersAt numberAt fingerprint value valueFrom bits lowBits
-    joinedPages joined someUnreduced markOf reducible anyBelow rem longDivision reduce degree halvings _⊕_
-read-AC = ByReadingPages two sheet (0x00 ∷ []) (0xAC ∷ []) (contentsOf 0x11B 16 two) 0 true-pages refl (omega arith) (omega arith) refl refl
+unfolding old-sheet overlay filled contentsOf pageFingerprints readPages readSheet contentsIn known layoutAmong numbersAt numberAt
+    fingerprint value valueFrom bits lowBits joinedPages joined someUnreduced markOf reducible anyBelow rem longDivision reduce degree halvings _⊕_
+read-AC = ByReadingPages two old-sheet (0x00 ∷ []) (0xAC ∷ []) (contentsOf 1 0x11B 16 two) 0 old-pages refl (omega arith) (omega arith) refl refl
+
+-- ---- the pages of the 17 bytes 00 to 10, the last of one byte: filled up in version 1, as it is in version 2
+
+abbrev seventeen : List ℕ
+seventeen = listFrom (λ b. b) 0 17
+
+pub filled-pages : pageFingerprints version1 0x11B 16 2 seventeen ≡ 0x6E ∷ 0x90 ∷ []
+unfolding listFrom pageFingerprints filled fingerprint value valueFrom bits lowBits rem longDivision reduce degree halvings _⊕_
+filled-pages = refl
+
+pub own-pages : pageFingerprints version2 0x11B 16 2 seventeen ≡ 0x6E ∷ 0x0B ∷ []
+unfolding listFrom pageFingerprints filled fingerprint value valueFrom bits lowBits rem longDivision reduce degree halvings _⊕_
+own-pages = refl
+
+pub their-file : fingerprint 0x11B seventeen ≡ 0x45
+unfolding listFrom fingerprint value valueFrom bits lowBits rem longDivision reduce degree halvings _⊕_
+their-file = refl
 
 -- ---- a key that confuses two files: 00 00 and 01 1B under 0x11B
 pub both-5E : Confuses Route 8 (0x00 ∷ 0x00 ∷ []) (0x01 ∷ 0x1B ∷ []) 0x11B

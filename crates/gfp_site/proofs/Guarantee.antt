@@ -13,11 +13,12 @@ use Rattle.book.specs.Confusions.{Sound, Reaches}
 use Rattle.book.specs.Claims.{Lists, Lowest, Confusions, Counted, Bursts}
 use Rattle.book.proofs.Guarantee as any-level
 use Rattle.book.proofs.RunLaws.{run-map}
+use Rattle.sheets.specs.Layout.{layoutOf}
 use Rattle.sheets.proofs.Routes.{written-page, written-last, read-fingerprint, read-page}
 use Rattle.gfp_bench.specs.Book as bench-book
 use Rattle.gfp_bench.proofs.Guarantee as bench-level
 use Rattle.gfp_site.specs.Book.{Call, Feeding, Behind, InFront, Page, step, bookTests, site}
-use Rattle.gfp_site.specs.Book.{pageOf, Route, OfBench, ByCalls, InSheet, InPageField, ByReading, ByReadingPages}
+use Rattle.gfp_site.specs.Book.{pageIn, Route, OfBench, ByCalls, InSheet, InPageField, ByReading, ByReadingPages}
 use Rattle.gfp_site.proofs.StepLaws.{keeps}
 
 -- the book's tests stand in the order of their numbers
@@ -57,7 +58,7 @@ sound key file f a (ByReading sheet x t e) =
 sound key file f a (ByReadingPages whole sheet words after x i t done l m page e) =
     sym e
     ∙ read-page sheet whole x (t .bytes) (t .read) (t .same-length) (t .same-pages) words after i done l m
-    ∙ ap (λ (k : ℕ). fingerprint k (pageOf (x .pageSize) whole i)) (t .same-key)
+    ∙ ap (λ (k : ℕ). fingerprint k (pageIn (layoutOf (x .version)) (x .pageSize) whole i)) (t .same-key)
     ∙ ap (fingerprint key) (sym page)
 
 pub reaches : Reaches Route

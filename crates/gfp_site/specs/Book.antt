@@ -13,8 +13,8 @@ use Rattle.files.specs.declared.Mark.{Mark}
 use Rattle.files.specs.Files.{True, Bytes, unreduced}
 use Rattle.marks.specs.Feeding.{sumTest}
 use Rattle.compose.specs.Composing.{joinBehind, joinInFront, replacePage}
-use Rattle.sheets.specs.Layout.{version1, pagePlace, pageCount, numberAt, Contents}
-use Rattle.sheets.specs.Sheets.{filled, writeSheet, readSheet, readPages, pagesNow}
+use Rattle.sheets.specs.Layout.{numberAt, Layout, newest, layoutOf, pagePlace, pageCount, Contents}
+use Rattle.sheets.specs.Sheets.{pageOf, writeSheet, readSheet, readPages, pagesNow}
 use Rattle.book.specs.Runs.{Level, Leaves}
 use Rattle.gfp_bench.specs.Book as bench-level
 
@@ -63,13 +63,13 @@ site = record { Call = Call; step = step; tests = bookTests; written = written; 
 
 -- ---- the routes
 
--- page i of a file, of s bytes, filled up
-abbrev pub pageOf : ℕ → List ℕ → ℕ → List ℕ
-pageOf s file i = filled s (take s (drop (i * s) file))
+-- page i of a file, of s bytes, as a version takes it
+abbrev pub pageIn : Layout → ℕ → List ℕ → ℕ → List ℕ
+pageIn v s file i = pageOf v s (take s (drop (i * s) file))
 
--- the fingerprint in field i of a sheet: page i's, and the file's behind the last page's
+-- the fingerprint in field i of a written sheet: page i's, and the file's behind the last page's
 abbrev pub fieldAt : List ℕ → ℕ → ℕ
-fieldAt sheet i = numberAt (pagePlace version1 i) (version1 .fingerprintWidth) sheet
+fieldAt sheet i = numberAt (pagePlace newest i) (newest .fingerprintWidth) sheet
 
 -- a sheet under the key that reads as the numbers x, with the fingerprints of the file's pages
 pub record TruePages (key : ℕ) (file sheet : List ℕ) (x : Contents) : Type 0 where
@@ -88,9 +88,10 @@ pub data Route (key : ℕ) (file : List ℕ) (f : ℕ) : Type 0 where
   InSheet : (s : ℕ) (buffer after : List ℕ) → writeSheet key s file buffer ≡ Done after → fieldAt after (pageCount s (length file)) ≡ f → Route key file f
   -- the field of a page of a written sheet: the file is that page
   InPageField : (s i : ℕ) (whole buffer after : List ℕ) → writeSheet key s whole buffer ≡ Done after → i < pageCount s (length whole)
-      → file ≡ pageOf s whole i → fieldAt after i ≡ f → Route key file f
+      → file ≡ pageIn newest s whole i → fieldAt after i ≡ f → Route key file f
   -- what reading gives of a sheet with true page fingerprints: the file's fingerprint,
   ByReading : (sheet : List ℕ) (x : Contents) → TruePages key file sheet x → x .fingerprint ≡ f → Route key file f
   -- and a page's, in a lent word
   ByReadingPages : (whole sheet words after : List ℕ) (x : Contents) (i : ℕ) → TruePages key whole sheet x → readPages sheet words ≡ Done after
-      → i < length (x .pages) → i < length words → file ≡ pageOf (x .pageSize) whole i → getD after i 0 ≡ f → Route key file f
+      → i < length (x .pages) → i < length words
+      → file ≡ pageIn (layoutOf (x .version)) (x .pageSize) whole i → getD after i 0 ≡ f → Route key file f

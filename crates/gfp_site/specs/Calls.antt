@@ -8,7 +8,7 @@ use Rattle.acceptance.specs.Keys.{keyTests}
 use Rattle.files.specs.declared.Mark.{Mark}
 use Rattle.compose.specs.Composing.{joinTests, joinBehind, joinInFront, pageTests, replacePage}
 use Rattle.search.specs.Searching.{searchTests, search}
-use Rattle.sheets.specs.Layout.{version1}
+use Rattle.sheets.specs.Layout.{layouts}
 use Rattle.sheets.specs.Sheets.{lengthTests, lengthFor, writeTests, writeSheet, readTests, readSheet, readPages, checkTests, checkSheet}
 
 -- of marks
@@ -22,6 +22,6 @@ pub record EachFileCall (key n s : ℕ) (file pattern sheet buffer words : List 
   pub find : GivesLowest (1 ∷ 2 ∷ 7 ∷ 11 ∷ []) (searchTests key file pattern) (search key file pattern)
   pub sheet-length : GivesLowest (7 ∷ 12 ∷ []) (lengthTests n s) (lengthFor n s)
   pub write-sheet : GivesLowest (1 ∷ 2 ∷ 7 ∷ 12 ∷ 13 ∷ []) (writeTests key s file buffer) (writeSheet key s file buffer)
-  pub read-sheet : GivesFirst (14 ∷ 1 ∷ 2 ∷ 12 ∷ 14 ∷ []) (readTests version1 sheet) (readSheet sheet)
-  pub read-pages : GivesFirst (14 ∷ 1 ∷ 2 ∷ 12 ∷ 14 ∷ []) (readTests version1 sheet) (readPages sheet words)
+  pub read-sheet : GivesFirst (14 ∷ 1 ∷ 2 ∷ 12 ∷ 14 ∷ []) (readTests layouts sheet) (readSheet sheet)
+  pub read-pages : GivesFirst (14 ∷ 1 ∷ 2 ∷ 12 ∷ 14 ∷ []) (readTests layouts sheet) (readPages sheet words)
   pub check-file : GivesFirst (14 ∷ 1 ∷ 2 ∷ 12 ∷ 14 ∷ 7 ∷ []) (checkTests sheet file) (checkSheet sheet file)

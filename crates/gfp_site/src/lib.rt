@@ -6,7 +6,7 @@ ghost use Rattle.refusals.specs.Refusals.{numberOf, stateOf, valueOr};
 ghost use Rattle.places.specs.Places.{markAt, heldAfter};
 ghost use Rattle.compose.specs.Composing.{joinBehind, joinInFront, replacePage};
 ghost use Rattle.search.specs.Searching.{search, placesAfter};
-ghost use Rattle.sheets.specs.Layout.{version1, contentsIn};
+ghost use Rattle.sheets.specs.Layout.{contentsIn};
 ghost use Rattle.sheets.specs.Sheets.{writeSheet, readSheet, readPages, checkSheet, lengthFor};
 ghost use Rattle.gfp_site.specs.Places.{countsIn, sheetIn, outcomeIn, rangeIn};
 use files::Mark;
@@ -223,7 +223,7 @@ pub extern "C" fn gfp_changed_range(
     ensures { λ r. ⌜
         (r ≡ numberOf (checkSheet (now (sheet .entry)) (now (file .entry))))
         × (now (outcome .exit) ∷ now (from .exit) ∷ now (to .exit) ∷ []
-        ≡ heldAfter (rangeIn (contentsIn version1 (now (sheet .entry)))) (now (outcome .entry) ∷ now (from .entry) ∷ now (to .entry) ∷ [])
+        ≡ heldAfter (rangeIn (contentsIn (now (sheet .entry)))) (now (outcome .entry) ∷ now (from .entry) ∷ now (to .entry) ∷ [])
         (checkSheet (now (sheet .entry)) (now (file .entry))))
         ⌝ }
 {

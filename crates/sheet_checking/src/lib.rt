@@ -28,9 +28,9 @@ fn compare(sheet: &[u8], x: Sheet, file: &[u8]) -> Checked
         return Checked::OtherLength;
     }
     let p = gf2::modulus_of(key);
+    let pages = layout::page_fields(sheet, x.version);
     let mut none = [0u8; 0];
-    let pass = sheet_pass::over_pages(&mut none, layout::page_fields(sheet), p, size, file);
-    let same = pass.same as u64;
+    let same = sheet_pass::over_pages(&mut none, pages, p, size, x.version, file) as u64;
     if same < fields::page_count(x.size, n) {
         return Checked::Page(same as u32);
     }

@@ -1,9 +1,10 @@
 -- Laws of page marks joined and of the bits of their fields: one field a turn, and in lanes.
 use mathlib.Core.Path.{_≡_, refl, sym, ap, ap₂, _∙_}
-use mathlib.Core.Bool.{Bool, false, _||_, or-assoc, or-false}
+use mathlib.Core.Bool.{Bool, true, false, cond, _||_, or-assoc, or-false}
 use mathlib.Core.List.{List, [], _∷_, _++_}
-use Prim.Native.Nat.{ℕ, suc, _+_, _-_, _*_, _%_, _^_, _≤_, _<_}
-use native.Mathlib.Nat.{lt-of-lt-of-le, add-comm, mul-assoc, mul-zero, mul-one, mul-suc, zero-mul, mod-eq-of-lt}
+use Prim.Native.Nat.{ℕ, suc, _+_, _-_, _*_, _%_, _^_, _≤_, _<_, min}
+use native.Mathlib.Nat.{lt-of-lt-of-le, zero-add, add-comm, mul-assoc, mul-zero, mul-one, mul-suc, suc-mul, zero-mul, sub-zero, mul-le-mul-right}
+use native.Mathlib.Nat.{mod-eq-of-lt}
 use native.Mathlib.Omega.{arith}
 use lib.Bits.{bitOr}
 use lib.Dec.{leb}
@@ -25,11 +26,12 @@ use Rattle.files.proofs.Marks.{empty-mark}
 use Rattle.lookups.specs.Groups.{looked}
 use Rattle.shifts.specs.Shifts.{Shifts}
 use Rattle.shifts.proofs.Products.{joined-by-table}
-use Rattle.sheets.specs.Layout.{numberAt, numbersAt}
-use Rattle.sheets.specs.Sheets.{someUnreduced, joinedPages}
+use Rattle.sheets.specs.Layout.{numberAt, numbersAt, Layout}
+use Rattle.sheets.specs.Sheets.{someUnreduced, pageLength, joinedPages}
 use Rattle.sheets.proofs.Numbers.{numbers-next, numbers-done, numbers-append, length-numbersAt}
+use Rattle.sheet_joining.specs.declared.Joined.{Joined}
 use Rattle.sheet_joining.specs.declared.Lanes.{Lanes}
-use Rattle.sheet_joining.specs.Joining.{chained, looping, BitsOf, LanesJoined}
+use Rattle.sheet_joining.specs.Joining.{chained, looping, BitsOf, LanesJoined, RunJoined, LastJoined, PagesJoined}
 
 -- ---- as the code goes: one field a turn
 
@@ -185,14 +187,6 @@ module _ {key : ℕ} (pos : 0 < key) (e : ℕ) where
       let step = joined-by-table pos e words s f g (lt-of-lt-of-le h (pow-mono {i = degree key} {j = 64} d)) (o .0) in
       ap (λ (x : ℕ). looping words x gs) step ∙ looping-chained words s d (rem key (f * 2 ^ e ⊕ g ⊕ 2 ^ e)) gs (rem-lt pos (f * 2 ^ e ⊕ g ⊕ 2 ^ e)) (o .1)
 
-pub joined-chained : (key s : ℕ) (m : Mark) (fs : List ℕ) → joinedPages key s m fs .fingerprint ≡ chained key (8 * s) (m .fingerprint) fs
-unfolding joinedPages joined chained
-joined-chained key s m [] = refl
-joined-chained key s m (f ∷ fs) = joined-chained key s (joined key m (record { fingerprint = f; length = s })) fs
-
-pub empty-print : (p : Modulus) → Proper p → markOf (polynomial p) [] .fingerprint ≡ 1
-empty-print p md = ap (λ (m : Mark). m .fingerprint) (empty-mark (polynomial p) (of-degree-one (p .degree) (p .low) (md .0) (md .2)))
-
 -- ---- lanes
 
 -- a lane of q fields, each for itself behind 0, joined behind what has the residue x
@@ -290,7 +284,7 @@ module _ (p : Modulus) (md : Proper p) (s place n q from : ℕ) (fits : 4 * q �
   pub all-joined : (ab abc abcd y : ℕ) → ab ≡ rem (polynomial p) (x .a % 2 ^ p .degree ⊗ t) ⊕ x .b → abc ≡ rem (polynomial p) (ab % 2 ^ p .degree ⊗ t) ⊕ x .c
       → abcd ≡ rem (polynomial p) (abc % 2 ^ p .degree ⊗ t) ⊕ x .d
       → y ≡ looping words abcd (numbersAt from 8 (n - 4 * q) l)
-      → y ≡ joinedPages (polynomial p) s (markOf (polynomial p) []) (numbersAt place 8 n l) .fingerprint
+      → y ≡ chained (polynomial p) (8 * s) 1 (numbersAt place 8 n l)
   unfolding rest
   all-joined ab abc abcd y e f g h =
       let d = is-abcd ab abc abcd e f g in
@@ -299,16 +293,114 @@ module _ (p : Modulus) (md : Proper p) (s place n q from : ℕ) (fits : 4 * q �
       ∙ ap (λ (z : ℕ). chained (polynomial p) (8 * s) z rest) d
       ∙ sym (chained-append pos (8 * s) 1 (laneA ++ laneB ++ laneC ++ laneD) rest)
       ∙ ap (chained (polynomial p) (8 * s) 1) (sym all-fields)
-      ∙ ap (λ (z : ℕ). chained (polynomial p) (8 * s) z (numbersAt place 8 n l)) (sym (empty-print p md))
-      ∙ sym (joined-chained (polynomial p) s (markOf (polynomial p) []) (numbersAt place 8 n l))
 
 -- few fields: one lane
 pub few-joined : (p : Modulus) → Proper p → (s place n : ℕ) (l words : List ℕ) → Shifts (polynomial p) (8 * s) words
     → someUnreduced (p .degree) (numbersAt place 8 n l) ≡ false
-    → looping words 1 (numbersAt place 8 n l) ≡ joinedPages (polynomial p) s (markOf (polynomial p) []) (numbersAt place 8 n l) .fingerprint
+    → looping words 1 (numbersAt place 8 n l) ≡ chained (polynomial p) (8 * s) 1 (numbersAt place 8 n l)
 few-joined p md s place n l words sh r =
     let deg = monic-degree (p .degree) (p .low) (md .2) in
     looping-chained (monic-pos (p .degree) (p .low) (md .2)) (8 * s) words sh (rw deg (md .1)) 1 (numbersAt place 8 n l)
     (rw deg (pow-lt {i = 0} {j = p .degree} (md .0))) (rw deg r)
-    ∙ ap (λ (z : ℕ). chained (polynomial p) (8 * s) z (numbersAt place 8 n l)) (sym (empty-print p md))
-    ∙ sym (joined-chained (polynomial p) s (markOf (polynomial p) []) (numbersAt place 8 n l))
+
+-- ---- a sheet's pages, by its version
+
+-- a page counts s bytes where so many are left
+whole-counts : (v : Layout) (s left : ℕ) → s ≤ left → pageLength v s left ≡ s
+whole-counts v s left h = go (v .filled)
+  where
+    go : (b : Bool) → cond b s (min s left) ≡ s
+    go true = refl
+    go false = omega arith
+
+-- pages that count s bytes each
+joined-chained : (v : Layout) (key s left : ℕ) (m : Mark) (fs : List ℕ) → ((i : ℕ) → i < length fs → pageLength v s (left - i * s) ≡ s)
+    → joinedPages v key s left m fs .fingerprint ≡ chained key (8 * s) (m .fingerprint) fs
+unfolding joinedPages joined chained
+joined-chained v key s left m [] h = refl
+joined-chained v key s left m (f ∷ fs) h =
+    joined-chained v key s (left - s) (joined key m (record { fingerprint = f; length = pageLength v s left })) fs next
+    ∙ ap (λ (n : ℕ). chained key (8 * s) (rem key (m .fingerprint * 2 ^ (8 * n) ⊕ f ⊕ 2 ^ (8 * n))) fs)
+    (ap (pageLength v s) (sym (rw (zero-mul s) (sub-zero left))) ∙ h 0 (omega arith))
+  where
+    next : (i : ℕ) → i < length fs → pageLength v s (left - s - i * s) ≡ s
+    next i l = let e : left - s - i * s ≡ left - suc i * s = omega (arith, suc-mul i s) in ap (pageLength v s) e ∙ h (suc i) (omega (arith, l))
+
+joined-append : (v : Layout) (key s left : ℕ) (m : Mark) (fs gs : List ℕ)
+    → joinedPages v key s left m (fs ++ gs) ≡ joinedPages v key s (left - length fs * s) (joinedPages v key s left m fs) gs
+unfolding joinedPages
+joined-append v key s left m [] gs = ap (λ (n : ℕ). joinedPages v key s n m gs) (sym (rw (zero-mul s) (sub-zero left)))
+joined-append v key s left m (f ∷ fs) gs =
+    let e : left - s - length fs * s ≡ left - suc (length fs) * s = omega (arith, suc-mul (length fs) s) in
+    let first = joined key m (record { fingerprint = f; length = pageLength v s left }) in
+    joined-append v key s (left - s) first fs gs ∙ ap (λ (n : ℕ). joinedPages v key s n (joinedPages v key s (left - s) first fs) gs) e
+
+module _ (p : Modulus) (md : Proper p) (v : Layout) (s n : ℕ) where
+  empty : markOf (polynomial p) [] .fingerprint ≡ 1
+  empty = ap (λ (m : Mark). m .fingerprint) (empty-mark (polynomial p) (of-degree-one (p .degree) (p .low) (md .0) (md .2)))
+
+  run : (fs : List ℕ) → ((i : ℕ) → i < length fs → pageLength v s (n - i * s) ≡ s)
+      → chained (polynomial p) (8 * s) 1 fs ≡ joinedPages v (polynomial p) s n (markOf (polynomial p) []) fs .fingerprint
+  run fs h = ap (λ (z : ℕ). chained (polynomial p) (8 * s) z fs) (sym empty) ∙ sym (joined-chained v (polynomial p) s n (markOf (polynomial p) []) fs h)
+
+  -- every page is filled up
+  pub filled-run : v .filled ≡ true → (fs : List ℕ)
+      → chained (polynomial p) (8 * s) 1 fs ≡ joinedPages v (polynomial p) s n (markOf (polynomial p) []) fs .fingerprint
+  filled-run f fs = run fs (λ i l. rw f)
+
+  -- as many pages as are whole
+  pub whole-run : (fs : List ℕ) → length fs * s ≤ n
+      → chained (polynomial p) (8 * s) 1 fs ≡ joinedPages v (polynomial p) s n (markOf (polynomial p) []) fs .fingerprint
+  whole-run fs l = run fs (λ i b. whole-counts v s (n - i * s) (omega (arith, suc-mul i s, mul-le-mul-right s b, l)))
+
+  -- and a last one, shorter than the others
+  pub last-run : v .filled ≡ false → (fs : List ℕ) (x g y left : ℕ) → length fs * s + left ≡ n → left < s → x ≡ chained (polynomial p) (8 * s) 1 fs
+      → g < 2 ^ p .degree → y ≡ rem (polynomial p) (x % 2 ^ p .degree * 2 ^ (8 * left) ⊕ g % 2 ^ p .degree ⊕ 2 ^ (8 * left))
+      → y ≡ joinedPages v (polynomial p) s n (markOf (polynomial p) []) (fs ++ g ∷ []) .fingerprint
+  unfolding joinedPages joined
+  last-run f fs x g y left e short ex lg ey =
+      let whole = joinedPages v (polynomial p) s n (markOf (polynomial p) []) fs in
+      let counts : pageLength v s (n - length fs * s) ≡ left = rw f (omega arith) in
+      ey
+      ∙ rw (mod-eq-of-lt (chain-lt p md (8 * s) x fs ex), mod-eq-of-lt lg)
+      (ap₂ (λ (z m : ℕ). rem (polynomial p) (z * 2 ^ (8 * m) ⊕ g ⊕ 2 ^ (8 * m))) (ex ∙ whole-run fs (omega arith)) (sym counts))
+      ∙ ap (λ (m : Mark). m .fingerprint) (sym (joined-append v (polynomial p) s n (markOf (polynomial p) []) fs (g ∷ [])))
+
+-- ---- the same of what the code has
+
+module _ {p : Modulus} (md : Proper p) (v : Layout) (s n : ℕ) (fields : List ℕ) where
+  pub filled-joined : (c : ℕ) (r : Joined) → v .filled ≡ true → RunJoined (polynomial p) (p .degree) s (numbersAt 0 8 c fields) r
+      → PagesJoined v (polynomial p) (p .degree) s n (numbersAt 0 8 c fields) r
+  filled-joined c r f h = record { mark = λ u. h .mark u ∙ filled-run p md v s n f (numbersAt 0 8 c fields); bits = h .bits }
+
+  pub whole-joined : (c : ℕ) (r : Joined) → c * s ≤ n → RunJoined (polynomial p) (p .degree) s (numbersAt 0 8 c fields) r
+      → PagesJoined v (polynomial p) (p .degree) s n (numbersAt 0 8 c fields) r
+  whole-joined c r l h =
+      record {
+        mark = λ u. h .mark u ∙ whole-run p md v s n (numbersAt 0 8 c fields) (rw (length-numbersAt 0 8 c fields) l);
+        bits = h .bits;
+      }
+
+  one-more : (c : ℕ) → numbersAt 0 8 (c + 1) fields ≡ numbersAt 0 8 c fields ++ numberAt (8 * c) 8 fields ∷ []
+  unfolding numbersAt
+  one-more c = numbers-append 0 8 c 1 fields ∙ ap (λ (m : ℕ). numbersAt 0 8 c fields ++ numberAt m 8 fields ∷ []) (zero-add (8 * c))
+
+  pub last-joined : (c left g : ℕ) (x r : Joined) → v .filled ≡ false → c * s + left ≡ n → left < s → g ≡ numberAt (8 * c) 8 fields
+      → RunJoined (polynomial p) (p .degree) s (numbersAt 0 8 c fields) x → LastJoined (polynomial p) (p .degree) x g left r
+      → PagesJoined v (polynomial p) (p .degree) s n (numbersAt 0 8 (c + 1) fields) r
+  last-joined c left g x r f e short eg h l =
+      let fs = numbersAt 0 8 c fields in
+      rw (one-more c, ← eg)
+      (record {
+        mark = mark;
+        bits = rw (l .bits) (bits-last fs (x .bits) g (h .bits));
+      })
+    where
+      mark : someUnreduced (p .degree) (numbersAt 0 8 c fields ++ g ∷ []) ≡ false
+          → r .mark ≡ joinedPages v (polynomial p) s n (markOf (polynomial p) []) (numbersAt 0 8 c fields ++ g ∷ []) .fingerprint
+      mark u =
+          let fs = numbersAt 0 8 c fields in
+          let o = reduced-split (p .degree) fs (g ∷ []) u in
+          last-run p md v s n f fs (x .mark) g (r .mark) left (rw (length-numbersAt 0 8 c fields) e) short (h .mark (o .0))
+          (reduced-first (p .degree) g [] (o .1) .0)
+          (l .mark)

@@ -3,13 +3,14 @@
 use mathlib.Core.Path.{_≡_}
 use mathlib.Core.Bool.{false}
 use mathlib.Core.List.{List, [], _∷_}
-use Prim.Native.Nat.{ℕ, _+_, _*_, _^_}
+use Prim.Native.Nat.{ℕ, _+_, _*_, _%_, _^_}
+use lib.Bits.{bitOr}
 use lib.Dec.{leb}
 use lib.ListN.{getD}
 use Rattle.gf2.specs.Polynomials.{_⊕_, rem}
 use Rattle.files.specs.Files.{markOf}
 use Rattle.lookups.specs.Groups.{looked}
-use Rattle.sheets.specs.Layout.{numbersAt}
+use Rattle.sheets.specs.Layout.{numbersAt, Layout}
 use Rattle.sheets.specs.Sheets.{someUnreduced, joinedPages}
 use Rattle.sheet_joining.specs.declared.Joined.{Joined}
 use Rattle.sheet_joining.specs.declared.Lanes.{Lanes}
@@ -36,6 +37,16 @@ pub record LanesJoined (words : List ℕ) (place q : ℕ) (l : List ℕ) (r : La
   pub bits : BitsOf (numbersAt place 8 (4 * q) l) (r .bits)
 
 -- marks of pages of s bytes joined under a key of degree k. Where a field is not below 2^k, the mark is left free.
-pub record PagesJoined (key k s : ℕ) (fields : List ℕ) (r : Joined) : Type 0 where
-  pub mark : someUnreduced k fields ≡ false → r .mark ≡ joinedPages key s (markOf key []) fields .fingerprint
+pub record RunJoined (key k s : ℕ) (fields : List ℕ) (r : Joined) : Type 0 where
+  pub mark : someUnreduced k fields ≡ false → r .mark ≡ chained key (8 * s) 1 fields
+  pub bits : BitsOf fields (r .bits)
+
+-- one mark more, of a page of n bytes. The numbers may be unreduced: their low bits count.
+pub record LastJoined (key k : ℕ) (x : Joined) (last n : ℕ) (r : Joined) : Type 0 where
+  pub mark : r .mark ≡ rem key (x .mark % 2 ^ k * 2 ^ (8 * n) ⊕ last % 2 ^ k ⊕ 2 ^ (8 * n))
+  pub bits : r .bits ≡ bitOr (x .bits) last
+
+-- the page marks of a sheet joined, by its version, for a file of n bytes in pages of s
+pub record PagesJoined (v : Layout) (key k s n : ℕ) (fields : List ℕ) (r : Joined) : Type 0 where
+  pub mark : someUnreduced k fields ≡ false → r .mark ≡ joinedPages v key s n (markOf key []) fields .fingerprint
   pub bits : BitsOf fields (r .bits)

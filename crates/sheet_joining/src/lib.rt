@@ -1,12 +1,14 @@
 // Page marks joined, from the fields of a sheet. These functions are for the project's own crates: what they require, every caller proves.
 use gf2::Modulus;
+use sheets::fields;
+use sheets::layout;
 ghost use mathlib.Core.Path.{_≡_};
 ghost use mathlib.Core.List.{_∷_};
 ghost use Prim.Native.Nat.{_+_, _*_, _≤_, _<_, _^_};
 ghost use lib.ListN.{length};
 ghost use Rattle.gf2.specs.Moduli.{polynomial, Proper};
-ghost use Rattle.sheets.specs.Layout.{numbersAt};
-ghost use Rattle.sheet_joining.specs.Joining.{looping, BitsOf, LanesJoined, PagesJoined};
+ghost use Rattle.sheets.specs.Layout.{numbersAt, layoutOf, pageCount};
+ghost use Rattle.sheet_joining.specs.Joining.{looping, BitsOf, LanesJoined, RunJoined, LastJoined, PagesJoined};
 
 // Marks joined, and the bits that stand in any of their fields: all fields are below 2^k exactly where these bits are.
 pub struct Joined {
@@ -72,11 +74,11 @@ fn join_lanes(shift: &[u64], fields: &[u8], q: u64) -> Lanes
     Lanes { a, b, c, d, bits }
 }
 
-// The first n page marks of a sheet joined. Many of them in four lanes, which cost a power of t and three products. A field that is not
-// below 2^k shows in the bits. The mark then means nothing: a lane may reach 2^k too, and the products take its low bits.
-pub fn pages_joined(fields: &[u8], p: Modulus, size: u64, n: u64) -> Joined
+// The first n page marks of a sheet joined, each of a whole page. Many of them in four lanes, which cost a power of t and three products. A
+// field that is not below 2^k shows in the bits. The mark then means nothing: a lane may reach 2^k too, and the products take its low bits.
+fn join_run(fields: &[u8], p: Modulus, size: u64, n: u64) -> Joined
     requires { ⌜ Proper p × (p .degree < 64) × (size ≤ 4096) × (n < 2 ^ 29) × (8 * n ≤ length (now fields)) ⌝ }
-    ensures { λ r. ⌜ PagesJoined (polynomial p) (p .degree) size (numbersAt 0 8 n (now (fields .entry))) r ⌝ }
+    ensures { λ r. ⌜ RunJoined (polynomial p) (p .degree) size (numbersAt 0 8 n (now (fields .entry))) r ⌝ }
 {
     let mut shift = [0u64; 2048];
     shifts::fill(&mut shift, p, size);
@@ -92,4 +94,35 @@ pub fn pages_joined(fields: &[u8], p: Modulus, size: u64, n: u64) -> Joined
     let abcd = lookups::times_plus(p, gf2::low_bits(abc, k), t, x.d);
     let from = (32 * q) as usize;
     join_lane(&shift, fields, from, n - 4 * q, abcd, x.bits)
+}
+
+// The mark of a page of n bytes joined behind others. A field that is not below 2^k shows in the bits.
+fn join_last(p: Modulus, x: Joined, last: u64, n: u64) -> Joined
+    requires { ⌜ Proper p × (p .degree < 64) × (n < 2 ^ 32) ⌝ }
+    ensures { λ r. ⌜ LastJoined (polynomial p) (p .degree) x last n r ⌝ }
+{
+    let f = gf2::low_bits(x.mark, p.degree);
+    let g = gf2::low_bits(last, p.degree);
+    Joined {
+        mark: files::joined_residue(p, f, g, n),
+        bits: x.bits | last,
+    }
+}
+
+// The page marks of a sheet joined, for a file of n bytes: the whole pages, then the last page by its own length, or as one page more where the
+// version fills it up.
+pub fn pages_joined(fields: &[u8], p: Modulus, size: u64, n: u64, version: u64) -> Joined
+    requires { ⌜ Proper p × (p .degree < 64) × (16 ≤ size) × (size ≤ 4096) × (n < 2 ^ 32) × (8 * pageCount size n ≤ length (now fields)) ⌝ }
+    ensures { λ r. ⌜ PagesJoined (layoutOf version) (polynomial p) (p .degree) size n (numbersAt 0 8 (pageCount size n) (now (fields .entry))) r ⌝ }
+{
+    let whole = n / size;
+    if layout::fills(version) {
+        return join_run(fields, p, size, fields::page_count(size, n));
+    }
+    let x = join_run(fields, p, size, whole);
+    let left = n - whole * size;
+    if left == 0 {
+        return x;
+    }
+    join_last(p, x, lookups::eight_at(fields, (8 * whole) as usize), left)
 }

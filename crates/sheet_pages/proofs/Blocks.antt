@@ -1,8 +1,8 @@
 -- Laws of a block of whole pages.
 use mathlib.Core.Path.{_≡_, sym, ap, ap₂, _∙_}
 use mathlib.Core.List.{List, [], _∷_, _++_}
-use Prim.Native.Nat.{ℕ, zero, suc, _+_, _-_, _*_, _/_, _≤_, _<_}
-use native.Mathlib.Nat.{mul-le-mul-right, zero-mul, suc-mul, not-suc-le-zero}
+use Prim.Native.Nat.{ℕ, _+_, _-_, _*_, _≤_, _<_}
+use native.Mathlib.Nat.{mul-le-mul-right, suc-mul}
 use native.Mathlib.Numerals.{add-one}
 use native.Mathlib.Omega.{arith}
 use lib.ListN.{length, getD, set, take, drop, length-drop, length-set}
@@ -12,9 +12,9 @@ use Rattle.lists.proofs.Lists.{stored}
 use Rattle.files.specs.Files.{bits, valueFrom, value, fingerprint}
 use Rattle.files.proofs.Values.{rem-from}
 use Rattle.files.proofs.Marks.{fed}
-use Rattle.sheets.specs.Sheets.{filled, pageFingerprints}
-use Rattle.sheets.specs.Parts.{lastPage}
-use Rattle.sheets.proofs.Pages.{length-pages, filled-whole, pages-last}
+use Rattle.sheets.specs.Layout.{Layout}
+use Rattle.sheets.specs.Sheets.{pageOf, pageFingerprints}
+use Rattle.sheets.proofs.Pages.{length-pages, page-whole, page-at, pages-last}
 use Rattle.sheet_pages.specs.Blocks.{pageFront, Begun, Finished}
 
 -- ---- one page more, or two
@@ -64,39 +64,30 @@ page-finished {key} pos s w i pages x r l ex er =
 
 -- ---- the fingerprints as a list
 
-pages-at : (p s c i : ℕ) (file : List ℕ) → i < c → getD (pageFingerprints p s c file) i 0 ≡ fingerprint p (filled s (take s (drop (i * s) file)))
-unfolding pageFingerprints
-pages-at p s zero i file h = absurd (not-suc-le-zero h)
-pages-at p s (suc c) zero file h = ap (λ (n : ℕ). fingerprint p (filled s (take s (drop n file)))) (sym (zero-mul s))
-pages-at p s (suc c) (suc i) file h =
-    let e : s + i * s ≡ suc i * s = omega (arith, suc-mul i s) in
-    pages-at p s c i (drop s file) (omega arith)
-    ∙ ap (λ (q : List ℕ). fingerprint p (filled s (take s q))) (drop-drop (i * s) s file ∙ ap (λ (n : ℕ). drop n file) e)
-
-pub block-is : (key s n : ℕ) (pages marks : List ℕ) → n * s ≤ length pages → n ≤ length marks → Finished key s n pages marks
-    → take n marks ≡ pageFingerprints key s n pages
-block-is key s n pages marks h l f =
-    ext-getD 0 (take n marks) (pageFingerprints key s n pages) (long ∙ sym (length-pages key n s pages)) (λ i b. same i (omega (arith, long, b)))
+pub block-is : (v : Layout) (key s n : ℕ) (pages marks : List ℕ) → n * s ≤ length pages → n ≤ length marks → Finished key s n pages marks
+    → take n marks ≡ pageFingerprints v key s n pages
+block-is v key s n pages marks h l f =
+    ext-getD 0 (take n marks) (pageFingerprints v key s n pages) (long ∙ sym (length-pages v key n s pages)) (λ i b. same i (omega (arith, long, b)))
   where
     long : length (take n marks) ≡ n
     long = length-take-le n marks l
 
-    whole : (i : ℕ) → i < n → filled s (take s (drop (i * s) pages)) ≡ take s (drop (i * s) pages)
+    whole : (i : ℕ) → i < n → pageOf v s (take s (drop (i * s) pages)) ≡ take s (drop (i * s) pages)
     whole i b =
-        filled-whole s (take s (drop (i * s) pages)) (length-take-le s (drop (i * s) pages)
+        page-whole v s (take s (drop (i * s) pages)) (length-take-le s (drop (i * s) pages)
         (rw length-drop (omega (arith, place-fits s n i (length pages) b h))))
 
-    same : (i : ℕ) → i < n → getD (take n marks) i 0 ≡ getD (pageFingerprints key s n pages) i 0
-    same i b = getD-take n marks i 0 b ∙ f i b ∙ ap (fingerprint key) (sym (whole i b)) ∙ sym (pages-at key s n i pages b)
+    same : (i : ℕ) → i < n → getD (take n marks) i 0 ≡ getD (pageFingerprints v key s n pages) i 0
+    same i b = getD-take n marks i 0 b ∙ f i b ∙ ap (fingerprint key) (sym (whole i b)) ∙ sym (page-at v key s n i pages b)
 
 -- ---- the last page among them
 
--- the whole pages are few, and bytes are left behind them
-pub block-last : (key s n last : ℕ) (rest marks : List ℕ) → 0 < s → n ≡ length rest / s → n < length marks → last ≡ fingerprint key (filled s (lastPage s rest))
-    → take n marks ≡ pageFingerprints key s n rest → take (n + 1) (set marks n last) ≡ pageFingerprints key s (n + 1) rest
-block-last key s n last rest marks h e l el et =
+-- a page that is not whole behind n others
+pub block-last : (v : Layout) (key s n last : ℕ) (rest marks : List ℕ) → length rest ≤ n * s + s → n < length marks
+    → last ≡ fingerprint key (pageOf v s (drop (n * s) rest))
+    → take n marks ≡ pageFingerprints v key s n rest → take (n + 1) (set marks n last) ≡ pageFingerprints v key s (n + 1) rest
+block-last v key s n last rest marks h l el et =
     ap (λ (m : ℕ). take m (set marks n last)) (add-one n)
     ∙ take-suc-set marks n last l
-    ∙ ap₂ (λ (us : List ℕ) (x : ℕ). us ++ x ∷ []) (et ∙ ap (λ (m : ℕ). pageFingerprints key s m rest) e) el
-    ∙ sym (pages-last key s rest h)
-    ∙ ap (λ (m : ℕ). pageFingerprints key s (m + 1) rest) (sym e)
+    ∙ ap₂ (λ (us : List ℕ) (x : ℕ). us ++ x ∷ []) et el
+    ∙ sym (pages-last v key s n rest h)

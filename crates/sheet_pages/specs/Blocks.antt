@@ -10,7 +10,7 @@ use Rattle.files.specs.Files.{bits, valueFrom, fingerprint}
 use Rattle.multiples.specs.Rows.{SameFrom}
 use Rattle.lookups.specs.Groups.{TableOf}
 use Rattle.shifts.specs.Shifts.{Shifts}
-use Rattle.sheets.specs.Layout.{pageCount}
+use Rattle.sheets.specs.Layout.{Layout, pageCount}
 use Rattle.sheets.specs.Sheets.{pageFingerprints}
 
 -- the two tables that pages are fed by: four bytes at a time, and eight
@@ -35,8 +35,9 @@ BegunBy eights s w n pages marks = (p : Modulus) → Proper p → Shifts (polyno
 abbrev pub Finished : ℕ → ℕ → ℕ → List ℕ → List ℕ → Type 0
 Finished key s n pages marks = (i : ℕ) → i < n → getD marks i 0 ≡ fingerprint key (pageFront s s pages i)
 
--- the next n pages of what is left of a file: all of them, at most 64. Their fingerprints stand in the first n places, the others stay.
-pub record NextPages (key s : ℕ) (rest : List ℕ) (n : ℕ) (before marks : List ℕ) : Type 0 where
+-- the next n pages of what is left of a file, as a version takes them: all of them, at most 64. Their fingerprints stand in the first n
+-- places, the others stay.
+pub record NextPages (v : Layout) (key s : ℕ) (rest : List ℕ) (n : ℕ) (before marks : List ℕ) : Type 0 where
   pub count : n ≡ min (pageCount s (length rest)) 64
-  pub prints : take n marks ≡ pageFingerprints key s n rest
+  pub prints : take n marks ≡ pageFingerprints v key s n rest
   pub behind : SameFrom n before marks

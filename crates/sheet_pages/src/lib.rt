@@ -1,18 +1,19 @@
 // The fingerprints of a file's pages, by tables, or by folding under the house key. These functions are for the project's own crates: what they
 // require, every caller proves.
 use gf2::Modulus;
+use sheets::layout;
 ghost use mathlib.Core.Path.{_≡_};
 ghost use mathlib.Core.Bool.{true};
 ghost use Prim.Native.Nat.{_+_, _-_, _*_, _/_, _%_, _≤_, _<_, min};
-ghost use lib.ListN.{length, take};
+ghost use lib.ListN.{length};
 ghost use Rattle.gf2.specs.Polynomials.{rem};
 ghost use Rattle.gf2.specs.Moduli.{polynomial, Proper};
 ghost use Rattle.files.specs.Files.{bits, valueFrom, fingerprint};
 ghost use Rattle.multiples.specs.Rows.{SameFrom};
 ghost use Rattle.lookups.specs.Groups.{TableOf};
 ghost use Rattle.house.specs.House.{houseKey};
-ghost use Rattle.sheets.specs.Sheets.{filled, pageFingerprints};
-ghost use Rattle.sheets.specs.Parts.{lastPage, LastFilled};
+ghost use Rattle.sheets.specs.Layout.{layoutOf};
+ghost use Rattle.sheets.specs.Sheets.{pageOf};
 ghost use Rattle.sheet_pages.specs.Blocks.{PageTables, Begun, BegunBy, Finished, NextPages};
 
 // The two tables that pages are fed by: four bytes at a time, and eight.
@@ -131,8 +132,7 @@ fn whole_marks(
     pages: &[u8],
 )
     requires { ⌜ PageTables p (now words) (now eights) × (8 ≤ size) × (n * size ≤ length (now pages)) × (n ≤ length (now marks)) ⌝ }
-    ensures { λ r. ⌜ (take n (now (marks .exit)) ≡ pageFingerprints (polynomial p) size n (now (pages .entry)))
-        × SameFrom n (now (marks .entry)) (now (marks .exit)) ⌝ }
+    ensures { λ r. ⌜ Finished (polynomial p) size n (now (pages .entry)) (now (marks .exit)) × SameFrom n (now (marks .entry)) (now (marks .exit)) ⌝ }
 {
     if folding(p, size) {
         fold_pages(marks, size, n, pages);
@@ -143,54 +143,40 @@ fn whole_marks(
     finish_pages(marks, words, p, size, whole, n, pages);
 }
 
-// The fingerprint of what a file has behind its whole pages, and that of the page filled up with zero bytes, where something is left.
-pub struct LastPage {
-    pub own: u64,
-    pub filled: u64,
-}
-
-// The residue of what a file has behind its whole pages, with the leading 1.
-fn fed_last(words: &[u64], p: Modulus, rest: &[u8]) -> u64
+// The residue of a page that is not whole, with the leading 1.
+fn fed_last(words: &[u64], p: Modulus, page: &[u8]) -> u64
     requires { ⌜ TableOf p (now words) ⌝ }
-    ensures { λ r. ⌜ r ≡ rem (polynomial p) (valueFrom 1 (bits (now (rest .entry)))) ⌝ }
+    ensures { λ r. ⌜ r ≡ rem (polynomial p) (valueFrom 1 (bits (now (page .entry)))) ⌝ }
 {
     if folds::is_house(p) {
-        return folds::fed_page(1, rest);
+        return folds::fed_page(1, page);
     }
-    lookups::fed(words, p, 1, rest)
+    lookups::fed(words, p, 1, page)
 }
 
-// The bytes are fed once: zero bytes behind them come in as one power of t.
-pub fn last_page(words: &[u64], p: Modulus, size: usize, file: &[u8]) -> LastPage
-    requires { ⌜ TableOf p (now words) × (0 < size) × (size ≤ 4096) ⌝ }
-    ensures { λ r. ⌜ (r .own ≡ fingerprint (polynomial p) (lastPage size (now (file .entry))))
-        × LastFilled (polynomial p) size (now (file .entry)) (r .filled) ⌝ }
-{
-    let from = file.len() / size * size;
-    if from == file.len() {
-        return LastPage { own: 1, filled: 1 };
-    }
-    let own = fed_last(words, p, &file[from..]);
-    let zeros = size - (file.len() - from);
-    let t = gf2::power_of_t(p, 8 * zeros as u64);
-    LastPage {
-        own: own,
-        filled: gf2::product(p, own, t),
-    }
-}
-
-// How a file is cut into pages: the opened key, the bytes of a page, and the fingerprint of a last page that is not whole.
+// How a file is cut into pages: the opened key, the bytes of a page, and the sheet's version.
 pub struct Paging {
     pub p: Modulus,
     pub size: usize,
-    pub last: u64,
+    pub version: u64,
+}
+
+// The fingerprint of a page that is not whole, as the version takes it: zero bytes behind it come in as one power of t.
+fn last_page(words: &[u64], x: Paging, page: &[u8]) -> u64
+    requires { ⌜ TableOf (x .p) (now words) × (length (now page) ≤ x .size) × (x .size ≤ 4096) ⌝ }
+    ensures { λ r. ⌜ r ≡ fingerprint (polynomial (x .p)) (pageOf (layoutOf (x .version)) (x .size) (now (page .entry))) ⌝ }
+{
+    let own = fed_last(words, x.p, page);
+    if layout::fills(x.version) {
+        return files::with_zeros(x.p, own, (x.size - page.len()) as u64);
+    }
+    own
 }
 
 // The fingerprints of the next pages, at most 64, into the first places: how many.
 pub fn next_pages(marks: &mut [u64], words: &[u64], eights: &[u64], x: Paging, rest: &[u8]) -> usize
-    requires { ⌜ PageTables (x .p) (now words) (now eights) × (8 ≤ x .size) × (x .size ≤ 4096) × (64 ≤ length (now marks))
-        × LastFilled (polynomial (x .p)) (x .size) (now rest) (x .last) ⌝ }
-    ensures { λ r. ⌜ NextPages (polynomial (x .p)) (x .size) (now (rest .entry)) r (now (marks .entry)) (now (marks .exit)) ⌝ }
+    requires { ⌜ PageTables (x .p) (now words) (now eights) × (8 ≤ x .size) × (x .size ≤ 4096) × (64 ≤ length (now marks)) ⌝ }
+    ensures { λ r. ⌜ NextPages (layoutOf (x .version)) (polynomial (x .p)) (x .size) (now (rest .entry)) r (now (marks .entry)) (now (marks .exit)) ⌝ }
 {
     let size = x.size;
     let n = block(rest.len(), size);
@@ -201,6 +187,6 @@ pub fn next_pages(marks: &mut [u64], words: &[u64], eights: &[u64], x: Paging, r
     if rest.len() <= n * size {
         return n;
     }
-    marks[n] = x.last;
+    marks[n] = last_page(words, x, &rest[n * size..]);
     n + 1
 }

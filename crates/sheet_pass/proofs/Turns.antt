@@ -4,18 +4,14 @@ use mathlib.Core.List.{List}
 use Prim.Native.Nat.{ℕ, _+_, _-_, _*_, _≤_, _<_}
 use native.Mathlib.Omega.{arith}
 use lib.ListN.{length, take, drop, length-drop}
-use Rattle.sheets.specs.Layout.{pageCount}
+use Rattle.sheets.specs.Layout.{Layout, pageCount}
 use Rattle.sheets.specs.Sheets.{pageFingerprints}
-use Rattle.sheets.specs.Parts.{LastFilled}
-use Rattle.sheets.proofs.Pages.{count-le, block-within, pages-from, last-after, all-left}
+use Rattle.sheets.proofs.Pages.{count-le, block-within, pages-from, all-left}
 use Rattle.sheet_pages.specs.Blocks.{NextPages}
 
-module _ (key s : ℕ) (file : List ℕ) (i : ℕ) (pos : 0 < s) (more : i * s < length file) where
-  pub turn-last : (last : ℕ) → LastFilled key s file last → LastFilled key s (take (length file - i * s) (drop (i * s) file)) last
-  turn-last last e = rw (all-left file (i * s), last-after s i file pos (omega arith)) e
-
+module _ (v : Layout) (key s : ℕ) (file : List ℕ) (i : ℕ) (pos : 0 < s) (more : i * s < length file) where
   -- n pages, whose fingerprints are the first of the marks
-  module _ (n : ℕ) (before marks : List ℕ) (h : NextPages key s (take (length file - i * s) (drop (i * s) file)) n before marks) where
+  module _ (n : ℕ) (before marks : List ℕ) (h : NextPages v key s (take (length file - i * s) (drop (i * s) file)) n before marks) where
     pub turn-few : n ≤ 64
     turn-few = omega (arith, h .count)
 
@@ -31,8 +27,8 @@ module _ (key s : ℕ) (file : List ℕ) (i : ℕ) (pos : 0 < s) (more : i * s <
         let e = ap (λ (l : List ℕ). pageCount s (length l)) (all-left file (i * s)) in
         omega (arith, h .count, e, count-le s (length (drop (i * s) file)) 1 pos (omega (arith, left)))
 
-    pub turn-marks : take n marks ≡ take n (drop i (pageFingerprints key s (pageCount s (length file)) file))
+    pub turn-marks : take n marks ≡ take n (drop i (pageFingerprints v key s (pageCount s (length file)) file))
     turn-marks =
         h .prints
-        ∙ ap (pageFingerprints key s n) (all-left file (i * s))
-        ∙ sym (pages-from key s (pageCount s (length file)) i n file turn-within)
+        ∙ ap (pageFingerprints v key s n) (all-left file (i * s))
+        ∙ sym (pages-from v key s (pageCount s (length file)) i n file turn-within)

@@ -8,10 +8,9 @@ ghost use Prim.Native.Nat.{_+_, _*_, _≤_, _<_, _^_};
 ghost use lib.ListN.{length};
 ghost use lib.Seq.{sets};
 ghost use Rattle.gf2.specs.Moduli.{polynomial, Proper};
-ghost use Rattle.files.specs.Files.{fingerprint};
-ghost use Rattle.sheets.specs.Layout.{fieldsOf, pageCount};
+ghost use Rattle.sheets.specs.Layout.{fieldsOf, layoutOf, pageCount};
 ghost use Rattle.sheets.specs.Sheets.{pageFingerprints};
-ghost use Rattle.sheets.specs.Parts.{agreeing, lastPage, LastFilled};
+ghost use Rattle.sheets.specs.Parts.{agreeing};
 ghost use Rattle.sheet_pages.specs.Blocks.{PageTables};
 ghost use Rattle.sheet_pass.specs.Passes.{Room, expected, Passed};
 
@@ -62,9 +61,9 @@ fn over_blocks(
     file: &[u8],
 ) -> usize
     requires { ⌜ PageTables (x .p) (now words) (now eights) × (16 ≤ x .size) × (x .size ≤ 4096) × (length (now file) < 2 ^ 32)
-        × LastFilled (polynomial (x .p)) (x .size) (now file) (x .last)
         × Room (8 * pageCount (x .size) (length (now file))) (now out) × Room (8 * pageCount (x .size) (length (now file))) (now known) ⌝ }
-    ensures { λ r. ⌜ Passed (pageFingerprints (polynomial (x .p)) (x .size) (pageCount (x .size) (length (now (file .entry)))) (now (file .entry)))
+    ensures { λ r. ⌜ Passed
+        (pageFingerprints (layoutOf (x .version)) (polynomial (x .p)) (x .size) (pageCount (x .size) (length (now (file .entry)))) (now (file .entry)))
         (now (known .entry)) (now (out .entry)) (now (out .exit)) r ⌝ }
 {
     let size = x.size;
@@ -83,32 +82,29 @@ fn over_blocks(
     page
 }
 
-// How many pages, from the first on, have the expected fingerprints, and the fingerprint of what the file has behind its whole pages.
-pub struct Pass {
-    pub same: usize,
-    pub own: u64,
-}
-
-// The pass under an opened key. An empty `known` means that nothing is known, an empty `out` that nothing is to be written.
-pub fn over_pages(out: &mut [u8], known: &[u8], p: Modulus, size: usize, file: &[u8]) -> Pass
+// The pass under an opened key, with the pages as a version takes them: how many, from the first on, have the expected fingerprints. An empty
+// `known` means that nothing is known, an empty `out` that nothing is to be written.
+pub fn over_pages(
+    out: &mut [u8],
+    known: &[u8],
+    p: Modulus,
+    size: usize,
+    version: u64,
+    file: &[u8],
+) -> usize
     requires { ⌜ Proper p × (8 ≤ p .degree) × (16 ≤ size) × (size ≤ 4096) × (length (now file) < 2 ^ 32)
         × Room (8 * pageCount size (length (now file))) (now out) × Room (8 * pageCount size (length (now file))) (now known) ⌝ }
-    ensures { λ r. ⌜ Passed (pageFingerprints (polynomial p) size (pageCount size (length (now (file .entry)))) (now (file .entry)))
-        (now (known .entry)) (now (out .entry)) (now (out .exit)) (r .same)
-        × (r .own ≡ fingerprint (polynomial p) (lastPage size (now (file .entry)))) ⌝ }
+    ensures { λ r. ⌜ Passed
+        (pageFingerprints (layoutOf version) (polynomial p) size (pageCount size (length (now (file .entry)))) (now (file .entry)))
+        (now (known .entry)) (now (out .entry)) (now (out .exit)) r ⌝ }
 {
     let mut words = [0u64; 1024];
     let mut eights = [0u64; 2048];
     sheet_pages::fill_tables(&mut words, &mut eights, p);
-    let last = sheet_pages::last_page(&words, p, size, file);
     let x = Paging {
         p: p,
         size: size,
-        last: last.filled,
+        version: version,
     };
-    let same = over_blocks(out, known, &words, &eights, x, file);
-    Pass {
-        same: same,
-        own: last.own,
-    }
+    over_blocks(out, known, &words, &eights, x, file)
 }

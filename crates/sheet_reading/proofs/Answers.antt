@@ -19,12 +19,14 @@ use Rattle.keys.specs.declared.Tested.the-variants as tested-cases
 use Rattle.keys.specs.Testing.{testKey}
 use Rattle.keys.specs.Answers.{tested}
 use Rattle.keys.proofs.Laws.{refused}
+use Rattle.sheets.specs.declared.Sheet.{Sheet}
 use Rattle.sheets.specs.declared.layout.Head.{Head}
-use Rattle.sheets.specs.Layout.{version1, numberAt, pagePlace, sheetLength, pageCount, Contents, fieldIn, pagesIn, contentsIn}
+use Rattle.sheets.specs.Layout.{numberAt, versionIn, Layout, layouts, layoutOf, pagePlace, sheetLength, pageCount, Contents, fieldIn, pagesIn, contentsIn}
 use Rattle.sheets.specs.Sheets.{someUnreduced, pagesJoined, fileFilled, pageSizeTest, headWrong, bodyWrong, readSheet}
 use Rattle.sheets.specs.Answers.{numbersOf}
 use Rattle.sheets.specs.Parts.{HeadOf, readBody}
 use Rattle.sheets.proofs.Numbers.{length-numbersAt}
+use Rattle.sheets.proofs.Versions.{eight-wide}
 use Rattle.refusals.proofs.Laws.{first-true, first-false}
 use Rattle.sheets.proofs.Sound.{neither}
 
@@ -32,56 +34,68 @@ use Rattle.sheets.proofs.Sound.{neither}
 
 -- the numbers of a sheet, as the code reads them
 pub numbers-are : (sheet : List ℕ) (head : Head) (c f : ℕ) → HeadOf sheet head → c ≡ pageCount (head .size) (head .length)
-    → f ≡ numberAt (pagePlace version1 c) 8 sheet
-    → numbersOf (contentsIn version1 sheet) ≡ record { key = head .key; length = head .length; size = head .size; pages = c; fingerprint = f }
+    → f ≡ numberAt (pagePlace (layoutOf (head .version)) c) 8 sheet
+    → numbersOf (contentsIn sheet)
+    ≡ record { version = head .version; key = head .key; length = head .length; size = head .size; pages = c; fingerprint = f }
 unfolding contentsIn
 numbers-are sheet head c f h ec ef =
-    rw (length-numbersAt (pagePlace version1 0) 8 (pagesIn version1 sheet) sheet, ← (h .key), ← (h .length), ← (h .size), ← ec, ← ef)
+    let v = layoutOf (versionIn sheet) in
+    rw (length-numbersAt (pagePlace v 0) (v .fingerprintWidth) (pagesIn v sheet) sheet, ← (h .key), ← (h .length), ← (h .size), ← ec, ← (h .version), ef)
+    (ap numbers (ap (λ (w : ℕ). numberAt (pagePlace (layoutOf (head .version)) c) w sheet) (eight-wide (head .version))))
+  where
+    numbers : ℕ → Sheet
+    numbers g = record { version = head .version; key = head .key; length = head .length; size = head .size; pages = c; fingerprint = g }
 
-pub body-total : (sheet : List ℕ) → bodyWrong version1 (length sheet) (contentsIn version1 sheet) ≡ false
-    → length sheet ≡ sheetLength version1 (pagesIn version1 sheet)
+pub body-total : (sheet : List ℕ) → bodyWrong (length sheet) (contentsIn sheet) ≡ false
+    → length sheet ≡ sheetLength (layoutOf (versionIn sheet)) (pagesIn (layoutOf (versionIn sheet)) sheet)
 unfolding contentsIn
 body-total sheet e =
-    let x = contentsIn version1 sheet in
-    let sizes = eqb (length sheet) (sheetLength version1 (length (x .pages))) in
-    let t = neither (not sizes) (someUnreduced (degree (x .key)) (x .pages ++ x .fingerprint ∷ [])) (not (eqb (pagesJoined x) (fileFilled x))) e in
-    eqb-true (length sheet) (sheetLength version1 (length (x .pages))) (not-false _ (t .0))
-    ∙ ap (sheetLength version1) (length-numbersAt (pagePlace version1 0) 8 (pagesIn version1 sheet) sheet)
+    let x = contentsIn sheet in
+    let v = layoutOf (versionIn sheet) in
+    let sizes = eqb (length sheet) (sheetLength v (length (x .pages))) in
+    let t =
+    neither (not sizes) (someUnreduced (degree (x .key)) (x .pages ++ x .fingerprint ∷ [])) (not (eqb (pagesJoined x .fingerprint) (fileFilled x))) e in
+    eqb-true (length sheet) (sheetLength v (length (x .pages))) (not-false _ (t .0))
+    ∙ ap (sheetLength v) (length-numbersAt (pagePlace v 0) (v .fingerprintWidth) (pagesIn v sheet) sheet)
 
 module _ (sheet : List ℕ) where
   abbrev x : Contents
-  x = contentsIn version1 sheet
+  x = contentsIn sheet
+
+  abbrev v : Layout
+  v = layoutOf (versionIn sheet)
 
   abbrev rest : List Test
-  rest = pageSizeTest (x .pageSize) ∷ bodyWrong version1 (length sheet) x ⇒ SheetMalformed ∷ []
+  rest = pageSizeTest (x .pageSize) ∷ bodyWrong (length sheet) x ⇒ SheetMalformed ∷ []
 
-  pub read-head : headWrong version1 sheet ≡ true → readSheet sheet ≡ Refused SheetMalformed tt
+  pub read-head : headWrong layouts sheet ≡ true → readSheet sheet ≡ Refused SheetMalformed tt
   unfolding readSheet
-  read-head e = first-true (headWrong version1 sheet) SheetMalformed (keyTests (x .key) ++ rest) tt x e
+  read-head e = first-true (headWrong layouts sheet) SheetMalformed (keyTests (x .key) ++ rest) tt x e
 
-  module _ (head : headWrong version1 sheet ≡ false) where
-    after-head : readSheet sheet ≡ firstOf (keyTests (fieldIn version1 2 sheet) ++ rest) tt x
+  module _ (head : headWrong layouts sheet ≡ false) where
+    after-head : readSheet sheet ≡ firstOf (keyTests (fieldIn v 2 sheet) ++ rest) tt x
     unfolding readSheet contentsIn
-    after-head = first-false (headWrong version1 sheet) SheetMalformed (keyTests (fieldIn version1 2 sheet) ++ rest) tt x head
+    after-head = first-false (headWrong layouts sheet) SheetMalformed (keyTests (fieldIn v 2 sheet) ++ rest) tt x head
 
-    pub read-refused : (t : Tested) (q : Refusal) → tested t ≡ testKey (fieldIn version1 2 sheet) → t ≡ tested-cases.Refused q
+    pub read-refused : (t : Tested) (q : Refusal) → tested t ≡ testKey (fieldIn (layoutOf (versionIn sheet)) 2 sheet) → t ≡ tested-cases.Refused q
         → readSheet sheet ≡ Refused q tt
-    read-refused t q e a = after-head ∙ refused t (fieldIn version1 2 sheet) e rest tt x q a
+    read-refused t q e a = after-head ∙ refused t (fieldIn v 2 sheet) e rest tt x q a
 
-    pub read-opened : (p : Modulus) → Opened (fieldIn version1 2 sheet) p → readSheet sheet ≡ readBody sheet
+    pub read-opened : (p : Modulus) → Opened (fieldIn (layoutOf (versionIn sheet)) 2 sheet) p → readSheet sheet ≡ readBody sheet
     read-opened p o = after-head ∙ opened-first o rest tt x
 
-  pub body-size : (ltb (fieldIn version1 4 sheet) 16 || ltb 4096 (fieldIn version1 4 sheet)) ≡ true → readBody sheet ≡ Refused PageSize tt
+  pub body-size : (ltb (fieldIn (layoutOf (versionIn sheet)) 4 sheet) 16 || ltb 4096 (fieldIn (layoutOf (versionIn sheet)) 4 sheet)) ≡ true
+      → readBody sheet ≡ Refused PageSize tt
   unfolding contentsIn
-  body-size e = first-true (ltb (x .pageSize) 16 || ltb 4096 (x .pageSize)) PageSize (bodyWrong version1 (length sheet) x ⇒ SheetMalformed ∷ []) tt x e
+  body-size e = first-true (ltb (x .pageSize) 16 || ltb 4096 (x .pageSize)) PageSize (bodyWrong (length sheet) x ⇒ SheetMalformed ∷ []) tt x e
 
-  module _ (size : (ltb (fieldIn version1 4 sheet) 16 || ltb 4096 (fieldIn version1 4 sheet)) ≡ false) where
-    after-size : readBody sheet ≡ firstOf (bodyWrong version1 (length sheet) x ⇒ SheetMalformed ∷ []) tt x
+  module _ (size : (ltb (fieldIn (layoutOf (versionIn sheet)) 4 sheet) 16 || ltb 4096 (fieldIn (layoutOf (versionIn sheet)) 4 sheet)) ≡ false) where
+    after-size : readBody sheet ≡ firstOf (bodyWrong (length sheet) x ⇒ SheetMalformed ∷ []) tt x
     unfolding contentsIn
-    after-size = first-false (ltb (x .pageSize) 16 || ltb 4096 (x .pageSize)) PageSize (bodyWrong version1 (length sheet) x ⇒ SheetMalformed ∷ []) tt x size
+    after-size = first-false (ltb (x .pageSize) 16 || ltb 4096 (x .pageSize)) PageSize (bodyWrong (length sheet) x ⇒ SheetMalformed ∷ []) tt x size
 
-    pub body-wrong : bodyWrong version1 (length sheet) (contentsIn version1 sheet) ≡ true → readBody sheet ≡ Refused SheetMalformed tt
-    body-wrong e = after-size ∙ first-true (bodyWrong version1 (length sheet) x) SheetMalformed [] tt x e
+    pub body-wrong : bodyWrong (length sheet) (contentsIn sheet) ≡ true → readBody sheet ≡ Refused SheetMalformed tt
+    body-wrong e = after-size ∙ first-true (bodyWrong (length sheet) x) SheetMalformed [] tt x e
 
-    pub body-done : bodyWrong version1 (length sheet) (contentsIn version1 sheet) ≡ false → readBody sheet ≡ Done (contentsIn version1 sheet)
-    body-done e = after-size ∙ first-false (bodyWrong version1 (length sheet) x) SheetMalformed [] tt x e
+    pub body-done : bodyWrong (length sheet) (contentsIn sheet) ≡ false → readBody sheet ≡ Done (contentsIn sheet)
+    body-done e = after-size ∙ first-false (bodyWrong (length sheet) x) SheetMalformed [] tt x e

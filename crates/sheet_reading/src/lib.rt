@@ -14,7 +14,7 @@ ghost use Prim.Native.Nat.{_+_, _*_, _≤_, min};
 ghost use lib.ListN.{length, drop};
 ghost use Rattle.refusals.specs.Answers.{reply};
 ghost use Rattle.acceptance.specs.Opened.{Opened};
-ghost use Rattle.sheets.specs.Layout.{version1, numbersAt, sheetLength};
+ghost use Rattle.sheets.specs.Layout.{numbersAt};
 ghost use Rattle.sheets.specs.Sheets.{readSheet, readPages};
 ghost use Rattle.sheets.specs.Answers.{sheetRead};
 ghost use Rattle.sheets.specs.Answers.{reading};
@@ -24,7 +24,7 @@ mod wellformed;
 
 // What stands behind a head that is right, under its opened key. Numbers 12, 14 (total, fingerprints, joining).
 fn read_under(p: Modulus, sheet: &[u8], head: Head) -> Reading
-    requires { ⌜ (sheetLength version1 0 ≤ length (now sheet)) × HeadOf (now sheet) head × Opened (head .key) p ⌝ }
+    requires { ⌜ HeadOf (now sheet) head × Opened (head .key) p ⌝ }
     ensures { λ r. ⌜ reading r ≡ sheetRead (readBody (now (sheet .entry))) ⌝ }
 {
     if !fields::size_right(head.size) {
@@ -35,11 +35,12 @@ fn read_under(p: Modulus, sheet: &[u8], head: Head) -> Reading
     }
     let count = fields::page_count(head.size, head.length);
     Reading::Sheet(Sheet {
+        version: head.version,
         key: head.key,
         length: head.length,
         size: head.size,
         pages: count,
-        fingerprint: layout::fingerprint_at(sheet, count),
+        fingerprint: layout::fingerprint_at(sheet, head.version, count),
     })
 }
 
@@ -87,7 +88,7 @@ pub fn read_pages(sheet: &[u8], lent: &mut [u64]) -> Reply
         Reading::Refused(r) => Reply::Refused(r),
         Reading::Sheet(x) => {
             let n = least(x.pages, lent.len());
-            copy_fields(lent, layout::page_fields(sheet), n);
+            copy_fields(lent, layout::page_fields(sheet, x.version), n);
             Reply::Done
         }
     }

@@ -23,8 +23,9 @@ use Rattle.keys.specs.declared.Tested.the-variants as tested-cases
 use Rattle.keys.specs.Testing.{testKey}
 use Rattle.keys.specs.Answers.{tested}
 use Rattle.keys.proofs.Laws.{refused}
-use Rattle.sheets.specs.Layout.{version1, sheetLength, pageCount, sheetBytes}
+use Rattle.sheets.specs.Layout.{Layout, newest, layoutOf, sheetLength, pageCount, sheetBytes}
 use Rattle.sheets.specs.Sheets.{contentsOf, lengthTests, lengthFor, writeSheet}
+use Rattle.sheets.proofs.Versions.{newest-is}
 use Rattle.sheets.proofs.Layouts.{length-sheet}
 use Rattle.sheets.proofs.Pages.{length-pages}
 use Rattle.sheets.proofs.Sound.{size-bounds}
@@ -41,7 +42,7 @@ module _ (n s : ℕ) where
     unfolding lengthFor
     length-size e = rw (le-ltb longest n fits, e)
 
-    pub length-done : (ltb s 16 || ltb 4096 s) ≡ false → lengthFor n s ≡ Done (sheetLength version1 (pageCount s n))
+    pub length-done : (ltb s 16 || ltb 4096 s) ≡ false → lengthFor n s ≡ Done (sheetLength newest (pageCount s n))
     unfolding lengthFor
     length-done e = rw (le-ltb longest n fits, e)
 
@@ -50,12 +51,12 @@ module _ (n s : ℕ) where
     pub clear : Clear (lengthTests n s)
     pub fits : n ≤ longest
     pub size : (16 ≤ s) × (s ≤ 4096)
-    pub total : b ≡ sheetLength version1 (pageCount s n)
+    pub total : b ≡ sheetLength newest (pageCount s n)
 
   pub measured : (b : ℕ) → Done b ≡ lengthFor n s → Measured b
   unfolding lengthFor
   measured b e =
-      let d = done-clear (lengthTests n s) tt (sheetLength version1 (pageCount s n)) b (sym e) in
+      let d = done-clear (lengthTests n s) tt (sheetLength newest (pageCount s n)) b (sym e) in
       record {
         clear = d .0;
         fits = ltb-false longest n (or-neither (ltb longest n) false (d .0 .0) .0);
@@ -67,10 +68,10 @@ module _ (n s : ℕ) where
 
 module _ (key s : ℕ) (file buffer : List ℕ) where
   long : ℕ
-  long = sheetLength version1 (pageCount s (length file))
+  long = sheetLength newest (pageCount s (length file))
 
   after : List ℕ
-  after = overlay (sheetBytes version1 (contentsOf key s file)) buffer
+  after = overlay (sheetBytes (contentsOf (newest .version) key s file)) buffer
 
   last : List Test
   last = ltb (length buffer) long ⇒ BufferShort ∷ []
@@ -100,12 +101,14 @@ module _ (key s : ℕ) (file buffer : List ℕ) where
 
       pub write-done : b ≤ length buffer
           → writeSheet key s file buffer
-          ≡ Done (sheetBytes version1 (contentsOf key s file) ++ drop (sheetLength version1 (pageCount s (length file))) buffer)
+          ≡ Done (sheetBytes (contentsOf (newest .version) key s file) ++ drop (sheetLength (layoutOf (newest .version)) (pageCount s (length file))) buffer)
       unfolding last long after contentsOf
       write-done l =
-          let x = contentsOf key s file in
-          let all : length (sheetBytes version1 x) ≡ long =
-          length-sheet version1 x ∙ ap (sheetLength version1) (length-pages key (pageCount s (length file)) s file) in
+          let x = contentsOf (newest .version) key s file in
+          let c = pageCount s (length file) in
+          let own : length (sheetBytes x) ≡ sheetLength (layoutOf (newest .version)) c =
+          length-sheet x ∙ ap (sheetLength (layoutOf (newest .version))) (length-pages (layoutOf (newest .version)) key c s file) in
+          let all : length (sheetBytes x) ≡ long = own ∙ ap (λ (v : Layout). sheetLength v c) newest-is in
           after-length
           ∙ rw (le-ltb (length buffer) long (omega (arith, m .total)))
-          (ap Done (overlay-fits (sheetBytes version1 x) buffer (omega (arith, all, m .total)) ∙ ap (λ (n : ℕ). sheetBytes version1 x ++ drop n buffer) all))
+          (ap Done (overlay-fits (sheetBytes x) buffer (omega (arith, all, m .total)) ∙ ap (λ (n : ℕ). sheetBytes x ++ drop n buffer) own))

@@ -1,25 +1,36 @@
--- A check that says same: the file has the sheet's fingerprint, so a file that differs from the sheet's own inside k neighbouring bits is
--- never said to be the same.
+-- What a check finds. The file's fingerprint is the sheet's where the check says same. A file that differs from the sheet's own inside k
+-- neighbouring bits is told by the first page that differs.
 use mathlib.Core.Path.{_≡_, refl, sym, ap, ap₂, _∙_}
-use mathlib.Core.List.{List, []}
-use Prim.Native.Nat.{ℕ, _-_, _*_, _^_, _≤_, _<_}
-use native.Mathlib.Decide.{ℕ-discrete}
+use mathlib.Core.Logic.{_≢_}
+use mathlib.Core.Bool.{Bool, true, false, cond}
+use mathlib.Core.List.{List, [], _++_, List-discrete}
+use Prim.Native.Nat.{ℕ, zero, suc, _+_, _-_, _*_, _^_, _≤_, _<_}
+use native.Mathlib.Nat.{zero-mul, suc-mul, not-suc-le-zero, le-refl}
+use native.Mathlib.Decide.{ℕ-discrete, decLt}
 use native.Mathlib.Omega.{arith}
-use lib.ListN.{length}
-use Rattle.gf2.specs.Polynomials.{rem}
+use lib.ListN.{length, take, drop, replicate, length-drop, drop-of-length-le, take-append-drop}
+use lib.Seq.{drop-drop, take-all}
+use Rattle.gf2.specs.Polynomials.{rem, degree}
 use Rattle.gf2.proofs.Congruences.{shift-cancels}
 use Rattle.refusals.specs.Refusals.{Done, longest}
 use Rattle.refusals.proofs.Laws.{done-eq}
+use Rattle.acceptance.specs.Keys.{accepted}
 use Rattle.acceptance.proofs.Laws.{accepted-iff, accepted-pos}
-use Rattle.files.specs.Files.{fingerprint, markOf}
+use Rattle.files.specs.Files.{fingerprint, markOf, Bytes}
+use Rattle.files.specs.Bursts.{Burst}
 use Rattle.files.proofs.Confusions.{burst-differs}
-use Rattle.sheets.specs.Layout.{version1, pageCount, Contents, sheetBytes}
-use Rattle.sheets.specs.Sheets.{contentsOf, joinedPages, Same, pagesNow, compared, checkSheet}
-use Rattle.sheets.specs.Claims.{WellFormed, NoBurstSame}
-use Rattle.sheets.proofs.Pages.{fingerprint-lt, pages-joined}
+use Rattle.files.proofs.Bursts.{part-burst}
+use Rattle.sheets.specs.Layout.{Layout, layoutOf, pageCount, Contents, sheetBytes}
+use Rattle.sheets.specs.Sheets.{filled, pageOf, contentsOf, joinedPages, Same, pagesNow, compared, checkSheet}
+use Rattle.sheets.specs.Parts.{zerosBehind}
+use Rattle.sheets.specs.Claims.{WellFormed, First, FirstAltered, SomeAltered, BurstFound, NoBurstSame}
+use Rattle.sheets.proofs.Numbers.{bytes-take, bytes-drop}
+use Rattle.sheets.proofs.Pages.{count-le, length-pages, page-at, fingerprint-lt, with-zeros, pages-joined-print, zeros-are}
 use Rattle.sheets.proofs.Sound.{file-sound}
-use Rattle.sheets.proofs.Changes.{other-not-same}
-use Rattle.sheets.proofs.Guarantee.{checks, other-length, same-iff}
+use Rattle.sheets.proofs.Changes.{not-same, other-not-same}
+use Rattle.sheets.proofs.Guarantee.{checks, other-length, page-iff, same-iff}
+
+-- ---- a check that says same
 
 module _ (sheet : List ℕ) (w : WellFormed sheet) (file : List ℕ) (fits : length file ≤ longest) (same : checkSheet sheet file ≡ Done Same) where
   x : Contents
@@ -38,29 +49,137 @@ module _ (sheet : List ℕ) (w : WellFormed sheet) (file : List ℕ) (fits : len
   pub same-pages : w .contents .pages ≡ pagesNow (w .contents) file
   same-pages = same-iff (w .contents) (w .sound) file same-length .0 says
 
-  -- the file's fingerprint is the sheet's, though a check does not compare them
+  abbrev zeros : ℕ → ℕ
+  zeros n = zerosBehind (layoutOf (w .contents .version)) (w .contents .pageSize) n
+
+  -- the file's fingerprint is the sheet's, though a check does not compare them: with the same zero bytes behind them they are the pages joined
   pub same-fingerprint : fingerprint (w .contents .key) file ≡ w .contents .fingerprint
   unfolding x contentsOf
   same-fingerprint =
       let i = accepted-iff (x .key) .0 (w .sound .key) in
-      shift-cancels (x .key) (fingerprint (x .key) file) (x .fingerprint) (8 * (pageCount (x .pageSize) (length file) * x .pageSize - length file)) (i .2)
-      (omega arith)
-      (fingerprint-lt pos file) (w .sound .fingerprint)
-      (sym (pages-joined pos (x .pageSize) file (omega (arith, w .sound .pageSize .0)))
-      ∙ ap (λ (fs : List ℕ). joinedPages (x .key) (x .pageSize) (markOf (x .key) []) fs .fingerprint) (sym same-pages)
+      let v = layoutOf (x .version) in
+      shift-cancels (x .key) (fingerprint (x .key) file) (x .fingerprint) (8 * zeros (length file)) (i .2) (omega arith) (fingerprint-lt pos file)
+      (w .sound .fingerprint)
+      (sym (pages-joined-print pos v (x .pageSize) file some)
+      ∙ ap₂ (λ (n : ℕ) (fs : List ℕ). joinedPages v (x .key) (x .pageSize) n (markOf (x .key) []) fs .fingerprint) same-length (sym same-pages)
       ∙ w .sound .joined
-      ∙ ap₂ (λ (c n : ℕ). rem (x .key) (x .fingerprint * 2 ^ (8 * (c * x .pageSize - n)))) (w .sound .count ∙ ap (pageCount (x .pageSize)) (sym same-length))
-      (sym same-length))
+      ∙ ap (λ (m : ℕ). rem (x .key) (x .fingerprint * 2 ^ (8 * m)))
+      (zeros-are v (x .key) (x .pageSize) (x .length) (x .pages) some (w .sound .count) ∙ ap zeros (sym same-length)))
     where
       pos : 0 < w .contents .key
       pos = accepted-pos (w .contents .key) (w .sound .key)
 
--- of a written sheet: no file that differs inside k neighbouring bits is the same
-pub no-burst-same : NoBurstSame
+      some : 0 < w .contents .pageSize
+      some = omega (arith, w .sound .pageSize .0)
+
+-- ---- the first page that differs
+
+-- one page further
+later : (s : ℕ) (a b : List ℕ) (i : ℕ) → take s a ≡ take s b → FirstAltered s (drop s a) (drop s b) i → FirstAltered s a b (suc i)
+later s a b i e f =
+    record {
+      altered = λ h. f .altered (sym (further a i) ∙ h ∙ further b i);
+      before = before;
+    }
+  where
+    further : (l : List ℕ) (j : ℕ) → take s (drop (suc j * s) l) ≡ take s (drop (j * s) (drop s l))
+    further l j =
+        let n : s + j * s ≡ suc j * s = omega (arith, suc-mul j s) in
+        ap (take s) (sym (drop-drop (j * s) s l ∙ ap (λ (m : ℕ). drop m l) n))
+
+    before : (j : ℕ) → j < suc i → take s (drop (j * s) a) ≡ take s (drop (j * s) b)
+    before zero l = rw (zero-mul s) e
+    before (suc j) l = further a j ∙ f .before j (omega arith) ∙ sym (further b j)
+
+altered-within : (s : ℕ) → 0 < s → (n : ℕ) (a b : List ℕ) → length a ≤ n → length a ≡ length b → a ≢ b → (i : ℕ) × FirstAltered s a b i
+altered-within s pos zero a b l e ne = absurd (ne (sym (take-all 0 a l) ∙ take-all 0 b (omega arith)))
+altered-within s pos (suc n) a b l e ne =
+    go (List-discrete ℕ-discrete (take s a) (take s b))
+    (altered-within s pos n (drop s a) (drop s b) (omega (arith, length-drop s a)) (omega (arith, length-drop s a, length-drop s b)))
+  where
+    go : Dec (take s a ≡ take s b) → (drop s a ≢ drop s b → (i : ℕ) × FirstAltered s (drop s a) (drop s b) i) → (i : ℕ) × FirstAltered s a b i
+    go (no d) rest = (0, record { altered = λ h. d (rw (zero-mul s) at h); before = λ j h. absurd (not-suc-le-zero h) })
+    go (yes d) rest =
+        let r = rest (λ h. ne (sym (take-append-drop s a) ∙ ap₂ (λ (u w : List ℕ). u ++ w) d h ∙ take-append-drop s b)) in
+        (suc (r .0), later s a b (r .0) d (r .1))
+
+pub some-altered : SomeAltered
+some-altered s a b pos e ne = altered-within s pos (length a) a b (le-refl (length a)) e ne
+
+-- ---- a change inside k neighbouring bits
+
+-- pages of one length, whichever way a version takes them
+taken-cancels : (v : Layout) (key s : ℕ) (a b : List ℕ) → accepted key ≡ true → length a ≡ length b
+    → fingerprint key (pageOf v s a) ≡ fingerprint key (pageOf v s b) → fingerprint key a ≡ fingerprint key b
+unfolding filled
+taken-cancels v key s a b acc e = go (v .filled)
+  where
+    pos : 0 < key
+    pos = accepted-pos key acc
+
+    go : (f : Bool) → fingerprint key (cond f (filled s a) a) ≡ fingerprint key (cond f (filled s b) b) → fingerprint key a ≡ fingerprint key b
+    go false h = h
+    go true h =
+        let i = accepted-iff key .0 acc in
+        shift-cancels key (fingerprint key a) (fingerprint key b) (8 * (s - length a)) (i .2) (omega arith) (fingerprint-lt pos a) (fingerprint-lt pos b)
+        (with-zeros pos (s - length a) a
+        ∙ h
+        ∙ ap (λ (n : ℕ). fingerprint key (b ++ replicate (s - n) 0)) (sym e)
+        ∙ sym (with-zeros pos (s - length a) b))
+
+module _ (version key s : ℕ) (a b : List ℕ) (acc : accepted key ≡ true) (some : 0 < s) (ha : Bytes a) (hb : Bytes b) (burst : Burst (degree key) a b)
+    (i : ℕ) (f : FirstAltered s a b i) where
+  abbrev page : List ℕ → List ℕ
+  page l = take s (drop (i * s) l)
+
+  -- the page begins inside the file
+  inside : i * s < length a
+  inside = go (decLt (i * s) (length a))
+    where
+      go : Dec (i * s < length a) → i * s < length a
+      go (yes l) = l
+      go (no l) =
+          absurd
+          (f .altered
+          (ap (take s) (drop-of-length-le a {i = i * s} (omega arith) ∙ sym (drop-of-length-le b {i = i * s} (omega (arith, burst .same-length))))))
+
+  below : i < pageCount s (length a)
+  below = count-le s (length a) (suc i) some (omega (arith, suc-mul i s, inside))
+
+  prints-differ : fingerprint key (pageOf (layoutOf version) s (page a)) ≢ fingerprint key (pageOf (layoutOf version) s (page b))
+  prints-differ e =
+      let d = accepted-iff key .0 acc in
+      let part = part-burst (degree key) s (i * s) a b (omega arith) burst in
+      burst-differs key (page a) (page b) (d .2) (omega arith) (bytes-take s _ (bytes-drop (i * s) a ha)) (bytes-take s _ (bytes-drop (i * s) b hb))
+      (f .altered) part
+      (taken-cancels (layoutOf version) key s (page a) (page b) acc (part .same-length) e)
+
+  first-differs : First (contentsOf version key s a .pages) (contentsOf version key s b .pages) i
+  unfolding contentsOf
+  first-differs =
+      let v = layoutOf version in
+      let other : i < pageCount s (length b) = rw (← (burst .same-length)) below in
+      record {
+        below = rw (length-pages v key (pageCount s (length a)) s a) below;
+        differ = λ e. prints-differ (sym (page-at v key s (pageCount s (length a)) i a below) ∙ e ∙ page-at v key s (pageCount s (length b)) i b other);
+        equal = λ j l. page-at v key s (pageCount s (length a)) j a (omega (arith, l, below))
+            ∙ ap (λ (q : List ℕ). fingerprint key (pageOf v s q)) (f .before j l)
+            ∙ sym (page-at v key s (pageCount s (length b)) j b (omega (arith, l, other)));
+      }
+
+-- it is found on the first page that it alters
+pub burst-found : BurstFound
 unfolding contentsOf
-no-burst-same key s a b acc n lo hi ha hb ne burst same =
-    let w : WellFormed (sheetBytes version1 (contentsOf key s a)) =
-    record { contents = contentsOf key s a; sound = file-sound key s a acc n lo hi; bytes = refl } in
-    let i = accepted-iff key .0 acc in
-    burst-differs key a b (i .2) (omega arith) ha hb ne burst
-    (sym (same-fingerprint (sheetBytes version1 (contentsOf key s a)) w b (omega (arith, burst .same-length)) same))
+burst-found version key s a b kn acc n lo hi ha hb burst i f =
+    let x = contentsOf version key s a in
+    let sound = file-sound version key s a kn acc n lo hi in
+    let w : WellFormed (sheetBytes x) = record { contents = x; sound = sound; bytes = refl } in
+    checks (sheetBytes x) w b (omega (arith, burst .same-length))
+    ∙ ap Done
+    (page-iff x sound b (sym (burst .same-length)) i .1 (first-differs version key s a b acc (omega arith) ha hb burst i f))
+
+-- so no file that differs inside k neighbouring bits is told as the same
+pub no-burst-same : NoBurstSame
+no-burst-same version key s a b kn acc n lo hi ha hb burst ne same =
+    let r = some-altered s a b (omega arith) (burst .same-length) ne in
+    not-same (done-eq _ _ (sym (burst-found version key s a b kn acc n lo hi ha hb burst (r .0) (r .1)) ∙ same))

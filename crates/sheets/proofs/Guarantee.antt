@@ -1,27 +1,32 @@
 -- What the calls promise together, over the definitions that their contracts cite.
-use mathlib.Core.Path.{_≡_, refl, sym, ap, _∙_}
-use mathlib.Core.Bool.{false}
+use mathlib.Core.Path.{_≡_, refl, sym, ap, ap₂, _∙_}
+use mathlib.Core.Bool.{Bool, false, cond, or-true}
 use mathlib.Core.List.{List, [], _∷_}
-use Prim.Native.Nat.{ℕ, _-_, _^_, _≤_, _<_}
-use native.Mathlib.Nat.{zero-add}
+use Prim.Native.Nat.{ℕ, _+_, _-_, _*_, _^_, _≤_, _<_, min}
+use native.Mathlib.Nat.{zero-add, mul-one}
 use lib.Dec.{ltb}
 use lib.ListN.{length, take, drop}
 use lib.Seq.{take-at}
 use borrow.Author.Tests.{eq-eqb, ne-eqb, le-ltb, ltb-false}
 use Rattle.lists.specs.Lists.{overlay}
 use Rattle.lists.proofs.Lent.{overlay-fits}
+use Rattle.gf2.specs.Polynomials.{rem}
+use Rattle.gf2.proofs.Residues.{rem-small}
+use Rattle.files.specs.Files.{markOf}
 use Rattle.refusals.specs.declared.Refusal.the-variants.{TooLong}
 use Rattle.refusals.specs.Refusals.{Done, _⇒_, passes, longest}
 use Rattle.refusals.proofs.Laws.{Clear, clear-done, clear-append, done-clear}
 use Rattle.lists.proofs.Truth.{or-neither}
 use Rattle.acceptance.proofs.Laws.{key-iff}
-use Rattle.sheets.specs.Layout.{version1, numberAt, pagePlace, sheetLength, pageCount, Contents, sheetBytes, contentsIn}
+use Rattle.sheets.specs.Layout.{numberAt, Layout, newest, layouts, layoutOf, pagePlace, sheetLength, pageCount, Contents, sheetBytes, contentsIn}
 use Rattle.sheets.specs.Sheets.{contentsOf, writeTests, writeSheet, readTests, readSheet, readPages, Page}
-use Rattle.sheets.specs.Claims.{SoundContents, WellFormed, First, ReadIff, PagesGiven, WrittenReads, WrittenFingerprint, Checks, OtherLengthTold}
-use Rattle.sheets.specs.Claims.{PageIff, SameIff}
+use Rattle.sheets.specs.Claims.{SoundContents, WellFormed, First, ReadIff, OtherVersion, PagesGiven, WrittenReads, WrittenFingerprint, Checks}
+use Rattle.sheets.specs.Claims.{OtherLengthTold, PagesGiveFile, OwnCompared, FilledCompared, PageIff, SameIff}
+use Rattle.sheets.specs.Parts.{zerosBehind}
 use Rattle.sheets.specs.Sheets.{firstChange, pagesNow, compared, checkTests, checkSheet}
+use Rattle.sheets.proofs.Versions.{newest-is, newest-known}
 use Rattle.sheets.proofs.Layouts.{length-sheet, fingerprint-back}
-use Rattle.sheets.proofs.Pages.{length-pages}
+use Rattle.sheets.proofs.Pages.{length-pages, own-joined, joined-length, zeros-are}
 use Rattle.sheets.proofs.Sound.{size-bounds, sound-fits, sound-back, sound-clear, clear-sound, file-sound}
 use Rattle.sheets.proofs.Changes.{same-equal, equal-same, page-first, first-page}
 
@@ -32,7 +37,7 @@ pub reads : (sheet : List ℕ) (w : WellFormed sheet) → readSheet sheet ≡ Do
 unfolding readSheet
 reads sheet w =
     rw (w .bytes)
-    (clear-done (readTests version1 (sheetBytes version1 (w .contents))) tt (contentsIn version1 (sheetBytes version1 (w .contents)))
+    (clear-done (readTests layouts (sheetBytes (w .contents))) tt (contentsIn (sheetBytes (w .contents)))
     (sound-clear (w .contents) (w .sound))
     ∙ ap Done (sound-back (w .contents) (w .sound)))
 
@@ -41,51 +46,83 @@ pub read-iff : ReadIff
 unfolding readSheet
 read-iff sheet b = (there, back)
   where
-    there : readSheet sheet ≡ Done (contentsIn version1 sheet) → WellFormed sheet
-    there e = clear-sound sheet (done-clear (readTests version1 sheet) tt (contentsIn version1 sheet) (contentsIn version1 sheet) e .0) b
+    there : readSheet sheet ≡ Done (contentsIn sheet) → WellFormed sheet
+    there e = clear-sound sheet (done-clear (readTests layouts sheet) tt (contentsIn sheet) (contentsIn sheet) e .0) b
 
-    back : WellFormed sheet → readSheet sheet ≡ Done (contentsIn version1 sheet)
-    back w = clear-done (readTests version1 sheet) tt (contentsIn version1 sheet) (rw (← (w .bytes)) at (sound-clear (w .contents) (w .sound)))
+    back : WellFormed sheet → readSheet sheet ≡ Done (contentsIn sheet)
+    back w = clear-done (readTests layouts sheet) tt (contentsIn sheet) (rw (← (w .bytes)) at (sound-clear (w .contents) (w .sound)))
 
-contents-back : (sheet : List ℕ) (w : WellFormed sheet) → contentsIn version1 sheet ≡ w .contents
-contents-back sheet w = ap (contentsIn version1) (w .bytes) ∙ sound-back (w .contents) (w .sound)
+-- a sheet of a version that the reader's list has not is refused with 14
+pub other-version : OtherVersion
+other-version vs sheet x e = rw (e, or-true)
 
--- its pages' fingerprints are given in lent words
+contents-back : (sheet : List ℕ) (w : WellFormed sheet) → contentsIn sheet ≡ w .contents
+contents-back sheet w = ap contentsIn (w .bytes) ∙ sound-back (w .contents) (w .sound)
+
+-- the page fingerprints of a well-formed sheet are given in lent words
 pub pages-given : PagesGiven
 unfolding readPages
 pages-given sheet w words =
-    clear-done (readTests version1 sheet) words _ (rw (← (w .bytes)) at (sound-clear (w .contents) (w .sound)))
+    clear-done (readTests layouts sheet) words _ (rw (← (w .bytes)) at (sound-clear (w .contents) (w .sound)))
     ∙ ap (λ (y : Contents). Done (overlay (y .pages) words)) (contents-back sheet w)
+
+-- ---- the page marks joined
+
+pub pages-give-file : PagesGiveFile
+unfolding contentsOf
+pages-give-file key s file pos some =
+    own-joined pos (layoutOf (newest .version)) (ap (λ (v : Layout). v .filled) newest-is) s file some
+
+pub own-compared : OwnCompared
+own-compared x f pos some count small =
+    let n = x .length in
+    let v = layoutOf (x .version) in
+    let none : zerosBehind v (x .pageSize) n ≡ 0 = ap (λ (b : Bool). cond b (pageCount (x .pageSize) n * x .pageSize - n) 0) f in
+    ap (λ (m : ℕ). rem (x .key) (x .fingerprint * 2 ^ (8 * m))) (zeros-are v (x .key) (x .pageSize) n (x .pages) some count ∙ none)
+    ∙ ap (rem (x .key)) (mul-one (x .fingerprint))
+    ∙ rem-small pos (x .fingerprint) small
+
+pub filled-compared : FilledCompared
+unfolding markOf
+filled-compared x f =
+    let c = length (x .pages) in
+    ap (λ (m : ℕ). rem (x .key) (x .fingerprint * 2 ^ (8 * (m - x .length))))
+    (joined-length (layoutOf (x .version)) (x .key) (x .pageSize) (x .length) (markOf (x .key) []) (x .pages)
+    ∙ ap (λ (b : Bool). 0 + cond b (c * x .pageSize) (min (c * x .pageSize) (x .length))) f
+    ∙ zero-add (c * x .pageSize))
 
 -- ---- writing, then reading
 
 module _ (key s : ℕ) (file buffer after : List ℕ) (fits : key < 2 ^ 64) (done : writeSheet key s file buffer ≡ Done after) where
   abbrev sheet : List ℕ
-  sheet = sheetBytes version1 (contentsOf key s file)
+  sheet = sheetBytes (contentsOf (newest .version) key s file)
 
   abbrev total : ℕ
-  total = sheetLength version1 (pageCount s (length file))
+  total = sheetLength newest (pageCount s (length file))
 
   length-written : length sheet ≡ total
   unfolding contentsOf
-  length-written = length-sheet version1 (contentsOf key s file) ∙ ap (sheetLength version1) (length-pages key (pageCount s (length file)) s file)
+  length-written =
+      length-sheet (contentsOf (newest .version) key s file)
+      ∙ ap₂ (λ (v : Layout) (c : ℕ). sheetLength v c) newest-is
+      (length-pages (layoutOf (newest .version)) key (pageCount s (length file)) s file)
 
   cleared : Clear (writeTests key s file buffer) × (overlay sheet buffer ≡ after)
   unfolding writeSheet
   cleared = done-clear (writeTests key s file buffer) buffer _ after done
 
-  sound : SoundContents (contentsOf key s file)
+  sound : SoundContents (contentsOf (newest .version) key s file)
   sound =
       let c = cleared .0 in
       let p = or-neither (ltb longest (length file)) false (c .1 .1 .0) in
       let z = size-bounds s (c .1 .1 .1 .0) in
-      file-sound key s file (key-iff key fits .1 (c .0, c .1 .0)) (ltb-false longest (length file) (p .0)) (z .0) (z .1)
+      file-sound (newest .version) key s file newest-known (key-iff key fits .1 (c .0, c .1 .0)) (ltb-false longest (length file) (p .0)) (z .0) (z .1)
 
   -- the buffer is as long as the sheet, or longer
   room : total ≤ length buffer
   room = ltb-false (length buffer) total (cleared .0 .1 .1 .1 .1 .0)
 
-  pub written-bytes : take (sheetLength version1 (pageCount s (length file))) after ≡ sheetBytes version1 (contentsOf key s file)
+  pub written-bytes : take (sheetLength newest (pageCount s (length file))) after ≡ sheetBytes (contentsOf (newest .version) key s file)
   written-bytes =
       ap (take total) (sym (cleared .1) ∙ overlay-fits sheet buffer (rw length-written room))
       ∙ take-at sheet (drop (length sheet) buffer) total length-written
@@ -94,24 +131,25 @@ module _ (key s : ℕ) (file buffer after : List ℕ) (fits : key < 2 ^ 64) (don
 pub written-reads : WrittenReads
 written-reads key s file buffer after fits done =
     rw (written-bytes key s file buffer after fits done)
-    (reads (sheetBytes version1 (contentsOf key s file))
-    (record { contents = contentsOf key s file; sound = sound key s file buffer after fits done; bytes = refl }))
+    (reads (sheetBytes (contentsOf (newest .version) key s file))
+    (record { contents = contentsOf (newest .version) key s file; sound = sound key s file buffer after fits done; bytes = refl }))
 
 pub written-fingerprint : WrittenFingerprint
 unfolding contentsOf
 written-fingerprint key s file buffer after fits done =
     rw (written-bytes key s file buffer after fits done)
-    (ap (λ (c : ℕ). numberAt (pagePlace version1 c) 8 (sheetBytes version1 (contentsOf key s file)))
-    (sym (length-pages key (pageCount s (length file)) s file))
-    ∙ fingerprint-back version1 (contentsOf key s file) (sound-fits (contentsOf key s file) (sound key s file buffer after fits done)))
+    (ap₂ (λ (v : Layout) (c : ℕ). numberAt (pagePlace v c) (v .fingerprintWidth) (sheetBytes (contentsOf (newest .version) key s file)))
+    (sym newest-is) (sym (length-pages (layoutOf (newest .version)) key (pageCount s (length file)) s file))
+    ∙ fingerprint-back (contentsOf (newest .version) key s file)
+    (sound-fits (contentsOf (newest .version) key s file) (sound key s file buffer after fits done)))
 
 -- ---- checking a file against a well-formed sheet
 
 pub checks : Checks
 unfolding checkSheet
 checks sheet w file fits =
-    clear-done (checkTests sheet file) tt (compared (contentsIn version1 sheet) file)
-    (clear-append (readTests version1 sheet) (passes (length file ∷ []) ⇒ TooLong ∷ []) (rw (← (w .bytes)) at (sound-clear (w .contents) (w .sound)))
+    clear-done (checkTests sheet file) tt (compared (contentsIn sheet) file)
+    (clear-append (readTests layouts sheet) (passes (length file ∷ []) ⇒ TooLong ∷ []) (rw (← (w .bytes)) at (sound-clear (w .contents) (w .sound)))
     (rw (le-ltb longest (length file) fits) refl, tt))
     ∙ ap (λ (x : Contents). Done (compared x file)) (contents-back sheet w)
 
@@ -126,7 +164,10 @@ module _ (x : Contents) (sound : SoundContents x) (file : List ℕ) (e : length 
 
   as-many : length (x .pages) ≡ length (pagesNow x file)
   unfolding contentsOf
-  as-many = sound .count ∙ ap (pageCount (x .pageSize)) (sym e) ∙ sym (length-pages (x .key) (pageCount (x .pageSize) (length file)) (x .pageSize) file)
+  as-many =
+      sound .count
+      ∙ ap (pageCount (x .pageSize)) (sym e)
+      ∙ sym (length-pages (layoutOf (x .version)) (x .key) (pageCount (x .pageSize) (length file)) (x .pageSize) file)
 
 pub page-iff : PageIff
 page-iff x sound file e i = (there, back)

@@ -9,13 +9,23 @@ use Rattle.refusals.specs.declared.Refusal.{Refusal}
 use Rattle.refusals.proofs.Laws.{Clear, clear-done, done-clear, more-refused}
 use Rattle.refusals.specs.Refusals.{Answer, Done, Refused, Test, firstOf}
 use Rattle.sheets.specs.declared.Sheet.{Sheet}
-use Rattle.sheets.specs.Layout.{version1, pagePlace, sheetLength, Contents, pagesIn, contentsIn}
+use Rattle.sheets.specs.Layout.{numbersAt, versionIn, layouts, layoutOf, pagePlace, sheetLength, Contents, pagesIn, contentsIn}
 use Rattle.sheets.specs.Sheets.{readTests, readSheet, readPages}
 use Rattle.sheets.specs.Answers.{numbersOf, sheetRead}
 use Rattle.sheets.specs.Claims.{SoundContents}
-use Rattle.sheets.specs.Parts.{ReadAs}
-use Rattle.sheets.proofs.Numbers.{length-numbersAt}
+use Rattle.sheets.specs.Parts.{ReadAs, fingerprintsPart}
+use Rattle.sheets.proofs.Numbers.{length-numbersAt, numbers-of-part}
+use Rattle.sheets.proofs.Versions.{eight-wide}
 use Rattle.sheets.proofs.Sound.{clear-total, clear-contents}
+
+-- the page fingerprints, in the part that begins with them
+pub pages-in : (sheet : List ℕ)
+    → contentsIn sheet .pages ≡ numbersAt 0 8 (pagesIn (layoutOf (versionIn sheet)) sheet) (fingerprintsPart (versionIn sheet) sheet)
+unfolding contentsIn
+pages-in sheet =
+    let v = layoutOf (versionIn sheet) in
+    let n = pagesIn v sheet in
+    ap (λ (w : ℕ). numbersAt (pagePlace v 0) w n sheet) (eight-wide (versionIn sheet)) ∙ sym (numbers-of-part (pagePlace v 0) 8 n sheet)
 
 -- ---- what reading says
 
@@ -26,7 +36,7 @@ refused-inv (Refused r s) q e = let d : r ≡ q = cc in rw d
 done-inv : (sheet : List ℕ) (a : Answer Unit Contents) (x : Sheet) → readSheet sheet ≡ a → sheetRead a ≡ Done x → ReadAs sheet x
 unfolding readSheet
 done-inv sheet (Done y) x d e =
-    let z = done-clear (readTests version1 sheet) tt (contentsIn version1 sheet) y d .1 in
+    let z = done-clear (readTests layouts sheet) tt (contentsIn sheet) y d .1 in
     record { done = d ∙ ap Done (sym z); numbers = sym (ap numbersOf z ∙ cc) }
 done-inv sheet (Refused r s) x d e = absurd (let z : _≡_ {A = ℕ} 0 1 = cc in omega arith)
 
@@ -36,19 +46,25 @@ read-as sheet x e = done-inv sheet (readSheet sheet) x refl (sym e)
 -- ---- a sheet that was read
 
 module _ (sheet : List ℕ) {x : Sheet} (r : ReadAs sheet x) where
-  pub tests-clear : Clear (readTests version1 sheet)
+  pub tests-clear : Clear (readTests layouts sheet)
   unfolding readSheet
-  tests-clear = done-clear (readTests version1 sheet) tt (contentsIn version1 sheet) (contentsIn version1 sheet) (r .done) .0
+  tests-clear = done-clear (readTests layouts sheet) tt (contentsIn sheet) (contentsIn sheet) (r .done) .0
 
-  pub sound : SoundContents (contentsIn version1 sheet)
+  pub sound : SoundContents (contentsIn sheet)
   sound = clear-contents sheet tests-clear
 
-  pub total : length sheet ≡ sheetLength version1 (pagesIn version1 sheet)
+  pub total : length sheet ≡ sheetLength (layoutOf (versionIn sheet)) (pagesIn (layoutOf (versionIn sheet)) sheet)
   total = clear-total sheet tests-clear
 
-  pub pages-counted : x .pages ≡ pagesIn version1 sheet
+  pub version-read : x .version ≡ versionIn sheet
   unfolding contentsIn
-  pages-counted = ap (λ (y : Sheet). y .pages) (r .numbers) ∙ length-numbersAt (pagePlace version1 0) 8 (pagesIn version1 sheet) sheet
+  version-read = ap (λ (y : Sheet). y .version) (r .numbers)
+
+  pub pages-counted : x .pages ≡ pagesIn (layoutOf (versionIn sheet)) sheet
+  unfolding contentsIn
+  pages-counted =
+      let v = layoutOf (versionIn sheet) in
+      ap (λ (y : Sheet). y .pages) (r .numbers) ∙ length-numbersAt (pagePlace v 0) (v .fingerprintWidth) (pagesIn v sheet) sheet
 
 -- ---- its page fingerprints in lent words
 
@@ -56,10 +72,10 @@ module _ (sheet words : List ℕ) where
   pub pages-refused : (q : Refusal) → Refused q tt ≡ sheetRead (readSheet sheet) → readPages sheet words ≡ Refused q words
   unfolding readSheet readPages
   pages-refused q e =
-      let after = overlay (contentsIn version1 sheet .pages) words in
-      ap (λ (ts : List Test). firstOf ts words after) (sym (append-nil (readTests version1 sheet)))
-      ∙ more-refused (readTests version1 sheet) [] tt words (contentsIn version1 sheet) after q (refused-inv (readSheet sheet) q (sym e))
+      let after = overlay (contentsIn sheet .pages) words in
+      ap (λ (ts : List Test). firstOf ts words after) (sym (append-nil (readTests layouts sheet)))
+      ∙ more-refused (readTests layouts sheet) [] tt words (contentsIn sheet) after q (refused-inv (readSheet sheet) q (sym e))
 
-  pub pages-done : {x : Sheet} → ReadAs sheet x → readPages sheet words ≡ Done (overlay (contentsIn version1 sheet .pages) words)
+  pub pages-done : {x : Sheet} → ReadAs sheet x → readPages sheet words ≡ Done (overlay (contentsIn sheet .pages) words)
   unfolding readPages
-  pages-done r = clear-done (readTests version1 sheet) words _ (tests-clear sheet r)
+  pages-done r = clear-done (readTests layouts sheet) words _ (tests-clear sheet r)

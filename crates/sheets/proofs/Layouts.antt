@@ -2,21 +2,22 @@
 use mathlib.Core.Path.{_≡_, refl, sym, ap, ap₂, _∙_}
 use mathlib.Core.List.{List, [], _∷_, _++_, append-assoc, append-nil}
 use Prim.Native.Nat.{ℕ, zero, suc, _+_, _*_, _^_, _≤_, _<_}
-use native.Mathlib.Nat.{mul-zero, add-zero, zero-add, add-assoc}
+use native.Mathlib.Nat.{add-zero, zero-add, add-assoc}
 use native.Mathlib.Omega.{arith}
 use lib.ListN.{length, getD, take, drop, length-append}
 use lib.Seq.{take-add, take-all, drop-drop}
 use Rattle.lists.specs.Lists.{All}
 use Rattle.files.specs.Files.{Bytes}
 use Rattle.sheets.specs.Layout.{bytesOf, fieldsOf, numberAt, numbersAt}
-use Rattle.sheets.specs.Layout.{Layout, width, pagePlace, sheetLength, pageCount, Contents, letters, headOf, bytesIn}
+use Rattle.sheets.specs.Layout.{letters, versionIn, Layout, layoutOf, width, fieldWidths, pagePlace, sheetLength, pageCount, Contents, headOf, bytesIn}
 use Rattle.sheets.specs.Layout.{sheetBytes, fieldIn, pagesIn, contentsIn}
+use Rattle.sheets.proofs.Versions.{place-first}
 use Rattle.sheets.proofs.Numbers.{length-bytesOf, length-fieldsOf, number-seam, number-behind, numbers-seam, bytes-number, fields-numbers}
 
-pub contents-eq : {k k' n n' s s' f f' : ℕ} {g g' : List ℕ} → k ≡ k' → n ≡ n' → s ≡ s' → g ≡ g' → f ≡ f'
-    → _≡_ {A = Contents} (record { key = k; length = n; pageSize = s; pages = g; fingerprint = f })
-    (record { key = k'; length = n'; pageSize = s'; pages = g'; fingerprint = f' })
-contents-eq a b c d e = cc
+pub contents-eq : {v v' k k' n n' s s' f f' : ℕ} {g g' : List ℕ} → v ≡ v' → k ≡ k' → n ≡ n' → s ≡ s' → g ≡ g' → f ≡ f'
+    → _≡_ {A = Contents} (record { version = v; key = k; length = n; pageSize = s; pages = g; fingerprint = f })
+    (record { version = v'; key = k'; length = n'; pageSize = s'; pages = g'; fingerprint = f' })
+contents-eq a b c d e f = cc
 
 -- ---- the fields in front of the fingerprints: written, then read
 
@@ -69,15 +70,18 @@ module _ (sheet : List ℕ) (h : Bytes sheet) where
 -- ---- the sheet
 
 -- every number fits its field, and there are as many pages as the length and the page size ask
-pub record Fits (v : Layout) (x : Contents) : Type 0 where
-  pub fields : Fit (v .widths) (headOf v x)
-  pub pages : All (λ f. f < 2 ^ (8 * v .fingerprintWidth)) (x .pages)
-  pub fingerprint : x .fingerprint < 2 ^ (8 * v .fingerprintWidth)
+pub record Fits (x : Contents) : Type 0 where
+  pub fields : Fit (fieldWidths (layoutOf (x .version))) (headOf x)
+  pub pages : All (λ f. f < 2 ^ (8 * layoutOf (x .version) .fingerprintWidth)) (x .pages)
+  pub fingerprint : x .fingerprint < 2 ^ (8 * layoutOf (x .version) .fingerprintWidth)
   pub count : lib.ListN.length (x .pages) ≡ pageCount (x .pageSize) (x .length)
 
-module _ (v : Layout) (x : Contents) where
+module _ (x : Contents) where
+  abbrev v : Layout
+  v = layoutOf (x .version)
+
   abbrev head : List ℕ
-  head = bytesIn (v .widths) (headOf v x)
+  head = bytesIn (fieldWidths v) (headOf x)
 
   abbrev pages : List ℕ
   pages = fieldsOf (v .fingerprintWidth) (x .pages)
@@ -85,67 +89,77 @@ module _ (v : Layout) (x : Contents) where
   abbrev last : List ℕ
   last = bytesOf (v .fingerprintWidth) (x .fingerprint)
 
-  length-head : length head ≡ width (v .widths)
-  length-head = length-fields (v .widths) (headOf v x)
+  length-head : length head ≡ width (fieldWidths v)
+  length-head = length-fields (fieldWidths v) (headOf x)
 
   length-front : length (head ++ pages) ≡ pagePlace v (length (x .pages))
   length-front = length-append head pages ∙ rw (length-head, length-fieldsOf)
 
-  pub length-sheet : length (sheetBytes v x) ≡ sheetLength v (length (x .pages))
+  pub length-sheet : length (sheetBytes x) ≡ sheetLength (layoutOf (x .version)) (length (x .pages))
   unfolding sheetBytes
   length-sheet = length-append (head ++ pages) last ∙ rw (length-front, length-bytesOf)
 
-  module _ (fits : Fits v x) where
-    pub field-back : (i : ℕ) → i < length (v .widths) → fieldIn v i (sheetBytes v x) ≡ getD (headOf v x) i 0
+  module _ (fits : Fits x) where
+    pub field-back : (i : ℕ) → i < length (fieldWidths (layoutOf (x .version))) → fieldIn (layoutOf (x .version)) i (sheetBytes x) ≡ getD (headOf x) i 0
     unfolding sheetBytes
-    field-back i l = rw append-assoc (field-read (v .widths) (headOf v x) i (pages ++ last) l (fits .fields))
+    field-back i l = rw append-assoc (field-read (fieldWidths v) (headOf x) i (pages ++ last) l (fits .fields))
 
-    pages-back : numbersAt (pagePlace v 0) (v .fingerprintWidth) (length (x .pages)) (sheetBytes v x) ≡ x .pages
+    pages-back : numbersAt (pagePlace v 0) (v .fingerprintWidth) (length (x .pages)) (sheetBytes x) ≡ x .pages
     unfolding sheetBytes
     pages-back =
-        let none : width (v .widths) ≡ pagePlace v 0 = sym (rw (mul-zero (v .fingerprintWidth)) (add-zero (width (v .widths)))) in
-        rw append-assoc (numbers-seam (x .pages) head last (pagePlace v 0) (v .fingerprintWidth) (length-head ∙ none) (fits .pages))
+        rw append-assoc (numbers-seam (x .pages) head last (pagePlace v 0) (v .fingerprintWidth) (length-head ∙ place-first v) (fits .pages))
 
-    pub fingerprint-back : numberAt (pagePlace v (length (x .pages))) (v .fingerprintWidth) (sheetBytes v x) ≡ x .fingerprint
+    pub fingerprint-back : numberAt (pagePlace (layoutOf (x .version)) (length (x .pages))) (layoutOf (x .version) .fingerprintWidth) (sheetBytes x)
+        ≡ x .fingerprint
     unfolding sheetBytes
     fingerprint-back =
         ap (λ (l : List ℕ). numberAt (pagePlace v (length (x .pages))) (v .fingerprintWidth) (head ++ pages ++ l)) (sym (append-nil last))
         ∙ number-seam (head ++ pages) [] (pagePlace v (length (x .pages))) (v .fingerprintWidth) (x .fingerprint) length-front (fits .fingerprint)
 
+    -- the version stands in the same place in every version
+    pub version-back : versionIn (sheetBytes x) ≡ x .version
+    version-back = field-back 1 (omega arith)
+
     -- what is written reads back
-    pub read-back : 5 ≤ length (v .widths) → contentsIn v (sheetBytes v x) ≡ x
+    pub read-back : length (layoutOf (x .version) .widths) ≡ 3 → contentsIn (sheetBytes x) ≡ x
     unfolding contentsIn
-    read-back many =
-        contents-eq (field-back 2 (omega arith)) (field-back 3 (omega arith)) (field-back 4 (omega arith))
-        (ap (λ (c : ℕ). numbersAt (pagePlace v 0) (v .fingerprintWidth) c (sheetBytes v x)) count ∙ pages-back)
-        (ap (λ (c : ℕ). numberAt (pagePlace v c) (v .fingerprintWidth) (sheetBytes v x)) count ∙ fingerprint-back)
+    read-back three =
+        rw version-back
+        (contents-eq refl (field-back 2 (omega arith)) (field-back 3 (omega arith)) (field-back 4 (omega arith))
+        (ap (λ (c : ℕ). numbersAt (pagePlace v 0) (v .fingerprintWidth) c (sheetBytes x)) count ∙ pages-back)
+        (ap (λ (c : ℕ). numberAt (pagePlace v c) (v .fingerprintWidth) (sheetBytes x)) count ∙ fingerprint-back))
       where
-        count : pagesIn v (sheetBytes v x) ≡ length (x .pages)
+        count : pagesIn (layoutOf (x .version)) (sheetBytes x) ≡ length (x .pages)
         count = ap₂ (λ (s n : ℕ). pageCount s n) (field-back 4 (omega arith)) (field-back 3 (omega arith)) ∙ sym (fits .count)
 
--- bytes with the version's letters and number, as many as the length and the page size ask, are those of the numbers in them
-module _ (v : Layout) (few : length (v .widths) ≤ 5) (sheet : List ℕ) (h : Bytes sheet) (total : length sheet ≡ sheetLength v (pagesIn v sheet))
-    (right : fieldIn v 0 sheet ≡ letters) (version : fieldIn v 1 sheet ≡ v .version) where
-  agree : (i : ℕ) → i < length (v .widths) → fieldIn v i sheet ≡ getD (headOf v (contentsIn v sheet)) i 0
+-- bytes with the letters, as many as the length and the page size ask by their version's layout, are those of the numbers in them
+module _ (sheet : List ℕ) (h : Bytes sheet) (three : length (layoutOf (versionIn sheet) .widths) ≡ 3)
+    (total : length sheet ≡ sheetLength (layoutOf (versionIn sheet)) (pagesIn (layoutOf (versionIn sheet)) sheet))
+    (right : fieldIn (layoutOf (versionIn sheet)) 0 sheet ≡ letters) where
+  abbrev w : Layout
+  w = layoutOf (versionIn sheet)
+
+  agree : (i : ℕ) → i < length (fieldWidths w) → fieldIn w i sheet ≡ getD (headOf (contentsIn sheet)) i 0
   unfolding contentsIn
   agree zero l = right
-  agree (suc zero) l = version
+  agree (suc zero) l = refl
   agree (suc (suc zero)) l = refl
   agree (suc (suc (suc zero))) l = refl
   agree (suc (suc (suc (suc zero)))) l = refl
-  agree (suc (suc (suc (suc (suc i))))) l = absurd (omega arith)
+  agree (suc (suc (suc (suc (suc i))))) l = absurd (omega (arith, three, l))
 
-  pub write-back : sheetBytes v (contentsIn v sheet) ≡ sheet
+  pub write-back : sheetBytes (contentsIn sheet) ≡ sheet
   unfolding sheetBytes contentsIn
   write-back =
-      let w = v .fingerprintWidth in
-      let c = pagesIn v sheet in
-      let p = width (v .widths) in
-      let start : pagePlace v 0 ≡ p = rw (mul-zero w) (add-zero p) in
+      let f = w .fingerprintWidth in
+      let c = pagesIn w sheet in
+      let p = width (fieldWidths w) in
+      let start : pagePlace w 0 ≡ p = sym (place-first w) in
       ap₂ (λ (a b : List ℕ). a ++ b)
-      (ap₂ (λ (a b : List ℕ). a ++ b) (fields-written sheet h (v .widths) (headOf v (contentsIn v sheet)) 0 (λ i l. rw zero-add (agree i l)) (omega arith))
-      (fields-numbers sheet h c (pagePlace v 0) w (omega (arith, start)) ∙ ap (λ (n : ℕ). take (w * c) (drop n sheet)) start)
-      ∙ sym (take-add p (w * c) sheet))
-      (bytes-number sheet h (pagePlace v c) w (omega arith))
-      ∙ sym (take-add (pagePlace v c) w sheet)
-      ∙ take-all (sheetLength v c) sheet (omega arith)
+      (ap₂ (λ (a b : List ℕ). a ++ b)
+      (fields-written sheet h (fieldWidths w) (headOf (contentsIn sheet)) 0 (λ i l. rw zero-add (agree i l)) (omega (arith, total)))
+      (fields-numbers sheet h c (pagePlace w 0) f (omega (arith, start, total)) ∙ ap (λ (n : ℕ). take (f * c) (drop n sheet)) start)
+      ∙ sym (take-add p (f * c) sheet))
+      (bytes-number sheet h (pagePlace w c) f (omega (arith, total)))
+      ∙ sym (take-add (pagePlace w c) f sheet)
+      ∙ take-all (sheetLength w c) sheet (omega (arith, total))

@@ -1,4 +1,5 @@
 pub mod Numbers
+pub mod Versions
 pub mod Layouts
 pub mod Pages
 pub mod Sound

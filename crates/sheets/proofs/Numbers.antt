@@ -206,6 +206,10 @@ numbers-part p place w (suc n) l =
     ap₂ {C = List ℕ} (λ (x : ℕ) (xs : List ℕ). x ∷ xs) (number-part p place w l)
     (numbers-part p (place + w) w n l ∙ ap (λ (m : ℕ). numbersAt m w n l) (sym (add-assoc p place w)))
 
+-- the part itself
+pub numbers-of-part : (p w n : ℕ) (l : List ℕ) → numbersAt 0 w n (drop p l) ≡ numbersAt p w n l
+numbers-of-part p w n l = numbers-part p 0 w n l ∙ ap (λ (q : ℕ). numbersAt q w n l) (add-zero p)
+
 -- ---- stores behind each other
 
 pub fields-append : (w : ℕ) (us vs : List ℕ) → fieldsOf w (us ++ vs) ≡ fieldsOf w us ++ fieldsOf w vs

@@ -3,31 +3,22 @@
 use mathlib.Core.Path.{_≡_, refl, sym, ap, _∙_}
 use mathlib.Core.List.{List, [], _∷_}
 use Prim.Native.Nat.{ℕ, zero, suc, _+_, _*_, _^_, _≤_, _<_}
-use native.Mathlib.Nat.{zero-mul, suc-mul}
 use native.Mathlib.Omega.{arith}
 use lib.ListN.{length, getD, take, drop, length-take, List·getD-append}
-use lib.Seq.{take-take, drop-drop, getD-take}
+use lib.Seq.{take-take, getD-take}
 use Rattle.lists.specs.Lists.{overlay}
 use Rattle.refusals.specs.Refusals.{Done}
 use Rattle.refusals.proofs.Laws.{done-clear, done-eq}
 use Rattle.files.specs.Files.{Bytes, bits, valueFrom, fingerprint}
-use Rattle.sheets.specs.Layout.{version1, numberAt, pagePlace, sheetLength, pageCount, pagesIn, Contents, contentsIn}
-use Rattle.sheets.specs.Sheets.{filled, pageFingerprints, contentsOf, writeSheet, readTests, readSheet, readPages, pagesNow}
+use Rattle.sheets.specs.Layout.{numberAt, versionIn, Layout, newest, layouts, layoutOf, pagePlace, sheetLength, pageCount, pagesIn, Contents, contentsIn}
+use Rattle.sheets.specs.Sheets.{pageOf, contentsOf, writeSheet, readTests, readSheet, readPages, pagesNow}
 use Rattle.sheets.specs.Claims.{WellFormed}
 use Rattle.sheets.proofs.Numbers.{numbers-one}
-use Rattle.sheets.proofs.Pages.{length-pages}
+use Rattle.sheets.proofs.Versions.{newest-is}
+use Rattle.sheets.proofs.Pages.{length-pages, page-at}
 use Rattle.sheets.proofs.Sound.{clear-sound}
 use Rattle.sheets.proofs.Guarantee.{reads, pages-given, written-reads, written-fingerprint, checks, same-iff}
 use Rattle.sheets.proofs.Damages.{same-fingerprint}
-
-page-at : (key s c i : ℕ) (file : List ℕ) → i < c → getD (pageFingerprints key s c file) i 0 ≡ fingerprint key (filled s (take s (drop (i * s) file)))
-unfolding pageFingerprints
-page-at key s zero i file l = absurd (omega arith)
-page-at key s (suc c) zero file l = rw (zero-mul s)
-page-at key s (suc c) (suc i) file l =
-    let n : s + i * s ≡ suc i * s = omega (arith, suc-mul i s) in
-    page-at key s c i (drop s file) (omega arith)
-    ∙ ap (λ (r : List ℕ). fingerprint key (filled s (take s r))) (drop-drop (i * s) s file ∙ ap (λ (m : ℕ). drop m file) n)
 
 -- a number of a list's first n entries
 part-within : (p w n : ℕ) (l : List ℕ) → p + w ≤ n → take w (drop p (take n l)) ≡ take w (drop p l)
@@ -47,24 +38,37 @@ module _ (key s : ℕ) (file buffer after : List ℕ) (fits : key < 2 ^ 64) (don
   count = pageCount s (length file)
 
   abbrev sheet : List ℕ
-  sheet = take (sheetLength version1 count) after
+  sheet = take (sheetLength newest count) after
 
-  numbers : contentsIn version1 sheet ≡ contentsOf key s file
+  numbers : contentsIn sheet ≡ contentsOf (newest .version) key s file
   unfolding readSheet
-  numbers = done-clear (readTests version1 sheet) tt (contentsIn version1 sheet) (contentsOf key s file) (written-reads key s file buffer after fits done) .1
+  numbers =
+      done-clear (readTests layouts sheet) tt (contentsIn sheet) (contentsOf (newest .version) key s file)
+      (written-reads key s file buffer after fits done) .1
 
-  pub written-page : (i : ℕ) → i < pageCount s (length file) → numberAt (pagePlace version1 i) 8 after ≡ fingerprint key (filled s (take s (drop (i * s) file)))
+  version-is : versionIn sheet ≡ newest .version
+  unfolding contentsIn contentsOf
+  version-is = ap (λ (x : Contents). x .version) numbers
+
+  layout-is : layoutOf (versionIn sheet) ≡ newest
+  layout-is = ap layoutOf version-is ∙ newest-is
+
+  pub written-page : (i : ℕ) → i < pageCount s (length file)
+      → numberAt (pagePlace newest i) 8 after ≡ fingerprint key (pageOf newest s (take s (drop (i * s) file)))
   unfolding contentsIn contentsOf
   written-page i l =
-      let c : pagesIn version1 sheet ≡ count = ap (λ (x : Contents). pageCount (x .pageSize) (x .length)) numbers in
-      sym (number-within (pagePlace version1 i) 8 (sheetLength version1 count) after (omega arith))
-      ∙ sym (numbers-one (pagesIn version1 sheet) (pagePlace version1 0) 8 i sheet (omega arith))
+      let v = layoutOf (versionIn sheet) in
+      let c : pagesIn v sheet ≡ count = ap (λ (x : Contents). pageCount (x .pageSize) (x .length)) numbers in
+      sym (number-within (pagePlace newest i) 8 (sheetLength newest count) after (omega arith))
+      ∙ ap (λ (w : Layout). numberAt (pagePlace w 0 + w .fingerprintWidth * i) (w .fingerprintWidth) sheet) (sym layout-is)
+      ∙ sym (numbers-one (pagesIn v sheet) (pagePlace v 0) (v .fingerprintWidth) i sheet (omega (arith, c)))
       ∙ ap (λ (x : Contents). getD (x .pages) i 0) numbers
-      ∙ page-at key s count i file l
+      ∙ page-at (layoutOf (newest .version)) key s count i file l
+      ∙ ap (λ (w : Layout). fingerprint key (pageOf w s (take s (drop (i * s) file)))) newest-is
 
-  pub written-last : numberAt (pagePlace version1 (pageCount s (length file))) 8 after ≡ fingerprint key file
+  pub written-last : numberAt (pagePlace newest (pageCount s (length file))) 8 after ≡ fingerprint key file
   written-last =
-      sym (number-within (pagePlace version1 count) 8 (sheetLength version1 count) after (omega arith))
+      sym (number-within (pagePlace newest count) 8 (sheetLength newest count) after (omega arith))
       ∙ written-fingerprint key s file buffer after fits done
 
 -- ---- a sheet that is read, with the page fingerprints of a file
@@ -78,23 +82,25 @@ module _ (sheet : List ℕ) (w : WellFormed sheet) (file : List ℕ) (size : w .
       (checks sheet w file (omega arith) ∙ ap Done (same-iff (w .contents) (w .sound) file (sym size) .1 pages)))
 
   of-page : (words after : List ℕ) (i : ℕ) → readPages sheet words ≡ Done after → i < length (w .contents .pages) → i < length words
-      → getD after i 0 ≡ fingerprint (w .contents .key) (filled (w .contents .pageSize) (take (w .contents .pageSize) (drop (i * w .contents .pageSize) file)))
+      → getD after i 0
+      ≡ fingerprint (w .contents .key)
+      (pageOf (layoutOf (w .contents .version)) (w .contents .pageSize) (take (w .contents .pageSize) (drop (i * w .contents .pageSize) file)))
   unfolding contentsOf overlay
   of-page words after i e l m =
       let x = w .contents in
       let c : length (x .pages) ≡ pageCount (x .pageSize) (length file) =
-      ap length pages ∙ length-pages (x .key) (pageCount (x .pageSize) (length file)) (x .pageSize) file in
+      ap length pages ∙ length-pages (layoutOf (x .version)) (x .key) (pageCount (x .pageSize) (length file)) (x .pageSize) file in
       ap (λ (ws : List ℕ). getD ws i 0) (done-eq _ _ (sym e ∙ pages-given sheet w words))
       ∙ List·getD-append (take (length words) (x .pages)) (drop (length (x .pages)) words) 0 i (omega (arith, length-take (length words) (x .pages)))
       ∙ getD-take (length words) (x .pages) i 0 m
       ∙ ap (λ (fs : List ℕ). getD fs i 0) pages
-      ∙ page-at (x .key) (x .pageSize) (pageCount (x .pageSize) (length file)) i file (omega arith)
+      ∙ page-at (layoutOf (x .version)) (x .key) (x .pageSize) (pageCount (x .pageSize) (length file)) i file (omega arith)
 
 module _ (sheet file : List ℕ) (x : Contents) (bytes : Bytes sheet) (read : readSheet sheet ≡ Done x) (size : x .length ≡ length file)
     (pages : x .pages ≡ pagesNow x file) where
   well : WellFormed sheet
   unfolding readSheet
-  well = clear-sound sheet (done-clear (readTests version1 sheet) tt (contentsIn version1 sheet) x read .0) bytes
+  well = clear-sound sheet (done-clear (readTests layouts sheet) tt (contentsIn sheet) x read .0) bytes
 
   is : well .contents ≡ x
   is = done-eq (well .contents) x (sym (reads sheet well) ∙ read)
@@ -103,5 +109,5 @@ module _ (sheet file : List ℕ) (x : Contents) (bytes : Bytes sheet) (read : re
   read-fingerprint = rw is at (of-file sheet well file (rw is size) (rw is pages))
 
   pub read-page : (words after : List ℕ) (i : ℕ) → readPages sheet words ≡ Done after → i < length (x .pages) → i < length words
-      → getD after i 0 ≡ fingerprint (x .key) (filled (x .pageSize) (take (x .pageSize) (drop (i * x .pageSize) file)))
+      → getD after i 0 ≡ fingerprint (x .key) (pageOf (layoutOf (x .version)) (x .pageSize) (take (x .pageSize) (drop (i * x .pageSize) file)))
   read-page words after i e l m = rw is at (of-page sheet well file (rw is size) (rw is pages) words after i e (rw is l) m)

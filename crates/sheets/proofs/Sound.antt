@@ -6,7 +6,7 @@ use Prim.Native.Nat.{ℕ, _+_, _-_, _*_, _^_, _≤_, _<_}
 use native.Mathlib.Nat.{lt-of-lt-of-le}
 use native.Mathlib.Omega.{arith}
 use lib.Dec.{ltb, leb, eqb, lit<}
-use lib.ListN.{length, take}
+use lib.ListN.{length}
 use lib.Pow.{pow-mono}
 use borrow.Author.Tests.{eq-eqb, le-ltb, lt-leb, ltb-false, leb-false, eqb-true, not-false}
 use Rattle.lists.specs.Lists.{All}
@@ -18,13 +18,14 @@ use Rattle.acceptance.specs.Keys.{accepted}
 use Rattle.lists.proofs.Truth.{or-neither}
 use Rattle.acceptance.proofs.Laws.{accepted-iff, accepted-pos, accepted-small, key-iff}
 use Rattle.files.specs.Files.{Bytes, fingerprint}
-use Rattle.sheets.specs.Layout.{version1, width, pagePlace, sheetLength, pageCount, Contents, letters}
-use Rattle.sheets.specs.Layout.{sheetBytes, fieldIn, pagesIn, contentsIn}
+use Rattle.sheets.specs.Layout.{numberAt, letters, lettersWidth, versionIn, layouts, known, layoutOf}
+use Rattle.sheets.specs.Layout.{pagePlace, sheetLength, pageCount, Contents, sheetBytes, fieldIn, pagesIn, contentsIn}
 use Rattle.sheets.specs.Sheets.{contentsOf, someUnreduced, pagesJoined, fileFilled, headWrong, readTests}
 use Rattle.sheets.specs.Claims.{SoundContents, WellFormed}
 use Rattle.sheets.proofs.Numbers.{number-lt, length-numbersAt}
-use Rattle.sheets.proofs.Layouts.{Fits, length-sheet, field-back, read-back, write-back}
-use Rattle.sheets.proofs.Pages.{fingerprint-lt, fingerprints-lt, length-pages, pages-joined}
+use Rattle.sheets.proofs.Versions.{widths-are, eight-wide, length-from, least-needed, known-small}
+use Rattle.sheets.proofs.Layouts.{Fits, length-sheet, field-back, version-back, read-back, write-back}
+use Rattle.sheets.proofs.Pages.{fingerprint-lt, fingerprints-lt, length-pages, pages-joined-print, zeros-are}
 
 -- ---- reduced fingerprints
 
@@ -48,20 +49,22 @@ none-unreduced k (g ∷ fs) f e =
 
 -- ---- sound fields fit the layout
 
-pub sound-fits : (x : Contents) → SoundContents x → Fits version1 x
+pub sound-fits : (x : Contents) → SoundContents x → Fits x
 sound-fits x h =
     record {
-      fields = (lit< tt, (lit< tt, (accepted-small (x .key) (h .key), (omega (arith, h .length), (omega (arith, h .pageSize), tt)))));
-      pages = all-map (λ f l. lt-of-lt-of-le l small) (x .pages) (h .pages);
-      fingerprint = lt-of-lt-of-le (h .fingerprint) small;
+      fields =
+          rw (widths-are (x .version))
+          (lit< tt, (known-small (x .version) (h .version), (accepted-small (x .key) (h .key), (omega (arith, h .length), (omega (arith, h .pageSize), tt)))));
+      pages = rw (eight-wide (x .version)) (all-map (λ f l. lt-of-lt-of-le l small) (x .pages) (h .pages));
+      fingerprint = rw (eight-wide (x .version)) (lt-of-lt-of-le (h .fingerprint) small);
       count = h .count;
     }
   where
     small : 2 ^ degree (x .key) ≤ 2 ^ 64
     small = let d = accepted-iff (x .key) .0 (h .key) in pow-mono {i = degree (x .key)} {j = 64} (omega arith)
 
-pub sound-back : (x : Contents) → SoundContents x → contentsIn version1 (sheetBytes version1 x) ≡ x
-sound-back x h = read-back version1 x (sound-fits x h) (omega arith)
+pub sound-back : (x : Contents) → SoundContents x → contentsIn (sheetBytes x) ≡ x
+sound-back x h = read-back x (sound-fits x h) (ap length (widths-are (x .version)))
 
 -- ---- the tests of reading
 
@@ -75,12 +78,14 @@ size-bounds s e = let o = or-neither (ltb s 16) (ltb 4096 s) e in (ltb-false s 1
 or-clear : {a b c : Bool} → a ≡ false → b ≡ false → c ≡ false → (a || b || c) ≡ false
 or-clear x y z = rw (x, y, z)
 
-pub sound-clear : (x : Contents) → SoundContents x → Clear (readTests version1 (sheetBytes version1 x))
+pub sound-clear : (x : Contents) → SoundContents x → Clear (readTests layouts (sheetBytes x))
 sound-clear x h =
     let f = sound-fits x h in
     let k = key-iff (x .key) (accepted-small (x .key) (h .key)) .0 (h .key) in
-    rw (sound-back x h, length-sheet version1 x, field-back version1 x f 0 (omega arith), field-back version1 x f 1 (omega arith)) (
-      or-clear (le-ltb (sheetLength version1 (length (x .pages))) (sheetLength version1 0) (omega arith)) refl refl,
+    let total = sheetLength (layoutOf (x .version)) (length (x .pages)) in
+    let long : 27 ≤ total = omega (arith, least-needed (x .version), length-from (x .version) 0, length-from (x .version) (length (x .pages))) in
+    rw (sound-back x h, length-sheet x, field-back x f 0 (omega arith), version-back x f) (
+      or-clear (le-ltb total 27 long) refl (ap not (h .version)),
       (
         k .0,
         (
@@ -88,9 +93,8 @@ sound-clear x h =
           (
             size-clear (x .pageSize) (h .pageSize .0) (h .pageSize .1),
             (
-              or-clear (ap not (eq-eqb (sheetLength version1 (length (x .pages))) (sheetLength version1 (length (x .pages))) refl))
-                  (all-reduced (degree (x .key)) (x .pages) (x .fingerprint) (h .pages) (h .fingerprint))
-                  (ap not (eq-eqb (pagesJoined x) (fileFilled x) (h .joined))),
+              or-clear (ap not (eq-eqb total total refl)) (all-reduced (degree (x .key)) (x .pages) (x .fingerprint) (h .pages) (h .fingerprint))
+                  (ap not (eq-eqb (pagesJoined x .fingerprint) (fileFilled x) (h .joined))),
               tt,
             ),
           ),
@@ -104,83 +108,96 @@ neither a b c e = let x = or-neither (a || b) c e in let y = or-neither a b (x .
 
 -- size, letters and version are right
 pub record HeadRight (sheet : List ℕ) : Type 0 where
-  pub long : sheetLength version1 0 ≤ length sheet
-  pub letters : fieldIn version1 0 sheet ≡ Rattle.sheets.specs.Layout.letters
-  pub version : fieldIn version1 1 sheet ≡ version1 .version
+  pub long : 27 ≤ length sheet
+  pub letters : numberAt 0 lettersWidth sheet ≡ Rattle.sheets.specs.Layout.letters
+  pub version : known layouts (versionIn sheet) ≡ true
 
-pub head-right : (sheet : List ℕ) → headWrong version1 sheet ≡ false → HeadRight sheet
+pub head-right : (sheet : List ℕ) → headWrong layouts sheet ≡ false → HeadRight sheet
 head-right sheet e =
     let n =
-    neither (ltb (length sheet) (sheetLength version1 0)) (not (eqb (fieldIn version1 0 sheet) letters))
-    (not (eqb (fieldIn version1 1 sheet) (version1 .version))) e in
+    neither (ltb (length sheet) 27) (not (eqb (numberAt 0 lettersWidth sheet) letters)) (not (known layouts (versionIn sheet))) e in
     record {
-      long = ltb-false (length sheet) (sheetLength version1 0) (n .0);
-      letters = eqb-true (fieldIn version1 0 sheet) letters (not-false _ (n .1));
-      version = eqb-true (fieldIn version1 1 sheet) (version1 .version) (not-false _ (n .2));
+      long = ltb-false (length sheet) 27 (n .0);
+      letters = eqb-true (numberAt 0 lettersWidth sheet) letters (not-false _ (n .1));
+      version = not-false _ (n .2);
     }
 
 -- what the tests say of the bytes where none holds
-module _ (sheet : List ℕ) (c : Clear (readTests version1 sheet)) where
+module _ (sheet : List ℕ) (c : Clear (readTests layouts sheet)) where
   head : HeadRight sheet
   head = head-right sheet (c .0)
 
   x : Contents
-  x = contentsIn version1 sheet
+  x = contentsIn sheet
 
-  body : (not (eqb (length sheet) (sheetLength version1 (length (x .pages)))) ≡ false)
+  abbrev total : ℕ
+  total = sheetLength (layoutOf (x .version)) (length (x .pages))
+
+  body : (not (eqb (length sheet) total) ≡ false)
       × (someUnreduced (degree (x .key)) (x .pages ++ x .fingerprint ∷ []) ≡ false)
-      × (not (eqb (pagesJoined x) (fileFilled x)) ≡ false)
+      × (not (eqb (pagesJoined x .fingerprint) (fileFilled x)) ≡ false)
   unfolding x
   body =
-      neither (not (eqb (length sheet) (sheetLength version1 (length (x .pages))))) (someUnreduced (degree (x .key)) (x .pages ++ x .fingerprint ∷ []))
-      (not (eqb (pagesJoined x) (fileFilled x))) (c .1 .1 .1 .1 .0)
+      neither (not (eqb (length sheet) total)) (someUnreduced (degree (x .key)) (x .pages ++ x .fingerprint ∷ []))
+      (not (eqb (pagesJoined x .fingerprint) (fileFilled x))) (c .1 .1 .1 .1 .0)
 
-  count : length (x .pages) ≡ pagesIn version1 sheet
+  count : length (x .pages) ≡ pagesIn (layoutOf (versionIn sheet)) sheet
   unfolding x contentsIn
-  count = length-numbersAt (pagePlace version1 0) 8 (pagesIn version1 sheet) sheet
+  count =
+      let v = layoutOf (versionIn sheet) in
+      length-numbersAt (pagePlace v 0) (v .fingerprintWidth) (pagesIn v sheet) sheet
 
-  pub clear-total : length sheet ≡ sheetLength version1 (pagesIn version1 sheet)
-  clear-total = eqb-true (length sheet) (sheetLength version1 (length (x .pages))) (not-false _ (body .0)) ∙ ap (sheetLength version1) count
+  pub clear-total : length sheet ≡ sheetLength (layoutOf (versionIn sheet)) (pagesIn (layoutOf (versionIn sheet)) sheet)
+  unfolding x contentsIn
+  clear-total = eqb-true (length sheet) total (not-false _ (body .0)) ∙ ap (sheetLength (layoutOf (versionIn sheet))) count
 
-  pub clear-contents : SoundContents (contentsIn version1 sheet)
+  key-small : fieldIn (layoutOf (versionIn sheet)) 2 sheet < 2 ^ 64
+  key-small = rw (widths-are (versionIn sheet)) (number-lt _ 8 sheet (omega (arith, head .long)))
+
+  length-small : fieldIn (layoutOf (versionIn sheet)) 3 sheet < 2 ^ 32
+  length-small = rw (widths-are (versionIn sheet)) (number-lt _ 4 sheet (omega (arith, head .long)))
+
+  pub clear-contents : SoundContents (contentsIn sheet)
   unfolding x contentsIn
   clear-contents =
-      let long = head .long in
-      let small = number-lt (width (take 2 (version1 .widths))) 8 sheet (omega arith) in
-      let n = number-lt (width (take 3 (version1 .widths))) 4 sheet (omega arith) in
       let fs = none-unreduced (degree (x .key)) (x .pages) (x .fingerprint) (body .1) in
       record {
-        key = key-iff (x .key) small .1 (c .1 .0, c .1 .1 .0);
-        length = omega arith;
+        version = head .version;
+        key = key-iff (x .key) key-small .1 (c .1 .0, c .1 .1 .0);
+        length = omega (arith, length-small);
         pageSize = size-bounds (x .pageSize) (c .1 .1 .1 .0);
         count = count;
         pages = fs .0;
         fingerprint = fs .1;
-        joined = eqb-true (pagesJoined x) (fileFilled x) (not-false _ (body .2));
+        joined = eqb-true (pagesJoined x .fingerprint) (fileFilled x) (not-false _ (body .2));
       }
 
   pub clear-sound : Bytes sheet → WellFormed sheet
   clear-sound b =
       record {
-        contents = contentsIn version1 sheet;
+        contents = contentsIn sheet;
         sound = clear-contents;
-        bytes =
-            sym (write-back version1 (omega arith) sheet b clear-total (head .letters) (head .version));
+        bytes = sym (write-back sheet b (ap length (widths-are (versionIn sheet))) clear-total (head .letters));
       }
 
 -- ---- the numbers of a file's sheet are sound
 
-pub file-sound : (key s : ℕ) (file : List ℕ) → accepted key ≡ true → length file ≤ longest → 16 ≤ s → s ≤ 4096 → SoundContents (contentsOf key s file)
+pub file-sound : (version key s : ℕ) (file : List ℕ) → known layouts version ≡ true → accepted key ≡ true → length file ≤ longest → 16 ≤ s → s ≤ 4096
+    → SoundContents (contentsOf version key s file)
 unfolding contentsOf
-file-sound key s file a n lo hi =
+file-sound version key s file v a n lo hi =
     let pos = accepted-pos key a in
-    let c = length-pages key (pageCount s (length file)) s file in
+    let l = layoutOf version in
+    let c = length-pages l key (pageCount s (length file)) s file in
     record {
+      version = v;
       key = a;
       length = n;
       pageSize = (lo, hi);
       count = c;
-      pages = fingerprints-lt pos (pageCount s (length file)) s file;
+      pages = fingerprints-lt pos l (pageCount s (length file)) s file;
       fingerprint = fingerprint-lt pos file;
-      joined = pages-joined pos s file (omega arith) ∙ ap (λ (m : ℕ). rem key (fingerprint key file * 2 ^ (8 * (m * s - length file)))) (sym c);
+      joined =
+          pages-joined-print pos l s file (omega arith)
+          ∙ ap (λ (m : ℕ). rem key (fingerprint key file * 2 ^ (8 * m))) (sym (zeros-are l key s (length file) _ (omega arith) c));
     }

@@ -3,7 +3,7 @@ use mathlib.Core.List.{List}
 use Prim.Native.Nat.{ℕ, _+_, _*_, min}
 use lib.ListN.{length}
 use Rattle.refusals.specs.Refusals.{Answer, Done, Refused, firstOf}
-use Rattle.sheets.specs.Layout.{version1, Contents, contentsIn}
+use Rattle.sheets.specs.Layout.{Contents, contentsIn}
 use Rattle.sheets.specs.Sheets.{Outcome, Same, Page, OtherLength, compared, checkTests}
 use Rattle.sheets.specs.declared.Sheet.{Sheet}
 use Rattle.sheets.specs.declared.Reading.{Reading}
@@ -29,7 +29,7 @@ rangeOf x (Page i) = FromTo (i * x .pageSize) (min (i * x .pageSize + x .pageSiz
 rangeOf x OtherLength = NotAsLong
 
 unfoldable pub changedRange : List ℕ → List ℕ → Answer Unit Range
-changedRange sheet file = let x = contentsIn version1 sheet in firstOf (checkTests sheet file) tt (rangeOf x (compared x file))
+changedRange sheet file = let x = contentsIn sheet in firstOf (checkTests sheet file) tt (rangeOf x (compared x file))
 
 -- ---- the answers in code
 
@@ -39,7 +39,15 @@ lengthAnswer (length-cases.Refused r) = Refused r tt
 
 -- the numbers that a reader is given at once; the page fingerprints are given by `readPages`
 abbrev pub numbersOf : Contents → Sheet
-numbersOf x = record { key = x .key; length = x .length; size = x .pageSize; pages = length (x .pages); fingerprint = x .fingerprint }
+numbersOf x =
+    record {
+      version = x .version;
+      key = x .key;
+      length = x .length;
+      size = x .pageSize;
+      pages = length (x .pages);
+      fingerprint = x .fingerprint;
+    }
 
 abbrev pub sheetRead : Answer Unit Contents → Answer Unit Sheet
 sheetRead (Done x) = Done (numbersOf x)

@@ -1,59 +1,88 @@
--- What the calls on sheets promise together: what is written reads back, which bytes are read, and what a check's answer means.
+-- What the calls on sheets promise together: what is written reads back, which bytes are read, what the page marks joined give, what a
+-- check's answer means, and that a change inside k neighbouring bits is found.
 use mathlib.Core.Path.{_≡_}
 use mathlib.Core.Logic.{_≢_, _↔_}
-use mathlib.Core.Bool.{true}
+use mathlib.Core.Bool.{true, false}
 use mathlib.Core.List.{List}
-use Prim.Native.Nat.{ℕ, _^_, _≤_, _<_}
-use lib.ListN.{length, getD, take}
+use Prim.Native.Nat.{ℕ, _-_, _*_, _^_, _≤_, _<_}
+use lib.ListN.{length, getD, take, drop}
 use Rattle.lists.specs.Lists.{All, overlay}
-use Rattle.gf2.specs.Polynomials.{degree}
-use Rattle.refusals.specs.Refusals.{Done, longest}
+use Rattle.gf2.specs.Polynomials.{degree, rem}
+use Rattle.refusals.specs.declared.Refusal.the-variants.{SheetMalformed}
+use Rattle.refusals.specs.Refusals.{Answer, Done, Refused, firstOf, longest}
 use Rattle.acceptance.specs.Keys.{accepted}
-use Rattle.files.specs.Files.{Bytes, fingerprint}
+use Rattle.files.specs.Files.{Bytes, fingerprint, markOf}
 use Rattle.files.specs.Bursts.{Burst}
-use Rattle.sheets.specs.Layout.{version1, numberAt, pagePlace, sheetLength, pageCount, Contents, sheetBytes, contentsIn}
-use Rattle.sheets.specs.Sheets.{contentsOf, pagesJoined, fileFilled, writeSheet, readSheet, readPages, Same, Page, OtherLength}
+use Rattle.sheets.specs.Layout.{numberAt, versionIn, Layout, newest, layouts, known, layoutOf}
+use Rattle.sheets.specs.Layout.{pagePlace, sheetLength, pageCount, Contents, sheetBytes, contentsIn}
+use Rattle.sheets.specs.Sheets.{contentsOf, pagesJoined, fileFilled, writeSheet, readTests, readSheet, readPages, Same, Page, OtherLength}
 use Rattle.sheets.specs.Sheets.{pagesNow, compared, checkSheet}
 
 -- ---- which bytes are a sheet
 
 -- numbers of which no test of reading holds
 pub record SoundContents (x : Contents) : Type 0 where
+  pub version : known layouts (x .version) ≡ true
   pub key : accepted (x .key) ≡ true
   pub length : x .length ≤ longest
   pub pageSize : (16 ≤ x .pageSize) × (x .pageSize ≤ 4096)
   pub count : lib.ListN.length (x .pages) ≡ pageCount (x .pageSize) (x .length)
   pub pages : All (λ f. f < 2 ^ degree (x .key)) (x .pages)
   pub fingerprint : x .fingerprint < 2 ^ degree (x .key)
-  pub joined : pagesJoined x ≡ fileFilled x
+  pub joined : pagesJoined x .fingerprint ≡ fileFilled x
 
 -- the bytes of a sheet with such numbers
 pub record WellFormed (sheet : List ℕ) : Type 0 where
   pub contents : Contents
   pub sound : SoundContents contents
-  pub bytes : sheet ≡ sheetBytes version1 contents
+  pub bytes : sheet ≡ sheetBytes contents
 
 -- bytes are read exactly where they are a sheet
 abbrev pub ReadIff : Type 0
-ReadIff = (sheet : List ℕ) → Bytes sheet → (readSheet sheet ≡ Done (contentsIn version1 sheet)) ↔ WellFormed sheet
+ReadIff = (sheet : List ℕ) → Bytes sheet → (readSheet sheet ≡ Done (contentsIn sheet)) ↔ WellFormed sheet
 
--- its page fingerprints are given in lent places
+-- a sheet of another version is refused with 14 by a reader of any list of layouts
+abbrev pub OtherVersion : Type 0
+OtherVersion =
+    (vs : List Layout) (sheet : List ℕ) (x : Contents) → known vs (versionIn sheet) ≡ false
+    → _≡_ {A = Answer Unit Contents} (firstOf (readTests vs sheet) tt x) (Refused SheetMalformed tt)
+
+-- the page fingerprints of a sheet are given in lent places
 abbrev pub PagesGiven : Type 0
 PagesGiven = (sheet : List ℕ) (w : WellFormed sheet) (words : List ℕ) → readPages sheet words ≡ Done (overlay (w .contents .pages) words)
 
+-- ---- the page marks joined, in each version
+
+-- "The page marks of a sheet, each with its own length, joined, must give the file's fingerprint": those of a written sheet do,
+abbrev pub PagesGiveFile : Type 0
+PagesGiveFile =
+    (key s : ℕ) (file : List ℕ) → 0 < key → 0 < s → pagesJoined (contentsOf (newest .version) key s file) ≡ markOf key file
+
+-- "and number 14 reads so": where pages are not filled up, it compares them with the file's fingerprint as it stands,
+abbrev pub OwnCompared : Type 0
+OwnCompared =
+    (x : Contents) → layoutOf (x .version) .filled ≡ false → 0 < x .key → 0 < x .pageSize
+    → lib.ListN.length (x .pages) ≡ pageCount (x .pageSize) (x .length) → x .fingerprint < 2 ^ degree (x .key) → fileFilled x ≡ x .fingerprint
+
+-- where they are, with the file's fingerprint times t^(8 × (c × s − n)), as document 01 has it
+abbrev pub FilledCompared : Type 0
+FilledCompared =
+    (x : Contents) → layoutOf (x .version) .filled ≡ true
+    → fileFilled x ≡ rem (x .key) (x .fingerprint * 2 ^ (8 * (lib.ListN.length (x .pages) * x .pageSize - x .length)))
+
 -- ---- writing, then reading
 
--- what is written reads back: key, length, page size, every page fingerprint and the file's
+-- what is written reads back: version 2, key, length, page size, every page fingerprint and the file's
 abbrev pub WrittenReads : Type 0
 WrittenReads =
     (key s : ℕ) (file buffer after : List ℕ) → key < 2 ^ 64 → writeSheet key s file buffer ≡ Done after
-    → readSheet (take (sheetLength version1 (pageCount s (length file))) after) ≡ Done (contentsOf key s file)
+    → readSheet (take (sheetLength newest (pageCount s (length file))) after) ≡ Done (contentsOf (newest .version) key s file)
 
 -- its last field is the file's fingerprint
 abbrev pub WrittenFingerprint : Type 0
 WrittenFingerprint =
     (key s : ℕ) (file buffer after : List ℕ) → key < 2 ^ 64 → writeSheet key s file buffer ≡ Done after
-    → numberAt (pagePlace version1 (pageCount s (length file))) 8 (take (sheetLength version1 (pageCount s (length file))) after) ≡ fingerprint key file
+    → numberAt (pagePlace newest (pageCount s (length file))) 8 (take (sheetLength newest (pageCount s (length file))) after) ≡ fingerprint key file
 
 -- ---- checking a file against a sheet
 
@@ -82,8 +111,27 @@ SameIff =
     (x : Contents) → SoundContents x → (file : List ℕ) → length file ≡ x .length
     → (compared x file ≡ Same) ↔ (x .pages ≡ pagesNow x file)
 
--- of a written sheet: a file that differs inside k neighbouring bits is never the same
+-- ---- a change inside k neighbouring bits, against the sheet of a file in each version
+
+-- page i, of s bytes, is the first that differs in two files
+pub record FirstAltered (s : ℕ) (a b : List ℕ) (i : ℕ) : Type 0 where
+  pub altered : take s (drop (i * s) a) ≢ take s (drop (i * s) b)
+  pub before : (j : ℕ) → j < i → take s (drop (j * s) a) ≡ take s (drop (j * s) b)
+
+-- two different files of one length have such a page
+abbrev pub SomeAltered : Type 0
+SomeAltered = (s : ℕ) (a b : List ℕ) → 0 < s → length a ≡ length b → a ≢ b → (i : ℕ) × FirstAltered s a b i
+
+-- "A change that keeps the length and lies inside k neighbouring bits is found on the first page that it alters."
+abbrev pub BurstFound : Type 0
+BurstFound =
+    (version key s : ℕ) (a b : List ℕ) → known layouts version ≡ true → accepted key ≡ true → length a ≤ longest → 16 ≤ s → s ≤ 4096
+    → Bytes a → Bytes b → Burst (degree key) a b → (i : ℕ) → FirstAltered s a b i
+    → checkSheet (sheetBytes (contentsOf version key s a)) b ≡ Done (Page i)
+
+-- so a file that differs inside k neighbouring bits is never told as the same
 abbrev pub NoBurstSame : Type 0
 NoBurstSame =
-    (key s : ℕ) (a b : List ℕ) → accepted key ≡ true → length a ≤ longest → 16 ≤ s → s ≤ 4096 → Bytes a → Bytes b → a ≢ b
-    → Burst (degree key) a b → checkSheet (sheetBytes version1 (contentsOf key s a)) b ≡ Done Same → ⊥
+    (version key s : ℕ) (a b : List ℕ) → known layouts version ≡ true → accepted key ≡ true → length a ≤ longest → 16 ≤ s → s ≤ 4096
+    → Bytes a → Bytes b → Burst (degree key) a b → a ≢ b
+    → checkSheet (sheetBytes (contentsOf version key s a)) b ≡ Done Same → ⊥

@@ -1,6 +1,9 @@
--- The bytes of a page sheet (document 01, "Page sheets"). A version of the layout is a list of widths, for writing and reading alike.
+-- The bytes of a page sheet (document 01, "Page sheets"; version 2: document 02, wish 1). A version of the layout is a list of widths, for
+-- writing and reading alike, and how the last page is taken.
+use mathlib.Core.Bool.{Bool, true, false, cond, _||_}
 use mathlib.Core.List.{List, [], _∷_, _++_}
 use Prim.Native.Nat.{ℕ, zero, suc, _+_, _-_, _*_, _/_, _%_, _^_}
+use lib.Dec.{eqb}
 use lib.ListN.{getD, take, drop}
 use Rattle.files.specs.Files.{bits, valueFrom}
 
@@ -25,25 +28,70 @@ unfoldable pub numbersAt : ℕ → ℕ → ℕ → List ℕ → List ℕ
 numbersAt place w zero l = []
 numbersAt place w (suc c) l = numberAt place w l ∷ numbersAt (place + w) w c l
 
--- ---- a version: its number, the widths of the fields in front of the fingerprints, and the width of a fingerprint
+-- ---- the front of every sheet, whatever its version: the letters GFP, which are the bytes 47 46 50, and the version's number
+
+abbrev pub letters : ℕ
+letters = 0x474650
+
+abbrev pub lettersWidth : ℕ
+lettersWidth = 3
+
+abbrev pub versionWidth : ℕ
+versionWidth = 2
+
+abbrev pub versionIn : List ℕ → ℕ
+versionIn sheet = numberAt lettersWidth versionWidth sheet
+
+-- ---- a version: its number, the widths of its fields, and how the last page is taken
 
 pub record Layout : Type 0 where
   pub version : ℕ
+  -- of the key, the length and the page size
   pub widths : List ℕ
+  -- of each page's fingerprint and of the file's
   pub fingerprintWidth : ℕ
+  -- a last page shorter than the page size is taken as filled up with zero bytes
+  pub filled : Bool
 
--- field 0 the letters, 1 the version, 2 the key, 3 the length, 4 the page size
 abbrev pub version1 : Layout
-version1 = record { version = 1; widths = 3 ∷ 2 ∷ 8 ∷ 4 ∷ 2 ∷ []; fingerprintWidth = 8 }
+version1 = record { version = 1; widths = 8 ∷ 4 ∷ 2 ∷ []; fingerprintWidth = 8; filled = true }
+
+abbrev pub version2 : Layout
+version2 = record { version = 2; widths = 8 ∷ 4 ∷ 2 ∷ []; fingerprintWidth = 8; filled = false }
+
+-- sheets are written in this layout,
+abbrev pub newest : Layout
+newest = version2
+
+-- and read in these
+abbrev pub layouts : List Layout
+layouts = version2 ∷ version1 ∷ []
+
+-- a layout of the list has the version
+unfoldable pub known : List Layout → ℕ → Bool
+known [] n = false
+known (v ∷ vs) n = eqb (v .version) n || known vs n
+
+-- that layout; the newest where there is none
+unfoldable pub layoutAmong : List Layout → ℕ → Layout
+layoutAmong [] n = newest
+layoutAmong (v ∷ vs) n = cond (eqb (v .version) n) v (layoutAmong vs n)
+
+abbrev pub layoutOf : ℕ → Layout
+layoutOf n = layoutAmong layouts n
 
 abbrev pub width : List ℕ → ℕ
 width [] = 0
 width (w ∷ ws) = w + width ws
 
-abbrev pub pagePlace : Layout → ℕ → ℕ
-pagePlace v i = width (v .widths) + v .fingerprintWidth * i
+-- the widths of all fields in front of the fingerprints: field 0 the letters, 1 the version, 2 the key, 3 the length, 4 the page size
+abbrev pub fieldWidths : Layout → List ℕ
+fieldWidths v = lettersWidth ∷ versionWidth ∷ v .widths
 
--- of a sheet with c pages: 27 + 8c in version 1
+abbrev pub pagePlace : Layout → ℕ → ℕ
+pagePlace v i = width (fieldWidths v) + v .fingerprintWidth * i
+
+-- of a sheet with c pages: 27 + 8c in versions 1 and 2
 abbrev pub sheetLength : Layout → ℕ → ℕ
 sheetLength v c = pagePlace v c + v .fingerprintWidth
 
@@ -54,40 +102,41 @@ pageCount s n = (n + s - 1) / s
 -- ---- the numbers in a sheet, and its bytes
 
 pub record Contents : Type 0 where
+  pub version : ℕ
   pub key : ℕ
   pub length : ℕ
   pub pageSize : ℕ
   pub pages : List ℕ
   pub fingerprint : ℕ
 
--- GFP: the bytes 47 46 50
-abbrev pub letters : ℕ
-letters = 0x474650
-
 -- the numbers in front of the fingerprints, in the order of the fields
-abbrev pub headOf : Layout → Contents → List ℕ
-headOf v x = letters ∷ v .version ∷ x .key ∷ x .length ∷ x .pageSize ∷ []
+abbrev pub headOf : Contents → List ℕ
+headOf x = letters ∷ x .version ∷ x .key ∷ x .length ∷ x .pageSize ∷ []
 
 -- numbers one behind the other, each in its width
 unfoldable pub bytesIn : List ℕ → List ℕ → List ℕ
 bytesIn [] xs = []
 bytesIn (w ∷ ws) xs = bytesOf w (getD xs 0 0) ++ bytesIn ws (drop 1 xs)
 
-unfoldable pub sheetBytes : Layout → Contents → List ℕ
-sheetBytes v x = bytesIn (v .widths) (headOf v x) ++ fieldsOf (v .fingerprintWidth) (x .pages) ++ bytesOf (v .fingerprintWidth) (x .fingerprint)
+unfoldable pub sheetBytes : Contents → List ℕ
+sheetBytes x =
+    let v = layoutOf (x .version) in
+    bytesIn (fieldWidths v) (headOf x) ++ fieldsOf (v .fingerprintWidth) (x .pages) ++ bytesOf (v .fingerprintWidth) (x .fingerprint)
 
 -- ---- the numbers as they stand in given bytes, with as many pages as the length and the page size ask
 
 -- the number in field i
 abbrev pub fieldIn : Layout → ℕ → List ℕ → ℕ
-fieldIn v i sheet = numberAt (width (take i (v .widths))) (getD (v .widths) i 0) sheet
+fieldIn v i sheet = numberAt (width (take i (fieldWidths v))) (getD (fieldWidths v) i 0) sheet
 
 abbrev pub pagesIn : Layout → List ℕ → ℕ
 pagesIn v sheet = pageCount (fieldIn v 4 sheet) (fieldIn v 3 sheet)
 
-unfoldable pub contentsIn : Layout → List ℕ → Contents
-contentsIn v sheet =
+unfoldable pub contentsIn : List ℕ → Contents
+contentsIn sheet =
+    let v = layoutOf (versionIn sheet) in
     record {
+      version = versionIn sheet;
       key = fieldIn v 2 sheet;
       length = fieldIn v 3 sheet;
       pageSize = fieldIn v 4 sheet;

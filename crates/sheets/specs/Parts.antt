@@ -2,30 +2,26 @@
 use mathlib.Core.Path.{_≡_}
 use mathlib.Core.Bool.{cond}
 use mathlib.Core.List.{List, [], _∷_}
-use Prim.Native.Nat.{ℕ, suc, _*_, _/_, _^_, _<_}
+use Prim.Native.Nat.{ℕ, suc, _-_, _*_, _^_, _≤_, _<_}
 use lib.Dec.{eqb}
 use lib.ListN.{length, drop}
 use Rattle.refusals.specs.declared.Refusal.the-variants.{TooLong, SheetMalformed}
 use Rattle.refusals.specs.Refusals.{Answer, Done, Refused, _⇒_, firstOf, passes}
-use Rattle.files.specs.Files.{fingerprint}
 use Rattle.sheets.specs.declared.Sheet.{Sheet}
 use Rattle.sheets.specs.declared.Checked.{Checked}
 use Rattle.sheets.specs.declared.Checked.the-variants as checked-cases
 use Rattle.sheets.specs.declared.Changed.{Changed}
 use Rattle.sheets.specs.declared.layout.Head.{Head}
-use Rattle.sheets.specs.Layout.{version1, pagePlace, Contents, fieldIn, contentsIn}
-use Rattle.sheets.specs.Sheets.{filled, pageSizeTest, bodyWrong, readSheet, Outcome, compared}
+use Rattle.sheets.specs.declared.layout.Fields.{Fields}
+use Rattle.sheets.specs.Layout.{versionIn, Layout, layoutOf, pagePlace, pageCount, Contents, fieldIn, contentsIn}
+use Rattle.sheets.specs.Sheets.{pageSizeTest, bodyWrong, readSheet, Outcome, compared}
 use Rattle.sheets.specs.Answers.{Range, rangeOf}
 use Rattle.sheets.specs.Answers.{numbersOf}
 use Rattle.sheets.specs.Answers.{checkAnswer, changeAnswer}
 
--- what a file has behind its whole pages, of s bytes each
-abbrev pub lastPage : ℕ → List ℕ → List ℕ
-lastPage s file = drop (length file / s * s) file
-
--- the fingerprint of a last page that is not whole, filled up; any number where there is none
-abbrev pub LastFilled : ℕ → ℕ → List ℕ → ℕ → Type 0
-LastFilled key s file last = 0 < length (lastPage s file) → last ≡ fingerprint key (filled s (lastPage s file))
+-- how many zero bytes the pages of a file of n bytes have behind it: none where they are not filled up
+abbrev pub zerosBehind : Layout → ℕ → ℕ → ℕ
+zerosBehind v s n = cond (v .filled) (pageCount s n * s - n) 0
 
 -- how many numbers, from the first on, two lists have in common
 unfoldable pub agreeing : List ℕ → List ℕ → ℕ
@@ -36,17 +32,17 @@ agreeing (f ∷ fs) (g ∷ gs) = cond (eqb f g) (suc (agreeing fs gs)) 0
 -- the rest of reading, where the head is right and the key accepted
 abbrev pub readBody : List ℕ → Answer Unit Contents
 readBody sheet =
-    let x = contentsIn version1 sheet in
-    firstOf (pageSizeTest (x .pageSize) ∷ bodyWrong version1 (length sheet) x ⇒ SheetMalformed ∷ []) tt x
+    let x = contentsIn sheet in
+    firstOf (pageSizeTest (x .pageSize) ∷ bodyWrong (length sheet) x ⇒ SheetMalformed ∷ []) tt x
 
 -- the sheet was read, as the numbers x
 pub record ReadAs (sheet : List ℕ) (x : Sheet) : Type 0 where
-  pub done : readSheet sheet ≡ Done (contentsIn version1 sheet)
-  pub numbers : x ≡ numbersOf (contentsIn version1 sheet)
+  pub done : readSheet sheet ≡ Done (contentsIn sheet)
+  pub numbers : x ≡ numbersOf (contentsIn sheet)
 
 -- the rest of a check, where the sheet is read
 abbrev pub comparison : List ℕ → List ℕ → Answer Unit Outcome
-comparison sheet file = firstOf (passes (length file ∷ []) ⇒ TooLong ∷ []) tt (compared (contentsIn version1 sheet) file)
+comparison sheet file = firstOf (passes (length file ∷ []) ⇒ TooLong ∷ []) tt (compared (contentsIn sheet) file)
 
 -- an answer of the check that names no page; and the check's answer as that of `changedRange`
 abbrev pub NoPage : Checked → Type 0
@@ -63,18 +59,31 @@ ranged x (Refused r s) = Refused r s
 abbrev pub WithoutPage : Checked → Changed → Type 0
 WithoutPage o r = (x : Contents) → changeAnswer r ≡ ranged x (checkAnswer o)
 
+-- ---- the layout in code
+
+-- a layout, as the code has it
+pub record LaidOut (v : Layout) (r : Fields) : Type 0 where
+  pub widths : v .widths ≡ r .key ∷ r .length ∷ r .size ∷ []
+  pub fingerprints : v .fingerprintWidth ≡ 8
+  pub filled : v .filled ≡ r .filled
+  pub key-fits : r .key ≤ 8
+  pub length-fits : r .length ≤ 4
+  pub size-fits : r .size ≤ 2
+
 -- the numbers in front of a sheet's fingerprints, as the code reads them
 pub record HeadOf (sheet : List ℕ) (head : Head) : Type 0 where
-  pub key : head .key ≡ fieldIn version1 2 sheet
-  pub length : head .length ≡ fieldIn version1 3 sheet
-  pub size : head .size ≡ fieldIn version1 4 sheet
+  pub version : head .version ≡ versionIn sheet
+  pub key : head .key ≡ fieldIn (layoutOf (versionIn sheet)) 2 sheet
+  pub length : head .length ≡ fieldIn (layoutOf (versionIn sheet)) 3 sheet
+  pub size : head .size ≡ fieldIn (layoutOf (versionIn sheet)) 4 sheet
   pub length-fits : head .length < 2 ^ 32
   pub size-fits : head .size < 2 ^ 16
 
--- the part of a sheet that begins with the fingerprints
-abbrev pub fingerprintsPart : List ℕ → List ℕ
-fingerprintsPart sheet = drop (pagePlace version1 0) sheet
+-- the part of a sheet that begins with the fingerprints, by its version
+abbrev pub fingerprintsPart : ℕ → List ℕ → List ℕ
+fingerprintsPart version sheet = drop (pagePlace (layoutOf version) 0) sheet
 
 -- what stands in front of them, as the code writes it
 abbrev pub headOnly : Head → Contents
-headOnly head = record { key = head .key; length = head .length; pageSize = head .size; pages = []; fingerprint = 0 }
+headOnly head =
+    record { version = head .version; key = head .key; length = head .length; pageSize = head .size; pages = []; fingerprint = 0 }

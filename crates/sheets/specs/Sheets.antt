@@ -1,7 +1,8 @@
--- Writing, reading and checking a page sheet (document 01, "Page sheets"): each call is its tests, in document 01's order, and its value.
+-- Writing, reading and checking a page sheet (document 01, "Page sheets"; version 2: document 02, wish 1): each call is its tests, in
+-- document 01's order, and its value.
 use mathlib.Core.Bool.{Bool, false, _||_, not, cond}
 use mathlib.Core.List.{List, [], _∷_, _++_}
-use Prim.Native.Nat.{ℕ, zero, suc, _+_, _-_, _*_, _^_}
+use Prim.Native.Nat.{ℕ, zero, suc, _+_, _-_, _*_, _^_, min}
 use lib.Dec.{ltb, leb, eqb}
 use lib.ListN.{length, take, drop, replicate}
 use Rattle.lists.specs.Lists.{overlay}
@@ -11,24 +12,28 @@ use Rattle.refusals.specs.Refusals.{Answer, Test, _⇒_, firstOf, passes}
 use Rattle.acceptance.specs.Keys.{keyTests}
 use Rattle.files.specs.declared.Mark.{Mark}
 use Rattle.files.specs.Files.{fingerprint, markOf, joined}
-use Rattle.sheets.specs.Layout.{Layout, version1, sheetLength, pageCount, Contents, letters, sheetBytes}
-use Rattle.sheets.specs.Layout.{fieldIn, contentsIn}
+use Rattle.sheets.specs.Layout.{numberAt, letters, lettersWidth, versionIn, Layout, newest, layouts, known, layoutOf}
+use Rattle.sheets.specs.Layout.{sheetLength, pageCount, Contents, sheetBytes, contentsIn}
 
 -- ---- the pages of a file
 
--- a last page shorter than s is filled up with zero bytes
+-- a page shorter than s filled up with zero bytes
 unfoldable pub filled : ℕ → List ℕ → List ℕ
 filled s page = page ++ replicate (s - length page) 0
 
--- the fingerprints of the first c pages, of s bytes each
-unfoldable pub pageFingerprints : ℕ → ℕ → ℕ → List ℕ → List ℕ
-pageFingerprints key s zero file = []
-pageFingerprints key s (suc c) file = fingerprint key (filled s (take s file)) ∷ pageFingerprints key s c (drop s file)
+-- a page as its fingerprint takes it
+abbrev pub pageOf : Layout → ℕ → List ℕ → List ℕ
+pageOf v s page = cond (v .filled) (filled s page) page
 
-unfoldable pub contentsOf : ℕ → ℕ → List ℕ → Contents
-contentsOf key s file =
-    let pages = pageFingerprints key s (pageCount s (length file)) file in
-    record { key = key; length = length file; pageSize = s; pages = pages; fingerprint = fingerprint key file }
+-- the fingerprints of the first c pages, of s bytes each or what the file has left
+unfoldable pub pageFingerprints : Layout → ℕ → ℕ → ℕ → List ℕ → List ℕ
+pageFingerprints v key s zero file = []
+pageFingerprints v key s (suc c) file = fingerprint key (pageOf v s (take s file)) ∷ pageFingerprints v key s c (drop s file)
+
+unfoldable pub contentsOf : ℕ → ℕ → ℕ → List ℕ → Contents
+contentsOf version key s file =
+    let pages = pageFingerprints (layoutOf version) key s (pageCount s (length file)) file in
+    record { version = version; key = key; length = length file; pageSize = s; pages = pages; fingerprint = fingerprint key file }
 
 -- ---- writing: numbers 1, 2, 7, 12, 13
 
@@ -41,67 +46,72 @@ lengthTests n s = passes (n ∷ []) ⇒ TooLong ∷ pageSizeTest s ∷ []
 
 -- the bytes of the sheet of a file of n bytes: numbers 7, 12
 unfoldable pub lengthFor : ℕ → ℕ → Answer Unit ℕ
-lengthFor n s = firstOf (lengthTests n s) tt (sheetLength version1 (pageCount s n))
+lengthFor n s = firstOf (lengthTests n s) tt (sheetLength newest (pageCount s n))
 
 abbrev pub writeTests : ℕ → ℕ → List ℕ → List ℕ → List Test
 writeTests key s file buffer =
     keyTests key
     ++ lengthTests (length file) s
-    ++ ltb (length buffer) (sheetLength version1 (pageCount s (length file))) ⇒ BufferShort
+    ++ ltb (length buffer) (sheetLength newest (pageCount s (length file))) ⇒ BufferShort
     ∷ []
 
 -- what the lent buffer holds after the call
 unfoldable pub writeSheet : ℕ → ℕ → List ℕ → List ℕ → Answer (List ℕ) (List ℕ)
-writeSheet key s file buffer = firstOf (writeTests key s file buffer) buffer (overlay (sheetBytes version1 (contentsOf key s file)) buffer)
+writeSheet key s file buffer =
+    firstOf (writeTests key s file buffer) buffer
+    (overlay (sheetBytes (contentsOf (newest .version) key s file)) buffer)
 
 -- ---- reading: number 14 for size, letters and version; 1, 2, 12; then the rest of 14
 
--- the marks of pages of s bytes joined behind a mark, without the limit of number 7
-unfoldable pub joinedPages : ℕ → ℕ → Mark → List ℕ → Mark
-joinedPages key s m [] = m
-joinedPages key s m (f ∷ fs) = joinedPages key s (joined key m (record { fingerprint = f; length = s })) fs
+-- how long a page counts, with `left` bytes of the file from it on
+abbrev pub pageLength : Layout → ℕ → ℕ → ℕ
+pageLength v s left = cond (v .filled) s (min s left)
+
+-- the marks of pages joined behind a mark, each with its own length, without the limit of number 7
+unfoldable pub joinedPages : Layout → ℕ → ℕ → ℕ → Mark → List ℕ → Mark
+joinedPages v key s left m [] = m
+joinedPages v key s left m (f ∷ fs) = joinedPages v key s (left - s) (joined key m (record { fingerprint = f; length = pageLength v s left })) fs
 
 -- a fingerprint is not below 2^k
 unfoldable pub someUnreduced : ℕ → List ℕ → Bool
 someUnreduced k [] = false
 someUnreduced k (f ∷ fs) = leb (2 ^ k) f || someUnreduced k fs
 
--- the pages joined; and the file's fingerprint times t^(8 × (c × s − n)), which is that of the file filled up
-abbrev pub pagesJoined : Contents → ℕ
-pagesJoined x = joinedPages (x .key) (x .pageSize) (markOf (x .key) []) (x .pages) .fingerprint
+-- the pages joined: no pages give the mark of no bytes
+abbrev pub pagesJoined : Contents → Mark
+pagesJoined x = joinedPages (layoutOf (x .version)) (x .key) (x .pageSize) (x .length) (markOf (x .key) []) (x .pages)
 
+-- the file's fingerprint with zero bytes behind it, as many as the pages are longer than the file: none where they are not filled up
 abbrev pub fileFilled : Contents → ℕ
-fileFilled x = rem (x .key) (x .fingerprint * 2 ^ (8 * (length (x .pages) * x .pageSize - x .length)))
+fileFilled x = rem (x .key) (x .fingerprint * 2 ^ (8 * (pagesJoined x .length - x .length)))
 
--- number 14, first: size, letters, version
-abbrev pub headWrong : Layout → List ℕ → Bool
-headWrong v sheet =
-    ltb (length sheet) (sheetLength v 0)
-    || not (eqb (fieldIn v 0 sheet) letters)
-    || not (eqb (fieldIn v 1 sheet) (v .version))
+-- number 14, first: size, letters, version. The 27 bytes are document 01's, for every version.
+abbrev pub headWrong : List Layout → List ℕ → Bool
+headWrong vs sheet = ltb (length sheet) 27 || not (eqb (numberAt 0 lettersWidth sheet) letters) || not (known vs (versionIn sheet))
 
 -- number 14, last: total, fields, joining
-abbrev pub bodyWrong : Layout → ℕ → Contents → Bool
-bodyWrong v size x =
-    not (eqb size (sheetLength v (length (x .pages))))
+abbrev pub bodyWrong : ℕ → Contents → Bool
+bodyWrong size x =
+    not (eqb size (sheetLength (layoutOf (x .version)) (length (x .pages))))
     || someUnreduced (degree (x .key)) (x .pages ++ x .fingerprint ∷ [])
-    || not (eqb (pagesJoined x) (fileFilled x))
+    || not (eqb (pagesJoined x .fingerprint) (fileFilled x))
 
-abbrev pub readTests : Layout → List ℕ → List Test
-readTests v sheet =
-    let x = contentsIn v sheet in
-    headWrong v sheet ⇒ SheetMalformed
+-- of a reader that knows the layouts of a list
+abbrev pub readTests : List Layout → List ℕ → List Test
+readTests vs sheet =
+    let x = contentsIn sheet in
+    headWrong vs sheet ⇒ SheetMalformed
     ∷ keyTests (x .key)
     ++ pageSizeTest (x .pageSize)
-    ∷ bodyWrong v (length sheet) x ⇒ SheetMalformed
+    ∷ bodyWrong (length sheet) x ⇒ SheetMalformed
     ∷ []
 
 unfoldable pub readSheet : List ℕ → Answer Unit Contents
-readSheet sheet = firstOf (readTests version1 sheet) tt (contentsIn version1 sheet)
+readSheet sheet = firstOf (readTests layouts sheet) tt (contentsIn sheet)
 
 -- the page fingerprints into lent places
 unfoldable pub readPages : List ℕ → List ℕ → Answer (List ℕ) (List ℕ)
-readPages sheet lent = firstOf (readTests version1 sheet) lent (overlay (contentsIn version1 sheet .pages) lent)
+readPages sheet lent = firstOf (readTests layouts sheet) lent (overlay (contentsIn sheet .pages) lent)
 
 -- ---- checking a file: all of reading, then 7
 
@@ -116,15 +126,15 @@ firstChange i [] gs = Same
 firstChange i (f ∷ fs) [] = Same
 firstChange i (f ∷ fs) (g ∷ gs) = cond (eqb f g) (firstChange (suc i) fs gs) (Page i)
 
--- the fingerprints of a file's pages, by the sheet's key and page size
+-- the fingerprints of a file's pages, by the sheet's version, key and page size
 abbrev pub pagesNow : Contents → List ℕ → List ℕ
-pagesNow x file = contentsOf (x .key) (x .pageSize) file .pages
+pagesNow x file = contentsOf (x .version) (x .key) (x .pageSize) file .pages
 
 unfoldable pub compared : Contents → List ℕ → Outcome
 compared x file = cond (eqb (length file) (x .length)) (firstChange 0 (x .pages) (pagesNow x file)) OtherLength
 
 abbrev pub checkTests : List ℕ → List ℕ → List Test
-checkTests sheet file = readTests version1 sheet ++ passes (length file ∷ []) ⇒ TooLong ∷ []
+checkTests sheet file = readTests layouts sheet ++ passes (length file ∷ []) ⇒ TooLong ∷ []
 
 unfoldable pub checkSheet : List ℕ → List ℕ → Answer Unit Outcome
-checkSheet sheet file = firstOf (checkTests sheet file) tt (compared (contentsIn version1 sheet) file)
+checkSheet sheet file = firstOf (checkTests sheet file) tt (compared (contentsIn sheet) file)

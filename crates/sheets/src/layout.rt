@@ -1,46 +1,86 @@
-// The layout of version 1 in code: the fields in front of the fingerprints, and the part of a sheet that begins with the fingerprints. These
-// functions are for the project's own crates: what they require, every caller proves.
+// The layout of a sheet in code, version by version: the fields in front of the fingerprints, and the part of a sheet that begins with the
+// fingerprints. These functions are for the project's own crates: what they require, every caller proves.
 use super::fields;
 ghost use mathlib.Core.Path.{_≡_};
 ghost use mathlib.Core.Bool.{not};
 ghost use Prim.Native.Nat.{_≤_, _<_, _^_};
 ghost use lib.ListN.{length};
 ghost use lib.Seq.{sets};
-ghost use Rattle.sheets.specs.Layout.{version1, pagePlace, sheetLength, headOf, bytesIn, numberAt};
+ghost use Rattle.sheets.specs.Layout.{numberAt, layouts, known, layoutOf, fieldWidths, pagePlace, sheetLength, headOf, bytesIn};
 ghost use Rattle.sheets.specs.Sheets.{headWrong};
-ghost use Rattle.sheets.specs.Parts.{HeadOf, fingerprintsPart, headOnly};
+ghost use Rattle.sheets.specs.Parts.{LaidOut, HeadOf, fingerprintsPart, headOnly};
 
-// The letters GFP, and the version.
+// The letters GFP and the version's number, in front of every sheet: their widths, and where the key begins.
 const LETTERS: u64 = 0x474650;
 
-const VERSION: u64 = 1;
-
-// The width of each field, and where it begins.
 const LETTERS_WIDTH: usize = 3;
 
 const VERSION_WIDTH: usize = 2;
 
-const KEY_WIDTH: usize = 8;
+const KEY_PLACE: usize = LETTERS_WIDTH + VERSION_WIDTH;
 
-const LENGTH_WIDTH: usize = 4;
+// The bytes that a sheet has at least, whatever its version.
+const LEAST: usize = 27;
 
-const SIZE_WIDTH: usize = 2;
+// The version that is written.
+pub const NEWEST: u64 = 2;
 
-const VERSION_PLACE: usize = LETTERS_WIDTH;
+// A version: the width of each field behind the version's number, and whether a last page that is not whole is filled up with zero bytes.
+pub struct Fields {
+    pub key: usize,
+    pub length: usize,
+    pub size: usize,
+    pub filled: bool,
+}
 
-const KEY_PLACE: usize = VERSION_PLACE + VERSION_WIDTH;
+// The fields of a version; those of the newest where there is no such version.
+fn fields_of(version: u64) -> Fields
+    ensures { λ r. ⌜ LaidOut (layoutOf version) r ⌝ }
+{
+    if version == 1 {
+        return Fields {
+            key: 8,
+            length: 4,
+            size: 2,
+            filled: true,
+        };
+    }
+    Fields {
+        key: 8,
+        length: 4,
+        size: 2,
+        filled: false,
+    }
+}
 
-const LENGTH_PLACE: usize = KEY_PLACE + KEY_WIDTH;
+// Is there such a version?
+fn is_known(version: u64) -> bool
+    ensures { λ r. ⌜ r ≡ known layouts version ⌝ }
+{
+    if version == NEWEST {
+        return true;
+    }
+    version == 1
+}
 
-const SIZE_PLACE: usize = LENGTH_PLACE + LENGTH_WIDTH;
+// Does the version fill up a last page that is not whole?
+pub fn fills(version: u64) -> bool
+    ensures { λ r. ⌜ r ≡ layoutOf version .filled ⌝ }
+{
+    fields_of(version).filled
+}
 
-// Where the fingerprints begin, and the bytes of a sheet without pages.
-pub const PAGES: usize = SIZE_PLACE + SIZE_WIDTH;
+// Where the fingerprints begin.
+pub fn pages_place(version: u64) -> usize
+    ensures { λ r. ⌜ (r ≡ pagePlace (layoutOf version) 0) × (r < 32) ⌝ }
+{
+    let v = fields_of(version);
+    KEY_PLACE + v.key + v.length + v.size
+}
 
-const LEAST: usize = PAGES + 8;
-
-// The numbers in front of the fingerprints: the key, the file's length and the page size.
+// The numbers in front of the fingerprints: the version's, the key, the file's length and the page size.
 pub struct Head {
+    pub version: u64,
     pub key: u64,
     pub length: u64,
     pub size: u64,
@@ -48,7 +88,7 @@ pub struct Head {
 
 // Are size, letters and version right?
 pub fn head_right(sheet: &[u8]) -> bool
-    ensures { λ r. ⌜ r ≡ not (headWrong version1 (now (sheet .entry))) ⌝ }
+    ensures { λ r. ⌜ r ≡ not (headWrong layouts (now (sheet .entry))) ⌝ }
 {
     if sheet.len() < LEAST {
         return false;
@@ -56,53 +96,62 @@ pub fn head_right(sheet: &[u8]) -> bool
     if fields::number_at(sheet, 0, LETTERS_WIDTH) != LETTERS {
         return false;
     }
-    fields::number_at(sheet, VERSION_PLACE, VERSION_WIDTH) == VERSION
+    is_known(fields::number_at(sheet, LETTERS_WIDTH, VERSION_WIDTH))
 }
 
-// The numbers in front of the fingerprints.
+// The numbers in front of the fingerprints, in the fields of the sheet's version.
 pub fn read_head(sheet: &[u8]) -> Head
-    requires { ⌜ sheetLength version1 0 ≤ length (now sheet) ⌝ }
+    requires { ⌜ 27 ≤ length (now sheet) ⌝ }
     ensures { λ r. ⌜ HeadOf (now (sheet .entry)) r ⌝ }
 {
+    let version = fields::number_at(sheet, LETTERS_WIDTH, VERSION_WIDTH);
+    let v = fields_of(version);
+    let length_place = KEY_PLACE + v.key;
+    let size_place = length_place + v.length;
     Head {
-        key: fields::number_at(sheet, KEY_PLACE, KEY_WIDTH),
-        length: fields::number_at(sheet, LENGTH_PLACE, LENGTH_WIDTH),
-        size: fields::number_at(sheet, SIZE_PLACE, SIZE_WIDTH),
+        version: version,
+        key: fields::number_at(sheet, KEY_PLACE, v.key),
+        length: fields::number_at(sheet, length_place, v.length),
+        size: fields::number_at(sheet, size_place, v.size),
     }
 }
 
-// Writes what stands in front of the fingerprints.
+// Writes what stands in front of the fingerprints, in the fields of the head's version.
 pub fn put_head(buffer: &mut [u8], head: Head)
-    requires { ⌜ pagePlace version1 0 ≤ length (now buffer) ⌝ }
-    ensures { λ r. ⌜ now (buffer .exit) ≡ sets (now (buffer .entry)) 0 (bytesIn (version1 .widths) (headOf version1 (headOnly head))) ⌝ }
+    requires { ⌜ pagePlace (layoutOf (head .version)) 0 ≤ length (now buffer) ⌝ }
+    ensures { λ r. ⌜ now (buffer .exit) ≡ sets (now (buffer .entry)) 0 (bytesIn (fieldWidths (layoutOf (head .version))) (headOf (headOnly head))) ⌝ }
 {
+    let v = fields_of(head.version);
+    let length_place = KEY_PLACE + v.key;
+    let size_place = length_place + v.length;
     fields::put(buffer, 0, LETTERS_WIDTH, LETTERS);
-    fields::put(buffer, VERSION_PLACE, VERSION_WIDTH, VERSION);
-    fields::put(buffer, KEY_PLACE, KEY_WIDTH, head.key);
-    fields::put(buffer, LENGTH_PLACE, LENGTH_WIDTH, head.length);
-    fields::put(buffer, SIZE_PLACE, SIZE_WIDTH, head.size);
+    fields::put(buffer, LETTERS_WIDTH, VERSION_WIDTH, head.version);
+    fields::put(buffer, KEY_PLACE, v.key, head.key);
+    fields::put(buffer, length_place, v.length, head.length);
+    fields::put(buffer, size_place, v.size, head.size);
 }
 
 // The part of a sheet that begins with the fingerprints.
-pub fn page_fields(sheet: &[u8]) -> &[u8]
-    requires { ⌜ pagePlace version1 0 ≤ length (now sheet) ⌝ }
-    ensures { λ r. ⌜ now r ≡ fingerprintsPart (now (sheet .entry)) ⌝ }
+pub fn page_fields(sheet: &[u8], version: u64) -> &[u8]
+    requires { ⌜ pagePlace (layoutOf version) 0 ≤ length (now sheet) ⌝ }
+    ensures { λ r. ⌜ now r ≡ fingerprintsPart version (now (sheet .entry)) ⌝ }
 {
-    &sheet[PAGES..]
+    let from = pages_place(version);
+    &sheet[from..]
 }
 
 // The bytes of a sheet with so many pages.
-pub fn sheet_length(pages: u64) -> u64
+pub fn sheet_length(version: u64, pages: u64) -> u64
     requires { ⌜ pages < 2 ^ 32 ⌝ }
-    ensures { λ r. ⌜ r ≡ sheetLength version1 pages ⌝ }
+    ensures { λ r. ⌜ r ≡ sheetLength (layoutOf version) pages ⌝ }
 {
-    LEAST as u64 + 8 * pages
+    pages_place(version) as u64 + 8 * pages + 8
 }
 
 // The fingerprint behind i others.
-pub fn fingerprint_at(sheet: &[u8], i: u64) -> u64
-    requires { ⌜ sheetLength version1 i ≤ length (now sheet) ⌝ }
-    ensures { λ r. ⌜ r ≡ numberAt (pagePlace version1 i) 8 (now (sheet .entry)) ⌝ }
+pub fn fingerprint_at(sheet: &[u8], version: u64, i: u64) -> u64
+    requires { ⌜ sheetLength (layoutOf version) i ≤ length (now sheet) ⌝ }
+    ensures { λ r. ⌜ r ≡ numberAt (pagePlace (layoutOf version) i) 8 (now (sheet .entry)) ⌝ }
 {
-    fields::number_at(sheet, PAGES + (8 * i) as usize, 8)
+    fields::number_at(sheet, pages_place(version) + (8 * i) as usize, 8)
 }

@@ -5,7 +5,7 @@ use mathlib.Core.List.{List, [], _∷_}
 use Prim.Native.Nat.{ℕ}
 use Rattle.refusals.specs.Refusals.{numberOf, Test, _⇒_, firstOf}
 use Rattle.sheets.specs.declared.Changed.{Changed}
-use Rattle.sheets.specs.Layout.{version1, Contents, contentsIn}
+use Rattle.sheets.specs.Layout.{Contents, contentsIn}
 use Rattle.sheets.specs.Sheets.{Outcome, Same, Page, OtherLength, compared, checkTests, checkSheet}
 use Rattle.sheets.specs.Answers.{Range, NoChange, FromTo, NotAsLong, rangeOf, changedRange, changeAnswer}
 use Rattle.places.specs.Places.{heldAfter}
@@ -40,13 +40,13 @@ same-told x o before (false ⇒ r ∷ ts) = same-told x o before ts
 told : (c : tie.After-first-changed-range) (o : Changed) → c .first-changed-range .result ≡ o
     → (numberOf (changeAnswer o) ≡ numberOf (checkSheet (start c .args .sheet .now) (start c .args .file .now)))
     × (heldAfter numbersIn (before c) (changeAnswer o)
-    ≡ heldAfter (rangeIn (contentsIn version1 (start c .args .sheet .now))) (before c) (checkSheet (start c .args .sheet .now) (start c .args .file .now)))
+    ≡ heldAfter (rangeIn (contentsIn (start c .args .sheet .now))) (before c) (checkSheet (start c .args .sheet .now) (start c .args .file .now)))
 unfolding changedRange checkSheet
 told c o e =
     let h = ap changeAnswer (sym e) ∙ c .first-changed-range .ensures in
     let sheet = start c .args .sheet .now in
     let file = start c .args .file .now in
-    let x = contentsIn version1 sheet in
+    let x = contentsIn sheet in
     let s = same-told x (compared x file) (before c) (checkTests sheet file) in
     (ap numberOf h ∙ s .0, ap (heldAfter numbersIn (before c)) h ∙ s .1)
 

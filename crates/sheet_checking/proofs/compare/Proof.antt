@@ -9,14 +9,15 @@ use Rattle.gf2.specs.Opening.{modulusOf}
 use Rattle.refusals.specs.Refusals.{Done}
 use Rattle.acceptance.specs.Opened.{Opened}
 use Rattle.acceptance.proofs.Opened.{open-accepted, opened-from, opened-proper, opened-eight, opened-whole}
-use Rattle.sheets.specs.Layout.{version1, numbersAt, pagePlace, sheetLength, pageCount, contentsIn}
+use Rattle.sheets.specs.Layout.{numbersAt, Layout, layoutOf, pagePlace, sheetLength, pageCount, contentsIn}
 use Rattle.sheets.specs.Sheets.{pageFingerprints, firstChange}
 use Rattle.sheets.specs.Claims.{SoundContents}
 use Rattle.sheets.specs.Parts.{comparison}
 use Rattle.sheets.proofs.Known.{sound}
+use Rattle.sheets.proofs.Versions.{length-from}
 use Rattle.sheets.proofs.Pages.{length-pages, count-small}
 use Rattle.sheet_pass.proofs.Passes.{pass-few, pass-changed, pass-same}
-use Rattle.sheet_checking.proofs.Laws.{compare-long, compare-other, compare-pages, size-is, key-is, length-is, pages-there}
+use Rattle.sheet_checking.proofs.Laws.{compare-long, compare-other, compare-pages, version-is, size-is, key-is, length-is, pages-there}
 use borrow.Author.Needs.{needs}
 use Rattle.sheet_checking.proofs.compare.Statement.{statement}
 use Rattle.sheet_checking.proofs.compare.Tie as tie
@@ -32,13 +33,16 @@ abbrev equal : tie.After-modulus-of → tie.Else2
 equal c = c .before
 
 abbrev opened : tie.After-page-fields → tie.After-modulus-of
-opened c = c .before .before
+opened c = c .before
 
 abbrev passed : tie.After-page-count → tie.After-over-pages
 passed c = c .before .before
 
+abbrev fields-read : tie.After-over-pages → tie.After-page-fields
+fields-read c = c .before .before
+
 abbrev begin : tie.After-over-pages → tie.Else2
-begin c = equal (opened (c .before))
+begin c = equal (opened (fields-read c))
 
 abbrev sheet : tie.Start → List ℕ
 sheet s = s .args .sheet .now
@@ -49,14 +53,17 @@ file s = s .args .file .now
 abbrev count : tie.Start → ℕ
 count s = pageCount (s .args .x .size) (length (file s))
 
-fields : (s : tie.Start) → SoundContents (contentsIn version1 (sheet s))
+abbrev layout : tie.Start → Layout
+layout s = layoutOf (s .args .x .version)
+
+fields : (s : tie.Start) → SoundContents (contentsIn (sheet s))
 fields s = sound (sheet s) (s .pre)
 
 size : (s : tie.Start) → (16 ≤ s .args .x .size) × (s .args .x .size ≤ 4096)
 size s = rw (size-is (sheet s) (s .pre)) (fields s .pageSize)
 
 -- all fingerprints stand in the sheet
-total : (c : tie.Else2) → sheetLength version1 (count (start c)) ≡ length (sheet (start c))
+total : (c : tie.Else2) → sheetLength (layout (start c)) (count (start c)) ≡ length (sheet (start c))
 total c = let s = start c in pages-there (sheet s) (s .pre) (file s) (c .if2 .left)
 
 -- the key of a sheet that was read is accepted
@@ -78,53 +85,62 @@ modulus-of-requires : tie.Need-modulus-of-requires
 modulus-of-requires c κs = omega (arith, opened-from (key-opened c))
 
 page-fields-requires : tie.Need-page-fields-requires
-page-fields-requires c κs = omega (arith, total (equal (c .before)))
+page-fields-requires c κs =
+    let e = equal c in
+    let s = start e in
+    omega (arith, total e, length-from (s .args .x .version) (count s))
 
 -- the fields of all pages are in the part of the sheet that begins with them
 part : (c : tie.After-page-fields) → 8 * count (start (equal (opened c))) ≤ length (c .page-fields .result .now)
 part c =
     let e = equal (opened c) in
-    omega (arith, ap length (c .page-fields .ensures) ∙ length-drop (pagePlace version1 0) (sheet (start e)), total e)
+    let s = start e in
+    let long = ap length (c .page-fields .ensures) ∙ length-drop (pagePlace (layout s) 0) (sheet s) in
+    omega (arith, long, total e, length-from (s .args .x .version) (count s))
 
 over-pages-requires : tie.Need-over-pages-requires
 over-pages-requires c κs =
-    let s = start (equal (opened c)) in
-    let h = key-held (opened c) in
+    let f = c .before in
+    let s = start (equal (opened f)) in
+    let h = key-held (opened f) in
     let z = size s in
-    (opened-proper h, opened-eight h, z .0, z .1, omega arith, λ lent. absurd (omega (arith, lent)), λ lent. part c)
+    (opened-proper h, opened-eight h, z .0, z .1, omega arith, λ lent. absurd (omega (arith, lent)), λ lent. part f)
 
 page-count-requires : tie.Need-page-count-requires
 page-count-requires c κs = let z = size (start (begin (c .before))) in (omega (arith, z .0), z .1, omega arith)
 
 -- the fingerprints of the file's pages
 abbrev prints : tie.After-over-pages → List ℕ
-prints c = let s = start (begin c) in pageFingerprints (polynomial (opened (c .before) .modulus-of .result)) (s .args .x .size) (count s) (file s)
+prints c =
+    let s = start (begin c) in
+    pageFingerprints (layout s) (polynomial (opened (fields-read c) .modulus-of .result)) (s .args .x .size) (count s) (file s)
 
 long : (c : tie.After-over-pages) → length (prints c) ≡ count (start (begin c))
 long c =
     let s = start (begin c) in
-    length-pages (polynomial (opened (c .before) .modulus-of .result)) (count s) (s .args .x .size) (file s)
+    length-pages (layout s) (polynomial (opened (fields-read c) .modulus-of .result)) (count s) (s .args .x .size) (file s)
 
-few : (c : tie.After-over-pages) → c .over-pages .result .same ≤ count (start (begin c))
+few : (c : tie.After-over-pages) → c .over-pages .result ≤ count (start (begin c))
 few c =
-    pass-few (prints c) (c .before .page-fields .result .now) _ _ (c .over-pages .result .same) (count (start (begin c))) (c .over-pages .ensures .0) (long c)
-    (part (c .before))
+    pass-few (prints c) (fields-read c .page-fields .result .now) _ _ (c .over-pages .result) (count (start (begin c))) (c .over-pages .ensures) (long c)
+    (part (fields-read c))
 
 -- what the comparison answers, where the lengths are equal
 answer : (c : tie.After-over-pages)
     → comparison (sheet (start (begin c))) (file (start (begin c)))
-    ≡ Done (firstChange 0 (numbersAt 0 8 (count (start (begin c))) (c .before .page-fields .result .now)) (prints c))
+    ≡ Done (firstChange 0 (numbersAt 0 8 (count (start (begin c))) (fields-read c .page-fields .result .now)) (prints c))
 answer c =
     let e = begin c in
     let s = start e in
     let x = s .args .x in
-    let fields = c .before .page-fields in
-    compare-pages (sheet s) (file s) (omega arith) (x .key) (x .size) (key-is (sheet s) (s .pre)) (size-is (sheet s) (s .pre))
+    let fields = fields-read c .page-fields in
+    compare-pages (sheet s) (file s) (omega arith) (x .version) (x .key) (x .size) (version-is (sheet s) (s .pre)) (key-is (sheet s) (s .pre))
+    (size-is (sheet s) (s .pre))
     (e .if2 .left ∙ length-is (sheet s) (s .pre)) (fields .result .now) (fields .ensures)
-    ∙ ap (λ (m : ℕ). Done (firstChange 0 (numbersAt 0 8 (count s) (fields .result .now)) (pageFingerprints m (x .size) (count s) (file s))))
-    (sym (opened-whole (key-held (opened (c .before)))))
+    ∙ ap (λ (m : ℕ). Done (firstChange 0 (numbersAt 0 8 (count s) (fields .result .now)) (pageFingerprints (layout s) m (x .size) (count s) (file s))))
+    (sym (opened-whole (key-held (opened (fields-read c)))))
 
-cast-page : tie.Need-cast-t19
+cast-page : tie.Need-cast-t18
 cast-page c =
     let p = passed (c .before) in
     let s = start (begin p) in
@@ -134,14 +150,14 @@ cast-page c =
 returns-3 : tie.Need-returns-3
 returns-3 c =
     let p = passed (c .before) in
-    sym (answer p ∙ ap Done (pass-changed (prints p) (p .before .page-fields .result .now) _ _ (p .over-pages .result .same) (count (start (begin p)))
-    (p .over-pages .ensures .0) (long p) (part (p .before)) (omega (arith, c .if3 .taken, c .before .page-count .ensures))))
+    sym (answer p ∙ ap Done (pass-changed (prints p) (fields-read p .page-fields .result .now) _ _ (p .over-pages .result) (count (start (begin p)))
+    (p .over-pages .ensures) (long p) (part (fields-read p)) (omega (arith, c .if3 .taken, c .before .page-count .ensures))))
 
 returns-4 : tie.Need-returns-4
 returns-4 c =
     let p = passed (c .before) in
-    sym (answer p ∙ ap Done (pass-same (prints p) (p .before .page-fields .result .now) _ _ (p .over-pages .result .same) (count (start (begin p)))
-    (p .over-pages .ensures .0) (long p) (part (p .before)) (omega (arith, c .if3 .left, c .before .page-count .ensures))))
+    sym (answer p ∙ ap Done (pass-same (prints p) (fields-read p .page-fields .result .now) _ _ (p .over-pages .result) (count (start (begin p)))
+    (p .over-pages .ensures) (long p) (part (fields-read p)) (omega (arith, c .if3 .left, c .before .page-count .ensures))))
 
 pub compare-spec : {M : Type 1} → statement M
 compare-spec =
@@ -150,8 +166,8 @@ compare-spec =
     returns
     returns-2
     modulus-of-requires
-    (λ c. search needs)
     page-fields-requires
+    (λ c. search needs)
     over-pages-requires
     page-count-requires
     cast-page

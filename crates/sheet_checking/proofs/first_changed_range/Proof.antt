@@ -10,7 +10,7 @@ use Rattle.refusals.specs.Refusals.{Done}
 use Rattle.sheets.proofs.Checked as CheckedT
 use Rattle.sheets.specs.declared.Checked.{Checked}
 use Rattle.sheets.specs.declared.Checked.the-variants as cases
-use Rattle.sheets.specs.Layout.{version1, contentsIn}
+use Rattle.sheets.specs.Layout.{contentsIn}
 use Rattle.sheets.specs.Sheets.{Page, checkSheet}
 use Rattle.sheets.specs.Answers.{checkAnswer}
 use Rattle.sheets.specs.Parts.{NoPage, ranged}
@@ -50,7 +50,7 @@ returns : tie.Need-returns
 returns c =
     let k = c .before .before in
     let a = start k .args in
-    let x = contentsIn version1 (a .sheet .now) in
+    let x = contentsIn (a .sheet .now) in
     c .without-page .ensures x ∙ ap (ranged x) (k .check .ensures) ∙ sym (changed-by-check (a .sheet .now) (a .file .now))
 
 read-head-requires : tie.Need-read-head-requires

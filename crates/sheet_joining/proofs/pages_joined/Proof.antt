@@ -1,99 +1,99 @@
 -- `pages_joined` meets its contract.
-use mathlib.Core.Path.{_≡_, _∙_}
-use Prim.Native.Nat.{ℕ, _*_, _/_, _^_, _<_}
-use native.Mathlib.Nat.{mul-le-mul-right, mod-lt}
+use mathlib.Core.Path.{_≡_, sym, _∙_}
+use Prim.Native.Nat.{_+_, _-_, _*_, _/_, _^_, _≤_, _<_}
 use native.Mathlib.Omega.{arith}
-use lib.Pow.{pow-pos}
-use Rattle.gf2.proofs.Steps.{residue-lt}
-use Rattle.sheet_joining.proofs.Joining.{bits-none, bits-all, few-joined, times-low, all-joined}
+use Rattle.sheets.specs.Layout.{numberAt, layoutOf, pageCount}
+use Rattle.sheets.proofs.Pages.{count-small, count-whole, count-exact, count-more, whole-fits, last-short}
+use Rattle.sheet_joining.proofs.Joining.{filled-joined, whole-joined, last-joined}
 use borrow.Author.Needs.{needs}
 use Rattle.sheet_joining.proofs.pages_joined.Statement.{statement}
 use Rattle.sheet_joining.proofs.pages_joined.Tie as tie
 
--- the table of the shift by a page
-abbrev table : tie.After-shift2 → tie.After-fill
-table c = c .before
+-- the start, behind the choice of the version; the whole pages joined; something is left
+abbrev start : tie.After-fills → tie.Start
+start c = c .before .before
 
-abbrev start : tie.After-fill → tie.Start
-start c = c .before .before .before
+abbrev filled : tie.After-page-count → tie.Start
+filled c = start (c .before .before)
 
--- behind the four lanes, behind the power of t, and behind each of the three products
-abbrev lanes : tie.After-power-of-t → tie.After-join-lanes
-lanes c = c .before
+abbrev own : tie.Else1 → tie.Start
+own c = start (c .before)
 
-abbrev filled : tie.After-join-lanes → tie.After-fill
-filled c = table (c .before .before .before)
+abbrev run : tie.Else2 → tie.After-join-run2
+run c = c .before
 
-abbrev power : tie.After-low-bits → tie.After-power-of-t
-power c = c .before
+abbrev some : (s : tie.Start) → 0 < s .args .size
+some s = omega (arith, s .pre .2)
 
-abbrev first : tie.After-low-bits2 → tie.After-low-bits
-first c = c .before .before
+-- the number of pages is small, and all fields are there
+few : (s : tie.Start) → pageCount (s .args .size) (s .args .n) < 2 ^ 29
+few s = count-small (s .args .size) (s .args .n) (s .pre .2) (s .pre .3) (s .pre .4)
 
-abbrev second : tie.After-low-bits3 → tie.After-low-bits2
-second c = c .before .before
+whole : (s : tie.Start) → s .args .n / s .args .size ≤ pageCount (s .args .size) (s .args .n)
+whole s = count-whole (s .args .size) (s .args .n) (some s)
 
-small-by : {x y b : ℕ} → x ≡ y → y < b → x < b
-small-by e h = rw e h
+ends : (s : tie.Start) → s .args .n / s .args .size * s .args .size ≤ s .args .n
+ends s = whole-fits (s .args .size) (s .args .n)
 
-power-lt : (c : tie.After-power-of-t) → c .power-of-t .result < 2 ^ start (filled (lanes c)) .args .p .degree
-power-lt c = let s = start (filled (lanes c)) in small-by (c .power-of-t .ensures) (residue-lt (s .args .p .degree) (s .args .p .low) (s .pre .0 .2) _)
+join-run-requires : tie.Need-join-run-requires
+join-run-requires c κs =
+    let s = filled c in
+    (s .pre .0, s .pre .1, s .pre .3, omega (arith, few s, c .page-count .ensures), omega (arith, s .pre .5, c .page-count .ensures))
 
 returns : tie.Need-returns
 returns c =
-    let t = table (c .before .before .before) in
-    let s = start t in
+    let p = c .before in
+    let s = filled p in
     let a = s .args in
-    let x = c .join-lane .ensures in
-    record {
-      mark = λ r. x .0 ∙ few-joined (a .p) (s .pre .0) (a .size) 0 (a .n) (a .fields .now) (t .fill .last .0) (t .fill .ensures) r;
-      bits = λ k. x .1 k ∙ bits-none k _;
-    }
+    let f = sym (p .before .before .fills .ensures) ∙ p .before .if1 .taken in
+    rw (← (p .page-count .ensures))
+    (filled-joined (s .pre .0) (layoutOf (a .version)) (a .size) (a .n) (a .fields .now) (p .page-count .result) _ f (c .join-run .ensures))
 
-mul-power-of-t-2 : tie.Need-mul-power-of-t-2
-mul-power-of-t-2 c = let s = start (filled c) in omega (arith, mul-le-mul-right (s .args .n / 4) (s .pre .2))
+join-run-requires-2 : tie.Need-join-run-requires-2
+join-run-requires-2 c κs =
+    let s = own c in
+    (s .pre .0, s .pre .1, s .pre .3, omega (arith, few s, whole s), omega (arith, s .pre .5, whole s))
 
-times-plus-requires : tie.Need-times-plus-requires
-times-plus-requires c κs =
-    let s = start (filled (lanes (power c))) in
-    (s .pre .0, small-by (c .low-bits .ensures) (mod-lt _ (pow-pos (s .args .p .degree))), power-lt (power c))
+mul-left : tie.Need-mul-left
+mul-left c = let s = own (c .before) in omega (arith, ends s)
 
-times-plus-requires-2 : tie.Need-times-plus-requires-2
-times-plus-requires-2 c κs =
-    let p = power (first c) in
-    let s = start (filled (lanes p)) in
-    (s .pre .0, small-by (c .low-bits2 .ensures) (mod-lt _ (pow-pos (s .args .p .degree))), power-lt p)
-
-times-plus-requires-3 : tie.Need-times-plus-requires-3
-times-plus-requires-3 c κs =
-    let p = power (first (second c)) in
-    let s = start (filled (lanes p)) in
-    (s .pre .0, small-by (c .low-bits3 .ensures) (mod-lt _ (pow-pos (s .args .p .degree))), power-lt p)
+sub-left : tie.Need-sub-left
+sub-left c = ends (own (c .before))
 
 returns-2 : tie.Need-returns-2
 returns-2 c =
-    let c₃ = c .before .before in
-    let b₃ = c₃ .before in
-    let b₂ = second b₃ in
-    let b₁ = first b₂ in
-    let p = power b₁ in
-    let x = lanes p .join-lanes in
-    let t = filled (lanes p) .fill in
-    let s = start (filled (lanes p)) in
+    let r = c .before in
+    let s = own (r .before) in
     let a = s .args in
-    let q = a .n / 4 in
-    record {
-      mark = λ r. all-joined (a .p) (s .pre .0) (a .size) 0 (a .n) q (32 * q) (omega arith) (omega arith) (a .fields .now) (t .last .0) (t .ensures) r
-          (x .result) (x .ensures)
-          (p .power-of-t .result) (p .power-of-t .ensures) (b₂ .before .times-plus .result) (b₃ .before .times-plus2 .result) (c₃ .times-plus3 .result)
-          (c .join-lane2 .result .mark)
-          (times-low (a .p) _ _ _ _ _ (b₁ .low-bits .ensures) (b₂ .before .times-plus .ensures))
-          (times-low (a .p) _ _ _ _ _ (b₂ .low-bits2 .ensures) (b₃ .before .times-plus2 .ensures))
-          (times-low (a .p) _ _ _ _ _ (b₃ .low-bits3 .ensures) (c₃ .times-plus3 .ensures))
-          (c .join-lane2 .ensures .0);
-      bits = bits-all (t .last .0) (a .fields .now) 0 (a .n) q (32 * q) (x .result) (c .join-lane2 .result .bits) (omega arith) (omega arith) (x .ensures)
-          (c .join-lane2 .ensures .1);
-    }
+    rw (count-exact (a .size) (a .n) (some s) (omega arith))
+    (whole-joined (s .pre .0) (layoutOf (a .version)) (a .size) (a .n) (a .fields .now) (a .n / a .size) _ (ends s) (r .join-run2 .ensures))
+
+-- something is left: the last page has a field
+abbrev begun : tie.Else2 → tie.Start
+begun c = own (run c .before)
+
+count : (c : tie.Else2) → pageCount (begun c .args .size) (begun c .args .n) ≡ begun c .args .n / begun c .args .size + 1
+count c = let s = begun c in count-more (s .args .size) (s .args .n) (some s) (omega (arith, ends s, c .if2 .left))
+
+mul-eight-at : tie.Need-mul-eight-at
+mul-eight-at c = let s = begun c in omega (arith, few s, whole s)
+
+eight-at-requires : tie.Need-eight-at-requires
+eight-at-requires c κs = let s = begun c in omega (arith, s .pre .5, count c)
+
+returns-3 : tie.Need-returns-3
+unfolding numberAt
+returns-3 c =
+    let e = c .before .before in
+    let r = run e in
+    let s = own (r .before) in
+    let a = s .args in
+    let w = a .n / a .size in
+    let f = sym (r .before .before .fills .ensures) ∙ r .before .if1 .left in
+    let short = last-short (a .size) (a .n) (some s) in
+    rw (count e)
+    (last-joined (s .pre .0) (layoutOf (a .version)) (a .size) (a .n) (a .fields .now) w (a .n - w * a .size) _ _ _ f (omega (arith, ends s))
+    (omega (arith, short)) (c .before .eight-at .ensures) (r .join-run2 .ensures) (c .join-last .ensures))
 
 pub pages-joined-spec : {M : Type 1} → statement M
 pages-joined-spec =
@@ -101,23 +101,14 @@ pages-joined-spec =
     (tie.spec
     (λ c. search needs)
     (λ c κs. search needs)
-    (λ c. search needs)
     (λ c κs. search needs)
+    join-run-requires
     returns
-    (λ c. search needs)
+    join-run-requires-2
+    mul-left
+    sub-left
+    returns-2
+    mul-eight-at
+    eight-at-requires
     (λ c κs. search needs)
-    (λ c. search needs)
-    mul-power-of-t-2
-    (λ c κs. search needs)
-    (λ c κs. search needs)
-    times-plus-requires
-    (λ c κs. search needs)
-    times-plus-requires-2
-    (λ c κs. search needs)
-    times-plus-requires-3
-    (λ c. search needs)
-    (λ c. search needs)
-    (λ c. search needs)
-    (λ c. search needs)
-    (λ c κs. search needs)
-    returns-2)
+    returns-3)

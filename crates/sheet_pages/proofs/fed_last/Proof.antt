@@ -1,6 +1,6 @@
 -- `fed_last` meets its contract: under the house key the table is not needed.
-use mathlib.Core.Path.{_≡_, sym, ap, _∙_}
-use Prim.Native.Nat.{ℕ, _^_}
+use mathlib.Core.Path.{sym, ap, _∙_}
+use Prim.Native.Nat.{ℕ}
 use lib.Pow.{pow-lt}
 use native.Mathlib.Omega.{arith}
 use Rattle.gf2.specs.Polynomials.{rem}
@@ -11,8 +11,8 @@ use Rattle.sheet_pages.proofs.fed_last.Tie as tie
 
 returns : tie.Need-returns
 returns c =
-    let rest = c .before .before .before .before .before .args .rest .now in
-    c .fed-page .ensures ∙ ap (λ (p : ℕ). rem p (valueFrom 1 (bits rest))) (sym (c .before .before .is-house .ensures (c .before .if1 .taken) .0))
+    let page = c .before .before .before .before .before .args .page .now in
+    c .fed-page .ensures ∙ ap (λ (p : ℕ). rem p (valueFrom 1 (bits page))) (sym (c .before .before .is-house .ensures (c .before .if1 .taken) .0))
 
 -- the leading 1 is a residue
 fed-requires : tie.Need-fed-requires

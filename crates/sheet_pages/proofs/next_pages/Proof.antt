@@ -4,12 +4,14 @@ use mathlib.Core.List.{List}
 use Prim.Native.Nat.{ℕ, _+_, _*_, _/_, _≤_, _<_}
 use native.Mathlib.Nat.{add-mul, mul-le-mul-right}
 use native.Mathlib.Omega.{arith}
-use lib.ListN.{length, drop, length-drop, length-set}
+use lib.ListN.{length, take, drop, length-drop, length-set}
 use lib.Seq.{getD-set-other}
 use Rattle.gf2.specs.Moduli.{polynomial}
-use Rattle.sheets.specs.Layout.{pageCount}
-use Rattle.sheets.proofs.Pages.{count-le, count-reached, whole-fits, last-short}
-use Rattle.sheet_pages.proofs.Blocks.{block-last}
+use Rattle.files.specs.Files.{fingerprint}
+use Rattle.sheets.specs.Layout.{Layout, layoutOf, pageCount}
+use Rattle.sheets.specs.Sheets.{pageOf, pageFingerprints}
+use Rattle.sheets.proofs.Pages.{count-le, count-reached, whole-fits, last-short, all-left}
+use Rattle.sheet_pages.proofs.Blocks.{block-is, block-last}
 use borrow.Author.Needs.{needs}
 use Rattle.sheet_pages.proofs.next_pages.Statement.{statement}
 use Rattle.sheet_pages.proofs.next_pages.Tie as tie
@@ -58,11 +60,21 @@ whole-marks-requires c κs =
     let s = start b in
     (s .pre .0, s .pre .1, fits b, omega (arith, s .pre .3))
 
+-- the fingerprints of the whole pages, as a version takes them
+prints : (c : tie.After-slice-known2) (v : Layout)
+    → take (block c .block .result) (whole-marks c .whole-marks .last .0)
+    ≡ pageFingerprints v (polynomial (start (block c) .args .x .p)) (start (block c) .args .x .size) (block c .block .result) (rest (start (block c)))
+prints c v =
+    let b = block c in
+    let s = start b in
+    let w = whole-marks c .whole-marks in
+    block-is v (polynomial (s .args .x .p)) (s .args .x .size) (b .block .result) (rest s) _ (fits b) (omega (arith, s .pre .3, w .kept .0)) (w .ensures .0)
+
 returns : tie.Need-returns
 returns c =
     let b = block (c .before) in
     let w = whole-marks (c .before) .whole-marks in
-    record { count = omega (arith, begin b, c .if1 .taken); prints = w .ensures .0; behind = w .ensures .1 }
+    record { count = omega (arith, begin b, c .if1 .taken); prints = prints (c .before) _; behind = w .ensures .1 }
 
 mul-if2 : tie.Need-mul-if2
 mul-if2 c = omega (arith, fits (block (c .before)))
@@ -74,34 +86,76 @@ returns-2 c =
     let s = start b in
     let w = whole-marks d .whole-marks in
     let all = count-reached (s .args .x .size) (length (rest s)) (b .block .result) (omega (arith, s .pre .1)) (c .if2 .taken) in
-    record { count = omega (arith, begin b, all, b .block .ensures); prints = w .ensures .0; behind = w .ensures .1 }
+    record { count = omega (arith, begin b, all, b .block .ensures); prints = prints d _; behind = w .ensures .1 }
+
+-- the page that is not whole, behind the whole pages
+abbrev left : tie.After-last-page-arg → tie.Else2
+left c = c .before
+
+abbrev whole : tie.Else2 → tie.After-slice-known2
+whole c = c .before .before
+
+abbrev last : tie.After-last-page → tie.After-slice-known2
+last c = whole (left (c .before))
+
+-- all whole pages are in the block, and less than one is left
+all-whole : (c : tie.Else2) → block (whole c) .block .result ≡ length (rest (start (block (whole c)))) / start (block (whole c)) .args .x .size
+all-whole c = let b = block (whole c) in omega (arith, b .block .ensures, c .before .if1 .left)
+
+short : (c : tie.Else2)
+    → length (rest (start (block (whole c))))
+    < block (whole c) .block .result * start (block (whole c)) .args .x .size + start (block (whole c)) .args .x .size
+short c =
+    let s = start (block (whole c)) in
+    let size = s .args .x .size in
+    omega (arith, last-short size (length (rest s)) (omega (arith, s .pre .1)), ap (λ (m : ℕ). m * size) (all-whole c))
+
+mul-last-page : tie.Need-mul-last-page
+mul-last-page c = omega (arith, fits (block (whole c)))
+
+sub-last-page : tie.Need-sub-last-page
+sub-last-page c = fits (block (whole c))
+
+part-last-page-start : tie.Need-part-last-page-start
+part-last-page-start c = omega (arith, fits (block (whole c)))
+
+last-page-requires : tie.Need-last-page-requires
+last-page-requires c κs =
+    let e = left c in
+    let b = block (whole e) in
+    let s = start b in
+    let from = b .block .result * s .args .x .size in
+    let long = ap length (all-left (rest s) from) ∙ length-drop from (rest s) in
+    (s .pre .0 .table, omega (arith, long, short e), s .pre .2)
 
 slice-write-marks : tie.Need-slice-write-marks
-slice-write-marks c = let d = c .before .before in omega (arith, start (block d) .pre .3, whole-marks d .whole-marks .kept .0)
+slice-write-marks c = let d = last c in omega (arith, start (block d) .pre .3, whole-marks d .whole-marks .kept .0, left (c .before) .before .if1 .left)
 
 same-length-3 : tie.Need-same-length-3
-same-length-3 c = simp length-set (whole-marks (c .before .before) .whole-marks .kept .0)
+same-length-3 c = simp length-set (whole-marks (last c) .whole-marks .kept .0)
 
 returns-3 : tie.Need-returns-3
 returns-3 c =
-    let d = c .before .before in
+    let e = left (c .before) in
+    let d = last c in
     let w = whole-marks d .whole-marks in
     let b = block d in
     let s = start b in
     let a = s .args .x in
     let n = b .block .result in
-    let all : n ≡ length (rest s) / a .size = omega arith in
-    let whole = length (rest s) / a .size * a .size in
-    let some-left : 0 < length (drop whole (rest s)) =
-    omega (arith, length-drop whole (rest s), ap (λ (m : ℕ). m * a .size) all, c .if2 .left) in
-    let more = one-more (a .size) (length (rest s)) n (omega arith) (omega (arith, c .if2 .left)) in
-    let no-more = no-second (a .size) (length (rest s)) n (omega arith) all in
+    let key = polynomial (a .p) in
+    let v = layoutOf (a .version) in
+    let more = one-more (a .size) (length (rest s)) n (omega (arith, s .pre .1)) (omega (arith, e .if2 .left)) in
+    let no-more = no-second (a .size) (length (rest s)) n (omega (arith, s .pre .1)) (all-whole e) in
+    let page : c .last-page .result ≡ fingerprint key (pageOf v (a .size) (drop (n * a .size) (rest s))) =
+    c .last-page .ensures ∙ ap (λ (q : List ℕ). fingerprint key (pageOf v (a .size) q)) (all-left (rest s) (n * a .size)) in
     record {
-      count = omega (arith, more, no-more, b .block .ensures, all);
+      count = omega (arith, more, no-more, b .block .ensures, all-whole e);
       prints =
-          block-last (polynomial (a .p)) (a .size) n (a .last) (rest s) _ (omega arith) all (omega (arith, s .pre .3, w .kept .0)) (s .pre .4 some-left)
-          (w .ensures .0);
-      behind = λ j l. getD-set-other (w .last .0) n j (a .last) 0 (λ e. omega (arith, e, l)) ∙ w .ensures .1 j (omega (arith, l));
+          block-last v key (a .size) n (c .last-page .result) (rest s) _ (omega (arith, short e))
+          (omega (arith, s .pre .3, w .kept .0, e .before .if1 .left, b .block .ensures)) page
+          (prints d _);
+      behind = λ j l. getD-set-other (w .last .0) n j (c .last-page .result) 0 (λ e. omega (arith, e, l)) ∙ w .ensures .1 j (omega (arith, l));
     }
 
 pub next-pages-spec : {M : Type 1} → statement M
@@ -115,7 +169,12 @@ next-pages-spec =
     mul-if2
     (λ c. search needs)
     returns-2
-    (λ c. omega arith)
+    mul-last-page
+    sub-last-page
+    part-last-page-start
+    (λ c. search needs)
+    last-page-requires
+    (λ c. search needs)
     slice-write-marks
     (λ c. search needs)
     same-length-3

@@ -1,11 +1,6 @@
 -- `whole_marks` meets its contract, by folding or by the tables.
-use mathlib.Core.Path.{sym, ap, _∙_}
-use Prim.Native.Nat.{ℕ}
+use mathlib.Core.Path.{_∙_}
 use native.Mathlib.Omega.{arith}
-use Rattle.gf2.specs.Moduli.{polynomial}
-use Rattle.house.specs.House.{houseKey}
-use Rattle.sheets.specs.Sheets.{pageFingerprints}
-use Rattle.sheet_pages.proofs.Blocks.{block-is}
 use borrow.Author.Needs.{needs}
 use Rattle.sheet_pages.proofs.whole_marks.Statement.{statement}
 use Rattle.sheet_pages.proofs.whole_marks.Tie as tie
@@ -30,12 +25,7 @@ returns : tie.Need-returns
 returns c =
     let f = c .before .before in
     let g = folded (f .before) in
-    let s = entry g in
-    let a = s .args in (
-      block-is houseKey (a .size) (a .n) (a .pages .now) _ (s .pre .2) (omega (arith, f .fold-pages .kept .0)) (f .fold-pages .ensures .0)
-          ∙ ap (λ (key : ℕ). pageFingerprints key (a .size) (a .n) (a .pages .now)) (sym (g .folding .ensures (f .before .before .if1 .taken))),
-      f .fold-pages .ensures .1,
-    )
+    (rw (g .folding .ensures (f .before .before .if1 .taken)) (f .fold-pages .ensures .0), f .fold-pages .ensures .1)
 
 begin-pages-requires : tie.Need-begin-pages-requires
 begin-pages-requires c κs = let s = start c in (s .pre .0 .shifts .long, omega arith, omega arith, omega arith, s .pre .2, s .pre .3)
@@ -56,12 +46,7 @@ returns-2 : tie.Need-returns-2
 returns-2 c =
     let f = c .before .before in
     let b = begun f in
-    let s = start (b .before) in
-    let a = s .args in (
-      block-is (polynomial (a .p)) (a .size) (a .n) (a .pages .now) _ (s .pre .2) (omega (arith, b .begin-pages .kept .0, f .finish-pages .kept .0))
-          (f .finish-pages .ensures .0),
-      λ j l. f .finish-pages .ensures .1 j l ∙ b .begin-pages .ensures .1 j l,
-    )
+    (f .finish-pages .ensures .0, λ j l. f .finish-pages .ensures .1 j l ∙ b .begin-pages .ensures .1 j l)
 
 pub whole-marks-spec : {M : Type 1} → statement M
 whole-marks-spec =

@@ -7,21 +7,21 @@ use native.Mathlib.Omega.{arith}
 use lib.ListN.{length, take, drop, drop-of-length-le}
 use lib.Seq.{sets, length-take-le}
 use Rattle.gf2.specs.Moduli.{polynomial}
-use Rattle.sheets.specs.Layout.{fieldsOf, pageCount}
+use Rattle.sheets.specs.Layout.{fieldsOf, Layout, layoutOf, pageCount}
 use Rattle.sheets.specs.Sheets.{pageFingerprints}
 use Rattle.sheets.specs.Parts.{agreeing}
 use Rattle.sheets.proofs.Pages.{length-pages, page-begins, count-small, count-reached}
 use Rattle.sheets.proofs.Changes.{agree-le}
 use Rattle.sheet_pass.specs.Passes.{expected}
 use Rattle.sheet_pass.proofs.Passes.{block-long, block-few, block-ends, block-agrees, block-written}
-use Rattle.sheet_pass.proofs.Turns.{turn-last, turn-within, turn-some, turn-marks}
+use Rattle.sheet_pass.proofs.Turns.{turn-within, turn-some, turn-marks}
 use Rattle.sheet_pass.proofs.over_blocks.Statement.{statement}
 use Rattle.sheet_pass.proofs.over_blocks.Tie as tie
 
 abbrev Inv-loop : tie.InvT-loop
 Inv-loop out₀ known words eights x file size marks₀ page₀ out marks page =
     let count = pageCount (x .size) (length file) in
-    let fs = pageFingerprints (polynomial (x .p)) (x .size) count file in
+    let fs = pageFingerprints (layoutOf (x .version)) (polynomial (x .p)) (x .size) count file in
     (page ≤ count) × (length marks ≡ 64) × (length out ≡ length out₀) × (out ≡ sets out₀ 0 (fieldsOf 8 (take page fs)))
     × (page + agreeing (expected known (8 * page) (drop page fs)) (drop page fs) ≡ agreeing (expected known 0 fs) fs)
 
@@ -53,6 +53,9 @@ put c = c .before .before
 abbrev key : tie.Start Inv-loop μ-loop → ℕ
 key s = polynomial (s .args .x .p)
 
+abbrev layout : tie.Start Inv-loop μ-loop → Layout
+layout s = layoutOf (s .args .x .version)
+
 abbrev file : tie.Start Inv-loop μ-loop → List ℕ
 file s = s .args .file .now
 
@@ -60,7 +63,7 @@ abbrev count : tie.Start Inv-loop μ-loop → ℕ
 count s = pageCount (s .args .x .size) (length (file s))
 
 abbrev prints : tie.Start Inv-loop μ-loop → List ℕ
-prints s = pageFingerprints (key s) (s .args .x .size) (count s) (file s)
+prints s = pageFingerprints (layout s) (key s) (s .args .x .size) (count s) (file s)
 
 positive : (s : tie.Start Inv-loop μ-loop) → 0 < s .args .x .size
 positive s = omega (arith, s .pre .1)
@@ -69,7 +72,7 @@ small : (s : tie.Start Inv-loop μ-loop) → count s < 2 ^ 29
 small s = count-small (s .args .x .size) (length (file s)) (s .pre .1) (s .pre .2) (s .pre .3)
 
 many : (s : tie.Start Inv-loop μ-loop) → length (prints s) ≡ count s
-many s = length-pages (key s) (count s) (s .args .x .size) (file s)
+many s = length-pages (layout s) (key s) (count s) (s .args .x .size) (file s)
 
 more : (c : tie.After-marks Inv-loop μ-loop) → loop c .loop .page * start (loop c) .args .x .size < length (file (start (loop c)))
 more c = c .before .loop-test .taken
@@ -78,13 +81,13 @@ more c = c .before .loop-test .taken
 within : (c : tie.After-next-pages Inv-loop μ-loop) → begun c .loop .page + c .next-pages .result ≤ count (start (begun c))
 within c =
     let s = start (begun c) in
-    turn-within (key s) (s .args .x .size) (file s) (begun c .loop .page) (positive s) (more (c .before .before)) (c .next-pages .result) _ _
+    turn-within (layout s) (key s) (s .args .x .size) (file s) (begun c .loop .page) (positive s) (more (c .before .before)) (c .next-pages .result) _ _
     (c .next-pages .ensures)
 
 some : (c : tie.After-next-pages Inv-loop μ-loop) → 0 < c .next-pages .result
 some c =
     let s = start (begun c) in
-    turn-some (key s) (s .args .x .size) (file s) (begun c .loop .page) (positive s) (more (c .before .before)) (c .next-pages .result) _ _
+    turn-some (layout s) (key s) (s .args .x .size) (file s) (begun c .loop .page) (positive s) (more (c .before .before)) (c .next-pages .result) _ _
     (c .next-pages .ensures)
 
 -- the marks of the block, as they are lent
@@ -94,7 +97,7 @@ block c = take (c .next-pages .result) (c .next-pages .last .0)
 marks : (c : tie.After-next-pages Inv-loop μ-loop) → block c ≡ take (c .next-pages .result) (drop (begun c .loop .page) (prints (start (begun c))))
 marks c =
     let s = start (begun c) in
-    turn-marks (key s) (s .args .x .size) (file s) (begun c .loop .page) (positive s) (more (c .before .before)) (c .next-pages .result) _ _
+    turn-marks (layout s) (key s) (s .args .x .size) (file s) (begun c .loop .page) (positive s) (more (c .before .before)) (c .next-pages .result) _ _
     (c .next-pages .ensures)
 
 fits : (c : tie.After-next-pages Inv-loop μ-loop) → begun c .loop .page + c .next-pages .result ≤ length (prints (start (begun c)))
@@ -146,8 +149,7 @@ next-pages-requires : tie.Need-next-pages-requires Inv-loop μ-loop
 next-pages-requires c κs =
     let l = loop (c .before) in
     let s = start l in
-    let last = turn-last (key s) (s .args .x .size) (file s) (l .loop .page) (positive s) (more (c .before)) (s .args .x .last) (s .pre .4) in
-    (s .pre .0, omega (arith, s .pre .1), s .pre .2, omega (arith, l .loop .inv .1), last)
+    (s .pre .0, omega (arith, s .pre .1), s .pre .2, omega (arith, l .loop .inv .1))
 
 mul-agreeing : tie.Need-mul-agreeing Inv-loop μ-loop
 mul-agreeing c = omega (arith, within (c .before), small (start (begun (c .before))))
@@ -159,7 +161,7 @@ slice-aggregate-agreeing : tie.Need-slice-aggregate-agreeing Inv-loop μ-loop
 slice-aggregate-agreeing c = sym (long (c .before .before))
 
 agreeing-requires : tie.Need-agreeing-requires Inv-loop μ-loop
-agreeing-requires c κs lent = let n = c .before .before in omega (arith, long n, within n, start (begun n) .pre .6 lent)
+agreeing-requires c κs lent = let n = c .before .before in omega (arith, long n, within n, start (begun n) .pre .5 lent)
 
 mul-put-fields : tie.Need-mul-put-fields Inv-loop μ-loop
 mul-put-fields c = let n = next (c .before) in omega (arith, within n, small (start (begun n)))
@@ -175,7 +177,7 @@ put-fields-requires c κs lent =
     let a = c .before .before in
     let n = next a in
     let l = begun n .loop in
-    omega (arith, taken a, few a, within n, l .inv .2, start (begun n) .pre .5 (omega (arith, l .inv .2)))
+    omega (arith, taken a, few a, within n, l .inv .2, start (begun n) .pre .4 (omega (arith, l .inv .2)))
 
 add-page : tie.Need-add-page Inv-loop μ-loop
 add-page c = let a = agreed (put c) in omega (arith, few a, within (next a), small (start (begun (next a))))

@@ -9,7 +9,7 @@ use Rattle.refusals.proofs.Laws.{holds, fails}
 use Rattle.acceptance.specs.Opened.{Opened}
 use Rattle.keys.specs.Testing.{testKey}
 use Rattle.keys.proofs.Laws.{opened}
-use Rattle.sheets.specs.Layout.{version1, sheetLength}
+use Rattle.sheets.specs.Layout.{layouts}
 use Rattle.sheets.specs.Sheets.{headWrong}
 use Rattle.sheets.specs.Answers.{sheetRead}
 use Rattle.sheets.proofs.Sound.{head-right}
@@ -22,10 +22,10 @@ use Rattle.sheet_reading.proofs.read.Tie as tie
 abbrev sheet : tie.After-head-right → List ℕ
 sheet c = c .before .before .args .sheet .now
 
-right : (c : tie.Else1) → headWrong version1 (sheet (c .before)) ≡ false
+right : (c : tie.Else1) → headWrong layouts (sheet (c .before)) ≡ false
 right c = fails _ _ (c .before .head-right .ensures) (c .if1 .left)
 
-long : (c : tie.Else1) → sheetLength version1 0 ≤ length (sheet (c .before))
+long : (c : tie.Else1) → 27 ≤ length (sheet (c .before))
 long c = head-right (sheet (c .before)) (right c) .long
 
 returns : tie.Need-returns
@@ -49,7 +49,7 @@ read-head-requires c κs = long c
 read-under-requires : tie.Need-read-under-requires
 read-under-requires c κs =
     let h = accepted (c .before) .before in
-    (long (h .before), h .read-head .ensures, key-opened (c .before))
+    (h .read-head .ensures, key-opened (c .before))
 
 returns-2 : tie.Need-returns-2
 returns-2 c =

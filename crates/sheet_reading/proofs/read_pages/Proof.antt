@@ -1,16 +1,16 @@
 -- `read_pages` meets its contract.
 use mathlib.Core.Path.{_≡_, sym, ap, _∙_}
 use mathlib.Core.List.{List}
-use Prim.Native.Nat.{ℕ, _≤_, min}
+use Prim.Native.Nat.{ℕ, _+_, _*_, _≤_, min}
 use native.Mathlib.Omega.{arith}
 use lib.ListN.{length, length-drop}
 use Rattle.lists.specs.Lists.{overlay}
 use Rattle.refusals.specs.Refusals.{Done}
-use Rattle.sheets.specs.Layout.{version1, numbersAt, pagePlace, pagesIn, contentsIn}
+use Rattle.sheets.specs.Layout.{numbersAt, versionIn, Layout, layoutOf, pagePlace, pagesIn}
 use Rattle.sheets.specs.Answers.{reading}
-use Rattle.sheets.specs.Parts.{ReadAs}
-use Rattle.sheets.proofs.Numbers.{numbers-part}
-use Rattle.sheets.proofs.Known.{read-as, total, pages-counted, pages-refused, pages-done}
+use Rattle.sheets.specs.Parts.{ReadAs, fingerprintsPart}
+use Rattle.sheets.proofs.Versions.{length-from}
+use Rattle.sheets.proofs.Known.{pages-in, read-as, total, version-read, pages-counted, pages-refused, pages-done}
 use Rattle.sheet_reading.proofs.Lent.{lent-are}
 use borrow.Author.Needs.{needs}
 use Rattle.sheet_reading.proofs.read_pages.Statement.{statement}
@@ -35,18 +35,32 @@ sheet c = start (read c) .args .sheet .now
 known : (c : tie.After-x) → ReadAs (sheet c) (c .x .given .0 .0)
 known c = read-as (sheet c) (c .x .given .0 .0) (ap reading (sym (c .x .given .1)) ∙ read c .read .ensures)
 
+abbrev layout : tie.After-x → Layout
+layout c = layoutOf (versionIn (sheet c))
+
 -- as many fields as are copied stand in the sheet
-fits : (c : tie.After-least) → pagePlace version1 (c .least .result) ≤ length (sheet (given c))
-fits c = let x = given c in omega (arith, c .least .ensures, total (sheet x) (known x), pages-counted (sheet x) (known x))
+fits : (c : tie.After-least) → pagePlace (layout (given c)) 0 + 8 * c .least .result ≤ length (sheet (given c))
+fits c =
+    let x = given c in
+    let v = versionIn (sheet x) in
+    omega (arith, c .least .ensures, total (sheet x) (known x), pages-counted (sheet x) (known x), length-from v (pagesIn (layoutOf v) (sheet x)))
 
 page-fields-requires : tie.Need-page-fields-requires
-page-fields-requires c κs = omega (arith, fits (c .before))
+page-fields-requires c κs =
+    let x = given (c .before) in
+    omega (arith, fits (c .before), ap (λ (v : ℕ). pagePlace (layoutOf v) 0) (version-read (sheet x) (known x)))
+
+-- the part that begins with them
+part : (c : tie.After-page-fields) → c .page-fields .result .now ≡ fingerprintsPart (versionIn (sheet (given (counted c)))) (sheet (given (counted c)))
+part c =
+    let x = given (counted c) in
+    c .page-fields .ensures ∙ ap (λ (v : ℕ). fingerprintsPart v (sheet x)) (version-read (sheet x) (known x))
 
 copy-fields-requires : tie.Need-copy-fields-requires
 copy-fields-requires c κs =
     let l = counted c in
-    let part = ap length (c .page-fields .ensures) ∙ length-drop (pagePlace version1 0) (sheet (given l)) in
-    (omega (arith, l .least .ensures), omega (arith, part, fits l))
+    let long = ap length (part c) ∙ length-drop (pagePlace (layout (given l)) 0) (sheet (given l)) in
+    (omega (arith, l .least .ensures), omega (arith, long, fits l))
 
 returns : tie.Need-returns
 returns c =
@@ -55,21 +69,18 @@ returns c =
     sym (pages-refused (a .sheet .now) (a .lent .now) (c .before .r .given .0 .0) (ap reading (sym (c .before .r .given .1)) ∙ r .read .ensures))
 
 returns-2 : tie.Need-returns-2
-unfolding contentsIn
 returns-2 c =
     let f = c .before .before .before in
     let l = counted f in
     let x = given l in
     let lent = start (read x) .args .lent .now in
     let n = l .least .result in
-    let pages : (m : ℕ) → numbersAt 0 8 m (f .page-fields .result .now) ≡ numbersAt (pagePlace version1 0) 8 m (sheet x) =
-    λ m. ap (numbersAt 0 8 m) (f .page-fields .ensures) ∙ numbers-part (pagePlace version1 0) 0 8 m (sheet x) in
-    let count : n ≡ min (pagesIn version1 (sheet x)) (length lent) =
-    l .least .ensures ∙ ap (λ (m : ℕ). min m (length lent)) (pages-counted (sheet x) (known x)) in
+    let m = pagesIn (layout x) (sheet x) in
+    let count : n ≡ min m (length lent) = l .least .ensures ∙ ap (λ (i : ℕ). min i (length lent)) (pages-counted (sheet x) (known x)) in
     ap Done
     (c .before .before .copy-fields .ensures
-    ∙ lent-are (f .page-fields .result .now) lent (pagesIn version1 (sheet x)) n count
-    ∙ ap (λ (ps : List ℕ). overlay ps lent) (pages (pagesIn version1 (sheet x))))
+    ∙ lent-are (f .page-fields .result .now) lent m n count
+    ∙ ap (λ (ps : List ℕ). overlay ps lent) (ap (numbersAt 0 8 m) (part f) ∙ sym (pages-in (sheet x))))
     ∙ sym (pages-done (sheet x) lent (known x))
 
 pub read-pages-spec : {M : Type 1} → statement M

@@ -9,7 +9,7 @@ use lib.ListN.{length}
 use Rattle.refusals.specs.Refusals.{Done}
 use Rattle.refusals.proofs.Laws.{holds, fails}
 use Rattle.sheets.specs.declared.layout.Head.{Head}
-use Rattle.sheets.specs.Layout.{version1, sheetLength, pageCount, fieldIn, pagesIn}
+use Rattle.sheets.specs.Layout.{versionIn, Layout, layoutOf, sheetLength, pageCount, fieldIn, pagesIn}
 use Rattle.sheets.specs.Answers.{sheetRead}
 use Rattle.sheets.proofs.Sound.{size-bounds}
 use Rattle.sheet_reading.proofs.Answers.{numbers-are, body-total, body-size, body-wrong, body-done}
@@ -29,30 +29,36 @@ sheet s = s .args .sheet .now
 abbrev head : tie.Start → Head
 head s = s .args .head
 
+abbrev layout : tie.Start → Layout
+layout s = layoutOf (versionIn (sheet s))
+
 -- the page size is right
 size-passed : (c : tie.Else1)
-    → (ltb (fieldIn version1 4 (sheet (start (c .before)))) 16 || ltb 4096 (fieldIn version1 4 (sheet (start (c .before))))) ≡ false
-size-passed c = let s = start (c .before) in rw (← (s .pre .1 .size)) (fails _ _ (c .before .size-right .ensures) (c .if1 .left))
+    → (ltb (fieldIn (layout (start (c .before))) 4 (sheet (start (c .before)))) 16
+    || ltb 4096 (fieldIn (layout (start (c .before))) 4 (sheet (start (c .before))))) ≡ false
+size-passed c = let s = start (c .before) in rw (← (s .pre .0 .size)) (fails _ _ (c .before .size-right .ensures) (c .if1 .left))
 
 size : (c : tie.Else1) → (16 ≤ head (start (c .before)) .size) × (head (start (c .before)) .size ≤ 4096)
 size c = size-bounds (head (start (c .before)) .size) (fails _ _ (c .before .size-right .ensures) (c .if1 .left))
 
 -- the rest is right
-total : (c : tie.After-page-count) → length (sheet (start (sized (c .before .before)))) ≡ sheetLength version1 (c .page-count .result)
+total : (c : tie.After-page-count)
+    → length (sheet (start (sized (c .before .before)))) ≡ sheetLength (layoutOf (head (start (sized (c .before .before))) .version)) (c .page-count .result)
 total c =
     let b = c .before .before in
     let s = start (sized b) in
-    let count : c .page-count .result ≡ pagesIn version1 (sheet s) =
-    c .page-count .ensures ∙ ap₂ (λ (m n : ℕ). pageCount m n) (s .pre .1 .size) (s .pre .1 .length) in
-    body-total (sheet s) (fails _ _ (b .body-right .ensures) (c .before .if2 .left)) ∙ ap (sheetLength version1) (sym count)
+    let count : c .page-count .result ≡ pagesIn (layout s) (sheet s) =
+    c .page-count .ensures ∙ ap₂ (λ (m n : ℕ). pageCount m n) (s .pre .0 .size) (s .pre .0 .length) in
+    body-total (sheet s) (fails _ _ (b .body-right .ensures) (c .before .if2 .left))
+    ∙ ap₂ (λ (v n : ℕ). sheetLength (layoutOf v) n) (sym (s .pre .0 .version)) (sym count)
 
 returns : tie.Need-returns
 returns c =
     let s = start (c .before) in
-    sym (ap sheetRead (body-size (sheet s) (rw (← (s .pre .1 .size)) (holds _ _ (c .before .size-right .ensures) (c .if1 .taken)))))
+    sym (ap sheetRead (body-size (sheet s) (rw (← (s .pre .0 .size)) (holds _ _ (c .before .size-right .ensures) (c .if1 .taken)))))
 
 body-right-requires : tie.Need-body-right-requires
-body-right-requires c κs = let s = start (c .before) in (s .pre .0, s .pre .1, size c .0, size c .1, s .pre .2)
+body-right-requires c κs = let s = start (c .before) in (s .pre .0, size c .0, size c .1, s .pre .1)
 
 returns-2 : tie.Need-returns-2
 returns-2 c =
@@ -62,7 +68,7 @@ returns-2 c =
 page-count-requires : tie.Need-page-count-requires
 page-count-requires c κs =
     let e = c .before .before in
-    (omega (arith, size e .0), size e .1, start (e .before) .pre .1 .length-fits)
+    (omega (arith, size e .0), size e .1, start (e .before) .pre .0 .length-fits)
 
 fingerprint-at-requires : tie.Need-fingerprint-at-requires
 fingerprint-at-requires c κs = omega (arith, total c)
@@ -74,7 +80,7 @@ returns-3 c =
     let s = start (sized b) in
     sym
     (ap sheetRead (body-done (sheet s) (size-passed (b .before)) (fails _ _ (b .body-right .ensures) (p .before .if2 .left)))
-    ∙ ap Done (numbers-are (sheet s) (head s) (p .page-count .result) _ (s .pre .1) (p .page-count .ensures) (c .fingerprint-at .ensures)))
+    ∙ ap Done (numbers-are (sheet s) (head s) (p .page-count .result) _ (s .pre .0) (p .page-count .ensures) (c .fingerprint-at .ensures)))
 
 pub read-under-spec : {M : Type 1} → statement M
 read-under-spec =

@@ -1,12 +1,13 @@
 -- `length` meets its contract.
-use mathlib.Core.Path.{_≡_, sym, ap, _∙_}
+use mathlib.Core.Path.{_≡_, sym, ap, ap₂, _∙_}
 use mathlib.Core.Bool.{false, _||_}
-use Prim.Native.Nat.{_≤_}
+use Prim.Native.Nat.{ℕ, _≤_}
 use native.Mathlib.Omega.{arith}
 use lib.Dec.{ltb}
 use Rattle.refusals.specs.Refusals.{Done}
 use Rattle.refusals.proofs.Laws.{holds, fails}
-use Rattle.sheets.specs.Layout.{version1, sheetLength}
+use Rattle.sheets.specs.Layout.{Layout, sheetLength}
+use Rattle.sheets.proofs.Versions.{newest-is}
 use Rattle.sheets.proofs.Sound.{size-bounds}
 use Rattle.sheets.proofs.Pages.{count-small}
 use Rattle.sheet_writing.proofs.Answers.{length-long, length-size, length-done}
@@ -44,7 +45,7 @@ returns-3 : tie.Need-returns-3
 returns-3 c =
     let p = c .before in
     let a = start (p .before .before) .args in
-    ap Done (c .sheet-length .ensures ∙ ap (sheetLength version1) (p .page-count .ensures))
+    ap Done (c .sheet-length .ensures ∙ ap₂ (λ (v : Layout) (n : ℕ). sheetLength v n) newest-is (p .page-count .ensures))
     ∙ sym (length-done (a .n) (a .size) (omega arith) (right (p .before)))
 
 pub length-spec : {M : Type 1} → statement M

@@ -1,19 +1,19 @@
 -- `put_fingerprints` meets its contract.
 use mathlib.Core.Path.{_≡_, sym, ap, ap₂, _∙_}
 use mathlib.Core.List.{List}
-use Prim.Native.Nat.{ℕ, _+_, _*_, _/_, _<_}
+use Prim.Native.Nat.{ℕ, _+_, _*_}
 use native.Mathlib.Nat.{zero-add}
 use native.Mathlib.Omega.{arith}
 use lib.ListN.{length}
 use lib.Seq.{sets}
 use Rattle.gf2.specs.Moduli.{polynomial}
 use Rattle.files.specs.Files.{fingerprint}
-use Rattle.sheets.specs.Layout.{bytesOf, fieldsOf, numbersAt, pageCount}
+use Rattle.sheets.specs.Layout.{bytesOf, fieldsOf, numbersAt, Layout, newest, layoutOf, pageCount}
 use Rattle.sheets.specs.Sheets.{pageFingerprints}
 use Rattle.sheets.proofs.Numbers.{length-fieldsOf, sets-behind}
-use Rattle.sheets.proofs.Pages.{length-pages, count-whole}
+use Rattle.sheets.proofs.Pages.{length-pages}
 use Rattle.sheet_pass.proofs.Passes.{pass-all}
-use Rattle.sheet_writing.proofs.Stores.{whole-stored}
+use Rattle.sheet_writing.proofs.Stores.{pages-stored}
 use borrow.Author.Needs.{needs}
 use Rattle.sheet_writing.proofs.put_fingerprints.Statement.{statement}
 use Rattle.sheet_writing.proofs.put_fingerprints.Tie as tie
@@ -31,6 +31,9 @@ marked c = c .before .before .before
 abbrev begin : tie.After-over-pages → tie.Start
 begin c = start (c .before)
 
+abbrev v : Layout
+v = layoutOf (newest .version)
+
 abbrev key : tie.Start → ℕ
 key s = polynomial (s .args .p)
 
@@ -43,10 +46,10 @@ count s = pageCount (s .args .size) (length (file s))
 -- the fields after all pages' fingerprints
 prints : (c : tie.After-over-pages)
     → c .over-pages .last .0
-    ≡ sets (begin c .args .fields .now) 0 (fieldsOf 8 (pageFingerprints (key (begin c)) (begin c .args .size) (count (begin c)) (file (begin c))))
+    ≡ sets (begin c .args .fields .now) 0 (fieldsOf 8 (pageFingerprints v (key (begin c)) (begin c .args .size) (count (begin c)) (file (begin c))))
 prints c =
     let s = begin c in
-    pass-all (pageFingerprints (key s) (s .args .size) (count s) (file s)) (s .args .fields .now) _ (c .over-pages .result .same) (c .over-pages .ensures .0)
+    pass-all (pageFingerprints v (key s) (s .args .size) (count s) (file s)) (s .args .fields .now) _ (c .over-pages .result) (c .over-pages .ensures)
 
 over-pages-requires : tie.Need-over-pages-requires
 over-pages-requires c κs =
@@ -57,18 +60,14 @@ file-mark-requires : tie.Need-file-mark-requires
 file-mark-requires c κs =
     let p = c .before .before .before in
     let s = begin p in
-    let a = s .args in
-    let pos : 0 < a .size = omega (arith, s .pre .3) in
-    let whole = count-whole (a .size) (length (file s)) pos in (
+    let a = s .args in (
       s .pre .0,
       s .pre .2,
       s .pre .3,
       s .pre .4,
       s .pre .5,
-      p .over-pages .ensures .1,
-      omega (arith, p .over-pages .kept .0, whole, s .pre .6),
-      ap (numbersAt 0 8 (length (file s) / a .size)) (prints p)
-          ∙ whole-stored (a .p) (s .pre .0) (a .size) (file s) (a .fields .now) pos (omega (arith, s .pre .6)),
+      omega (arith, p .over-pages .kept .0, s .pre .6),
+      ap (numbersAt 0 8 (count s)) (prints p) ∙ pages-stored (a .p) (s .pre .0) v (a .size) (file s) (a .fields .now) (omega (arith, s .pre .6)),
     )
 
 page-count-requires : tie.Need-page-count-requires
@@ -89,10 +88,10 @@ returns c =
     let p = pages m in
     let s = begin p in
     let a = s .args in
-    let fields = fieldsOf 8 (pageFingerprints (key s) (a .size) (count s) (file s)) in
+    let fields = fieldsOf 8 (pageFingerprints v (key s) (a .size) (count s) (file s)) in
     let long : 8 * count s ≡ 0 + length fields =
-    sym (zero-add (length fields) ∙ length-fieldsOf 8 (pageFingerprints (key s) (a .size) (count s) (file s))
-    ∙ ap (λ (n : ℕ). 8 * n) (length-pages (key s) (count s) (a .size) (file s))) in
+    sym (zero-add (length fields) ∙ length-fieldsOf 8 (pageFingerprints v (key s) (a .size) (count s) (file s))
+    ∙ ap (λ (n : ℕ). 8 * n) (length-pages v (key s) (count s) (a .size) (file s))) in
     q .put .ensures
     ∙ ap₂ (λ (n f : ℕ). sets (p .over-pages .last .0) (8 * n) (bytesOf 8 f)) (q .before .before .page-count .ensures) (m .file-mark .ensures)
     ∙ ap (λ (b : List ℕ). sets b (8 * count s) (bytesOf 8 (fingerprint (key s) (file s)))) (prints p)

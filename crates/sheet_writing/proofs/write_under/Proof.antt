@@ -3,7 +3,9 @@ use mathlib.Core.Path.{sym, ap, _∙_}
 use native.Mathlib.Omega.{arith}
 use lib.ListN.{length}
 use Rattle.refusals.specs.Refusals.{Done}
+use Rattle.sheets.specs.Layout.{Layout, sheetLength, pageCount}
 use Rattle.sheets.specs.Answers.{lengthAnswer}
+use Rattle.sheets.proofs.Versions.{newest-is}
 use Rattle.sheet_writing.proofs.Answers.{Measured, measured, write-length, write-short, write-done}
 use borrow.Author.Needs.{needs}
 use Rattle.sheet_writing.proofs.write_under.Statement.{statement}
@@ -32,7 +34,9 @@ put-sheet-requires : tie.Need-put-sheet-requires
 put-sheet-requires c κs =
     let n = c .before .before .before in
     let m = known n in
-    (start (given n) .pre, m .size .0, m .size .1, omega (arith, m .fits), omega (arith, m .total, c .before .if1 .left))
+    let a = start (given n) .args in
+    let own = ap (λ (v : Layout). sheetLength v (pageCount (a .size) (length (a .file .now)))) newest-is in
+    (start (given n) .pre, m .size .0, m .size .1, omega (arith, m .fits), omega (arith, m .total, own, c .before .if1 .left))
 
 returns-2 : tie.Need-returns-2
 returns-2 c =

@@ -4,10 +4,9 @@ use mathlib.Core.Bool.{Bool·not-not}
 use mathlib.Core.List.{List}
 use Prim.Native.Nat.{ℕ}
 use native.Mathlib.Omega.{arith}
-use lib.Dec.{eqb}
 use lib.ListN.{length}
 use borrow.Author.Tests.{lt-ltb, le-ltb, eq-eqb, ne-eqb}
-use Rattle.sheets.specs.Layout.{version1, sheetLength, letters, fieldIn}
+use Rattle.sheets.specs.Layout.{numberAt, letters, lettersWidth, versionIn, layouts, known}
 use borrow.Author.Needs.{needs}
 use Rattle.sheets.proofs.layout.head_right.Statement.{statement}
 use Rattle.sheets.proofs.layout.head_right.Tie as tie
@@ -19,24 +18,24 @@ abbrev sheet : tie.Start → List ℕ
 sheet c = c .args .sheet .now
 
 returns : tie.Need-returns
-returns c = rw (lt-ltb (length (sheet (c .before .before))) (sheetLength version1 0) (c .if1 .taken))
+returns c = rw (lt-ltb (length (sheet (c .before .before))) 27 (c .if1 .taken))
 
 returns-2 : tie.Need-returns-2
 returns-2 c =
     let l = sheet (start (c .before .before)) in
     rw (
-      le-ltb (length l) (sheetLength version1 0) (omega arith),
-      ne-eqb (fieldIn version1 0 l) letters
+      le-ltb (length l) 27 (omega arith),
+      ne-eqb (numberAt 0 lettersWidth l) letters
           (λ e. c .if2 .taken (c .before .number-at .ensures .0 ∙ e)),
     )
 
 returns-3 : tie.Need-returns-3
 returns-3 c =
-    let l = sheet (start (c .before .before .before)) in
-    let right = eq-eqb (fieldIn version1 0 l) letters (sym (c .before .before .number-at .ensures .0) ∙ c .before .if2 .left) in
-    rw (le-ltb (length l) (sheetLength version1 0) (omega arith), right, c .number-at2 .ensures .0)
-    (sym (Bool·not-not (eqb (fieldIn version1 1 l) (version1 .version))))
+    let v = c .before in
+    let l = sheet (start (v .before .before .before)) in
+    let right = eq-eqb (numberAt 0 lettersWidth l) letters (sym (v .before .before .number-at .ensures .0) ∙ v .before .if2 .left) in
+    rw (le-ltb (length l) 27 (omega arith), right, c .is-known .ensures, v .number-at2 .ensures .0) (sym (Bool·not-not (known layouts (versionIn l))))
 
 pub head-right-spec : {M : Type 1} → statement M
 head-right-spec =
-    tie.close (tie.spec returns (λ c κs. search needs) returns-2 (λ c κs. search needs) returns-3)
+    tie.close (tie.spec returns (λ c κs. search needs) returns-2 (λ c κs. search needs) (λ c κs. search needs) returns-3)

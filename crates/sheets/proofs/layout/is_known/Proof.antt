@@ -1,0 +1,28 @@
+-- `is_known` meets its contract.
+use mathlib.Core.Path.{_≡_, sym}
+use mathlib.Core.Bool.{_||_, false}
+use Prim.Native.Nat.{ℕ}
+use native.Mathlib.Decide.{ℕ-discrete}
+use lib.Dec.{eqb}
+use borrow.Author.Tests.{ne-eqb}
+use Rattle.sheets.specs.Layout.{known}
+use Rattle.sheets.proofs.layout.is_known.Statement.{statement}
+use Rattle.sheets.proofs.layout.is_known.Tie as tie
+
+returns : tie.Need-returns
+unfolding known
+returns c = rw (c .if1 .taken)
+
+exchanged : (n : ℕ) → eqb n 1 ≡ (eqb 1 n || false)
+exchanged n = go (ℕ-discrete n 1)
+  where
+    go : Dec (n ≡ 1) → eqb n 1 ≡ (eqb 1 n || false)
+    go (yes e) = rw e
+    go (no e) = rw (ne-eqb n 1 e, ne-eqb 1 n (λ h. e (sym h)))
+
+returns-2 : tie.Need-returns-2
+unfolding known
+returns-2 c = rw (ne-eqb 2 (c .before .args .version) (λ e. c .if1 .left (sym e))) (exchanged (c .before .args .version))
+
+pub is-known-spec : {M : Type 1} → statement M
+is-known-spec = tie.close (tie.spec returns returns-2)
