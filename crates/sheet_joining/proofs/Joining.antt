@@ -4,7 +4,7 @@ use mathlib.Core.Bool.{Bool, true, false, cond, _||_, or-assoc, or-false}
 use mathlib.Core.List.{List, [], _∷_, _++_}
 use Prim.Native.Nat.{ℕ, suc, _+_, _-_, _*_, _%_, _^_, _≤_, _<_, min}
 use native.Mathlib.Nat.{lt-of-lt-of-le, zero-add, add-comm, mul-assoc, mul-zero, mul-one, mul-suc, suc-mul, zero-mul, sub-zero, mul-le-mul-right}
-use native.Mathlib.Nat.{mod-eq-of-lt}
+use native.Mathlib.Nat.{mod-lt, mod-eq-of-lt}
 use native.Mathlib.Omega.{arith}
 use lib.Bits.{bitOr}
 use lib.Dec.{leb}
@@ -209,6 +209,10 @@ module _ (p : Modulus) (md : Proper p) (e : ℕ) where
       ∙ sym (chained-start pos e (chained (polynomial p) e 1 u) v small)
       ∙ sym (chained-append pos e 1 u v)
 
+-- the low bits of a number are below 2^k
+pub low-lt : (k x y : ℕ) → x ≡ y % 2 ^ k → x < 2 ^ k
+low-lt k x y e = rw e (mod-lt y (pow-pos k))
+
 -- the low bits of a number, times a power of t
 pub times-low : (p : Modulus) (a la t b r : ℕ) → la ≡ a % 2 ^ p .degree → r ≡ rem (polynomial p) (la ⊗ t) ⊕ b
     → r ≡ rem (polynomial p) (a % 2 ^ p .degree ⊗ t) ⊕ b
@@ -305,16 +309,23 @@ few-joined p md s place n l words sh r =
 
 -- ---- a sheet's pages, by its version
 
--- a page counts s bytes where so many are left
-whole-counts : (v : Layout) (s left : ℕ) → s ≤ left → pageLength v s left ≡ s
-whole-counts v s left h = go (v .filled)
-  where
-    go : (b : Bool) → cond b s (min s left) ≡ s
-    go true = refl
-    go false = omega arith
+-- each of c pages counts s bytes, with `left` bytes of the file from the first on
+abbrev Counts : Layout → ℕ → ℕ → ℕ → Type 0
+Counts v s left c = (i : ℕ) → i < c → pageLength v s (left - i * s) ≡ s
 
--- pages that count s bytes each
-joined-chained : (v : Layout) (key s left : ℕ) (m : Mark) (fs : List ℕ) → ((i : ℕ) → i < length fs → pageLength v s (left - i * s) ≡ s)
+-- so it is where pages are filled up,
+pub filled-counts : (v : Layout) → v .filled ≡ true → (s left c : ℕ) → Counts v s left c
+filled-counts v f s left c i l = rw f
+
+-- and where so many bytes are left
+pub whole-counts : (v : Layout) (s left c : ℕ) → c * s ≤ left → Counts v s left c
+whole-counts v s left c h i l = go (v .filled)
+  where
+    go : (b : Bool) → cond b s (min s (left - i * s)) ≡ s
+    go true = refl
+    go false = omega (arith, suc-mul i s, mul-le-mul-right s l, h)
+
+joined-chained : (v : Layout) (key s left : ℕ) (m : Mark) (fs : List ℕ) → Counts v s left (length fs)
     → joinedPages v key s left m fs .fingerprint ≡ chained key (8 * s) (m .fingerprint) fs
 unfolding joinedPages joined chained
 joined-chained v key s left m [] h = refl
@@ -323,7 +334,7 @@ joined-chained v key s left m (f ∷ fs) h =
     ∙ ap (λ (n : ℕ). chained key (8 * s) (rem key (m .fingerprint * 2 ^ (8 * n) ⊕ f ⊕ 2 ^ (8 * n))) fs)
     (ap (pageLength v s) (sym (rw (zero-mul s) (sub-zero left))) ∙ h 0 (omega arith))
   where
-    next : (i : ℕ) → i < length fs → pageLength v s (left - s - i * s) ≡ s
+    next : Counts v s (left - s) (length fs)
     next i l = let e : left - s - i * s ≡ left - suc i * s = omega (arith, suc-mul i s) in ap (pageLength v s) e ∙ h (suc i) (omega (arith, l))
 
 joined-append : (v : Layout) (key s left : ℕ) (m : Mark) (fs gs : List ℕ)
@@ -339,22 +350,13 @@ module _ (p : Modulus) (md : Proper p) (v : Layout) (s n : ℕ) where
   empty : markOf (polynomial p) [] .fingerprint ≡ 1
   empty = ap (λ (m : Mark). m .fingerprint) (empty-mark (polynomial p) (of-degree-one (p .degree) (p .low) (md .0) (md .2)))
 
-  run : (fs : List ℕ) → ((i : ℕ) → i < length fs → pageLength v s (n - i * s) ≡ s)
+  -- pages that count s bytes each
+  run : (fs : List ℕ) → Counts v s n (length fs)
       → chained (polynomial p) (8 * s) 1 fs ≡ joinedPages v (polynomial p) s n (markOf (polynomial p) []) fs .fingerprint
   run fs h = ap (λ (z : ℕ). chained (polynomial p) (8 * s) z fs) (sym empty) ∙ sym (joined-chained v (polynomial p) s n (markOf (polynomial p) []) fs h)
 
-  -- every page is filled up
-  pub filled-run : v .filled ≡ true → (fs : List ℕ)
-      → chained (polynomial p) (8 * s) 1 fs ≡ joinedPages v (polynomial p) s n (markOf (polynomial p) []) fs .fingerprint
-  filled-run f fs = run fs (λ i l. rw f)
-
-  -- as many pages as are whole
-  pub whole-run : (fs : List ℕ) → length fs * s ≤ n
-      → chained (polynomial p) (8 * s) 1 fs ≡ joinedPages v (polynomial p) s n (markOf (polynomial p) []) fs .fingerprint
-  whole-run fs l = run fs (λ i b. whole-counts v s (n - i * s) (omega (arith, suc-mul i s, mul-le-mul-right s b, l)))
-
   -- and a last one, shorter than the others
-  pub last-run : v .filled ≡ false → (fs : List ℕ) (x g y left : ℕ) → length fs * s + left ≡ n → left < s → x ≡ chained (polynomial p) (8 * s) 1 fs
+  last-run : v .filled ≡ false → (fs : List ℕ) (x g y left : ℕ) → length fs * s + left ≡ n → left < s → x ≡ chained (polynomial p) (8 * s) 1 fs
       → g < 2 ^ p .degree → y ≡ rem (polynomial p) (x % 2 ^ p .degree * 2 ^ (8 * left) ⊕ g % 2 ^ p .degree ⊕ 2 ^ (8 * left))
       → y ≡ joinedPages v (polynomial p) s n (markOf (polynomial p) []) (fs ++ g ∷ []) .fingerprint
   unfolding joinedPages joined
@@ -363,23 +365,17 @@ module _ (p : Modulus) (md : Proper p) (v : Layout) (s n : ℕ) where
       let counts : pageLength v s (n - length fs * s) ≡ left = rw f (omega arith) in
       ey
       ∙ rw (mod-eq-of-lt (chain-lt p md (8 * s) x fs ex), mod-eq-of-lt lg)
-      (ap₂ (λ (z m : ℕ). rem (polynomial p) (z * 2 ^ (8 * m) ⊕ g ⊕ 2 ^ (8 * m))) (ex ∙ whole-run fs (omega arith)) (sym counts))
+      (ap₂ (λ (z m : ℕ). rem (polynomial p) (z * 2 ^ (8 * m) ⊕ g ⊕ 2 ^ (8 * m))) (ex ∙ run fs (whole-counts v s n (length fs) (omega arith))) (sym counts))
       ∙ ap (λ (m : Mark). m .fingerprint) (sym (joined-append v (polynomial p) s n (markOf (polynomial p) []) fs (g ∷ [])))
 
 -- ---- the same of what the code has
 
 module _ {p : Modulus} (md : Proper p) (v : Layout) (s n : ℕ) (fields : List ℕ) where
-  pub filled-joined : (c : ℕ) (r : Joined) → v .filled ≡ true → RunJoined (polynomial p) (p .degree) s (numbersAt 0 8 c fields) r
+  pub run-joined : (c : ℕ) (r : Joined) → Counts v s n c → RunJoined (polynomial p) (p .degree) s (numbersAt 0 8 c fields) r
       → PagesJoined v (polynomial p) (p .degree) s n (numbersAt 0 8 c fields) r
-  filled-joined c r f h = record { mark = λ u. h .mark u ∙ filled-run p md v s n f (numbersAt 0 8 c fields); bits = h .bits }
-
-  pub whole-joined : (c : ℕ) (r : Joined) → c * s ≤ n → RunJoined (polynomial p) (p .degree) s (numbersAt 0 8 c fields) r
-      → PagesJoined v (polynomial p) (p .degree) s n (numbersAt 0 8 c fields) r
-  whole-joined c r l h =
-      record {
-        mark = λ u. h .mark u ∙ whole-run p md v s n (numbersAt 0 8 c fields) (rw (length-numbersAt 0 8 c fields) l);
-        bits = h .bits;
-      }
+  run-joined c r count h =
+      let long = length-numbersAt 0 8 c fields in
+      record { mark = λ u. h .mark u ∙ run p md v s n (numbersAt 0 8 c fields) (rw long count); bits = h .bits }
 
   one-more : (c : ℕ) → numbersAt 0 8 (c + 1) fields ≡ numbersAt 0 8 c fields ++ numberAt (8 * c) 8 fields ∷ []
   unfolding numbersAt

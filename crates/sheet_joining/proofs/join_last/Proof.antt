@@ -1,10 +1,9 @@
 -- `join_last` meets its contract.
-use mathlib.Core.Path.{_≡_, refl, ap₂, _∙_}
-use Prim.Native.Nat.{ℕ, _*_, _^_, _<_}
-use native.Mathlib.Nat.{mod-lt}
-use lib.Pow.{pow-pos}
+use mathlib.Core.Path.{refl, ap₂, _∙_}
+use Prim.Native.Nat.{ℕ, _*_, _^_}
 use Rattle.gf2.specs.Polynomials.{_⊕_, rem}
 use Rattle.gf2.specs.Moduli.{polynomial}
+use Rattle.sheet_joining.proofs.Joining.{low-lt}
 use borrow.Author.Needs.{needs}
 use Rattle.sheet_joining.proofs.join_last.Statement.{statement}
 use Rattle.sheet_joining.proofs.join_last.Tie as tie
@@ -12,14 +11,11 @@ use Rattle.sheet_joining.proofs.join_last.Tie as tie
 abbrev start : tie.After-low-bits2 → tie.Start
 start c = c .before .before
 
-small-by : {x y b : ℕ} → x ≡ y → y < b → x < b
-small-by e h = rw e h
-
 joined-residue-requires : tie.Need-joined-residue-requires
 joined-residue-requires c κs =
     let s = start c in
-    let k = pow-pos (s .args .p .degree) in
-    (s .pre .0, small-by (c .before .low-bits .ensures) (mod-lt _ k), small-by (c .low-bits2 .ensures) (mod-lt _ k), s .pre .2)
+    let k = s .args .p .degree in
+    (s .pre .0, low-lt k _ _ (c .before .low-bits .ensures), low-lt k _ _ (c .low-bits2 .ensures), s .pre .2)
 
 returns : tie.Need-returns
 returns c =

@@ -1,11 +1,10 @@
 -- `join_run` meets its contract.
-use mathlib.Core.Path.{_≡_, _∙_}
-use Prim.Native.Nat.{ℕ, _*_, _/_, _^_, _<_}
-use native.Mathlib.Nat.{mul-le-mul-right, mod-lt}
+use mathlib.Core.Path.{_∙_}
+use Prim.Native.Nat.{_*_, _/_, _^_, _<_}
+use native.Mathlib.Nat.{mul-le-mul-right}
 use native.Mathlib.Omega.{arith}
-use lib.Pow.{pow-pos}
-use Rattle.gf2.proofs.Steps.{residue-lt}
-use Rattle.sheet_joining.proofs.Joining.{bits-none, bits-all, few-joined, times-low, all-joined}
+use Rattle.gf2.proofs.Steps.{residue-below}
+use Rattle.sheet_joining.proofs.Joining.{low-lt, bits-none, bits-all, few-joined, times-low, all-joined}
 use borrow.Author.Needs.{needs}
 use Rattle.sheet_joining.proofs.join_run.Statement.{statement}
 use Rattle.sheet_joining.proofs.join_run.Tie as tie
@@ -33,11 +32,8 @@ first c = c .before .before
 abbrev second : tie.After-low-bits3 → tie.After-low-bits2
 second c = c .before .before
 
-small-by : {x y b : ℕ} → x ≡ y → y < b → x < b
-small-by e h = rw e h
-
 power-lt : (c : tie.After-power-of-t) → c .power-of-t .result < 2 ^ start (filled (lanes c)) .args .p .degree
-power-lt c = let s = start (filled (lanes c)) in small-by (c .power-of-t .ensures) (residue-lt (s .args .p .degree) (s .args .p .low) (s .pre .0 .2) _)
+power-lt c = let s = start (filled (lanes c)) in residue-below (s .args .p) (s .pre .0) _ _ (c .power-of-t .ensures)
 
 returns : tie.Need-returns
 returns c =
@@ -56,19 +52,19 @@ mul-power-of-t-2 c = let s = start (filled c) in omega (arith, mul-le-mul-right 
 times-plus-requires : tie.Need-times-plus-requires
 times-plus-requires c κs =
     let s = start (filled (lanes (power c))) in
-    (s .pre .0, small-by (c .low-bits .ensures) (mod-lt _ (pow-pos (s .args .p .degree))), power-lt (power c))
+    (s .pre .0, low-lt (s .args .p .degree) _ _ (c .low-bits .ensures), power-lt (power c))
 
 times-plus-requires-2 : tie.Need-times-plus-requires-2
 times-plus-requires-2 c κs =
     let p = power (first c) in
     let s = start (filled (lanes p)) in
-    (s .pre .0, small-by (c .low-bits2 .ensures) (mod-lt _ (pow-pos (s .args .p .degree))), power-lt p)
+    (s .pre .0, low-lt (s .args .p .degree) _ _ (c .low-bits2 .ensures), power-lt p)
 
 times-plus-requires-3 : tie.Need-times-plus-requires-3
 times-plus-requires-3 c κs =
     let p = power (first (second c)) in
     let s = start (filled (lanes p)) in
-    (s .pre .0, small-by (c .low-bits3 .ensures) (mod-lt _ (pow-pos (s .args .p .degree))), power-lt p)
+    (s .pre .0, low-lt (s .args .p .degree) _ _ (c .low-bits3 .ensures), power-lt p)
 
 returns-2 : tie.Need-returns-2
 returns-2 c =

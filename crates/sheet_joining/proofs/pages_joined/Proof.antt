@@ -4,7 +4,7 @@ use Prim.Native.Nat.{_+_, _-_, _*_, _/_, _^_, _≤_, _<_}
 use native.Mathlib.Omega.{arith}
 use Rattle.sheets.specs.Layout.{numberAt, layoutOf, pageCount}
 use Rattle.sheets.proofs.Pages.{count-small, count-whole, count-exact, count-more, whole-fits, last-short}
-use Rattle.sheet_joining.proofs.Joining.{filled-joined, whole-joined, last-joined}
+use Rattle.sheet_joining.proofs.Joining.{filled-counts, whole-counts, run-joined, last-joined}
 use borrow.Author.Needs.{needs}
 use Rattle.sheet_joining.proofs.pages_joined.Statement.{statement}
 use Rattle.sheet_joining.proofs.pages_joined.Tie as tie
@@ -47,7 +47,9 @@ returns c =
     let a = s .args in
     let f = sym (p .before .before .fills .ensures) ∙ p .before .if1 .taken in
     rw (← (p .page-count .ensures))
-    (filled-joined (s .pre .0) (layoutOf (a .version)) (a .size) (a .n) (a .fields .now) (p .page-count .result) _ f (c .join-run .ensures))
+    (run-joined (s .pre .0) (layoutOf (a .version)) (a .size) (a .n) (a .fields .now) (p .page-count .result) _
+    (filled-counts (layoutOf (a .version)) f (a .size) (a .n) (p .page-count .result))
+    (c .join-run .ensures))
 
 join-run-requires-2 : tie.Need-join-run-requires-2
 join-run-requires-2 c κs =
@@ -66,7 +68,9 @@ returns-2 c =
     let s = own (r .before) in
     let a = s .args in
     rw (count-exact (a .size) (a .n) (some s) (omega arith))
-    (whole-joined (s .pre .0) (layoutOf (a .version)) (a .size) (a .n) (a .fields .now) (a .n / a .size) _ (ends s) (r .join-run2 .ensures))
+    (run-joined (s .pre .0) (layoutOf (a .version)) (a .size) (a .n) (a .fields .now) (a .n / a .size) _
+    (whole-counts (layoutOf (a .version)) (a .size) (a .n) (a .n / a .size) (ends s))
+    (r .join-run2 .ensures))
 
 -- something is left: the last page has a field
 abbrev begun : tie.Else2 → tie.Start

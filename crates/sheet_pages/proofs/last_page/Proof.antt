@@ -2,13 +2,13 @@
 use mathlib.Core.Path.{_≡_, sym, ap, _∙_}
 use mathlib.Core.Bool.{Bool, cond}
 use mathlib.Core.List.{List}
-use Prim.Native.Nat.{ℕ, _-_, _*_, _^_, _<_}
+use Prim.Native.Nat.{ℕ, _-_, _*_, _^_}
 use native.Mathlib.Omega.{arith}
 use lib.ListN.{length}
 use Rattle.gf2.specs.Polynomials.{rem}
 use Rattle.gf2.specs.Moduli.{polynomial}
 use Rattle.gf2.proofs.Monics.{monic-pos}
-use Rattle.gf2.proofs.Steps.{residue-lt}
+use Rattle.gf2.proofs.Steps.{residue-below}
 use Rattle.files.specs.Files.{value, fingerprint}
 use Rattle.sheets.specs.Sheets.{filled}
 use Rattle.sheets.proofs.Pages.{with-zeros}
@@ -34,10 +34,7 @@ with-zeros-requires c κs =
     let f = c .before .before .before in
     let s = start f in
     let p = s .args .x .p in
-    (s .pre .0 .0, below (f .fed-last .ensures) (residue-lt (p .degree) (p .low) (s .pre .0 .0 .2) _), omega (arith, s .pre .2))
-  where
-    below : {x y b : ℕ} → x ≡ y → y < b → x < b
-    below e h = rw e h
+    (s .pre .0 .0, residue-below p (s .pre .0 .0) _ _ (f .fed-last .ensures), omega (arith, s .pre .2))
 
 returns : tie.Need-returns
 unfolding filled

@@ -2,7 +2,7 @@
 use mathlib.Core.Path.{_≡_, ap, _∙_}
 use mathlib.Core.List.{List}
 use Prim.Native.Nat.{ℕ, _+_, _*_, _/_, _≤_, _<_}
-use native.Mathlib.Nat.{add-mul, mul-le-mul-right}
+use native.Mathlib.Nat.{mul-le-mul-right}
 use native.Mathlib.Omega.{arith}
 use lib.ListN.{length, take, drop, length-drop, length-set}
 use lib.Seq.{getD-set-other}
@@ -10,7 +10,7 @@ use Rattle.gf2.specs.Moduli.{polynomial}
 use Rattle.files.specs.Files.{fingerprint}
 use Rattle.sheets.specs.Layout.{Layout, layoutOf, pageCount}
 use Rattle.sheets.specs.Sheets.{pageOf, pageFingerprints}
-use Rattle.sheets.proofs.Pages.{count-le, count-reached, whole-fits, last-short, all-left}
+use Rattle.sheets.proofs.Pages.{count-le, count-reached, count-more, whole-fits, last-short, all-left}
 use Rattle.sheet_pages.proofs.Blocks.{block-is, block-last}
 use borrow.Author.Needs.{needs}
 use Rattle.sheet_pages.proofs.next_pages.Statement.{statement}
@@ -41,15 +41,6 @@ fits c =
 -- so many pages begin in the file
 begin : (c : tie.After-block) → c .block .result ≤ pageCount (start c .args .x .size) (length (rest (start c)))
 begin c = let s = start c in count-le (s .args .x .size) (length (rest s)) (c .block .result) (omega arith) (omega (arith, fits c, s .pre .1))
-
--- the last page is among them
-one-more : (s n m : ℕ) → 0 < s → m * s < n → m + 1 ≤ pageCount s n
-one-more s n m pos l = count-le s n (m + 1) pos (omega (arith, add-mul m 1 s))
-
--- and there is no other behind it
-no-second : (s n m : ℕ) → 0 < s → m ≡ n / s → pageCount s n ≤ m + 1
-no-second s n m pos e =
-    count-reached s n (m + 1) pos (omega (arith, add-mul m 1 s, last-short s n pos, ap (λ (q : ℕ). q * s) e))
 
 block-requires : tie.Need-block-requires
 block-requires c κs = omega (arith, slices→start c .pre .1)
@@ -145,12 +136,13 @@ returns-3 c =
     let n = b .block .result in
     let key = polynomial (a .p) in
     let v = layoutOf (a .version) in
-    let more = one-more (a .size) (length (rest s)) n (omega (arith, s .pre .1)) (omega (arith, e .if2 .left)) in
-    let no-more = no-second (a .size) (length (rest s)) n (omega (arith, s .pre .1)) (all-whole e) in
+    let all = all-whole e in
+    let more =
+    count-more (a .size) (length (rest s)) (omega (arith, s .pre .1)) (omega (arith, e .if2 .left, ap (λ (m : ℕ). m * a .size) all)) in
     let page : c .last-page .result ≡ fingerprint key (pageOf v (a .size) (drop (n * a .size) (rest s))) =
     c .last-page .ensures ∙ ap (λ (q : List ℕ). fingerprint key (pageOf v (a .size) q)) (all-left (rest s) (n * a .size)) in
     record {
-      count = omega (arith, more, no-more, b .block .ensures, all-whole e);
+      count = omega (arith, more, b .block .ensures, all);
       prints =
           block-last v key (a .size) n (c .last-page .result) (rest s) _ (omega (arith, short e))
           (omega (arith, s .pre .3, w .kept .0, e .before .if1 .left, b .block .ensures)) page
