@@ -11,7 +11,7 @@ use Rattle.refusals.specs.Refusals.{numberOf}
 use Rattle.refusals.specs.Lowest.{applying, lowest}
 use Rattle.acceptance.specs.Keys.{accepted}
 use Rattle.files.specs.declared.Mark.{Mark}
-use Rattle.files.specs.Files.{True, Bytes}
+use Rattle.files.specs.Files.{True, Bits}
 use Rattle.files.specs.Bursts.{Burst}
 use Rattle.book.specs.Runs.{Level, bookStep, run, Honest}
 use Rattle.lists.specs.Counts.{countFrom}
@@ -36,7 +36,7 @@ Lowest L = (key : ℕ) (file : List ℕ) (c : L .Call) → numberOf (bookStep L 
 -- whatever pairwise different keys of that kind are listed
 abbrev pub Confusions : Routes → Type 0
 Confusions Route =
-    (k : ℕ) (a b : List ℕ) → Bytes a → Bytes b → a ≢ b → (n : ℕ) → 8 * length a ≤ n → 8 * length b ≤ n
+    (k : ℕ) (a b : List ℕ) → Bits a → Bits b → a ≢ b → (n : ℕ) → length a ≤ n → length b ≤ n
     → (keys : List ℕ) → Distinct keys → All (Confuses Route k a b) keys → length keys * k ≤ n
 
 -- the keys of that kind are the numbers from 2^k to 2^(k + 1) - 1 that pass the test `confused`
@@ -46,13 +46,13 @@ Counted Route = (k : ℕ) (a b : List ℕ) (key : ℕ) → Confuses Route k a b 
 -- so this is their count
 abbrev pub ConfusionsCount : Type 0
 ConfusionsCount =
-    (k : ℕ) (a b : List ℕ) → Bytes a → Bytes b → a ≢ b → (n : ℕ) → 8 * length a ≤ n → 8 * length b ≤ n
+    (k : ℕ) (a b : List ℕ) → Bits a → Bits b → a ≢ b → (n : ℕ) → length a ≤ n → length b ≤ n
     → countFrom (confused a b) (2 ^ k) (2 ^ k) * k ≤ n
 
 -- ---- "Where the lengths are equal and the first and last differing bits are at most k - 1 places apart, the count is 0."
 
 abbrev pub Bursts : Routes → Type 0
-Bursts Route = (k : ℕ) (a b : List ℕ) → Bytes a → Bytes b → a ≢ b → Burst k a b → (key : ℕ) → Confuses Route k a b key → ⊥
+Bursts Route = (k : ℕ) (a b : List ℕ) → Bits a → Bits b → a ≢ b → Burst k a b → (key : ℕ) → Confuses Route k a b key → ⊥
 
 abbrev pub BurstsCount : Type 0
-BurstsCount = (k : ℕ) (a b : List ℕ) → Bytes a → Bytes b → a ≢ b → Burst k a b → countFrom (confused a b) (2 ^ k) (2 ^ k) ≡ 0
+BurstsCount = (k : ℕ) (a b : List ℕ) → Bits a → Bits b → a ≢ b → Burst k a b → countFrom (confused a b) (2 ^ k) (2 ^ k) ≡ 0

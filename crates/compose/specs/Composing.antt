@@ -1,15 +1,14 @@
--- Joining marks and changing a page in a file's mark (document 01, "Marks"): each call is its tests, in the order of their numbers,
--- and its value.
+-- Joining marks and changing a page in a file's mark (document 01, "Marks"; pages: document 02, wish 7): each call is its tests, in the
+-- order of their numbers, and its value.
 use mathlib.Core.Bool.{_||_, not}
 use mathlib.Core.List.{List, [], _∷_, _++_}
-use Prim.Native.Nat.{ℕ, _+_}
+use Prim.Native.Nat.{ℕ, _+_, _*_}
 use lib.Dec.{ltb, eqb}
-use lib.ListN.{length}
-use Rattle.refusals.specs.declared.Refusal.the-variants.{TooLong, MarkNotReduced, PageLengthsDiffer, PagePastEnd}
+use Rattle.refusals.specs.declared.Refusal.the-variants.{TooLong, MarkNotReduced, PageLengthsDiffer, PagePastEnd, FinalByte}
 use Rattle.refusals.specs.Refusals.{Answer, Test, _⇒_, firstOf, passes}
 use Rattle.acceptance.specs.Keys.{keyTests}
 use Rattle.files.specs.declared.Mark.{Mark}
-use Rattle.files.specs.Files.{unreduced, joined, replaced}
+use Rattle.files.specs.Files.{unreduced, Part, partLength, misused, joined, replaced}
 use Rattle.marks.specs.Feeding.{sumTest}
 
 -- numbers 7 and 8 of two marks
@@ -26,14 +25,15 @@ joinBehind key m other = firstOf (joinTests key m other) m (joined key m other)
 unfoldable pub joinInFront : ℕ → Mark → Mark → Answer Mark Mark
 joinInFront key m other = firstOf (joinTests key m other) m (joined key other m)
 
--- numbers 7 to 10
-abbrev pub pageTests : ℕ → Mark → ℕ → List ℕ → List ℕ → List Test
+-- numbers 7 to 10 and 19: the place is in bytes, the lengths are in bits
+abbrev pub pageTests : ℕ → Mark → ℕ → Part → Part → List Test
 pageTests key m place old new =
-    passes (m .length ∷ length old ∷ length new ∷ []) ⇒ TooLong
+    passes (m .length ∷ partLength old ∷ partLength new ∷ []) ⇒ TooLong
     ∷ unreduced key m ⇒ MarkNotReduced
-    ∷ not (eqb (length old) (length new)) ⇒ PageLengthsDiffer
-    ∷ ltb (m .length) (place + length old) ⇒ PagePastEnd
+    ∷ not (eqb (partLength old) (partLength new)) ⇒ PageLengthsDiffer
+    ∷ ltb (m .length) (8 * place + partLength old) ⇒ PagePastEnd
+    ∷ (misused old || misused new) ⇒ FinalByte
     ∷ []
 
-unfoldable pub replacePage : ℕ → Mark → ℕ → List ℕ → List ℕ → Answer Mark Mark
+unfoldable pub replacePage : ℕ → Mark → ℕ → Part → Part → Answer Mark Mark
 replacePage key m place old new = firstOf (keyTests key ++ pageTests key m place old new) m (replaced key m place old new)

@@ -17,10 +17,10 @@ use Rattle.files.proofs.Values.{length-bits, value-low, rem-from, value
 
 -- ---- what is left to feed
 
--- all eight bits of a byte
-pub byte-behind : (x b : ℕ) → b < 256 → valueFrom x (lowBits 8 b) ≡ x * 256 + b
+-- the n bits of a number below 2^n
+pub low-behind : (n x b : ℕ) → b < 2 ^ n → valueFrom x (lowBits n b) ≡ x * 2 ^ n + b
 unfolding valueFrom
-byte-behind x b l = ap (valueFrom x) (sym (append-nil (lowBits 8 b))) ∙ value-low 8 x b [] ∙ ap (λ (y : ℕ). x * 256 + y) (mod-eq-of-lt l)
+low-behind n x b l = ap (valueFrom x) (sym (append-nil (lowBits n b))) ∙ value-low n x b [] ∙ ap (λ (y : ℕ). x * 2 ^ n + y) (mod-eq-of-lt l)
 
 module _ {p : ℕ} (pos : 0 < p) where
   -- the next of the n low bits of b
@@ -55,13 +55,6 @@ module _ (k c : ℕ) (h : c < 2 ^ k) where
 module _ {p : ℕ} (pos : 0 < p) (old new : List ℕ) (e : length old ≡ length new) where
   same-bits : (i : ℕ) → length (bits (drop i old)) ≡ length (bits (drop i new))
   same-bits i = omega (arith, length-bits (drop i old), length-bits (drop i new), length-drop i old, length-drop i new, e)
-
-  -- the leading 1 of each falls out
-  pub pages-begin : rem p (valueFrom 0 (bits old) ⊕ valueFrom 0 (bits new)) ≡ fingerprint p old ⊕ fingerprint p new
-  unfolding fingerprint value
-  pages-begin =
-      ap (rem p) (value-starts 0 0 1 1 (bits old) (bits new) (same-bits 0) (⊕-self 0 ∙ sym (⊕-self 1)))
-      ∙ rem-⊕ pos (valueFrom 1 (bits old)) (valueFrom 1 (bits new))
 
   -- the difference of the next two bytes
   pub pages-next : (x i : ℕ) → i < length old → getD old i 0 < 256 → getD new i 0 < 256

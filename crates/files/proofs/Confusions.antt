@@ -16,15 +16,11 @@ use Rattle.gf2.specs.Degrees.{Degree}
 use Rattle.gf2.proofs.Sums.{⊕-lt}
 use Rattle.gf2.proofs.Degrees.{degree-is, deg-hi}
 use Rattle.gf2.proofs.Congruences.{Congruent, Shifted, congruent-count, congruent-equal}
-use Rattle.files.specs.Files.{bits, valueFrom, value, fingerprint, Bytes}
+use Rattle.files.specs.Files.{valueFrom, value, fingerprint, Bits}
 use Rattle.files.specs.Bursts.{Burst}
-use Rattle.files.proofs.Values.{value-lt, value-change, length-bits, string-degree, value-inj}
+use Rattle.files.proofs.Values.{value-lt, value-change, value-degree, value-inj}
 
 -- ---- strings of bits
-
--- at most n bits behind a leading 1
-pub string-below : (n : ℕ) (x : List ℕ) → length x ≤ n → valueFrom 1 x < 2 ^ suc n
-string-below n x l = lt-of-lt-of-le (deg-hi (valueFrom 1 x) (length x) (string-degree x)) (pow-mono (suc-le-suc l))
 
 -- two strings that agree outside k places: their values differ by a polynomial below t^k times a power of t
 module _ (first k : ℕ) (x y : List ℕ) (len : length x ≡ length y)
@@ -53,12 +49,10 @@ module _ (first k : ℕ) (x y : List ℕ) (len : length x ≡ length y)
 pub burst-shifted : (k : ℕ) (a b : List ℕ) → Burst k a b → Shifted k (value a ⊕ value b)
 unfolding value
 burst-shifted k a b s =
-    string-shifted (s .first) k (bits a) (bits b) (length-bits a ∙ ap (λ (n : ℕ). 8 * n) (s .same-length) ∙ sym (length-bits b))
-    (outside (bits a) (bits b) (s .first) (s .last) k (s .near) (s .between))
+    string-shifted (s .first) k a b (s .same-length) (outside a b (s .first) (s .last) k (s .near) (s .between))
 
-pub value-below : (n : ℕ) (a : List ℕ) → 8 * length a ≤ n → value a < 2 ^ suc n
-unfolding value
-value-below n a l = string-below n (bits a) (rw (length-bits a) l)
+pub value-below : (n : ℕ) (a : List ℕ) → length a ≤ n → value a < 2 ^ suc n
+value-below n a l = lt-of-lt-of-le (deg-hi (value a) (length a) (value-degree a)) (pow-mono (suc-le-suc l))
 
 -- p is irreducible, of degree k, and the fingerprints under it are equal
 pub record Confusing (k : ℕ) (a b : List ℕ) (p : ℕ) : Type 0 where
@@ -70,11 +64,11 @@ congruent : (k : ℕ) (a b : List ℕ) (p : ℕ) → Confusing k a b p → Congr
 unfolding fingerprint
 congruent k a b p c = record { irreducible = c .irreducible; of-degree = c .of-degree; residues = c .prints }
 
-module _ (k : ℕ) (a b : List ℕ) (ha : Bytes a) (hb : Bytes b) (ne : a ≢ b) where
+module _ (k : ℕ) (a b : List ℕ) (ha : Bits a) (hb : Bits b) (ne : a ≢ b) where
   different : value a ≢ value b
   different e = ne (value-inj a b ha hb e)
 
-  pub confusing-count : (n : ℕ) → 8 * length a ≤ n → 8 * length b ≤ n → (ps : List ℕ) → Distinct ps → All (Confusing k a b) ps → length ps * k ≤ n
+  pub confusing-count : (n : ℕ) → length a ≤ n → length b ≤ n → (ps : List ℕ) → Distinct ps → All (Confusing k a b) ps → length ps * k ≤ n
   confusing-count n la lb ps d all =
       congruent-count k n (value a) (value b) different (value-below n a la) (value-below n b lb) ps d (all-map (congruent k a b) ps all)
 
@@ -82,7 +76,7 @@ module _ (k : ℕ) (a b : List ℕ) (ha : Bytes a) (hb : Bytes b) (ne : a ≢ b)
   burst-unconfused two s p c = different (congruent-equal k (value a) (value b) p two (burst-shifted k a b s) (congruent k a b p c))
 
 -- of one polynomial
-pub burst-differs : (p : ℕ) (a b : List ℕ) → Irreducible p → 2 ≤ degree p → Bytes a → Bytes b → a ≢ b → Burst (degree p) a b
+pub burst-differs : (p : ℕ) (a b : List ℕ) → Irreducible p → 2 ≤ degree p → Bits a → Bits b → a ≢ b → Burst (degree p) a b
     → fingerprint p a ≢ fingerprint p b
 burst-differs p a b i two ha hb ne s e =
     burst-unconfused (degree p) a b ha hb ne two s p (record { irreducible = i; of-degree = degree-is p (omega (arith, i .proper)); prints = e })

@@ -1,4 +1,5 @@
 pub mod Values
+pub mod Parts
 pub mod Marks
 pub mod Confusions
 pub mod Bursts

@@ -2,7 +2,7 @@
 use mathlib.Core.Path.{_≡_, refl, sym, ap, ap₂, _∙_}
 use mathlib.Core.Bool.{false}
 use mathlib.Core.List.{List, [], _++_}
-use Prim.Native.Nat.{ℕ, _*_, _^_, _<_}
+use Prim.Native.Nat.{ℕ, _+_, _*_, _^_, _<_}
 use native.Mathlib.Nat.{one-mul}
 use native.Mathlib.Omega.{arith}
 use lib.ListN.{length, length-append}
@@ -13,59 +13,48 @@ use Rattle.gf2.proofs.Degrees.{degree-from}
 use Rattle.gf2.proofs.Sums.{⊕-move, xor}
 use Rattle.gf2.proofs.Residues.{rem-⊕, rem-small, rem-lt}
 use Rattle.gf2.proofs.Powers.{rem-rem, rem-shl}
-use Rattle.files.specs.Files.{bits, valueFrom, value, fingerprint, markOf, unreduced, fedMark, joined}
+use Rattle.files.specs.Files.{valueFrom, value, fingerprint, markOf, unreduced, Part, partBits, fedMark, joined}
 use Rattle.files.specs.declared.Mark.{Mark}
-use Rattle.files.proofs.Values.{value-append, value-⊕, length-bits, bits-append, rem-from, value-change}
+use Rattle.files.proofs.Values.{value-append, value-⊕, rem-from, value-change}
+use Rattle.files.proofs.Parts.{part-length}
 
 pub mark-eq : {f g : ℕ} {m n : ℕ} → f ≡ g → m ≡ n → _≡_ {A = Mark} (record { fingerprint = f; length = m }) (record { fingerprint = g; length = n })
 mark-eq e d = ap₂ {C = Mark} (λ (f m : ℕ). record { fingerprint = f; length = m }) e d
 
 module _ {p : ℕ} (pos : 0 < p) where
-  pub fed : (file part : List ℕ) → rem p (valueFrom (fingerprint p file) (bits part)) ≡ fingerprint p (file ++ part)
+  pub fed : (file part : List ℕ) → rem p (valueFrom (fingerprint p file) part) ≡ fingerprint p (file ++ part)
   unfolding fingerprint value
-  fed file part =
-      rem-from pos (valueFrom 1 (bits file)) (bits part)
-      ∙ ap (rem p) (sym (value-append 1 (bits file) (bits part)) ∙ ap (valueFrom 1) (sym (bits-append file part)))
+  fed file part = rem-from pos (valueFrom 1 file) part ∙ ap (rem p) (sym (value-append 1 file part))
 
   -- the value of two files joined
-  value-joined : (a b : List ℕ) → value (a ++ b) ≡ value a * 2 ^ (8 * length b) ⊕ value b ⊕ 2 ^ (8 * length b)
+  value-joined : (a b : List ℕ) → value (a ++ b) ≡ value a * 2 ^ length b ⊕ value b ⊕ 2 ^ length b
   unfolding value
-  value-joined a b =
-      ap (valueFrom 1) (bits-append a b)
-      ∙ value-append 1 (bits a) (bits b)
-      ∙ rw (value-⊕ (valueFrom 1 (bits a)) (bits b), value-⊕ 1 (bits b), length-bits b, one-mul) (simp xor)
+  value-joined a b = value-append 1 a b ∙ rw (value-⊕ (valueFrom 1 a) b, value-⊕ 1 b, one-mul) (simp xor)
 
   -- the fingerprint of two files joined, from theirs: the second file's leading 1 is taken off again
-  pub join : (a b : List ℕ)
-      → rem p (fingerprint p a * 2 ^ (8 * length b) ⊕ fingerprint p b ⊕ 2 ^ (8 * length b)) ≡ fingerprint p (a ++ b)
+  pub join : (a b : List ℕ) → rem p (fingerprint p a * 2 ^ length b ⊕ fingerprint p b ⊕ 2 ^ length b) ≡ fingerprint p (a ++ b)
   unfolding fingerprint
   join a b = residue ∙ ap (rem p) (sym (value-joined a b))
     where
-      residue : rem p (rem p (value a) * 2 ^ (8 * length b) ⊕ rem p (value b) ⊕ 2 ^ (8 * length b))
-          ≡ rem p (value a * 2 ^ (8 * length b) ⊕ value b ⊕ 2 ^ (8 * length b))
+      residue : rem p (rem p (value a) * 2 ^ length b ⊕ rem p (value b) ⊕ 2 ^ length b) ≡ rem p (value a * 2 ^ length b ⊕ value b ⊕ 2 ^ length b)
       residue = simp (rem-⊕ pos, rem-shl pos, rem-rem pos)
 
   -- the same file with another page
-  bits-page : (pre x post : List ℕ) → bits (pre ++ x ++ post) ≡ bits pre ++ bits x ++ bits post
-  bits-page pre x post = bits-append (pre ++ x) post ∙ ap (λ (r : List ℕ). r ++ bits post) (bits-append pre x)
-
   value-page : (pre old new post : List ℕ) → length old ≡ length new
-      → value (pre ++ new ++ post) ≡ value (pre ++ old ++ post) ⊕ (value old ⊕ value new) * 2 ^ (8 * length post)
+      → value (pre ++ new ++ post) ≡ value (pre ++ old ++ post) ⊕ (value old ⊕ value new) * 2 ^ length post
   unfolding value
   value-page pre old new post e =
-      ⊕-move (valueFrom 1 (bits (pre ++ old ++ post))) (valueFrom 1 (bits (pre ++ new ++ post)))
-      ((valueFrom 1 (bits old) ⊕ valueFrom 1 (bits new)) * 2 ^ (8 * length post))
-      (rw (bits-page pre old post, bits-page pre new post, ← (length-bits post))
-      (value-change 1 1 (bits pre) (bits old) (bits new) (bits post) (length-bits old ∙ ap (λ (n : ℕ). 8 * n) e ∙ sym (length-bits new))))
+      ⊕-move (valueFrom 1 (pre ++ old ++ post)) (valueFrom 1 (pre ++ new ++ post)) ((valueFrom 1 old ⊕ valueFrom 1 new) * 2 ^ length post)
+      (value-change 1 1 pre old new post e)
 
   pub page : (pre old new post : List ℕ) → length old ≡ length new
-      → rem p (fingerprint p (pre ++ old ++ post) ⊕ (fingerprint p old ⊕ fingerprint p new) * 2 ^ (8 * length post)) ≡ fingerprint p (pre ++ new ++ post)
+      → rem p (fingerprint p (pre ++ old ++ post) ⊕ (fingerprint p old ⊕ fingerprint p new) * 2 ^ length post) ≡ fingerprint p (pre ++ new ++ post)
   unfolding fingerprint
   page pre old new post e =
-      rem-⊕ pos (rem p (value (pre ++ old ++ post))) ((rem p (value old) ⊕ rem p (value new)) * 2 ^ (8 * length post))
+      rem-⊕ pos (rem p (value (pre ++ old ++ post))) ((rem p (value old) ⊕ rem p (value new)) * 2 ^ length post)
       ∙ ap₂ (λ (x y : ℕ). x ⊕ y) (rem-rem pos (value (pre ++ old ++ post)))
-      (ap (λ (x : ℕ). rem p (x * 2 ^ (8 * length post))) (sym (rem-⊕ pos (value old) (value new))) ∙ rem-shl pos (value old ⊕ value new) (8 * length post))
-      ∙ sym (rem-⊕ pos (value (pre ++ old ++ post)) ((value old ⊕ value new) * 2 ^ (8 * length post)))
+      (ap (λ (x : ℕ). rem p (x * 2 ^ length post)) (sym (rem-⊕ pos (value old) (value new))) ∙ rem-shl pos (value old ⊕ value new) (length post))
+      ∙ sym (rem-⊕ pos (value (pre ++ old ++ post)) ((value old ⊕ value new) * 2 ^ length post))
       ∙ ap (rem p) (sym (value-page pre old new post e))
 
 -- ---- true marks
@@ -77,9 +66,10 @@ module _ (key : ℕ) (pos : 0 < key) (file : List ℕ) where
   true-reduced = lt-leb (2 ^ degree key) (rem key (value file)) (rem-lt pos (value file))
 
   -- a true mark fed is true of the file with the part behind it
-  pub fed-true : (part : List ℕ) → fedMark key (markOf key file) part ≡ markOf key (file ++ part)
+  pub fed-true : (part : Part) → fedMark key (markOf key file) part ≡ markOf key (file ++ partBits part)
   unfolding fedMark markOf
-  fed-true part = mark-eq (fed pos file part) (sym (length-append file part))
+  fed-true part =
+      mark-eq (fed pos file (partBits part)) (sym (length-append file (partBits part) ∙ ap (λ (n : ℕ). length file + n) (part-length part)))
 
 -- true marks joined are true of the files joined
 pub joined-true : {p : ℕ} (pos : 0 < p) (a b : List ℕ) → joined p (markOf p a) (markOf p b) ≡ markOf p (a ++ b)
@@ -88,5 +78,5 @@ joined-true pos a b = mark-eq (join pos a b) (sym (length-append a b))
 
 -- "The empty file has fingerprint 1."
 pub empty-mark : (key : ℕ) → 1 < key → markOf key [] ≡ record { fingerprint = 1; length = 0 }
-unfolding markOf fingerprint value valueFrom bits
+unfolding markOf fingerprint value valueFrom
 empty-mark key h = mark-eq (rem-small (omega arith) 1 (pow-lt {i = 0} (degree-from 1 key h))) refl

@@ -15,7 +15,7 @@ use Rattle.gf2.proofs.Sums.{⊕-self, ⊕-append, ⊕-shl, xor}
 use Rattle.gf2.proofs.Products.{shl-suc}
 use Rattle.gf2.proofs.Degrees.{deg-unique}
 use Rattle.gf2.proofs.Residues.{rem-lt, rem-small, rem-append}
-use Rattle.files.specs.Files.{lowBits, bits, valueFrom, value, Bytes, ValuesDiffer}
+use Rattle.files.specs.Files.{lowBits, bits, valueFrom, value, Bits, ValuesDiffer}
 
 pub value-append : (s : ℕ) (a b : List ℕ) → valueFrom s (a ++ b) ≡ valueFrom (valueFrom s a) b
 unfolding valueFrom
@@ -113,29 +113,25 @@ value-change s u pre x y post e =
 
 -- ---- different files have different values
 
--- of a string of bits behind a leading 1
-pub string-degree : (x : List ℕ) → Degree (valueFrom 1 x) (length x)
-string-degree x = ap (λ (v : ℕ). v / 2 ^ length x) (value-split 1 x) ∙ digits-div 1 (value-lt x)
-
-pub value-degree : (file : List ℕ) → Degree (value file) (8 * length file)
+pub value-degree : (file : List ℕ) → Degree (value file) (length file)
 unfolding value
-value-degree file = rw (← (length-bits file)) (string-degree (bits file))
+value-degree file = ap (λ (v : ℕ). v / 2 ^ length file) (value-split 1 file) ∙ digits-div 1 (value-lt file)
 
-byte-eq : (s t x y : ℕ) → x < 256 → y < 256 → s * 256 + x % 256 ≡ t * 256 + y % 256 → (s ≡ t) × (x ≡ y)
-byte-eq s t x y hx hy e = omega arith
+bit-eq : (s t x y : ℕ) → x < 2 → y < 2 → s * 2 + x % 2 ≡ t * 2 + y % 2 → (s ≡ t) × (x ≡ y)
+bit-eq s t x y hx hy e = omega arith
 
-from-inj : (a b : List ℕ) (s t : ℕ) → length a ≡ length b → Bytes a → Bytes b → valueFrom s (bits a) ≡ valueFrom t (bits b) → (s ≡ t) × (a ≡ b)
-unfolding valueFrom bits
+from-inj : (a b : List ℕ) (s t : ℕ) → length a ≡ length b → Bits a → Bits b → valueFrom s a ≡ valueFrom t b → (s ≡ t) × (a ≡ b)
+unfolding valueFrom
 from-inj [] [] s t l ha hb e = (e, refl)
 from-inj [] (y ∷ b) s t l ha hb e = absurd (omega arith)
 from-inj (x ∷ a) [] s t l ha hb e = absurd (omega arith)
 from-inj (x ∷ a) (y ∷ b) s t l ha hb e =
-    let ih = from-inj a b (s * 256 + x % 256) (t * 256 + y % 256) (omega arith) (ha .1) (hb .1) (sym (value-byte s x a) ∙ e ∙ value-byte t y b) in
-    let d = byte-eq s t x y (ha .0) (hb .0) (ih .0) in
+    let ih = from-inj a b (s * 2 + x % 2) (t * 2 + y % 2) (omega arith) (ha .1) (hb .1) e in
+    let d = bit-eq s t x y (ha .0) (hb .0) (ih .0) in
     (d .0, ap₂ {C = List ℕ} (λ (z : ℕ) (c : List ℕ). z ∷ c) (d .1) (ih .1))
 
 pub value-length : (a b : List ℕ) → value a ≡ value b → length a ≡ length b
-value-length a b e = omega (arith, deg-unique (value a) (8 * length a) (8 * length b) (value-degree a) (rw e (value-degree b)))
+value-length a b e = omega (arith, deg-unique (value a) (length a) (length b) (value-degree a) (rw e (value-degree b)))
 
 pub value-inj : ValuesDiffer
 unfolding value

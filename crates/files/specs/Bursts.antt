@@ -4,7 +4,6 @@ use mathlib.Core.Logic.{_≢_}
 use mathlib.Core.List.{List}
 use Prim.Native.Nat.{ℕ, _+_, _≤_, _<_}
 use lib.ListN.{length, getD}
-use Rattle.files.specs.Files.{bits}
 
 -- "the lengths are equal and the first and last differing bits are at most k - 1 places apart": every bit that differs stands from
 -- the place `first` to the place `last`
@@ -13,4 +12,4 @@ pub record Burst (k : ℕ) (a b : List ℕ) : Type 0 where
   pub first : ℕ
   pub last : ℕ
   pub near : last < first + k
-  pub between : (i : ℕ) → getD (bits a) i 0 ≢ getD (bits b) i 0 → (first ≤ i) × (i ≤ last)
+  pub between : (i : ℕ) → getD a i 0 ≢ getD b i 0 → (first ≤ i) × (i ≤ last)

@@ -4,9 +4,11 @@ use mathlib.Core.Path.{_≡_}
 use mathlib.Core.List.{List, [], _∷_, _++_}
 use Prim.Native.Nat.{ℕ}
 use lib.ListN.{length, drop}
-use Rattle.refusals.specs.Refusals.{Answer, Done, Test}
+use Rattle.refusals.specs.declared.Refusal.the-variants.{FinalByte}
+use Rattle.refusals.specs.Refusals.{Answer, Done, Test, _⇒_}
 use Rattle.acceptance.specs.Keys.{keyTests}
 use Rattle.files.specs.declared.Mark.{Mark}
+use Rattle.files.specs.Files.{bits, Part, partLength, partBits, misused}
 use Rattle.table_tests.specs.TableTests.{tableTests}
 use Rattle.marks.specs.Feeding.{sumTest, begin, feedBits, feedTable}
 use Rattle.printing.specs.declared.KeyLine.the-variants.{Key}
@@ -15,23 +17,23 @@ use Rattle.book.specs.Runs.{Level, Leaves}
 
 -- feeding, by bits or by tables. Feeding under the house key is feeding by its constant words (`feedHouse`).
 pub data Call : Type 0 where
-  ByBits : (part : List ℕ) → Call
-  ByTable : (words part : List ℕ) → Call
+  ByBits : (part : Part) → Call
+  ByTable : (words : List ℕ) (part : Part) → Call
 
 unfoldable pub step : ℕ → Mark → Call → Answer Mark Mark
 step key m (ByBits part) = feedBits key m part
 step key m (ByTable words part) = feedTable key m words part
 
--- The numbers that can apply, n being the length of the book's file. Number 8 is not among them: the mark carried along is true of
--- the file, so its fingerprint is below 2^k.
+-- The numbers that can apply, n being the length of the book's file in bits. Number 8 is not among them: the mark carried along is true
+-- of the file, so its fingerprint is below 2^k.
 unfoldable pub bookTests : ℕ → ℕ → Call → List Test
-bookTests key n (ByBits part) = keyTests key ++ sumTest n (length part) ∷ []
-bookTests key n (ByTable words part) = keyTests key ++ tableTests key words ++ sumTest n (length part) ∷ []
+bookTests key n (ByBits part) = keyTests key ++ sumTest n (partLength part) ∷ misused part ⇒ FinalByte ∷ []
+bookTests key n (ByTable words part) = keyTests key ++ tableTests key words ++ sumTest n (partLength part) ∷ misused part ⇒ FinalByte ∷ []
 
--- "Feeding, by bits or by tables: the part goes behind the file."
+-- "Feeding, by bits or by tables: the part goes behind the file", its used bits alone.
 unfoldable pub written : List ℕ → Call → List ℕ
-written file (ByBits part) = file ++ part
-written file (ByTable words part) = file ++ part
+written file (ByBits part) = file ++ partBits part
+written file (ByTable words part) = file ++ partBits part
 
 -- "The table words lent may be anything at each call."
 abbrev pub Brings : ℕ → List ℕ → Call → Type 0
@@ -45,6 +47,6 @@ bench = record { Call = Call; step = step; tests = bookTests; written = written;
 pub data Route (key : ℕ) (file : List ℕ) (f : ℕ) : Type 0 where
   ByCalls : Leaves bench key file f → Route key file f
   Beginning : file ≡ [] → begin key ≡ Done (record { fingerprint = f; length = 0 }) → Route key file f
-  -- of an input whose first line is the key and whose other bytes are the file
-  Printed : (input : List ℕ) (at : ℕ) → keyLine input ≡ Key key at → drop at input ≡ file
+  -- of an input whose first line is the key and whose other bytes are the file; the program prints bytes
+  Printed : (input : List ℕ) (at : ℕ) → keyLine input ≡ Key key at → bits (drop at input) ≡ file
       → printed input ≡ report (record { key = key; fingerprint = f; length = length file }) → Route key file f

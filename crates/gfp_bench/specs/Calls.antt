@@ -2,12 +2,12 @@
 -- its numbers, its tests, and the call. docs/API.md has the same numbers.
 use mathlib.Core.List.{List, [], _∷_, _++_}
 use Prim.Native.Nat.{ℕ}
-use lib.ListN.{length}
 use Rattle.refusals.specs.declared.Refusal.the-variants.{TableWord}
 use Rattle.refusals.specs.Refusals.{_⇒_}
 use Rattle.refusals.specs.Lowest.{GivesLowest}
 use Rattle.acceptance.specs.Keys.{keyTests}
 use Rattle.files.specs.declared.Mark.{Mark}
+use Rattle.files.specs.Files.{Part}
 use Rattle.lookups.specs.Rule.{word, differs}
 use Rattle.house.specs.House.{houseWords}
 use Rattle.keys.specs.Testing.{testKey}
@@ -15,14 +15,14 @@ use Rattle.table_tests.specs.TableTests.{tableSizeTest, tableTests}
 use Rattle.tables.specs.Tables.{makeTable, testTable}
 use Rattle.marks.specs.Feeding.{begin, feedTests, feedBits, feedTable, feedHouse}
 
-pub record EachCall (key : ℕ) (m : Mark) (words part : List ℕ) : Type 0 where
+pub record EachCall (key : ℕ) (m : Mark) (words : List ℕ) (part : Part) : Type 0 where
   pub test-key : GivesLowest (1 ∷ 2 ∷ []) (keyTests key) (testKey key)
   pub begin-mark : GivesLowest (1 ∷ 2 ∷ []) (keyTests key) (begin key)
-  pub feed : GivesLowest (1 ∷ 2 ∷ 7 ∷ 8 ∷ []) (keyTests key ++ feedTests key m (length part)) (feedBits key m part)
+  pub feed : GivesLowest (1 ∷ 2 ∷ 7 ∷ 8 ∷ 19 ∷ []) (keyTests key ++ feedTests key m part) (feedBits key m part)
   pub make-table : GivesLowest (1 ∷ 2 ∷ 5 ∷ []) (keyTests key ++ tableSizeTest words ∷ []) (makeTable key words)
   pub test-table : GivesLowest (1 ∷ 2 ∷ 5 ∷ 6 ∷ []) (keyTests key ++ tableTests key words) (testTable key words)
-  pub feed-table : GivesLowest (1 ∷ 2 ∷ 5 ∷ 6 ∷ 7 ∷ 8 ∷ []) (keyTests key ++ tableTests key words ++ feedTests key m (length part))
+  pub feed-table : GivesLowest (1 ∷ 2 ∷ 5 ∷ 6 ∷ 7 ∷ 8 ∷ 19 ∷ []) (keyTests key ++ tableTests key words ++ feedTests key m part)
       (feedTable key m words part)
   -- the house key's words are 1,024, so that number 5 never applies: its test is left out
-  pub feed-house : GivesLowest (1 ∷ 2 ∷ 6 ∷ 7 ∷ 8 ∷ [])
-      (keyTests key ++ differs (word 8 key) 0 houseWords ⇒ TableWord ∷ feedTests key m (length part)) (feedHouse key m part)
+  pub feed-house : GivesLowest (1 ∷ 2 ∷ 6 ∷ 7 ∷ 8 ∷ 19 ∷ [])
+      (keyTests key ++ differs (word 8 key) 0 houseWords ⇒ TableWord ∷ feedTests key m part) (feedHouse key m part)

@@ -11,7 +11,7 @@ use lib.ListN.{length}
 use Rattle.gf2.specs.Polynomials.{degree}
 use Rattle.refusals.specs.Refusals.{Done}
 use Rattle.acceptance.specs.Keys.{accepted}
-use Rattle.files.specs.Files.{Bytes}
+use Rattle.files.specs.Files.{Bits}
 use Rattle.files.specs.Bursts.{Burst}
 use Rattle.lists.specs.Inner.{among}
 use Rattle.lists.specs.Counts.{countFrom}
@@ -53,7 +53,7 @@ Number = (k : ℕ) → Listed k → countFrom accepted (2 ^ k) (2 ^ k) * k ≡ 2
 -- Of two different files of at most n bits, at most n elements draw a key under which they have equal fingerprints.
 abbrev pub Risk : Type 0
 Risk =
-    (k : ℕ) → Listed k → (a b : List ℕ) → Bytes a → Bytes b → a ≢ b → (n : ℕ) → 8 * length a ≤ n → 8 * length b ≤ n
+    (k : ℕ) → Listed k → (a b : List ℕ) → Bits a → Bits b → a ≢ b → (n : ℕ) → length a ≤ n → length b ≤ n
     → elements k (λ e. confused a b (keyOf k e)) ≤ n
 
 -- These are the elements that draw a key under which, by any of our calls, a route to the one file and a route to the other can leave
@@ -65,4 +65,4 @@ ByRoutes Route =
 -- Where the lengths are equal and the first and last differing bits are at most k - 1 places apart, there is no such element.
 abbrev pub NoBurst : Type 0
 NoBurst =
-    (k : ℕ) → Listed k → (a b : List ℕ) → Bytes a → Bytes b → a ≢ b → Burst k a b → elements k (λ e. confused a b (keyOf k e)) ≡ 0
+    (k : ℕ) → Listed k → (a b : List ℕ) → Bits a → Bits b → a ≢ b → Burst k a b → elements k (λ e. confused a b (keyOf k e)) ≡ 0

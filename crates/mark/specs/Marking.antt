@@ -5,6 +5,7 @@ use Prim.Native.Nat.{ℕ}
 use Rattle.io.specs.Counts.{Counts}
 use Rattle.refusals.specs.Refusals.{Answer, Done, Refused}
 use Rattle.files.specs.declared.Mark.{Mark}
+use Rattle.files.specs.Files.{whole}
 use Rattle.marks.specs.declared.Running.{Running}
 use Rattle.marks.specs.Feeding.{feedTable}
 use Rattle.marks.specs.Answers.{markIn, begunUnder}
@@ -23,7 +24,7 @@ Filled front-cases.Unread buffer = Unit {0}
 -- feeds by the words of a table, one after another, until one is refused
 abbrev pub feeds : ℕ → List ℕ → Answer Mark Mark → List (List ℕ) → Answer Mark Mark
 feeds key words a [] = a
-feeds key words (Done m) (part ∷ parts) = feeds key words (feedTable key m words part) parts
+feeds key words (Done m) (part ∷ parts) = feeds key words (feedTable key m words (whole part)) parts
 feeds key words (Refused r m) (part ∷ parts) = Refused r m
 
 -- an answer without the state handed in

@@ -7,6 +7,7 @@ use lib.Dec.{eqb}
 use lib.ListN.{length, take}
 use lib.IntN.{ℤ, pos, negsuc}
 use Rattle.io.specs.Counts.{Counts}
+use Rattle.files.specs.Files.{whole}
 use Rattle.marks.specs.declared.Running.{Running}
 use Rattle.marks.specs.Feeding.{feedTable}
 use Rattle.marks.specs.Answers.{markIn, fed, fedUnder}
@@ -40,7 +41,7 @@ InFront got-cases.Failed buffer = Unit {0}
 -- one turn on a running mark: the bytes that were read, at the front of the buffer as it is afterwards, are fed
 abbrev pub Stepped : Running → List ℕ → List ℕ → Step → Type 0
 Stepped m words buffer (step-cases.Fed n f) =
-    InFront (got-cases.Bytes n) buffer × (fed f ≡ fedUnder (m .key) (feedTable (m .key) (markIn m) words (take n buffer)))
+    InFront (got-cases.Bytes n) buffer × (fed f ≡ fedUnder (m .key) (feedTable (m .key) (markIn m) words (whole (take n buffer))))
 Stepped m words buffer step-cases.End = Unit {0}
 Stepped m words buffer step-cases.Failed = Unit {0}
 

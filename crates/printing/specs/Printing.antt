@@ -13,7 +13,7 @@ use Rattle.refusals.specs.declared.Refusal.{Refusal}
 use Rattle.refusals.specs.declared.Refusal.the-variants.{TooLong}
 use Rattle.refusals.specs.Refusals.{Answer, Done, Refused, number, _⇒_, firstOf, passes}
 use Rattle.acceptance.specs.Keys.{keyTests}
-use Rattle.files.specs.Files.{markOf}
+use Rattle.files.specs.Files.{bits, markOf}
 use Rattle.marks.specs.declared.Running.{Running}
 use Rattle.marks.specs.Answers.{begunUnder}
 use Rattle.printing.specs.declared.KeyLine.{KeyLine}
@@ -57,10 +57,11 @@ digitsOf (suc s) b n = cond (ltb n b) (glyph n ∷ []) (digitsOf s b (n / b) ++ 
 unfoldable pub numeral : ℕ → ℕ → List ℕ
 numeral b n = digitsOf n b n
 
+-- of a running mark, whose length is in bits: the program prints bytes
 unfoldable pub report : Running → List ℕ
 report m =
     ascii "key " ++ numeral 10 (degree (m .key)) ++ (ascii " " ++ numeral 16 (m .key))
-    ++ (ascii "\nbytes " ++ numeral 10 (m .length))
+    ++ (ascii "\nbytes " ++ numeral 10 (m .length / 8))
     ++ (ascii "\nmark " ++ numeral 16 (m .fingerprint))
     ++ ascii "\n"
 
@@ -74,9 +75,9 @@ abbrev pub answerText : {S : Type 0} → Answer S Running → List ℕ
 answerText (Done m) = report m
 answerText (Refused r s) = refused r
 
--- The mark of the file behind the key's line. Number 7 applies to the file's length.
+-- The mark of the file behind the key's line, which is whole bytes. Number 7 applies to the file's length.
 unfoldable pub markFile : ℕ → List ℕ → Answer Unit Running
-markFile key file = begunUnder key (firstOf (keyTests key ++ passes (length file ∷ []) ⇒ TooLong ∷ []) tt (markOf key file))
+markFile key file = begunUnder key (firstOf (keyTests key ++ passes (8 * length file ∷ []) ⇒ TooLong ∷ []) tt (markOf key (bits file)))
 
 abbrev pub printedAfter : KeyLine → List ℕ → List ℕ
 printedAfter NoKey input = noKey

@@ -5,7 +5,7 @@ use mathlib.Core.List.{List, [], _∷_}
 use Prim.Native.Nat.{ℕ}
 use Rattle.refusals.specs.Refusals.{Done, stateOf, numberOf}
 use Rattle.files.specs.declared.Mark.{Mark}
-use Rattle.files.specs.Files.{fingerprint}
+use Rattle.files.specs.Files.{bits, fingerprint}
 use Rattle.keys.specs.Testing.{testKey}
 use Rattle.compose.specs.Composing.{joinBehind}
 use Rattle.search.specs.Searching.{search}
@@ -32,15 +32,15 @@ Readings =
     × (draw 11 3 ≡ Done 0xF0B)
     -- key 0x11B, file to fingerprint
     × (fingerprint 0x11B [] ≡ 0x01)
-    × (fingerprint 0x11B (0x00 ∷ []) ≡ 0x1B)
-    × (fingerprint 0x11B (0x1B ∷ []) ≡ 0x00)
-    × (fingerprint 0x11B (0x41 ∷ 0x42 ∷ []) ≡ 0x9D)
-    × (fingerprint 0x11B zeroFile ≡ 0x5E)
+    × (fingerprint 0x11B (bits (0x00 ∷ [])) ≡ 0x1B)
+    × (fingerprint 0x11B (bits (0x1B ∷ [])) ≡ 0x00)
+    × (fingerprint 0x11B (bits (0x41 ∷ 0x42 ∷ [])) ≡ 0x9D)
+    × (fingerprint 0x11B (bits zeroFile) ≡ 0x5E)
     -- joining 5A and 59, one byte each
-    × (stateOf (joinBehind 0x11B (mark 0x5A 1) (mark 0x59 1)) ≡ mark 0x9D 2)
+    × (stateOf (joinBehind 0x11B (mark 0x5A 8) (mark 0x59 8)) ≡ mark 0x9D 16)
     -- searching: pattern 01 1B in 00 00
     × (search 0x11B zeroFile keyFile ≡ Done (record { places = 0; alarms = 1 }))
     -- the same fingerprint, across 9 bits, one more than k
-    × (fingerprint 0x11B keyFile ≡ 0x5E)
-    × Burst 9 zeroFile keyFile
-    × (Burst 8 zeroFile keyFile → ⊥)
+    × (fingerprint 0x11B (bits keyFile) ≡ 0x5E)
+    × Burst 9 (bits zeroFile) (bits keyFile)
+    × (Burst 8 (bits zeroFile) (bits keyFile) → ⊥)

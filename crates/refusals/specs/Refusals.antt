@@ -6,7 +6,7 @@ use lib.Dec.{ltb}
 use Rattle.refusals.specs.declared.Refusal.{Refusal}
 use Rattle.refusals.specs.declared.Refusal.the-variants.{KeyBelow256, KeyReducible, DegreeNotListed, ElementOutOfRange, TableSize, TableWord}
 use Rattle.refusals.specs.declared.Refusal.the-variants.{TooLong, MarkNotReduced, PageLengthsDiffer, PagePastEnd, EmptyPattern, PageSize}
-use Rattle.refusals.specs.declared.Refusal.the-variants.{BufferShort, SheetMalformed}
+use Rattle.refusals.specs.declared.Refusal.the-variants.{BufferShort, SheetMalformed, FinalByte}
 
 abbrev pub number : Refusal → ℕ
 number KeyBelow256 = 1
@@ -23,6 +23,7 @@ number EmptyPattern = 11
 number PageSize = 12
 number BufferShort = 13
 number SheetMalformed = 14
+number FinalByte = 19
 
 -- ---- what a call answers: its value, or a refusal with the state handed in. A call that keeps no state has S = Unit.
 
@@ -63,10 +64,10 @@ firstOf (false ⇒ r ∷ ts) kept value = firstOf ts kept value
 abbrev pub judged : List Test → Answer Unit Unit
 judged ts = firstOf ts tt tt
 
--- ---- number 7: one of the lengths passes the limit of 4,294,967,295
+-- ---- number 7: one of the lengths, in bits, passes the limit of 34,359,738,360, which is 8 × 4,294,967,295
 
 abbrev pub longest : ℕ
-longest = 4294967295
+longest = 34359738360
 
 abbrev pub passes : List ℕ → Bool
 passes [] = false

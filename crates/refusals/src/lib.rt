@@ -2,12 +2,14 @@
 ghost use mathlib.Core.Path.{_≡_};
 ghost use mathlib.Core.Bool.{not};
 ghost use mathlib.Core.List.{[], _∷_};
-ghost use Prim.Native.Nat.{_+_};
+ghost use Prim.Native.Nat.{_+_, _*_};
 ghost use Rattle.refusals.specs.Refusals.{number, numberOf, passes};
 ghost use Rattle.refusals.specs.Answers.{told};
 
-// The limit of lengths (number 7), in bytes.
-pub const LONGEST: u64 = 4294967295;
+// The limit of lengths (number 7), in bits, and the same in whole bytes.
+pub const LONGEST: u64 = 34359738360;
+
+pub const LONGEST_BYTES: u64 = 4294967295;
 
 pub enum Refusal {
     KeyBelow256,
@@ -24,6 +26,7 @@ pub enum Refusal {
     PageSize,
     BufferShort,
     SheetMalformed,
+    FinalByte,
 }
 
 // The answer of a call that gives no value: done, or refused.
@@ -32,7 +35,7 @@ pub enum Reply {
     Refused(Refusal),
 }
 
-// The number of a refusal, from 1 to 14.
+// The number of a refusal: 1 to 14, or 19.
 pub fn number(r: Refusal) -> u32
     ensures { λ n. ⌜ n ≡ number r ⌝ }
 {
@@ -51,6 +54,7 @@ pub fn number(r: Refusal) -> u32
         Refusal::PageSize => 12,
         Refusal::BufferShort => 13,
         Refusal::SheetMalformed => 14,
+        Refusal::FinalByte => 19,
     }
 }
 
@@ -85,4 +89,11 @@ pub fn within(x: u64, y: u64, z: u64) -> bool
         return false;
     }
     z <= LONGEST
+}
+
+// Number 7 does not apply to n bytes, whose bits are not counted: 8n might not fit 64 bits.
+pub fn bytes_fit(n: u64) -> bool
+    ensures { λ r. ⌜ r ≡ not (passes (8 * n ∷ [])) ⌝ }
+{
+    n <= LONGEST_BYTES
 }

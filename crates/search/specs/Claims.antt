@@ -5,7 +5,7 @@ use mathlib.Core.List.{List, [], _∷_}
 use Prim.Native.Nat.{ℕ, _+_, _≤_, _<_}
 use lib.ListN.{length, take, drop}
 use Rattle.lists.specs.Lists.{All}
-use Rattle.files.specs.Files.{fingerprint}
+use Rattle.files.specs.Files.{bits, fingerprint}
 use Rattle.search.specs.Searching.{places, alarms}
 
 -- i is an entry of the list
@@ -33,7 +33,7 @@ AlarmsIff =
     (key : ℕ) (text pattern : List ℕ) (i : ℕ)
     → In i (alarms key text pattern)
     ↔ ((i + length pattern ≤ length text)
-    × (fingerprint key (take (length pattern) (drop i text)) ≡ fingerprint key pattern)
+    × (fingerprint key (bits (take (length pattern) (drop i text))) ≡ fingerprint key (bits pattern))
     × (take (length pattern) (drop i text) ≢ pattern))
 
 abbrev pub AlarmsRising : Type 0

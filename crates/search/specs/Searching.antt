@@ -1,14 +1,14 @@
 -- The search for a pattern in a text (document 01, "Searching a log"). Both are lists of bytes; a place is an offset from 0.
 use mathlib.Core.Bool.{Bool, _&&_, not}
 use mathlib.Core.List.{List, [], _∷_, _++_}
-use Prim.Native.Nat.{ℕ, _+_, _-_}
+use Prim.Native.Nat.{ℕ, _+_, _-_, _*_}
 use lib.Dec.{eqb}
 use lib.ListN.{length, take, drop}
 use Rattle.lists.specs.Lists.{passing, same, overlay}
 use Rattle.refusals.specs.declared.Refusal.the-variants.{TooLong, EmptyPattern}
 use Rattle.refusals.specs.Refusals.{Answer, stateOf, Test, _⇒_, firstOf, passes}
 use Rattle.acceptance.specs.Keys.{keyTests}
-use Rattle.files.specs.Files.{fingerprint}
+use Rattle.files.specs.Files.{bits, fingerprint}
 use Rattle.search.specs.declared.Counts.{Counts}
 
 -- how many windows as long as the pattern the text has: none where the pattern is longer
@@ -21,7 +21,8 @@ isPlace text pattern i = same (take (length pattern) (drop i text)) pattern
 
 -- a false alarm: the window there has the pattern's fingerprint, and other bytes
 unfoldable pub isAlarm : ℕ → List ℕ → List ℕ → ℕ → Bool
-isAlarm key text pattern i = eqb (fingerprint key (take (length pattern) (drop i text))) (fingerprint key pattern) && not (isPlace text pattern i)
+isAlarm key text pattern i =
+    eqb (fingerprint key (bits (take (length pattern) (drop i text)))) (fingerprint key (bits pattern)) && not (isPlace text pattern i)
 
 -- the places, and the false alarms, rising
 unfoldable pub places : List ℕ → List ℕ → List ℕ
@@ -32,9 +33,9 @@ alarms key text pattern = passing (isAlarm key text pattern) 0 (windows text pat
 
 -- ---- the call
 
--- numbers 7 and 11
+-- numbers 7, which counts bits, and 11
 abbrev pub textTests : List ℕ → List ℕ → List Test
-textTests text pattern = passes (length text ∷ length pattern ∷ []) ⇒ TooLong ∷ eqb (length pattern) 0 ⇒ EmptyPattern ∷ []
+textTests text pattern = passes (8 * length text ∷ 8 * length pattern ∷ []) ⇒ TooLong ∷ eqb (length pattern) 0 ⇒ EmptyPattern ∷ []
 
 -- and those of the key
 abbrev pub searchTests : ℕ → List ℕ → List ℕ → List Test

@@ -3,6 +3,7 @@ use mathlib.Core.List.{List}
 use Prim.Native.Nat.{ℕ, _+_, _*_, min}
 use lib.ListN.{length}
 use Rattle.refusals.specs.Refusals.{Answer, Done, Refused, firstOf}
+use Rattle.files.specs.Files.{Part, partBits, bytesFor}
 use Rattle.sheets.specs.Layout.{Contents, contentsIn}
 use Rattle.sheets.specs.Sheets.{Outcome, Same, Page, OtherLength, compared, checkTests}
 use Rattle.sheets.specs.declared.Sheet.{Sheet}
@@ -25,11 +26,11 @@ pub data Range : Type 0 where
 
 abbrev pub rangeOf : Contents → Outcome → Range
 rangeOf x Same = NoChange
-rangeOf x (Page i) = FromTo (i * x .pageSize) (min (i * x .pageSize + x .pageSize) (x .length))
+rangeOf x (Page i) = FromTo (i * x .pageSize) (min (i * x .pageSize + x .pageSize) (bytesFor (x .length)))
 rangeOf x OtherLength = NotAsLong
 
-unfoldable pub changedRange : List ℕ → List ℕ → Answer Unit Range
-changedRange sheet file = let x = contentsIn sheet in firstOf (checkTests sheet file) tt (rangeOf x (compared x file))
+unfoldable pub changedRange : List ℕ → Part → Answer Unit Range
+changedRange sheet file = let x = contentsIn sheet in firstOf (checkTests sheet file) tt (rangeOf x (compared x (partBits file)))
 
 -- ---- the answers in code
 

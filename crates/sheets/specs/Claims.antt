@@ -4,17 +4,17 @@ use mathlib.Core.Path.{_≡_}
 use mathlib.Core.Logic.{_≢_, _↔_}
 use mathlib.Core.Bool.{true, false}
 use mathlib.Core.List.{List}
-use Prim.Native.Nat.{ℕ, _-_, _*_, _^_, _≤_, _<_}
+use Prim.Native.Nat.{ℕ, _-_, _*_, _%_, _^_, _≤_, _<_}
 use lib.ListN.{length, getD, take, drop}
 use Rattle.lists.specs.Lists.{All, overlay}
 use Rattle.gf2.specs.Polynomials.{degree, rem}
 use Rattle.refusals.specs.declared.Refusal.the-variants.{SheetMalformed}
 use Rattle.refusals.specs.Refusals.{Answer, Done, Refused, firstOf, longest}
 use Rattle.acceptance.specs.Keys.{accepted}
-use Rattle.files.specs.Files.{Bytes, fingerprint, markOf}
+use Rattle.files.specs.Files.{Bits, Bytes, fingerprint, markOf, Part, partBits, misused}
 use Rattle.files.specs.Bursts.{Burst}
 use Rattle.sheets.specs.Layout.{numberAt, versionIn, Layout, newest, layouts, known, layoutOf}
-use Rattle.sheets.specs.Layout.{pagePlace, sheetLength, pageCount, Contents, sheetBytes, contentsIn}
+use Rattle.sheets.specs.Layout.{pagePlace, sheetLength, pagesFor, Contents, sheetBytes, contentsIn}
 use Rattle.sheets.specs.Sheets.{contentsOf, pagesJoined, fileFilled, writeSheet, readTests, readSheet, readPages, Same, Page, OtherLength}
 use Rattle.sheets.specs.Sheets.{pagesNow, compared, checkSheet}
 
@@ -25,8 +25,9 @@ pub record SoundContents (x : Contents) : Type 0 where
   pub version : known layouts (x .version) ≡ true
   pub key : accepted (x .key) ≡ true
   pub length : x .length ≤ longest
+  pub whole : x .length % layoutOf (x .version) .lengthUnit ≡ 0
   pub pageSize : (16 ≤ x .pageSize) × (x .pageSize ≤ 4096)
-  pub count : lib.ListN.length (x .pages) ≡ pageCount (x .pageSize) (x .length)
+  pub count : lib.ListN.length (x .pages) ≡ pagesFor (x .pageSize) (x .length)
   pub pages : All (λ f. f < 2 ^ degree (x .key)) (x .pages)
   pub fingerprint : x .fingerprint < 2 ^ degree (x .key)
   pub joined : pagesJoined x .fingerprint ≡ fileFilled x
@@ -62,32 +63,35 @@ PagesGiveFile =
 abbrev pub OwnCompared : Type 0
 OwnCompared =
     (x : Contents) → layoutOf (x .version) .filled ≡ false → 0 < x .key → 0 < x .pageSize
-    → lib.ListN.length (x .pages) ≡ pageCount (x .pageSize) (x .length) → x .fingerprint < 2 ^ degree (x .key) → fileFilled x ≡ x .fingerprint
+    → lib.ListN.length (x .pages) ≡ pagesFor (x .pageSize) (x .length) → x .fingerprint < 2 ^ degree (x .key) → fileFilled x ≡ x .fingerprint
 
--- where they are, with the file's fingerprint times t^(8 × (c × s − n)), as document 01 has it
+-- where they are, with the file's fingerprint times t^(c × 8s − n), n being the length in bits, as document 01 has it
 abbrev pub FilledCompared : Type 0
 FilledCompared =
     (x : Contents) → layoutOf (x .version) .filled ≡ true
-    → fileFilled x ≡ rem (x .key) (x .fingerprint * 2 ^ (8 * (lib.ListN.length (x .pages) * x .pageSize - x .length)))
+    → fileFilled x ≡ rem (x .key) (x .fingerprint * 2 ^ (lib.ListN.length (x .pages) * (8 * x .pageSize) - x .length))
 
 -- ---- writing, then reading
 
--- what is written reads back: version 2, key, length, page size, every page fingerprint and the file's
+-- what is written reads back: version 3, key, length, page size, every page fingerprint and the file's
 abbrev pub WrittenReads : Type 0
 WrittenReads =
-    (key s : ℕ) (file buffer after : List ℕ) → key < 2 ^ 64 → writeSheet key s file buffer ≡ Done after
-    → readSheet (take (sheetLength newest (pageCount s (length file))) after) ≡ Done (contentsOf (newest .version) key s file)
+    (key s : ℕ) (file : Part) (buffer after : List ℕ) → key < 2 ^ 64 → writeSheet key s file buffer ≡ Done after
+    → readSheet (take (sheetLength newest (pagesFor s (length (partBits file)))) after) ≡ Done (contentsOf (newest .version) key s (partBits file))
 
 -- its last field is the file's fingerprint
 abbrev pub WrittenFingerprint : Type 0
 WrittenFingerprint =
-    (key s : ℕ) (file buffer after : List ℕ) → key < 2 ^ 64 → writeSheet key s file buffer ≡ Done after
-    → numberAt (pagePlace newest (pageCount s (length file))) 8 (take (sheetLength newest (pageCount s (length file))) after) ≡ fingerprint key file
+    (key s : ℕ) (file : Part) (buffer after : List ℕ) → key < 2 ^ 64 → writeSheet key s file buffer ≡ Done after
+    → let c = pagesFor s (length (partBits file)) in
+    numberAt (pagePlace newest c) 8 (take (sheetLength newest c) after) ≡ fingerprint key (partBits file)
 
 -- ---- checking a file against a sheet
 
 abbrev pub Checks : Type 0
-Checks = (sheet : List ℕ) (w : WellFormed sheet) (file : List ℕ) → length file ≤ longest → checkSheet sheet file ≡ Done (compared (w .contents) file)
+Checks =
+    (sheet : List ℕ) (w : WellFormed sheet) (file : Part) → length (partBits file) ≤ longest → misused file ≡ false
+    → checkSheet sheet file ≡ Done (compared (w .contents) (partBits file))
 
 -- other length where the lengths differ
 abbrev pub OtherLengthTold : Type 0
@@ -113,7 +117,7 @@ SameIff =
 
 -- ---- a change inside k neighbouring bits, against the sheet of a file in each version
 
--- page i, of s bytes, is the first that differs in two files
+-- page i, of s bits, is the first that differs in two files
 pub record FirstAltered (s : ℕ) (a b : List ℕ) (i : ℕ) : Type 0 where
   pub altered : take s (drop (i * s) a) ≢ take s (drop (i * s) b)
   pub before : (j : ℕ) → j < i → take s (drop (j * s) a) ≡ take s (drop (j * s) b)
@@ -122,16 +126,19 @@ pub record FirstAltered (s : ℕ) (a b : List ℕ) (i : ℕ) : Type 0 where
 abbrev pub SomeAltered : Type 0
 SomeAltered = (s : ℕ) (a b : List ℕ) → 0 < s → length a ≡ length b → a ≢ b → (i : ℕ) × FirstAltered s a b i
 
--- "A change that keeps the length and lies inside k neighbouring bits is found on the first page that it alters."
+-- "A change that keeps the length and lies inside k neighbouring bits is found on the first page that it alters", in a file whose length
+-- the version can hold
 abbrev pub BurstFound : Type 0
 BurstFound =
-    (version key s : ℕ) (a b : List ℕ) → known layouts version ≡ true → accepted key ≡ true → length a ≤ longest → 16 ≤ s → s ≤ 4096
-    → Bytes a → Bytes b → Burst (degree key) a b → (i : ℕ) → FirstAltered s a b i
+    (version key s : ℕ) (a : List ℕ) (b : Part) → known layouts version ≡ true → accepted key ≡ true
+    → length a ≤ longest → length a % layoutOf version .lengthUnit ≡ 0 → 16 ≤ s → s ≤ 4096
+    → Bits a → misused b ≡ false → Burst (degree key) a (partBits b) → (i : ℕ) → FirstAltered (8 * s) a (partBits b) i
     → checkSheet (sheetBytes (contentsOf version key s a)) b ≡ Done (Page i)
 
 -- so a file that differs inside k neighbouring bits is never told as the same
 abbrev pub NoBurstSame : Type 0
 NoBurstSame =
-    (version key s : ℕ) (a b : List ℕ) → known layouts version ≡ true → accepted key ≡ true → length a ≤ longest → 16 ≤ s → s ≤ 4096
-    → Bytes a → Bytes b → Burst (degree key) a b → a ≢ b
+    (version key s : ℕ) (a : List ℕ) (b : Part) → known layouts version ≡ true → accepted key ≡ true
+    → length a ≤ longest → length a % layoutOf version .lengthUnit ≡ 0 → 16 ≤ s → s ≤ 4096
+    → Bits a → misused b ≡ false → Burst (degree key) a (partBits b) → a ≢ partBits b
     → checkSheet (sheetBytes (contentsOf version key s a)) b ≡ Done Same → ⊥

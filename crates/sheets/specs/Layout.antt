@@ -1,11 +1,11 @@
--- The bytes of a page sheet (document 01, "Page sheets"; version 2: document 02, wish 1). A version of the layout is a list of widths, for
--- writing and reading alike, and how the last page is taken.
+-- The bytes of a page sheet (document 01, "Page sheets"; version 2: document 02, wish 1; version 3: wish 7). A version of the layout is a
+-- list of widths, for writing and reading alike, what its length field counts, and how the last page is taken.
 use mathlib.Core.Bool.{Bool, true, false, cond, _||_}
 use mathlib.Core.List.{List, [], _∷_, _++_}
 use Prim.Native.Nat.{ℕ, zero, suc, _+_, _-_, _*_, _/_, _%_, _^_}
 use lib.Dec.{eqb}
 use lib.ListN.{getD, take, drop}
-use Rattle.files.specs.Files.{bits, valueFrom}
+use Rattle.files.specs.Files.{bits, valueFrom, bytesFor}
 
 -- ---- numbers as bytes, the high byte first
 
@@ -42,7 +42,7 @@ versionWidth = 2
 abbrev pub versionIn : List ℕ → ℕ
 versionIn sheet = numberAt lettersWidth versionWidth sheet
 
--- ---- a version: its number, the widths of its fields, and how the last page is taken
+-- ---- a version: its number, the widths of its fields, what its length field counts, and how the last page is taken
 
 pub record Layout : Type 0 where
   pub version : ℕ
@@ -50,22 +50,27 @@ pub record Layout : Type 0 where
   pub widths : List ℕ
   -- of each page's fingerprint and of the file's
   pub fingerprintWidth : ℕ
-  -- a last page shorter than the page size is taken as filled up with zero bytes
+  -- the bits that the length field counts as one: 8 where it is in bytes
+  pub lengthUnit : ℕ
+  -- a last page shorter than the page size is taken as filled up with zeros
   pub filled : Bool
 
 abbrev pub version1 : Layout
-version1 = record { version = 1; widths = 8 ∷ 4 ∷ 2 ∷ []; fingerprintWidth = 8; filled = true }
+version1 = record { version = 1; widths = 8 ∷ 4 ∷ 2 ∷ []; fingerprintWidth = 8; lengthUnit = 8; filled = true }
 
 abbrev pub version2 : Layout
-version2 = record { version = 2; widths = 8 ∷ 4 ∷ 2 ∷ []; fingerprintWidth = 8; filled = false }
+version2 = record { version = 2; widths = 8 ∷ 4 ∷ 2 ∷ []; fingerprintWidth = 8; lengthUnit = 8; filled = false }
+
+abbrev pub version3 : Layout
+version3 = record { version = 3; widths = 8 ∷ 8 ∷ 2 ∷ []; fingerprintWidth = 8; lengthUnit = 1; filled = false }
 
 -- sheets are written in this layout,
 abbrev pub newest : Layout
-newest = version2
+newest = version3
 
 -- and read in these
 abbrev pub layouts : List Layout
-layouts = version2 ∷ version1 ∷ []
+layouts = version3 ∷ version2 ∷ version1 ∷ []
 
 -- a layout of the list has the version
 unfoldable pub known : List Layout → ℕ → Bool
@@ -91,16 +96,21 @@ fieldWidths v = lettersWidth ∷ versionWidth ∷ v .widths
 abbrev pub pagePlace : Layout → ℕ → ℕ
 pagePlace v i = width (fieldWidths v) + v .fingerprintWidth * i
 
--- of a sheet with c pages: 27 + 8c in versions 1 and 2
+-- of a sheet with c pages: 27 + 8c in versions 1 and 2, 31 + 8c in version 3
 abbrev pub sheetLength : Layout → ℕ → ℕ
 sheetLength v c = pagePlace v c + v .fingerprintWidth
 
--- c = n / s, rounded up
+-- n / s, rounded up
 abbrev pub pageCount : ℕ → ℕ → ℕ
 pageCount s n = (n + s - 1) / s
 
+-- c, of a file of n bits in pages of s bytes: "c counts an unfinished byte as one"
+abbrev pub pagesFor : ℕ → ℕ → ℕ
+pagesFor s n = pageCount s (bytesFor n)
+
 -- ---- the numbers in a sheet, and its bytes
 
+-- the length is in bits, the page size in bytes
 pub record Contents : Type 0 where
   pub version : ℕ
   pub key : ℕ
@@ -111,7 +121,7 @@ pub record Contents : Type 0 where
 
 -- the numbers in front of the fingerprints, in the order of the fields
 abbrev pub headOf : Contents → List ℕ
-headOf x = letters ∷ x .version ∷ x .key ∷ x .length ∷ x .pageSize ∷ []
+headOf x = letters ∷ x .version ∷ x .key ∷ x .length / layoutOf (x .version) .lengthUnit ∷ x .pageSize ∷ []
 
 -- numbers one behind the other, each in its width
 unfoldable pub bytesIn : List ℕ → List ℕ → List ℕ
@@ -129,8 +139,12 @@ sheetBytes x =
 abbrev pub fieldIn : Layout → ℕ → List ℕ → ℕ
 fieldIn v i sheet = numberAt (width (take i (fieldWidths v))) (getD (fieldWidths v) i 0) sheet
 
+-- the file's length in bits
+abbrev pub lengthIn : Layout → List ℕ → ℕ
+lengthIn v sheet = v .lengthUnit * fieldIn v 3 sheet
+
 abbrev pub pagesIn : Layout → List ℕ → ℕ
-pagesIn v sheet = pageCount (fieldIn v 4 sheet) (fieldIn v 3 sheet)
+pagesIn v sheet = pagesFor (fieldIn v 4 sheet) (lengthIn v sheet)
 
 unfoldable pub contentsIn : List ℕ → Contents
 contentsIn sheet =
@@ -138,7 +152,7 @@ contentsIn sheet =
     record {
       version = versionIn sheet;
       key = fieldIn v 2 sheet;
-      length = fieldIn v 3 sheet;
+      length = lengthIn v sheet;
       pageSize = fieldIn v 4 sheet;
       pages = numbersAt (pagePlace v 0) (v .fingerprintWidth) (pagesIn v sheet) sheet;
       fingerprint = numberAt (pagePlace v (pagesIn v sheet)) (v .fingerprintWidth) sheet;

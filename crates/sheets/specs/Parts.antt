@@ -2,24 +2,25 @@
 use mathlib.Core.Path.{_≡_}
 use mathlib.Core.Bool.{cond}
 use mathlib.Core.List.{List, [], _∷_}
-use Prim.Native.Nat.{ℕ, suc, _-_, _*_, _^_, _≤_, _<_}
+use Prim.Native.Nat.{ℕ, suc, _-_, _*_, _/_, _^_, _≤_, _<_}
 use lib.Dec.{eqb}
 use lib.ListN.{length, drop}
-use Rattle.refusals.specs.declared.Refusal.the-variants.{TooLong, SheetMalformed}
-use Rattle.refusals.specs.Refusals.{Answer, Done, Refused, _⇒_, firstOf, passes}
+use Rattle.refusals.specs.declared.Refusal.the-variants.{TooLong, SheetMalformed, FinalByte}
+use Rattle.refusals.specs.Refusals.{Answer, Done, Refused, _⇒_, firstOf, longest, passes}
+use Rattle.files.specs.Files.{Part, partLength, partBits, misused}
 use Rattle.sheets.specs.declared.Sheet.{Sheet}
 use Rattle.sheets.specs.declared.Checked.{Checked}
 use Rattle.sheets.specs.declared.Checked.the-variants as checked-cases
 use Rattle.sheets.specs.declared.Changed.{Changed}
 use Rattle.sheets.specs.declared.layout.Head.{Head}
 use Rattle.sheets.specs.declared.layout.Fields.{Fields}
-use Rattle.sheets.specs.Layout.{versionIn, Layout, layoutOf, pagePlace, pageCount, Contents, fieldIn, contentsIn}
+use Rattle.sheets.specs.Layout.{versionIn, Layout, layoutOf, pagePlace, pageCount, Contents, fieldIn, lengthIn, contentsIn}
 use Rattle.sheets.specs.Sheets.{pageSizeTest, bodyWrong, readSheet, Outcome, compared}
 use Rattle.sheets.specs.Answers.{Range, rangeOf}
 use Rattle.sheets.specs.Answers.{numbersOf}
 use Rattle.sheets.specs.Answers.{checkAnswer, changeAnswer}
 
--- how many zero bytes the pages of a file of n bytes have behind it: none where they are not filled up
+-- how many zeros the pages of s bits of a file of n bits have behind it: none where they are not filled up
 abbrev pub zerosBehind : Layout → ℕ → ℕ → ℕ
 zerosBehind v s n = cond (v .filled) (pageCount s n * s - n) 0
 
@@ -41,8 +42,9 @@ pub record ReadAs (sheet : List ℕ) (x : Sheet) : Type 0 where
   pub numbers : x ≡ numbersOf (contentsIn sheet)
 
 -- the rest of a check, where the sheet is read
-abbrev pub comparison : List ℕ → List ℕ → Answer Unit Outcome
-comparison sheet file = firstOf (passes (length file ∷ []) ⇒ TooLong ∷ []) tt (compared (contentsIn sheet) file)
+abbrev pub comparison : List ℕ → Part → Answer Unit Outcome
+comparison sheet file =
+    firstOf (passes (partLength file ∷ []) ⇒ TooLong ∷ misused file ⇒ FinalByte ∷ []) tt (compared (contentsIn sheet) (partBits file))
 
 -- an answer of the check that names no page; and the check's answer as that of `changedRange`
 abbrev pub NoPage : Checked → Type 0
@@ -65,18 +67,19 @@ WithoutPage o r = (x : Contents) → changeAnswer r ≡ ranged x (checkAnswer o)
 pub record LaidOut (v : Layout) (r : Fields) : Type 0 where
   pub widths : v .widths ≡ r .key ∷ r .length ∷ r .size ∷ []
   pub fingerprints : v .fingerprintWidth ≡ 8
+  pub unit : v .lengthUnit ≡ r .unit
   pub filled : v .filled ≡ r .filled
   pub key-fits : r .key ≤ 8
-  pub length-fits : r .length ≤ 4
+  pub length-fits : r .length ≤ 8
   pub size-fits : r .size ≤ 2
 
 -- the numbers in front of a sheet's fingerprints, as the code reads them
 pub record HeadOf (sheet : List ℕ) (head : Head) : Type 0 where
   pub version : head .version ≡ versionIn sheet
   pub key : head .key ≡ fieldIn (layoutOf (versionIn sheet)) 2 sheet
-  pub length : head .length ≡ fieldIn (layoutOf (versionIn sheet)) 3 sheet
+  pub length : head .length ≡ lengthIn (layoutOf (versionIn sheet)) sheet
   pub size : head .size ≡ fieldIn (layoutOf (versionIn sheet)) 4 sheet
-  pub length-fits : head .length < 2 ^ 32
+  pub length-fits : head .length ≤ longest
   pub size-fits : head .size < 2 ^ 16
 
 -- the part of a sheet that begins with the fingerprints, by its version

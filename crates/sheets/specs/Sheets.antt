@@ -1,5 +1,5 @@
--- Writing, reading and checking a page sheet (document 01, "Page sheets"; version 2: document 02, wish 1): each call is its tests, in
--- document 01's order, and its value.
+-- Writing, reading and checking a page sheet (document 01, "Page sheets"; document 02, wishes 1 and 7): each call is its tests, in document
+-- 01's order, and its value. A file is its list of bits; it is handed in as a part.
 use mathlib.Core.Bool.{Bool, false, _||_, not, cond}
 use mathlib.Core.List.{List, [], _∷_, _++_}
 use Prim.Native.Nat.{ℕ, zero, suc, _+_, _-_, _*_, _^_, min}
@@ -7,17 +7,17 @@ use lib.Dec.{ltb, leb, eqb}
 use lib.ListN.{length, take, drop, replicate}
 use Rattle.lists.specs.Lists.{overlay}
 use Rattle.gf2.specs.Polynomials.{degree, rem}
-use Rattle.refusals.specs.declared.Refusal.the-variants.{TooLong, PageSize, BufferShort, SheetMalformed}
-use Rattle.refusals.specs.Refusals.{Answer, Test, _⇒_, firstOf, passes}
+use Rattle.refusals.specs.declared.Refusal.the-variants.{TooLong, PageSize, BufferShort, SheetMalformed, FinalByte}
+use Rattle.refusals.specs.Refusals.{Answer, Test, _⇒_, firstOf, longest, passes}
 use Rattle.acceptance.specs.Keys.{keyTests}
 use Rattle.files.specs.declared.Mark.{Mark}
-use Rattle.files.specs.Files.{fingerprint, markOf, joined}
+use Rattle.files.specs.Files.{fingerprint, markOf, Part, partLength, partBits, misused, joined}
 use Rattle.sheets.specs.Layout.{numberAt, letters, lettersWidth, versionIn, Layout, newest, layouts, known, layoutOf}
-use Rattle.sheets.specs.Layout.{sheetLength, pageCount, Contents, sheetBytes, contentsIn}
+use Rattle.sheets.specs.Layout.{sheetLength, pageCount, pagesFor, Contents, sheetBytes, lengthIn, contentsIn}
 
--- ---- the pages of a file
+-- ---- the pages of a file, of s bits each or what the file has left
 
--- a page shorter than s filled up with zero bytes
+-- a page shorter than s filled up with zeros
 unfoldable pub filled : ℕ → List ℕ → List ℕ
 filled s page = page ++ replicate (s - length page) 0
 
@@ -25,17 +25,18 @@ filled s page = page ++ replicate (s - length page) 0
 abbrev pub pageOf : Layout → ℕ → List ℕ → List ℕ
 pageOf v s page = cond (v .filled) (filled s page) page
 
--- the fingerprints of the first c pages, of s bytes each or what the file has left
+-- the fingerprints of the first c pages
 unfoldable pub pageFingerprints : Layout → ℕ → ℕ → ℕ → List ℕ → List ℕ
 pageFingerprints v key s zero file = []
 pageFingerprints v key s (suc c) file = fingerprint key (pageOf v s (take s file)) ∷ pageFingerprints v key s c (drop s file)
 
+-- with pages of s bytes
 unfoldable pub contentsOf : ℕ → ℕ → ℕ → List ℕ → Contents
 contentsOf version key s file =
-    let pages = pageFingerprints (layoutOf version) key s (pageCount s (length file)) file in
+    let pages = pageFingerprints (layoutOf version) key (8 * s) (pagesFor s (length file)) file in
     record { version = version; key = key; length = length file; pageSize = s; pages = pages; fingerprint = fingerprint key file }
 
--- ---- writing: numbers 1, 2, 7, 12, 13
+-- ---- writing: numbers 1, 2, 7, 12, 13, 19
 
 -- number 12
 abbrev pub pageSizeTest : ℕ → Test
@@ -44,26 +45,27 @@ pageSizeTest s = (ltb s 16 || ltb 4096 s) ⇒ PageSize
 abbrev pub lengthTests : ℕ → ℕ → List Test
 lengthTests n s = passes (n ∷ []) ⇒ TooLong ∷ pageSizeTest s ∷ []
 
--- the bytes of the sheet of a file of n bytes: numbers 7, 12
+-- the bytes of the sheet of a file of n bytes, an unfinished one counted: numbers 7, 12
 unfoldable pub lengthFor : ℕ → ℕ → Answer Unit ℕ
-lengthFor n s = firstOf (lengthTests n s) tt (sheetLength newest (pageCount s n))
+lengthFor n s = firstOf (lengthTests (8 * n) s) tt (sheetLength newest (pageCount s n))
 
-abbrev pub writeTests : ℕ → ℕ → List ℕ → List ℕ → List Test
+abbrev pub writeTests : ℕ → ℕ → Part → List ℕ → List Test
 writeTests key s file buffer =
     keyTests key
-    ++ lengthTests (length file) s
-    ++ ltb (length buffer) (sheetLength newest (pageCount s (length file))) ⇒ BufferShort
+    ++ lengthTests (partLength file) s
+    ++ ltb (length buffer) (sheetLength newest (pageCount s (length (file .bytes)))) ⇒ BufferShort
+    ∷ misused file ⇒ FinalByte
     ∷ []
 
 -- what the lent buffer holds after the call
-unfoldable pub writeSheet : ℕ → ℕ → List ℕ → List ℕ → Answer (List ℕ) (List ℕ)
+unfoldable pub writeSheet : ℕ → ℕ → Part → List ℕ → Answer (List ℕ) (List ℕ)
 writeSheet key s file buffer =
     firstOf (writeTests key s file buffer) buffer
-    (overlay (sheetBytes (contentsOf (newest .version) key s file)) buffer)
+    (overlay (sheetBytes (contentsOf (newest .version) key s (partBits file))) buffer)
 
--- ---- reading: number 14 for size, letters and version; 1, 2, 12; then the rest of 14
+-- ---- reading: number 14 for size, letters, version, the version's least size and the limit of lengths; 1, 2, 12; then the rest of 14
 
--- how long a page counts, with `left` bytes of the file from it on
+-- how long a page of s bits counts, with `left` bits of the file from it on
 abbrev pub pageLength : Layout → ℕ → ℕ → ℕ
 pageLength v s left = cond (v .filled) s (min s left)
 
@@ -77,17 +79,24 @@ unfoldable pub someUnreduced : ℕ → List ℕ → Bool
 someUnreduced k [] = false
 someUnreduced k (f ∷ fs) = leb (2 ^ k) f || someUnreduced k fs
 
--- the pages joined: no pages give the mark of no bytes
+-- the pages joined: no pages give the mark of no bits
 abbrev pub pagesJoined : Contents → Mark
-pagesJoined x = joinedPages (layoutOf (x .version)) (x .key) (x .pageSize) (x .length) (markOf (x .key) []) (x .pages)
+pagesJoined x = joinedPages (layoutOf (x .version)) (x .key) (8 * x .pageSize) (x .length) (markOf (x .key) []) (x .pages)
 
--- the file's fingerprint with zero bytes behind it, as many as the pages are longer than the file: none where they are not filled up
+-- the file's fingerprint with zeros behind it, as many as the pages are longer than the file: none where they are not filled up
 abbrev pub fileFilled : Contents → ℕ
-fileFilled x = rem (x .key) (x .fingerprint * 2 ^ (8 * (pagesJoined x .length - x .length)))
+fileFilled x = rem (x .key) (x .fingerprint * 2 ^ (pagesJoined x .length - x .length))
 
--- number 14, first: size, letters, version. The 27 bytes are document 01's, for every version.
+-- number 14, first: size, letters, version. The 27 bytes are document 01's, for every version. Then "a sheet shorter than its version's
+-- total without pages, or a length field past the limit".
 abbrev pub headWrong : List Layout → List ℕ → Bool
-headWrong vs sheet = ltb (length sheet) 27 || not (eqb (numberAt 0 lettersWidth sheet) letters) || not (known vs (versionIn sheet))
+headWrong vs sheet =
+    let v = layoutOf (versionIn sheet) in
+    ltb (length sheet) 27
+    || not (eqb (numberAt 0 lettersWidth sheet) letters)
+    || not (known vs (versionIn sheet))
+    || ltb (length sheet) (sheetLength v 0)
+    || ltb longest (lengthIn v sheet)
 
 -- number 14, last: total, fields, joining
 abbrev pub bodyWrong : ℕ → Contents → Bool
@@ -113,7 +122,7 @@ readSheet sheet = firstOf (readTests layouts sheet) tt (contentsIn sheet)
 unfoldable pub readPages : List ℕ → List ℕ → Answer (List ℕ) (List ℕ)
 readPages sheet lent = firstOf (readTests layouts sheet) lent (overlay (contentsIn sheet .pages) lent)
 
--- ---- checking a file: all of reading, then 7
+-- ---- checking a file: all of reading, then 7, then 19
 
 pub data Outcome : Type 0 where
   Same : Outcome
@@ -133,8 +142,8 @@ pagesNow x file = contentsOf (x .version) (x .key) (x .pageSize) file .pages
 unfoldable pub compared : Contents → List ℕ → Outcome
 compared x file = cond (eqb (length file) (x .length)) (firstChange 0 (x .pages) (pagesNow x file)) OtherLength
 
-abbrev pub checkTests : List ℕ → List ℕ → List Test
-checkTests sheet file = readTests layouts sheet ++ passes (length file ∷ []) ⇒ TooLong ∷ []
+abbrev pub checkTests : List ℕ → Part → List Test
+checkTests sheet file = readTests layouts sheet ++ passes (partLength file ∷ []) ⇒ TooLong ∷ misused file ⇒ FinalByte ∷ []
 
-unfoldable pub checkSheet : List ℕ → List ℕ → Answer Unit Outcome
-checkSheet sheet file = firstOf (checkTests sheet file) tt (compared (contentsIn sheet) file)
+unfoldable pub checkSheet : List ℕ → Part → Answer Unit Outcome
+checkSheet sheet file = firstOf (checkTests sheet file) tt (compared (contentsIn sheet) (partBits file))

@@ -1,0 +1,237 @@
+-- Laws of parts: how long they are, their bits, and what number 19 leaves.
+use mathlib.Core.Path.{_≡_, refl, sym, ap, ap₂, _∙_}
+use mathlib.Core.Bool.{Bool, true, false, cond, _&&_, _||_, not, false≢true}
+use mathlib.Core.List.{List, [], _∷_, _++_, append-nil}
+use Prim.Native.Nat.{ℕ, zero, suc, _+_, _-_, _*_, _/_, _%_, _^_, _≤_, _<_}
+use native.Mathlib.Nat.{suc-add, add-comm}
+use native.Mathlib.Decide.{decLe, decLt}
+use native.Mathlib.Omega.{arith}
+use lib.Dec.{leb, ltb, eqb}
+use lib.ListN.{length, getD, take, drop, take-append-drop, length-drop, drop-of-length-le}
+use lib.Pow.{shr-shr}
+use lib.Seq.{length-take-le, take-add, take-all, take-nil, drop-nil, take-take, take-at, drop-at, drop-cons, drop-drop}
+use borrow.Author.Tests.{ltb-false, eqb-true, eqb-false, not-false, le-leb, lt-leb, eq-eqb, ne-eqb}
+use Rattle.lists.proofs.Truth.{or-neither}
+use Rattle.files.specs.Files.{lowBits, bits, Bits, Part, asPart, whole, usedBits, partLength, partBits, misused, bytesFor}
+use Rattle.files.specs.Ends.{wholeBytes, endBits}
+use Rattle.files.proofs.Values.{length-bits, length-low, bits-append}
+
+-- ---- the bits of bytes cut
+
+pub bits-drop : (n : ℕ) (a : List ℕ) → bits (drop n a) ≡ drop (8 * n) (bits a)
+unfolding bits
+bits-drop zero a = refl
+bits-drop (suc n) [] = sym (drop-of-length-le [] {i = 8 * suc n} (omega arith))
+bits-drop (suc n) (x ∷ a) =
+    let e : 8 * suc n ≡ 8 + 8 * n = omega arith in
+    bits-drop n a
+    ∙ sym
+    (rw e (sym (drop-drop (8 * n) 8 (lowBits 8 x ++ bits a)) ∙ ap (drop (8 * n)) (drop-at (lowBits 8 x) (bits a) 8 (length-low 8 x))))
+
+pub bits-take : (n : ℕ) (a : List ℕ) → bits (take n a) ≡ take (8 * n) (bits a)
+unfolding bits
+bits-take zero a = refl
+bits-take (suc n) [] = sym (take-all (8 * suc n) [] (omega arith))
+bits-take (suc n) (x ∷ a) =
+    let e : 8 * suc n ≡ 8 + 8 * n = omega arith in
+    let low = length-low 8 x in
+    ap (λ (l : List ℕ). lowBits 8 x ++ l) (bits-take n a)
+    ∙ sym
+    (rw e (take-add 8 (8 * n) (lowBits 8 x ++ bits a)
+    ∙ ap₂ (λ (l m : List ℕ). l ++ take (8 * n) m) (take-at (lowBits 8 x) (bits a) 8 low) (drop-at (lowBits 8 x) (bits a) 8 low)))
+
+-- ---- lengths
+
+pub used-range : (u : ℕ) → (1 ≤ usedBits u) × (usedBits u ≤ 8)
+unfolding usedBits
+used-range u = go (decLe 1 u) (decLe u 8)
+  where
+    go : Dec (1 ≤ u) → Dec (u ≤ 8) → (1 ≤ cond (leb 1 u && leb u 8) u 8) × (cond (leb 1 u && leb u 8) u 8 ≤ 8)
+    go (yes a) (yes b) = rw (le-leb 1 u a, le-leb u 8 b) (a, b)
+    go (yes a) (no b) = rw (le-leb 1 u a, lt-leb u 8 (omega arith)) (omega arith, omega arith)
+    go (no a) b = rw (lt-leb 1 u (omega arith)) (omega arith, omega arith)
+
+pub used-is : (u : ℕ) → 1 ≤ u → u ≤ 8 → usedBits u ≡ u
+unfolding usedBits
+used-is u lo hi = rw (le-leb 1 u lo, le-leb u 8 hi)
+
+-- a part without bytes has no bits
+pub none-long : (p : Part) → length (p .bytes) ≡ 0 → partLength p ≡ 0
+unfolding partLength
+none-long p e = ap (λ b. cond b 0 (8 * (length (p .bytes) - 1) + usedBits (p .used))) (eq-eqb (length (p .bytes)) 0 e)
+
+pub some-long : (p : Part) → 0 < length (p .bytes) → partLength p ≡ 8 * (length (p .bytes) - 1) + usedBits (p .used)
+unfolding partLength
+some-long p h = ap (λ b. cond b 0 (8 * (length (p .bytes) - 1) + usedBits (p .used))) (ne-eqb (length (p .bytes)) 0 (λ e. omega arith))
+
+-- the bits are those of all bytes but the final one, and 1 to 8 more
+pub part-range : (p : Part) → (partLength p ≤ 8 * length (p .bytes)) × (8 * length (p .bytes) ≤ partLength p + 7)
+part-range p = go (decLt 0 (length (p .bytes)))
+  where
+    go : Dec (0 < length (p .bytes)) → (partLength p ≤ 8 * length (p .bytes)) × (8 * length (p .bytes) ≤ partLength p + 7)
+    go (yes h) =
+        let e = some-long p h in
+        let r = used-range (p .used) in
+        (omega (arith, e, r .0, r .1), omega (arith, e, r .0, r .1))
+    go (no h) = let e = none-long p (omega arith) in (omega (arith, e), omega (arith, e))
+
+-- as many bits as the length says
+pub part-length : (p : Part) → length (partBits p) ≡ partLength p
+unfolding partBits
+part-length p = length-take-le (partLength p) (bits (p .bytes)) (rw (length-bits (p .bytes)) (part-range p .0))
+
+-- and as many bytes
+pub part-bytes : (p : Part) → bytesFor (partLength p) ≡ length (p .bytes)
+part-bytes p = omega (arith, part-range p .0, part-range p .1)
+
+-- whole bytes
+pub whole-long : (bytes : List ℕ) → partLength (whole bytes) ≡ 8 * length bytes
+unfolding usedBits
+whole-long bytes = go (decLt 0 (length bytes))
+  where
+    go : Dec (0 < length bytes) → partLength (whole bytes) ≡ 8 * length bytes
+    go (yes h) = some-long (whole bytes) h ∙ omega arith
+    go (no h) = none-long (whole bytes) (omega arith) ∙ omega arith
+
+pub whole-bits : (bytes : List ℕ) → partBits (whole bytes) ≡ bits bytes
+unfolding partBits
+whole-bits bytes = take-all (partLength (whole bytes)) (bits bytes) (omega (arith, whole-long bytes, length-bits bytes))
+
+-- ---- the part that is left behind n bytes
+
+drop-take : (m n : ℕ) (l : List ℕ) → drop m (take n l) ≡ take (n - m) (drop m l)
+drop-take zero n l = let e : n - 0 ≡ n = omega arith in sym (ap (λ (k : ℕ). take k l) e)
+drop-take (suc m) zero l = let e : 0 - suc m ≡ 0 = omega arith in drop-nil (suc m) ∙ sym (ap (λ (k : ℕ). take k (drop (suc m) l)) e)
+drop-take (suc m) (suc n) [] = sym (take-nil (suc n - suc m))
+drop-take (suc m) (suc n) (x ∷ l) = let e : suc n - suc m ≡ n - m = omega arith in drop-take m n l ∙ sym (ap (λ (k : ℕ). take k (drop m l)) e)
+
+pub rest-long : (bytes : List ℕ) (u n : ℕ) → n < length bytes → partLength (asPart (drop n bytes) u) ≡ partLength (asPart bytes u) - 8 * n
+rest-long bytes u n h =
+    let d = length-drop n bytes in
+    some-long (asPart (drop n bytes) u) (omega (arith, d)) ∙ omega (arith, d, some-long (asPart bytes u) (omega arith))
+
+pub rest-bits : (bytes : List ℕ) (u n : ℕ) → n < length bytes → partBits (asPart (drop n bytes) u) ≡ drop (8 * n) (partBits (asPart bytes u))
+unfolding partBits
+rest-bits bytes u n h =
+    ap₂ (λ (m : ℕ) (l : List ℕ). take m l) (rest-long bytes u n h) (bits-drop n bytes)
+    ∙ sym (drop-take (8 * n) (partLength (asPart bytes u)) (bits bytes))
+
+-- ---- every bit is a bit
+
+low-bits : (n b : ℕ) → Bits (lowBits n b)
+unfolding lowBits
+low-bits zero b = tt
+low-bits (suc n) b = (omega arith, low-bits n b)
+
+all-append : (a b : List ℕ) → Bits a → Bits b → Bits (a ++ b)
+all-append [] b ha hb = hb
+all-append (x ∷ a) b ha hb = (ha .0, all-append a b (ha .1) hb)
+
+pub bits-are : (bytes : List ℕ) → Bits (bits bytes)
+unfolding bits
+bits-are [] = tt
+bits-are (b ∷ bytes) = all-append (lowBits 8 b) (bits bytes) (low-bits 8 b) (bits-are bytes)
+
+all-take : (n : ℕ) (l : List ℕ) → Bits l → Bits (take n l)
+all-take zero l h = tt
+all-take (suc n) [] h = tt
+all-take (suc n) (x ∷ l) h = (h .0, all-take n l (h .1))
+
+pub part-bits-are : (p : Part) → Bits (partBits p)
+unfolding partBits
+part-bits-are p = all-take (partLength p) (bits (p .bytes)) (bits-are (p .bytes))
+
+-- ---- what number 19 leaves
+
+-- the used bits are 1 to 8, and 8 of a part without bytes; the unused bits are zeros
+pub record WellUsed (p : Part) : Type 0 where
+  pub from : 1 ≤ p .used
+  pub to : p .used ≤ 8
+  pub none : length (p .bytes) ≡ 0 → p .used ≡ 8
+  pub zeros : getD (p .bytes) (length (p .bytes) - 1) 0 % 2 ^ (8 - p .used) ≡ 0
+
+pub well-used : (p : Part) → misused p ≡ false → WellUsed p
+unfolding misused
+well-used p e =
+    let n = length (p .bytes) in
+    let u = p .used in
+    let d = eqb (getD (p .bytes) (n - 1) 0 % 2 ^ (8 - u)) 0 in
+    let a = or-neither (ltb u 1 || ltb 8 u || (eqb n 0 && not (eqb u 8))) (not d) e in
+    let b = or-neither (ltb u 1 || ltb 8 u) (eqb n 0 && not (eqb u 8)) (a .0) in
+    let c = or-neither (ltb u 1) (ltb 8 u) (b .0) in
+    record {
+      from = ltb-false u 1 (c .0);
+      to = ltb-false 8 u (c .1);
+      none = λ z. eqb-true u 8 (not-false (eqb u 8) (and-second (eqb n 0) (not (eqb u 8)) (b .1) (eq-eqb n 0 z)));
+      zeros = eqb-true _ 0 (not-false d (a .1));
+    }
+  where
+    and-second : (x y : Bool) → (x && y) ≡ false → x ≡ true → y ≡ false
+    and-second true y h t = h
+    and-second false y h t = absurd (false≢true t)
+
+-- two such parts of one length have as many bytes, and as many used bits
+pub same-used : (p q : Part) → WellUsed p → WellUsed q → partLength p ≡ partLength q → (length (p .bytes) ≡ length (q .bytes)) × (p .used ≡ q .used)
+same-used p q hp hq e = go (decLt 0 (length (p .bytes)))
+  where
+    bytes : length (p .bytes) ≡ length (q .bytes)
+    bytes = sym (part-bytes p) ∙ ap bytesFor e ∙ part-bytes q
+
+    go : Dec (0 < length (p .bytes)) → (length (p .bytes) ≡ length (q .bytes)) × (p .used ≡ q .used)
+    go (yes h) =
+        let a = some-long p h ∙ ap (λ (x : ℕ). 8 * (length (p .bytes) - 1) + x) (used-is (p .used) (hp .from) (hp .to)) in
+        let b = some-long q (omega (arith, bytes)) ∙ ap (λ (x : ℕ). 8 * (length (q .bytes) - 1) + x) (used-is (q .used) (hq .from) (hq .to)) in
+        (bytes, omega (arith, a, b, e, bytes))
+    go (no h) = (bytes, hp .none (omega arith) ∙ sym (hq .none (omega (arith, bytes))))
+
+-- ---- the whole bytes, and the used bits behind them
+
+-- all bytes, or all but the final one
+pub whole-all : (p : Part) → p .used ≡ 8 → wholeBytes p ≡ length (p .bytes)
+whole-all p e = ap (λ b. cond b (length (p .bytes)) (length (p .bytes) - 1)) (eq-eqb (p .used) 8 e)
+
+pub whole-front : (p : Part) → (p .used ≡ 8 → ⊥) → wholeBytes p ≡ length (p .bytes) - 1
+whole-front p n = ap (λ b. cond b (length (p .bytes)) (length (p .bytes) - 1)) (ne-eqb (p .used) 8 n)
+
+whole-within : (p : Part) → 8 * wholeBytes p ≤ partLength p
+whole-within p = go (ℕ-discrete (p .used) 8) (decLt 0 (length (p .bytes)))
+  where
+    go : Dec (p .used ≡ 8) → Dec (0 < length (p .bytes)) → 8 * wholeBytes p ≤ partLength p
+    go (yes e) (yes h) =
+        let u = used-is (p .used) (omega (arith, e)) (omega (arith, e)) in
+        omega (arith, whole-all p e, some-long p h, u, e)
+    go (yes e) (no h) = omega (arith, whole-all p e)
+    go (no n) (yes h) = omega (arith, whole-front p n, some-long p h)
+    go (no n) (no h) = omega (arith, whole-front p n)
+
+pub end-split : (p : Part) → partBits p ≡ bits (take (wholeBytes p) (p .bytes)) ++ endBits p
+unfolding partBits
+end-split p =
+    sym (take-append-drop (8 * wholeBytes p) (partBits p))
+    ∙ ap (λ (l : List ℕ). l ++ endBits p) (take-take (8 * wholeBytes p) (partLength p) (bits (p .bytes)) (whole-within p) ∙ sym (bits-take (wholeBytes p) (p .bytes)))
+
+pub end-none : (p : Part) → p .used ≡ 8 → endBits p ≡ []
+end-none p e =
+    drop-of-length-le (partBits p) {i = 8 * wholeBytes p} (omega (arith, part-length p, whole-all p e, part-range p .0))
+
+-- the high bits of a number
+low-high : (u v b : ℕ) → take u (lowBits (u + v) b) ≡ lowBits u (b / 2 ^ v)
+unfolding lowBits
+low-high zero v b = refl
+low-high (suc u) v b =
+    ap (λ (n : ℕ). take (suc u) (lowBits n b)) (suc-add u v)
+    ∙ ap₂ {C = List ℕ} (λ (x : ℕ) (l : List ℕ). x % 2 ∷ l) (ap (λ (n : ℕ). b / 2 ^ n) (add-comm u v) ∙ sym (shr-shr b v u)) (low-high u v b)
+
+pub end-low : (p : Part) → WellUsed p → (p .used ≡ 8 → ⊥)
+    → endBits p ≡ lowBits (p .used) (getD (p .bytes) (length (p .bytes) - 1) 0 / 2 ^ (8 - p .used))
+unfolding partBits bits
+end-low p w n =
+    let u = p .used in
+    let some : 0 < length (p .bytes) = omega (arith, λ (z : length (p .bytes) ≡ 0). n (w .none z)) in
+    let m = length (p .bytes) - 1 in
+    let b = getD (p .bytes) m 0 in
+    let long : partLength p - 8 * m ≡ u = omega (arith, some-long p some, used-is u (w .from) (w .to)) in
+    ap (λ (i : ℕ). drop (8 * i) (partBits p)) (whole-front p n)
+    ∙ drop-take (8 * m) (partLength p) (bits (p .bytes))
+    ∙ ap₂ (λ (k : ℕ) (l : List ℕ). take k l) long (sym (bits-drop m (p .bytes)) ∙ ap bits (drop-cons (p .bytes) m 0 (omega arith)))
+    ∙ hole
