@@ -17,7 +17,7 @@ use Rattle.gf2.specs.Degrees.{Degree}
 use Rattle.gf2.proofs.Degrees.{degree-is, degree-eq, deg-lo, deg-hi, deg-intro}
 use Rattle.acceptance.specs.Keys.{accepted}
 use Rattle.acceptance.proofs.Laws.{accepted-pos, accepted-iff}
-use Rattle.files.specs.Files.{fingerprint, Bytes}
+use Rattle.files.specs.Files.{fingerprint, Bits}
 use Rattle.files.specs.Bursts.{Burst}
 use Rattle.files.proofs.Confusions.{Confusing, confusing-count, burst-unconfused}
 use Rattle.book.specs.Confusions.{confused}
@@ -56,8 +56,8 @@ confusing k a b key e =
       prints = e .prints;
     }
 
-module _ (k : ℕ) (a b : List ℕ) (ha : Bytes a) (hb : Bytes b) (ne : a ≢ b) where
-  pub equal-keys : (n : ℕ) → 8 * length a ≤ n → 8 * length b ≤ n → (keys : List ℕ) → Distinct keys → All (Equal k a b) keys → length keys * k ≤ n
+module _ (k : ℕ) (a b : List ℕ) (ha : Bits a) (hb : Bits b) (ne : a ≢ b) where
+  pub equal-keys : (n : ℕ) → length a ≤ n → length b ≤ n → (keys : List ℕ) → Distinct keys → All (Equal k a b) keys → length keys * k ≤ n
   equal-keys n la lb keys d all = confusing-count k a b ha hb ne n la lb keys d (all-map (confusing k a b) keys all)
 
   pub no-equal-key : Burst k a b → (key : ℕ) → Equal k a b key → ⊥

@@ -1,19 +1,24 @@
 -- What the code computes: a part fed bit by bit and byte by byte, two files joined and a page changed. The power of t may be reduced first.
-use mathlib.Core.Path.{_≡_, sym, ap, ap₂, _∙_}
-use mathlib.Core.List.{List, [], append-nil}
-use Prim.Native.Nat.{ℕ, zero, suc, _+_, _-_, _*_, _/_, _%_, _^_, _<_}
+use mathlib.Core.Path.{_≡_, refl, sym, ap, ap₂, subst, _∙_}
+use mathlib.Core.Bool.{cond}
+use mathlib.Core.List.{List, [], _++_, append-nil}
+use Prim.Native.Nat.{ℕ, zero, suc, _+_, _-_, _*_, _/_, _%_, _^_, _≤_, _<_}
 use native.Mathlib.Nat.{zero-add, zero-mul, mod-mod, mod-eq-of-lt}
 use native.Mathlib.Omega.{arith}
-use lib.ListN.{length, getD, drop, length-drop}
+use lib.Dec.{eqb}
+use lib.ListN.{length, getD, take, drop, length-drop}
+use lib.Pow.{shr-lt}
 use Rattle.gf2.specs.Polynomials.{_⊕_, _⊗_, rem}
 use Rattle.gf2.specs.Degrees.{monic}
-use Rattle.gf2.proofs.Sums.{⊕-self, ⊕-zero, ⊕-assoc, ⊕-append, ⊕-lt}
+use Rattle.gf2.proofs.Sums.{⊕-self, ⊕-zero, ⊕-assoc, ⊕-swap, ⊕-shr, ⊕-shl, ⊕-append, ⊕-lt}
 use Rattle.gf2.proofs.Residues.{rem-⊕}
 use Rattle.gf2.proofs.Powers.{rem-⊗-pow}
 use Rattle.gf2.proofs.Monics.{monic-pos}
 use Rattle.gf2.proofs.Steps.{residue-small}
-use Rattle.files.specs.Files.{lowBits, bits, valueFrom, value, fingerprint}
-use Rattle.files.proofs.Values.{length-bits, value-low, rem-from, value-next, value-starts}
+use Rattle.files.specs.Files.{lowBits, bits, valueFrom, value, fingerprint, Part, asPart, usedBits, partLength, partBits}
+use Rattle.files.specs.Ends.{wholeBytes, endBits}
+use Rattle.files.proofs.Values.{length-bits, value-append, value-low, rem-from, value-next, value-starts}
+use Rattle.files.proofs.Parts.{part-length, WellUsed, whole-front, end-split, end-none, end-low}
 
 -- ---- what is left to feed
 
@@ -50,7 +55,105 @@ module _ (k c : ℕ) (h : c < 2 ^ k) where
       → rem (monic k c) (f ⊕ d * 2 ^ n) ≡ f ⊕ rem (monic k c) (d ⊗ rem (monic k c) (2 ^ n))
   replaced-is f d n l = rw (rem-⊕ (monic-pos k c h) f (d * 2 ^ n), residue-small k c h f l, rem-⊗-pow (monic-pos k c h) d n)
 
+-- ---- a part: its whole bytes, and the used bits behind them
+
+pub part-behind : {k : ℕ} (pos : 0 < k) (f : ℕ) (part : Part)
+    → rem k (valueFrom (rem k (valueFrom f (bits (take (wholeBytes part) (part .bytes))))) (endBits part)) ≡ rem k (valueFrom f (partBits part))
+part-behind {k} pos f part =
+    rem-from pos (valueFrom f (bits (take (wholeBytes part) (part .bytes)))) (endBits part)
+    ∙ ap (rem k) (sym (value-append f (bits (take (wholeBytes part) (part .bytes))) (endBits part)) ∙ ap (valueFrom f) (sym (end-split part)))
+
 -- ---- two pages of one length, fed side by side
+
+-- the leading 1 of each falls out
+pub pages-begin : {p : ℕ} (pos : 0 < p) (x y : List ℕ) → length x ≡ length y
+    → rem p (valueFrom 0 x ⊕ valueFrom 0 y) ≡ fingerprint p x ⊕ fingerprint p y
+unfolding fingerprint value
+pages-begin {p} pos x y e =
+    ap (rem p) (value-starts 0 0 1 1 x y e (⊕-self 0 ∙ sym (⊕-self 1))) ∙ rem-⊕ pos (valueFrom 1 x) (valueFrom 1 y)
+
+-- the difference of n more bits, which the numbers c and d have
+pub pages-end : {p : ℕ} (pos : 0 < p) (x y : List ℕ) (n c d : ℕ) → c < 2 ^ n → d < 2 ^ n
+    → rem p (valueFrom (rem p (valueFrom 0 x ⊕ valueFrom 0 y)) (lowBits n (c ⊕ d))) ≡ rem p (valueFrom 0 (x ++ lowBits n c) ⊕ valueFrom 0 (y ++ lowBits n d))
+pages-end {p} pos x y n c d hc hd =
+    rem-from pos (s ⊕ t) (lowBits n (c ⊕ d))
+    ∙ ap (rem p) (low-behind n (s ⊕ t) (c ⊕ d) (⊕-lt n c d hc hd) ∙ sums ∙ ap₂ (λ (v w : ℕ). v ⊕ w) (behind x c hc) (behind y d hd))
+  where
+    s : ℕ
+    s = valueFrom 0 x
+
+    t : ℕ
+    t = valueFrom 0 y
+
+    behind : (z : List ℕ) (e : ℕ) → e < 2 ^ n → valueFrom 0 z * 2 ^ n ⊕ e ≡ valueFrom 0 (z ++ lowBits n e)
+    behind z e h = ⊕-append (valueFrom 0 z) n e h ∙ sym (low-behind n (valueFrom 0 z) e h) ∙ sym (value-append 0 z (lowBits n e))
+
+    sums : (s ⊕ t) * 2 ^ n + (c ⊕ d) ≡ (s * 2 ^ n ⊕ c) ⊕ (t * 2 ^ n ⊕ d)
+    sums =
+        sym (⊕-append (s ⊕ t) n (c ⊕ d) (⊕-lt n c d hc hd))
+        ∙ ap (λ (v : ℕ). v ⊕ (c ⊕ d)) (⊕-shl n s t)
+        ∙ ⊕-swap (s * 2 ^ n) (t * 2 ^ n) c d
+
+-- two parts with one number of bytes and of used bits
+module _ {p : ℕ} (pos : 0 < p) (old new : List ℕ) (u : ℕ) (e : length old ≡ length new) where
+  front : ℕ
+  front = wholeBytes (asPart old u)
+
+  other-front : wholeBytes (asPart new u) ≡ front
+  unfolding front
+  other-front = ap (λ (n : ℕ). cond (eqb u 8) n (n - 1)) (sym e)
+
+  same-long : length (partBits (asPart old u)) ≡ length (partBits (asPart new u))
+  unfolding partLength
+  same-long =
+      part-length (asPart old u) ∙ ap (λ (n : ℕ). cond (eqb n 0) 0 (8 * (n - 1) + usedBits u)) e ∙ sym (part-length (asPart new u))
+
+  begin : {x y : List ℕ} → partBits (asPart old u) ≡ x → partBits (asPart new u) ≡ y
+      → rem p (valueFrom 0 x ⊕ valueFrom 0 y) ≡ fingerprint p (partBits (asPart old u)) ⊕ fingerprint p (partBits (asPart new u))
+  begin a b =
+      ap₂ (λ (v w : List ℕ). rem p (valueFrom 0 v ⊕ valueFrom 0 w)) (sym a) (sym b)
+      ∙ pages-begin pos (partBits (asPart old u)) (partBits (asPart new u)) same-long
+
+  -- all bytes are whole
+  pub pages-whole : u ≡ 8
+      → rem p (valueFrom 0 (bits (take (wholeBytes (asPart old u)) old)) ⊕ valueFrom 0 (bits (take (wholeBytes (asPart old u)) new)))
+      ≡ fingerprint p (partBits (asPart old u)) ⊕ fingerprint p (partBits (asPart new u))
+  unfolding front
+  pages-whole h = begin (whole old) (whole new ∙ ap (λ (n : ℕ). bits (take n new)) other-front)
+    where
+      whole : (l : List ℕ) → partBits (asPart l u) ≡ bits (take (wholeBytes (asPart l u)) l)
+      whole l =
+          end-split (asPart l u)
+          ∙ ap (λ (r : List ℕ). bits (take (wholeBytes (asPart l u)) l) ++ r) (end-none (asPart l u) h)
+          ∙ append-nil (bits (take (wholeBytes (asPart l u)) l))
+
+  -- the final byte is not
+  pub pages-rest : WellUsed (asPart old u) → WellUsed (asPart new u) → (u ≡ 8 → ⊥)
+      → getD old (wholeBytes (asPart old u)) 0 < 256 → getD new (wholeBytes (asPart old u)) 0 < 256
+      → rem p (valueFrom (rem p (valueFrom 0 (bits (take (wholeBytes (asPart old u)) old)) ⊕ valueFrom 0 (bits (take (wholeBytes (asPart old u)) new))))
+      (lowBits u ((getD old (wholeBytes (asPart old u)) 0 ⊕ getD new (wholeBytes (asPart old u)) 0) / 2 ^ (8 - u))))
+      ≡ fingerprint p (partBits (asPart old u)) ⊕ fingerprint p (partBits (asPart new u))
+  unfolding front
+  pages-rest wo wn ne a b =
+      ap (λ (n : ℕ). rem p (valueFrom (rem p (valueFrom 0 (bits (take front old)) ⊕ valueFrom 0 (bits (take front new)))) (lowBits u n)))
+      (⊕-shr (8 - u) (getD old front 0) (getD new front 0))
+      ∙ pages-end pos (bits (take front old)) (bits (take front new)) u (high old) (high new) (small a) (small b)
+      ∙ begin (split old wo refl) (split new wn other-front)
+    where
+      high : List ℕ → ℕ
+      high l = getD l front 0 / 2 ^ (8 - u)
+
+      small : {x : ℕ} → x < 256 → x / 2 ^ (8 - u) < 2 ^ u
+      small {x} h = shr-lt {n = x} u (8 - u) (subst (λ (n : ℕ). x < 2 ^ n) (all u (wo .to)) h)
+        where
+          all : (v : ℕ) → v ≤ 8 → 8 ≡ v + (8 - v)
+          all v l = omega arith
+
+      split : (l : List ℕ) → WellUsed (asPart l u) → wholeBytes (asPart l u) ≡ front → partBits (asPart l u) ≡ bits (take front l) ++ lowBits u (high l)
+      split l w f =
+          end-split (asPart l u)
+          ∙ ap₂ (λ (n : ℕ) (r : List ℕ). bits (take n l) ++ r) f
+          (end-low (asPart l u) w ne ∙ ap (λ (n : ℕ). lowBits u (getD l n 0 / 2 ^ (8 - u))) (sym (whole-front (asPart l u) ne) ∙ f))
 
 module _ {p : ℕ} (pos : 0 < p) (old new : List ℕ) (e : length old ≡ length new) where
   same-bits : (i : ℕ) → length (bits (drop i old)) ≡ length (bits (drop i new))

@@ -1,19 +1,20 @@
 -- Laws of parts: how long they are, their bits, and what number 19 leaves.
 use mathlib.Core.Path.{_≡_, refl, sym, ap, ap₂, _∙_}
-use mathlib.Core.Bool.{Bool, true, false, cond, _&&_, _||_, not, false≢true}
-use mathlib.Core.List.{List, [], _∷_, _++_, append-nil}
+use mathlib.Core.Bool.{Bool, true, false, cond, _&&_, _||_, not, false≢true, or-false}
+use mathlib.Core.Logic.{_⊎_, inl, inr}
+use mathlib.Core.List.{List, [], _∷_, _++_}
 use Prim.Native.Nat.{ℕ, zero, suc, _+_, _-_, _*_, _/_, _%_, _^_, _≤_, _<_}
-use native.Mathlib.Nat.{suc-add, add-comm}
-use native.Mathlib.Decide.{decLe, decLt}
+use native.Mathlib.Nat.{suc-add, add-comm, zero-mod}
+use native.Mathlib.Decide.{decLe, decLt, ℕ-discrete}
 use native.Mathlib.Omega.{arith}
 use lib.Dec.{leb, ltb, eqb}
 use lib.ListN.{length, getD, take, drop, take-append-drop, length-drop, drop-of-length-le}
 use lib.Pow.{shr-shr}
-use lib.Seq.{length-take-le, take-add, take-all, take-nil, drop-nil, take-take, take-at, drop-at, drop-cons, drop-drop}
-use borrow.Author.Tests.{ltb-false, eqb-true, eqb-false, not-false, le-leb, lt-leb, eq-eqb, ne-eqb}
+use lib.Seq.{length-take-le, take-add, take-all, take-nil, drop-nil, take-take, take-append-le, take-at, drop-at, drop-cons, drop-drop}
+use borrow.Author.Tests.{ltb-false, eqb-true, eqb-false, not-false, le-leb, lt-leb, lt-ltb, le-ltb, eq-eqb, ne-eqb}
 use Rattle.lists.proofs.Truth.{or-neither}
 use Rattle.files.specs.Files.{lowBits, bits, Bits, Part, asPart, whole, usedBits, partLength, partBits, misused, bytesFor}
-use Rattle.files.specs.Ends.{wholeBytes, endBits}
+use Rattle.files.specs.Ends.{wholeBytes, endBits, countedLength}
 use Rattle.files.proofs.Values.{length-bits, length-low, bits-append}
 
 -- ---- the bits of bytes cut
@@ -50,6 +51,11 @@ used-range u = go (decLe 1 u) (decLe u 8)
     go (yes a) (yes b) = rw (le-leb 1 u a, le-leb u 8 b) (a, b)
     go (yes a) (no b) = rw (le-leb 1 u a, lt-leb u 8 (omega arith)) (omega arith, omega arith)
     go (no a) b = rw (lt-leb 1 u (omega arith)) (omega arith, omega arith)
+
+pub used-outside : (u : ℕ) → (u < 1) ⊎ (8 < u) → usedBits u ≡ 8
+unfolding usedBits
+used-outside u (inl l) = rw (lt-leb 1 u l)
+used-outside u (inr l) = rw (le-leb 1 u (omega arith), lt-leb u 8 l)
 
 pub used-is : (u : ℕ) → 1 ≤ u → u ≤ 8 → usedBits u ≡ u
 unfolding usedBits
@@ -96,6 +102,17 @@ whole-long bytes = go (decLt 0 (length bytes))
 pub whole-bits : (bytes : List ℕ) → partBits (whole bytes) ≡ bits bytes
 unfolding partBits
 whole-bits bytes = take-all (partLength (whole bytes)) (bits bytes) (omega (arith, whole-long bytes, length-bits bytes))
+
+-- ---- the length as the code counts it
+
+pub counted-none : (p : Part) → length (p .bytes) ≡ 0 → 0 ≡ countedLength p
+counted-none p e = omega (arith, none-long p e)
+
+pub counted-many : (p : Part) → 2 ^ 33 < length (p .bytes) → 2 ^ 36 ≡ countedLength p
+counted-many p h = omega (arith, part-range p .1)
+
+pub counted-some : (p : Part) → 0 < length (p .bytes) → length (p .bytes) ≤ 2 ^ 33 → 8 * (length (p .bytes) - 1) + usedBits (p .used) ≡ countedLength p
+counted-some p h l = omega (arith, some-long p h, used-range (p .used) .1)
 
 -- ---- the part that is left behind n bytes
 
@@ -149,6 +166,28 @@ pub record WellUsed (p : Part) : Type 0 where
   pub to : p .used ≤ 8
   pub none : length (p .bytes) ≡ 0 → p .used ≡ 8
   pub zeros : getD (p .bytes) (length (p .bytes) - 1) 0 % 2 ^ (8 - p .used) ≡ 0
+
+-- what each test of `misused` says
+pub used-below : (p : Part) → p .used < 1 → misused p ≡ true
+unfolding misused
+used-below p l = rw (lt-ltb (p .used) 1 l)
+
+pub used-above : (p : Part) → 1 ≤ p .used → 8 < p .used → misused p ≡ true
+unfolding misused
+used-above p f l = rw (le-ltb (p .used) 1 f, lt-ltb 8 (p .used) l)
+
+pub used-none : (p : Part) → 1 ≤ p .used → p .used ≤ 8 → length (p .bytes) ≡ 0 → misused p ≡ not (eqb (p .used) 8)
+unfolding misused
+used-none p f t z = go (p .bytes) z
+  where
+    go : (bytes : List ℕ) → length bytes ≡ 0 → misused (asPart bytes (p .used)) ≡ not (eqb (p .used) 8)
+    go [] e = rw (le-ltb (p .used) 1 f, le-ltb 8 (p .used) t, zero-mod) (or-false (not (eqb (p .used) 8)))
+    go (b ∷ bytes) e = absurd (omega arith)
+
+pub used-some : (p : Part) → 1 ≤ p .used → p .used ≤ 8 → 0 < length (p .bytes)
+    → misused p ≡ not (eqb (getD (p .bytes) (length (p .bytes) - 1) 0 % 2 ^ (8 - p .used)) 0)
+unfolding misused
+used-some p f t s = rw (le-ltb (p .used) 1 f, le-ltb 8 (p .used) t, ne-eqb (length (p .bytes)) 0 (λ e. omega arith))
 
 pub well-used : (p : Part) → misused p ≡ false → WellUsed p
 unfolding misused
@@ -222,16 +261,28 @@ low-high (suc u) v b =
     ap (λ (n : ℕ). take (suc u) (lowBits n b)) (suc-add u v)
     ∙ ap₂ {C = List ℕ} (λ (x : ℕ) (l : List ℕ). x % 2 ∷ l) (ap (λ (n : ℕ). b / 2 ^ n) (add-comm u v) ∙ sym (shr-shr b v u)) (low-high u v b)
 
+pub some-bytes : (p : Part) → WellUsed p → (p .used ≡ 8 → ⊥) → 0 < length (p .bytes)
+some-bytes p w n = go (decLt 0 (length (p .bytes)))
+  where
+    go : Dec (0 < length (p .bytes)) → 0 < length (p .bytes)
+    go (yes h) = h
+    go (no h) = absurd (n (w .none (omega arith)))
+
 pub end-low : (p : Part) → WellUsed p → (p .used ≡ 8 → ⊥)
     → endBits p ≡ lowBits (p .used) (getD (p .bytes) (length (p .bytes) - 1) 0 / 2 ^ (8 - p .used))
 unfolding partBits bits
 end-low p w n =
     let u = p .used in
-    let some : 0 < length (p .bytes) = omega (arith, λ (z : length (p .bytes) ≡ 0). n (w .none z)) in
+    let some = some-bytes p w n in
     let m = length (p .bytes) - 1 in
     let b = getD (p .bytes) m 0 in
     let long : partLength p - 8 * m ≡ u = omega (arith, some-long p some, used-is u (w .from) (w .to)) in
     ap (λ (i : ℕ). drop (8 * i) (partBits p)) (whole-front p n)
     ∙ drop-take (8 * m) (partLength p) (bits (p .bytes))
     ∙ ap₂ (λ (k : ℕ) (l : List ℕ). take k l) long (sym (bits-drop m (p .bytes)) ∙ ap bits (drop-cons (p .bytes) m 0 (omega arith)))
-    ∙ hole
+    ∙ take-append-le u (lowBits 8 b) (bits (drop (suc m) (p .bytes))) (rw (length-low 8 b) (w .to))
+    ∙ ap (λ (k : ℕ). take u (lowBits k b)) (all u (w .to))
+    ∙ low-high u (8 - u) b
+  where
+    all : (u : ℕ) → u ≤ 8 → 8 ≡ u + (8 - u)
+    all u h = omega arith

@@ -7,7 +7,7 @@ ghost use Prim.Native.Nat.{_+_, _*_, _^_, _≤_, _<_};
 ghost use lib.ListN.{length};
 ghost use Rattle.gf2.specs.Polynomials.{_⊕_, rem};
 ghost use Rattle.gf2.specs.Moduli.{polynomial, Proper};
-ghost use Rattle.files.specs.Files.{lowBits, bits, valueFrom, fingerprint, asPart, partBits, misused};
+ghost use Rattle.files.specs.Files.{lowBits, bits, valueFrom, fingerprint, asPart, usedBits, partBits, misused};
 ghost use Rattle.files.specs.Ends.{wholeBytes, endBits, countedLength};
 use gf2::Modulus;
 
@@ -15,6 +15,19 @@ use gf2::Modulus;
 pub struct Mark {
     pub fingerprint: u64,
     pub length: u64,
+}
+
+// The used bits of a final byte as a length counts them: outside 1 to 8 they count as 8.
+fn used_bits(used: u32) -> u64
+    ensures { λ r. ⌜ (r ≡ usedBits used) × (r ≤ 8) ⌝ }
+{
+    if used < 1 {
+        return 8;
+    }
+    if 8 < used {
+        return 8;
+    }
+    used as u64
 }
 
 // The length of a part in bits, counted up to 2^36: more than 2^33 bytes are longer.
@@ -28,13 +41,7 @@ pub fn part_length(part: &[u8], used: u32) -> u64
     if 8589934592 < n {
         return 68719476736;
     }
-    if used < 1 {
-        return 8 * n;
-    }
-    if 8 < used {
-        return 8 * n;
-    }
-    8 * (n - 1) + used as u64
+    8 * (n - 1) + used_bits(used)
 }
 
 // Does number 19 apply to a part?
@@ -51,8 +58,7 @@ pub fn is_misused(part: &[u8], used: u32) -> bool
     if n == 0 {
         return used != 8;
     }
-    let unused = 8 - used;
-    part[n - 1] >> unused << unused != part[n - 1]
+    gf2::low_bits(part[n - 1] as u64, 8 - used) != 0
 }
 
 // How many bytes of a part are used whole: all, or all but the final one.

@@ -1,9 +1,9 @@
 -- Laws of number 7: what it comes to in the comparisons that the code makes.
-use mathlib.Core.Path.{_≡_, refl}
+use mathlib.Core.Path.{_≡_, refl, sym, ap, _∙_}
 use mathlib.Core.Logic.{inl, inr}
 use mathlib.Core.Bool.{true, false, not, or-true}
 use mathlib.Core.List.{List, [], _∷_}
-use Prim.Native.Nat.{ℕ, _+_, _-_, _≤_, _<_}
+use Prim.Native.Nat.{ℕ, _+_, _-_, _*_, _^_, _≤_, _<_, min}
 use native.Mathlib.Decide.{decLe}
 use native.Mathlib.Omega.{arith}
 use lib.Dec.{leb, ltb}
@@ -37,7 +37,38 @@ one-within n = go (decLe n longest)
     go (yes h) = rw (le-leb n longest h, le-ltb longest n h)
     go (no h) = rw (lt-leb n longest (omega arith), lt-ltb longest n (omega arith))
 
+-- whole bytes, whose bits need not be counted
+pub bytes-within : (n : ℕ) → leb n 4294967295 ≡ not (passes (8 * n ∷ []))
+bytes-within n = go (decLe n 4294967295)
+  where
+    go : Dec (n ≤ 4294967295) → leb n 4294967295 ≡ not (passes (8 * n ∷ []))
+    go (yes h) = rw (le-leb n 4294967295 h, le-ltb longest (8 * n) (omega arith))
+    go (no h) = rw (lt-leb n 4294967295 (omega arith), lt-ltb longest (8 * n) (omega arith))
+
+-- a length may be counted up to 2^36 alone
+pub counted : (n : ℕ) → ltb longest (min n (2 ^ 36)) ≡ ltb longest n
+counted n = go (decLe n longest)
+  where
+    go : Dec (n ≤ longest) → ltb longest (min n (2 ^ 36)) ≡ ltb longest n
+    go (yes h) = rw (le-ltb longest n h) (le-ltb longest (min n (2 ^ 36)) (omega arith))
+    go (no h) = rw (lt-ltb longest n (omega arith)) (lt-ltb longest (min n (2 ^ 36)) (omega arith))
+
+pub counted-is : (n : ℕ) → n ≤ longest → min n (2 ^ 36) ≡ n
+counted-is n h = omega arith
+
+pub counted-fits : (n : ℕ) → min n (2 ^ 36) ≤ longest → n ≤ longest
+counted-fits n h = omega arith
+
 -- ---- number 7: of two lengths and their sum
+
+pub counted-sum : (a n : ℕ) → passes (a ∷ min n (2 ^ 36) ∷ (a + min n (2 ^ 36)) ∷ []) ≡ passes (a ∷ n ∷ (a + n) ∷ [])
+counted-sum a n = go (decLe (a + n) longest)
+  where
+    go : Dec (a + n ≤ longest) → passes (a ∷ min n (2 ^ 36) ∷ (a + min n (2 ^ 36)) ∷ []) ≡ passes (a ∷ n ∷ (a + n) ∷ [])
+    go (yes h) = ap (λ (m : ℕ). passes (a ∷ m ∷ (a + m) ∷ [])) (counted-is n (omega arith))
+    go (no h) =
+        passes-some (a ∷ min n (2 ^ 36) ∷ (a + min n (2 ^ 36)) ∷ []) (inr (inr (inl (omega arith))))
+        ∙ sym (passes-some (a ∷ n ∷ (a + n) ∷ []) (inr (inr (inl (omega arith)))))
 
 module _ (a b : ℕ) where
   pub sum-passes : longest < a + b → passes (a ∷ b ∷ (a + b) ∷ []) ≡ true

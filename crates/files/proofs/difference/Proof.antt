@@ -1,5 +1,5 @@
 -- `files::difference` meets its contract: what is left of both pages, the old one behind x, gives what the whole pages give.
-use mathlib.Core.Path.{_≡_, sym, ap, _∙_}
+use mathlib.Core.Path.{_≡_, refl, sym, ap, _∙_}
 use Prim.Native.Nat.{_-_, _^_, _≤_, _<_}
 use native.Mathlib.Omega.{arith}
 use lib.ListN.{length, getD, drop, drop-of-length-le}
@@ -9,15 +9,15 @@ use Rattle.gf2.specs.Moduli.{polynomial}
 use Rattle.gf2.proofs.Sums.{⊕-zero}
 use Rattle.gf2.proofs.Monics.{monic-pos}
 use Rattle.gf2.proofs.Steps.{residue-lt, residue-small}
-use Rattle.files.specs.Files.{bits, valueFrom, fingerprint}
-use Rattle.files.proofs.Computing.{pages-begin, pages-next}
+use Rattle.files.specs.Files.{bits, valueFrom}
+use Rattle.files.proofs.Computing.{pages-next}
 use Rattle.files.proofs.difference.Statement.{statement}
 use Rattle.files.proofs.difference.Tie as tie
 
 abbrev Inv-loop : tie.InvT-loop
 Inv-loop p old new x₀ i₀ x i =
     (i ≤ length old) × (x < 2 ^ p .degree)
-    × (rem (polynomial p) (valueFrom x (bits (drop i old)) ⊕ valueFrom 0 (bits (drop i new))) ≡ fingerprint (polynomial p) old ⊕ fingerprint (polynomial p) new)
+    × (rem (polynomial p) (valueFrom x (bits (drop i old)) ⊕ valueFrom 0 (bits (drop i new))) ≡ rem (polynomial p) (valueFrom 0 (bits old) ⊕ valueFrom 0 (bits new)))
 
 abbrev μ-loop : tie.MeasureT-loop
 μ-loop p old new x₀ i₀ x i = length old - i
@@ -35,9 +35,7 @@ shared-slice-known4→at-loop c = c .before .before .before
 
 loop-holds : tie.Need-loop-holds Inv-loop μ-loop
 loop-holds c =
-    let s = c .before .before in
-    let a = s .args in
-    (omega arith, pow-pos (a .p .degree), pages-begin (monic-pos (a .p .degree) (a .p .low) (s .pre .0 .2)) (a .old .now) (a .new .now) (s .pre .1))
+    (omega arith, pow-pos (c .before .before .args .p .degree), refl)
 
 feed-byte-requires : tie.Need-feed-byte-requires Inv-loop μ-loop
 feed-byte-requires c κs = (shared-slice-known4→start c .pre .0, shared-slice-known4→at-loop c .loop .inv .1)

@@ -1,69 +1,19 @@
--- `files::feed_byte` meets its contract: what is left of the byte is fed to x, and gives what the whole byte gives behind f.
-use mathlib.Core.Path.{_≡_, refl, sym, ap, _∙_}
-use Prim.Native.Nat.{ℕ, _+_, _-_, _*_, _/_, _%_, _^_, _≤_, _<_}
+-- `files::feed_byte` meets its contract: the eight bits of a byte come in as one number.
+use mathlib.Core.Path.{ap, _∙_}
 use native.Mathlib.Omega.{arith}
 use Rattle.gf2.specs.Polynomials.{rem}
 use Rattle.gf2.specs.Moduli.{polynomial}
-use Rattle.gf2.proofs.Monics.{monic-pos}
-use Rattle.gf2.proofs.Steps.{residue-lt, residue-small}
-use Rattle.files.specs.Files.{lowBits, valueFrom}
-use Rattle.files.proofs.Computing.{next-bit, byte-behind}
+use Rattle.files.proofs.Computing.{low-behind}
 use Rattle.files.proofs.feed_byte.Statement.{statement}
 use Rattle.files.proofs.feed_byte.Tie as tie
 
-abbrev Inv-loop : tie.InvT-loop
-Inv-loop p f b x₀ n₀ x n =
-    (n ≤ 8) × (x < 2 ^ p .degree) × (rem (polynomial p) (valueFrom x (lowBits n b)) ≡ rem (polynomial p) (valueFrom f (lowBits 8 b)))
+feed-low-requires : tie.Need-feed-low-requires
+feed-low-requires c κs = (c .pre .0, c .pre .1, omega arith)
 
-abbrev μ-loop : tie.MeasureT-loop
-μ-loop p f b x₀ n₀ x n = n
-
--- ---- the places: from each one to an earlier one
-
-abbrev step→start : tie.After-step Inv-loop μ-loop → tie.Start Inv-loop μ-loop
-step→start c = c .before .before .before
-
-loop-holds : tie.Need-loop-holds Inv-loop μ-loop
-loop-holds c = (omega arith, c .pre .1, refl)
-
-step-requires : tie.Need-step-requires Inv-loop μ-loop
-step-requires c κs = (c .before .before .pre .0, c .before .loop .inv .1, omega arith)
-
-loop-again : tie.Need-loop-again Inv-loop μ-loop
-loop-again c =
-    let a = step→start c .args in
-    let m = step→start c .pre .0 in
-    let l = c .before .before .loop in
-    let next = next-bit (monic-pos (a .p .degree) (a .p .low) (m .2)) (l .x) (a .b) (l .n) (omega arith) in (
-      omega arith,
-      rw (c .step .ensures) (residue-lt (a .p .degree) (a .p .low) (m .2) (l .x * 2 + a .b / 2 ^ (l .n - 1) % 2)),
-      rw (c .step .ensures) (next ∙ l .inv .2),
-    )
-
-returns : tie.Need-returns Inv-loop μ-loop
-unfolding valueFrom lowBits
+returns : tie.Need-returns
 returns c =
-    let a = c .before .before .args in
-    let m = c .before .before .pre .0 in
-    let l = c .before .loop in
-    let z : l .n ≡ 0 = omega arith in
-    sym (residue-small (a .p .degree) (a .p .low) (m .2) (l .x) (l .inv .1))
-    ∙ sym (ap (λ (n : ℕ). rem (polynomial (a .p)) (valueFrom (l .x) (lowBits n (a .b)))) z)
-    ∙ l .inv .2
-    ∙ ap (rem (polynomial (a .p))) (byte-behind (a .f) (a .b) (omega arith))
+    let a = c .before .args in
+    c .feed-low .ensures ∙ ap (rem (polynomial (a .p))) (low-behind 8 (a .f) (a .b) (omega arith))
 
 pub feed-byte-spec : {M : Type 1} → statement M
-feed-byte-spec =
-    tie.close
-    (tie.spec
-    Inv-loop
-    μ-loop
-    loop-holds
-    (λ c. omega arith)
-    (λ c. omega arith)
-    (λ c. omega arith)
-    (λ c. omega arith)
-    step-requires
-    (λ c. omega arith)
-    loop-again
-    returns)
+feed-byte-spec = tie.close (tie.spec feed-low-requires returns)

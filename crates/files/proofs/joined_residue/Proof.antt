@@ -18,7 +18,7 @@ unfolding _⊕_
 returns c =
     let s = c .before .before in
     let a = s .args in
-    rw (c .product .ensures, c .before .power-of-t .ensures) (sym (joined-is (a .p .degree) (a .p .low) (s .pre .0 .2) (a .f) (a .g) (8 * a .b) (s .pre .2)))
+    rw (c .product .ensures, c .before .power-of-t .ensures) (sym (joined-is (a .p .degree) (a .p .low) (s .pre .0 .2) (a .f) (a .g) (a .b) (s .pre .2)))
 
 pub joined-residue-spec : {M : Type 1} → statement M
-joined-residue-spec = tie.close (tie.spec (λ c. search needs) (λ c κs. search needs) product-requires returns)
+joined-residue-spec = tie.close (tie.spec (λ c κs. search needs) product-requires returns)

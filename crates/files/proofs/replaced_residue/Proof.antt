@@ -6,7 +6,7 @@ use Rattle.gf2.specs.Polynomials.{_⊕_, _⊗_, rem}
 use Rattle.gf2.specs.Moduli.{polynomial}
 use Rattle.gf2.proofs.Sums.{⊕-lt}
 use Rattle.gf2.proofs.Steps.{residue-lt}
-use Rattle.files.specs.Files.{fingerprint}
+use Rattle.files.specs.Files.{fingerprint, asPart, partBits}
 use Rattle.files.proofs.Computing.{replaced-is}
 use Rattle.files.proofs.replaced_residue.Statement.{statement}
 use Rattle.files.proofs.replaced_residue.Tie as tie
@@ -16,8 +16,8 @@ use Rattle.files.proofs.replaced_residue.Tie as tie
 abbrev power-of-t→start : tie.After-power-of-t → tie.Start
 power-of-t→start c = c .before .before .before .before
 
-difference-requires : tie.Need-difference-requires
-difference-requires c κs = let s = c .before .before in (s .pre .0, s .pre .2)
+page-difference-requires : tie.Need-page-difference-requires
+page-difference-requires c κs = let s = c .before .before in (s .pre .0, s .pre .2, s .pre .3, s .pre .4)
 
 product-requires : tie.Need-product-requires
 unfolding fingerprint
@@ -26,7 +26,7 @@ product-requires c κs =
     let a = s .args in
     let lt = residue-lt (a .p .degree) (a .p .low) (s .pre .0 .2) in (
       s .pre .0,
-      rw (c .before .difference .ensures) (⊕-lt (a .p .degree) _ _ (lt _) (lt _)),
+      rw (c .before .page-difference .ensures) (⊕-lt (a .p .degree) _ _ (lt _) (lt _)),
       rw (c .power-of-t .ensures) (lt _),
     )
 
@@ -37,8 +37,8 @@ returns c =
     let a = s .args in
     let p = polynomial (a .p) in
     ap (λ (x : ℕ). a .f ⊕ x)
-    (c .product .ensures ∙ ap₂ (λ (d t : ℕ). rem p (d ⊗ t)) (c .before .before .difference .ensures) (c .before .power-of-t .ensures))
-    ∙ sym (replaced-is (a .p .degree) (a .p .low) (s .pre .0 .2) (a .f) (fingerprint p (a .old .now) ⊕ fingerprint p (a .new .now)) (8 * a .after) (s .pre .1))
+    (c .product .ensures ∙ ap₂ (λ (d t : ℕ). rem p (d ⊗ t)) (c .before .before .page-difference .ensures) (c .before .power-of-t .ensures))
+    ∙ sym (replaced-is (a .p .degree) (a .p .low) (s .pre .0 .2) (a .f) (fingerprint p (partBits (asPart (a .old .now) (a .used))) ⊕ fingerprint p (partBits (asPart (a .new .now) (a .used)))) (a .after) (s .pre .1))
 
 pub replaced-residue-spec : {M : Type 1} → statement M
-replaced-residue-spec = tie.close (tie.spec difference-requires (λ c. search needs) (λ c κs. search needs) product-requires returns)
+replaced-residue-spec = tie.close (tie.spec page-difference-requires (λ c κs. search needs) product-requires returns)

@@ -16,7 +16,7 @@ returns : tie.Need-returns
 returns c =
     let s = c .before .before in
     let a = s .args in
-    rw (c .product .ensures, c .before .power-of-t .ensures) (rem-⊗-pow (monic-pos (a .p .degree) (a .p .low) (s .pre .0 .2)) (a .f) (8 * a .n))
+    rw (c .product .ensures, c .before .power-of-t .ensures) (rem-⊗-pow (monic-pos (a .p .degree) (a .p .low) (s .pre .0 .2)) (a .f) (a .n))
 
 pub with-zeros-spec : {M : Type 1} → statement M
-with-zeros-spec = tie.close (tie.spec (λ c. search needs) (λ c κs. search needs) product-requires returns)
+with-zeros-spec = tie.close (tie.spec (λ c κs. search needs) product-requires returns)
