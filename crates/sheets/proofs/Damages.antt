@@ -1,9 +1,9 @@
 -- What a check finds. The file's fingerprint is the sheet's where the check says same. A file that differs from the sheet's own inside k
 -- neighbouring bits is told by the first page that differs.
-use mathlib.Core.Path.{_≡_, refl, sym, ap, ap₂, _∙_}
+use mathlib.Core.Path.{_≡_, refl, sym, ap, ap₂, subst, _∙_}
 use mathlib.Core.Logic.{_≢_}
 use mathlib.Core.Bool.{Bool, true, false, cond}
-use mathlib.Core.List.{List, [], _++_, List-discrete}
+use mathlib.Core.List.{List, [], _∷_, _++_, List-discrete}
 use Prim.Native.Nat.{ℕ, zero, suc, _+_, _-_, _*_, _^_, _≤_, _<_}
 use native.Mathlib.Nat.{zero-mul, suc-mul, not-suc-le-zero, le-refl}
 use native.Mathlib.Decide.{ℕ-discrete, decLt}
@@ -16,61 +16,70 @@ use Rattle.refusals.specs.Refusals.{Done, longest}
 use Rattle.refusals.proofs.Laws.{done-eq}
 use Rattle.acceptance.specs.Keys.{accepted}
 use Rattle.acceptance.proofs.Laws.{accepted-iff, accepted-pos}
-use Rattle.files.specs.Files.{fingerprint, markOf, Bytes}
+use Rattle.files.specs.Files.{fingerprint, markOf, Bits, Part, partBits, misused}
 use Rattle.files.specs.Bursts.{Burst}
 use Rattle.files.proofs.Confusions.{burst-differs}
 use Rattle.files.proofs.Bursts.{part-burst}
-use Rattle.sheets.specs.Layout.{Layout, layoutOf, pageCount, Contents, sheetBytes}
-use Rattle.sheets.specs.Sheets.{filled, pageOf, contentsOf, joinedPages, Same, pagesNow, compared, checkSheet}
+use Rattle.files.proofs.Parts.{part-bits-are}
+use Rattle.sheets.specs.Layout.{Layout, layoutOf, pageCount, pagesFor, Contents, sheetBytes}
+use Rattle.sheets.specs.Sheets.{filled, pageOf, pageFingerprints, contentsOf, joinedPages, Same, pagesNow, compared, checkSheet}
 use Rattle.sheets.specs.Parts.{zerosBehind}
-use Rattle.sheets.specs.Claims.{WellFormed, First, FirstAltered, SomeAltered, BurstFound, NoBurstSame}
-use Rattle.sheets.proofs.Numbers.{bytes-take, bytes-drop}
-use Rattle.sheets.proofs.Pages.{count-le, length-pages, page-at, fingerprint-lt, with-zeros, pages-joined-print, zeros-are}
+use Rattle.sheets.specs.Claims.{SoundContents, WellFormed, First, FirstAltered, SomeAltered, BurstFound, NoBurstSame}
+use Rattle.sheets.proofs.Pages.{pages-count, count-le, length-pages, page-at, fingerprint-lt, with-zeros, pages-joined-print, zeros-are}
 use Rattle.sheets.proofs.Sound.{file-sound}
 use Rattle.sheets.proofs.Changes.{not-same, other-not-same}
 use Rattle.sheets.proofs.Guarantee.{checks, other-length, page-iff, same-iff}
 
--- ---- a check that says same
+-- ---- a comparison that says same
 
-module _ (sheet : List ℕ) (w : WellFormed sheet) (file : List ℕ) (fits : length file ≤ longest) (same : checkSheet sheet file ≡ Done Same) where
-  x : Contents
-  x = w .contents
-
-  says : compared (w .contents) file ≡ Same
-  says = done-eq (compared (w .contents) file) Same (sym (checks sheet w file fits) ∙ same)
-
-  pub same-length : length file ≡ w .contents .length
-  same-length = go (ℕ-discrete (length file) (w .contents .length))
+module _ (x : Contents) (sound : SoundContents x) (file : List ℕ) (says : compared x file ≡ Same) where
+  told-length : length file ≡ x .length
+  told-length = go (ℕ-discrete (length file) (x .length))
     where
-      go : Dec (length file ≡ w .contents .length) → length file ≡ w .contents .length
+      go : Dec (length file ≡ x .length) → length file ≡ x .length
       go (yes e) = e
-      go (no n) = absurd (other-not-same (sym (other-length (w .contents) file n) ∙ says))
+      go (no n) = absurd (other-not-same (sym (other-length x file n) ∙ says))
 
-  pub same-pages : w .contents .pages ≡ pagesNow (w .contents) file
-  same-pages = same-iff (w .contents) (w .sound) file same-length .0 says
+  told-pages : x .pages ≡ pagesNow x file
+  told-pages = same-iff x sound file told-length .0 says
+
+  abbrev v : Layout
+  v = layoutOf (x .version)
+
+  abbrev size : ℕ
+  size = 8 * x .pageSize
 
   abbrev zeros : ℕ → ℕ
-  zeros n = zerosBehind (layoutOf (w .contents .version)) (w .contents .pageSize) n
+  zeros n = zerosBehind v size n
 
-  -- the file's fingerprint is the sheet's, though a check does not compare them: with the same zero bytes behind them they are the pages joined
-  pub same-fingerprint : fingerprint (w .contents .key) file ≡ w .contents .fingerprint
-  unfolding x contentsOf
-  same-fingerprint =
-      let i = accepted-iff (x .key) .0 (w .sound .key) in
-      let v = layoutOf (x .version) in
-      shift-cancels (x .key) (fingerprint (x .key) file) (x .fingerprint) (8 * zeros (length file)) (i .2) (omega arith) (fingerprint-lt pos file)
-      (w .sound .fingerprint)
-      (sym (pages-joined-print pos v (x .pageSize) file some)
-      ∙ ap₂ (λ (n : ℕ) (fs : List ℕ). joinedPages v (x .key) (x .pageSize) n (markOf (x .key) []) fs .fingerprint) same-length (sym same-pages)
-      ∙ w .sound .joined
-      ∙ ap (λ (m : ℕ). rem (x .key) (x .fingerprint * 2 ^ (8 * m)))
-      (zeros-are v (x .key) (x .pageSize) (x .length) (x .pages) some (w .sound .count) ∙ ap zeros (sym same-length)))
+  -- the file's fingerprint is the sheet's, though they are not compared: with the same zeros behind them they are the pages joined
+  pub told-fingerprint : fingerprint (x .key) file ≡ x .fingerprint
+  unfolding contentsOf
+  told-fingerprint =
+      let i = accepted-iff (x .key) .0 (sound .key) in
+      shift-cancels (x .key) (fingerprint (x .key) file) (x .fingerprint) (zeros (length file)) (i .2) (omega arith) (fingerprint-lt pos file)
+      (sound .fingerprint)
+      (sym (pages-joined-print pos v size file (omega (arith, some)))
+      ∙ ap (λ (c : ℕ). joinedPages v (x .key) size (length file) (markOf (x .key) []) (pageFingerprints v (x .key) size c file) .fingerprint)
+      (sym (pages-count (x .pageSize) (length file) some))
+      ∙ ap₂ (λ (n : ℕ) (fs : List ℕ). joinedPages v (x .key) size n (markOf (x .key) []) fs .fingerprint) told-length (sym told-pages)
+      ∙ sound .joined
+      ∙ ap (λ (m : ℕ). rem (x .key) (x .fingerprint * 2 ^ m))
+      (zeros-are v (x .key) size (x .length) (x .pages) (omega (arith, some)) (sound .count ∙ pages-count (x .pageSize) (x .length) some)
+      ∙ ap zeros (sym told-length)))
     where
-      pos : 0 < w .contents .key
-      pos = accepted-pos (w .contents .key) (w .sound .key)
+      pos : 0 < x .key
+      pos = accepted-pos (x .key) (sound .key)
 
-      some : 0 < w .contents .pageSize
-      some = omega (arith, w .sound .pageSize .0)
+      some : 0 < x .pageSize
+      some = omega (arith, sound .pageSize .0)
+
+-- so where a check says same, the file's fingerprint is the sheet's
+pub same-fingerprint : (sheet : List ℕ) (w : WellFormed sheet) (file : Part) → length (partBits file) ≤ longest → misused file ≡ false
+    → checkSheet sheet file ≡ Done Same → fingerprint (w .contents .key) (partBits file) ≡ w .contents .fingerprint
+same-fingerprint sheet w file fits used same =
+    told-fingerprint (w .contents) (w .sound) (partBits file)
+    (done-eq (compared (w .contents) (partBits file)) Same (sym (checks sheet w file fits used) ∙ same))
 
 -- ---- the first page that differs
 
@@ -121,13 +130,24 @@ taken-cancels v key s a b acc e = go (v .filled)
     go false h = h
     go true h =
         let i = accepted-iff key .0 acc in
-        shift-cancels key (fingerprint key a) (fingerprint key b) (8 * (s - length a)) (i .2) (omega arith) (fingerprint-lt pos a) (fingerprint-lt pos b)
+        shift-cancels key (fingerprint key a) (fingerprint key b) (s - length a) (i .2) (omega arith) (fingerprint-lt pos a) (fingerprint-lt pos b)
         (with-zeros pos (s - length a) a
         ∙ h
         ∙ ap (λ (n : ℕ). fingerprint key (b ++ replicate (s - n) 0)) (sym e)
         ∙ sym (with-zeros pos (s - length a) b))
 
-module _ (version key s : ℕ) (a b : List ℕ) (acc : accepted key ≡ true) (some : 0 < s) (ha : Bytes a) (hb : Bytes b) (burst : Burst (degree key) a b)
+bits-take : (n : ℕ) (l : List ℕ) → Bits l → Bits (take n l)
+bits-take zero l h = tt
+bits-take (suc n) [] h = tt
+bits-take (suc n) (b ∷ l) h = (h .0, bits-take n l (h .1))
+
+bits-drop : (n : ℕ) (l : List ℕ) → Bits l → Bits (drop n l)
+bits-drop zero l h = h
+bits-drop (suc n) [] h = tt
+bits-drop (suc n) (b ∷ l) h = bits-drop n l (h .1)
+
+-- in pages of s bits
+module _ (v : Layout) (key s : ℕ) (a b : List ℕ) (acc : accepted key ≡ true) (some : 0 < s) (ha : Bits a) (hb : Bits b) (burst : Burst (degree key) a b)
     (i : ℕ) (f : FirstAltered s a b i) where
   abbrev page : List ℕ → List ℕ
   page l = take s (drop (i * s) l)
@@ -146,40 +166,43 @@ module _ (version key s : ℕ) (a b : List ℕ) (acc : accepted key ≡ true) (s
   below : i < pageCount s (length a)
   below = count-le s (length a) (suc i) some (omega (arith, suc-mul i s, inside))
 
-  prints-differ : fingerprint key (pageOf (layoutOf version) s (page a)) ≢ fingerprint key (pageOf (layoutOf version) s (page b))
+  prints-differ : fingerprint key (pageOf v s (page a)) ≢ fingerprint key (pageOf v s (page b))
   prints-differ e =
       let d = accepted-iff key .0 acc in
       let part = part-burst (degree key) s (i * s) a b (omega arith) burst in
-      burst-differs key (page a) (page b) (d .2) (omega arith) (bytes-take s _ (bytes-drop (i * s) a ha)) (bytes-take s _ (bytes-drop (i * s) b hb))
+      burst-differs key (page a) (page b) (d .2) (omega arith) (bits-take s _ (bits-drop (i * s) a ha)) (bits-take s _ (bits-drop (i * s) b hb))
       (f .altered) part
-      (taken-cancels (layoutOf version) key s (page a) (page b) acc (part .same-length) e)
+      (taken-cancels v key s (page a) (page b) acc (part .same-length) e)
 
-  first-differs : First (contentsOf version key s a .pages) (contentsOf version key s b .pages) i
-  unfolding contentsOf
-  first-differs =
-      let v = layoutOf version in
-      let other : i < pageCount s (length b) = rw (← (burst .same-length)) below in
+  pub first-differs : (c : ℕ) → c ≡ pageCount s (length a) → First (pageFingerprints v key s c a) (pageFingerprints v key s c b) i
+  first-differs c e =
+      let inside : i < c = omega (arith, below, e) in
       record {
-        below = rw (length-pages v key (pageCount s (length a)) s a) below;
-        differ = λ e. prints-differ (sym (page-at v key s (pageCount s (length a)) i a below) ∙ e ∙ page-at v key s (pageCount s (length b)) i b other);
-        equal = λ j l. page-at v key s (pageCount s (length a)) j a (omega (arith, l, below))
+        below = rw (length-pages v key c s a) inside;
+        differ = λ h. prints-differ (sym (page-at v key s c i a inside) ∙ h ∙ page-at v key s c i b inside);
+        equal = λ j l. page-at v key s c j a (omega (arith, l, inside))
             ∙ ap (λ (q : List ℕ). fingerprint key (pageOf v s q)) (f .before j l)
-            ∙ sym (page-at v key s (pageCount s (length b)) j b (omega (arith, l, other)));
+            ∙ sym (page-at v key s c j b (omega (arith, l, inside)));
       }
 
 -- it is found on the first page that it alters
 pub burst-found : BurstFound
 unfolding contentsOf
-burst-found version key s a b kn acc n lo hi ha hb burst i f =
+burst-found version key s a part kn acc n u lo hi ha used burst i f =
+    let b = partBits part in
+    let v = layoutOf version in
     let x = contentsOf version key s a in
-    let sound = file-sound version key s a kn acc n lo hi in
+    let sound = file-sound version key s a kn acc n u lo hi in
     let w : WellFormed (sheetBytes x) = record { contents = x; sound = sound; bytes = refl } in
-    checks (sheetBytes x) w b (omega (arith, burst .same-length))
+    let c = pagesFor s (length a) in
+    let first = first-differs v key (8 * s) a b acc (omega arith) ha (part-bits-are part) burst i f c (pages-count s (length a) (omega arith)) in
+    checks (sheetBytes x) w part (omega (arith, burst .same-length)) used
     ∙ ap Done
-    (page-iff x sound b (sym (burst .same-length)) i .1 (first-differs version key s a b acc (omega arith) ha hb burst i f))
+    (page-iff x sound b (sym (burst .same-length)) i .1
+    (subst (λ (m : ℕ). First (pageFingerprints v key (8 * s) c a) (pageFingerprints v key (8 * s) (pagesFor s m) b) i) (burst .same-length) first))
 
 -- so no file that differs inside k neighbouring bits is told as the same
 pub no-burst-same : NoBurstSame
-no-burst-same version key s a b kn acc n lo hi ha hb burst ne same =
-    let r = some-altered s a b (omega arith) (burst .same-length) ne in
-    not-same (done-eq _ _ (sym (burst-found version key s a b kn acc n lo hi ha hb burst (r .0) (r .1)) ∙ same))
+no-burst-same version key s a b kn acc n u lo hi ha used burst ne same =
+    let r = some-altered (8 * s) a (partBits b) (omega arith) (burst .same-length) ne in
+    not-same (done-eq _ _ (sym (burst-found version key s a b kn acc n u lo hi ha used burst (r .0) (r .1)) ∙ same))

@@ -2,8 +2,9 @@
 use mathlib.Core.Path.{_≡_, refl, sym, ap, ap₂, _∙_}
 use mathlib.Core.Bool.{Bool, false, cond, or-true}
 use mathlib.Core.List.{List, [], _∷_}
-use Prim.Native.Nat.{ℕ, _+_, _-_, _*_, _^_, _≤_, _<_, min}
-use native.Mathlib.Nat.{zero-add, mul-one}
+use Prim.Native.Nat.{ℕ, _+_, _-_, _*_, _%_, _^_, _≤_, _<_, min}
+use native.Mathlib.Nat.{zero-add, mul-one, mod-one}
+use native.Mathlib.Omega.{arith}
 use lib.Dec.{ltb}
 use lib.ListN.{length, take, drop}
 use lib.Seq.{take-at}
@@ -12,21 +13,23 @@ use Rattle.lists.specs.Lists.{overlay}
 use Rattle.lists.proofs.Lent.{overlay-fits}
 use Rattle.gf2.specs.Polynomials.{rem}
 use Rattle.gf2.proofs.Residues.{rem-small}
-use Rattle.files.specs.Files.{markOf}
-use Rattle.refusals.specs.declared.Refusal.the-variants.{TooLong}
+use Rattle.files.specs.Files.{markOf, Part, partLength, partBits, misused}
+use Rattle.files.proofs.Parts.{part-length, part-bytes}
+use Rattle.refusals.specs.declared.Refusal.the-variants.{TooLong, FinalByte}
 use Rattle.refusals.specs.Refusals.{Done, _⇒_, passes, longest}
 use Rattle.refusals.proofs.Laws.{Clear, clear-done, clear-append, done-clear}
 use Rattle.lists.proofs.Truth.{or-neither}
 use Rattle.acceptance.proofs.Laws.{key-iff}
-use Rattle.sheets.specs.Layout.{numberAt, Layout, newest, layouts, layoutOf, pagePlace, sheetLength, pageCount, Contents, sheetBytes, contentsIn}
-use Rattle.sheets.specs.Sheets.{contentsOf, writeTests, writeSheet, readTests, readSheet, readPages, Page}
+use Rattle.sheets.specs.Layout.{numberAt, Layout, newest, layouts, layoutOf, pagePlace, sheetLength, pageCount, pagesFor}
+use Rattle.sheets.specs.Layout.{Contents, sheetBytes, contentsIn}
+use Rattle.sheets.specs.Sheets.{pageFingerprints, contentsOf, joinedPages, writeTests, writeSheet, readTests, readSheet, readPages, Page}
 use Rattle.sheets.specs.Claims.{SoundContents, WellFormed, First, ReadIff, OtherVersion, PagesGiven, WrittenReads, WrittenFingerprint, Checks}
 use Rattle.sheets.specs.Claims.{OtherLengthTold, PagesGiveFile, OwnCompared, FilledCompared, PageIff, SameIff}
 use Rattle.sheets.specs.Parts.{zerosBehind}
 use Rattle.sheets.specs.Sheets.{firstChange, pagesNow, compared, checkTests, checkSheet}
 use Rattle.sheets.proofs.Versions.{newest-is, newest-known}
 use Rattle.sheets.proofs.Layouts.{length-sheet, fingerprint-back}
-use Rattle.sheets.proofs.Pages.{length-pages, own-joined, joined-length, zeros-are}
+use Rattle.sheets.proofs.Pages.{pages-count, length-pages, own-joined, joined-length, zeros-are}
 use Rattle.sheets.proofs.Sound.{size-bounds, sound-fits, sound-back, sound-clear, clear-sound, file-sound}
 use Rattle.sheets.proofs.Changes.{same-equal, equal-same, page-first, first-page}
 
@@ -71,14 +74,18 @@ pages-given sheet w words =
 pub pages-give-file : PagesGiveFile
 unfolding contentsOf
 pages-give-file key s file pos some =
-    own-joined pos (layoutOf (newest .version)) (ap (λ (v : Layout). v .filled) newest-is) s file some
+    let v = layoutOf (newest .version) in
+    ap (λ (c : ℕ). joinedPages v key (8 * s) (length file) (markOf key []) (pageFingerprints v key (8 * s) c file)) (pages-count s (length file) some)
+    ∙ own-joined pos v (ap (λ (v : Layout). v .filled) newest-is) (8 * s) file (omega arith)
 
 pub own-compared : OwnCompared
 own-compared x f pos some count small =
     let n = x .length in
     let v = layoutOf (x .version) in
-    let none : zerosBehind v (x .pageSize) n ≡ 0 = ap (λ (b : Bool). cond b (pageCount (x .pageSize) n * x .pageSize - n) 0) f in
-    ap (λ (m : ℕ). rem (x .key) (x .fingerprint * 2 ^ (8 * m))) (zeros-are v (x .key) (x .pageSize) n (x .pages) some count ∙ none)
+    let s = 8 * x .pageSize in
+    let none : zerosBehind v s n ≡ 0 = ap (λ (b : Bool). cond b (pageCount s n * s - n) 0) f in
+    ap (λ (m : ℕ). rem (x .key) (x .fingerprint * 2 ^ m))
+    (zeros-are v (x .key) s n (x .pages) (omega arith) (count ∙ pages-count (x .pageSize) n some) ∙ none)
     ∙ ap (rem (x .key)) (mul-one (x .fingerprint))
     ∙ rem-small pos (x .fingerprint) small
 
@@ -86,72 +93,83 @@ pub filled-compared : FilledCompared
 unfolding markOf
 filled-compared x f =
     let c = length (x .pages) in
-    ap (λ (m : ℕ). rem (x .key) (x .fingerprint * 2 ^ (8 * (m - x .length))))
-    (joined-length (layoutOf (x .version)) (x .key) (x .pageSize) (x .length) (markOf (x .key) []) (x .pages)
-    ∙ ap (λ (b : Bool). 0 + cond b (c * x .pageSize) (min (c * x .pageSize) (x .length))) f
-    ∙ zero-add (c * x .pageSize))
+    let s = 8 * x .pageSize in
+    ap (λ (m : ℕ). rem (x .key) (x .fingerprint * 2 ^ (m - x .length)))
+    (joined-length (layoutOf (x .version)) (x .key) s (x .length) (markOf (x .key) []) (x .pages)
+    ∙ ap (λ (b : Bool). 0 + cond b (c * s) (min (c * s) (x .length))) f
+    ∙ zero-add (c * s))
 
 -- ---- writing, then reading
 
-module _ (key s : ℕ) (file buffer after : List ℕ) (fits : key < 2 ^ 64) (done : writeSheet key s file buffer ≡ Done after) where
+module _ (key s : ℕ) (part : Part) (buffer after : List ℕ) (fits : key < 2 ^ 64) (done : writeSheet key s part buffer ≡ Done after) where
+  abbrev file : List ℕ
+  file = partBits part
+
   abbrev sheet : List ℕ
   sheet = sheetBytes (contentsOf (newest .version) key s file)
 
   abbrev total : ℕ
-  total = sheetLength newest (pageCount s (length file))
+  total = sheetLength newest (pagesFor s (length file))
 
   length-written : length sheet ≡ total
   unfolding contentsOf
   length-written =
       length-sheet (contentsOf (newest .version) key s file)
       ∙ ap₂ (λ (v : Layout) (c : ℕ). sheetLength v c) newest-is
-      (length-pages (layoutOf (newest .version)) key (pageCount s (length file)) s file)
+      (length-pages (layoutOf (newest .version)) key (pagesFor s (length file)) (8 * s) file)
 
-  cleared : Clear (writeTests key s file buffer) × (overlay sheet buffer ≡ after)
+  cleared : Clear (writeTests key s part buffer) × (overlay sheet buffer ≡ after)
   unfolding writeSheet
-  cleared = done-clear (writeTests key s file buffer) buffer _ after done
+  cleared = done-clear (writeTests key s part buffer) buffer _ after done
 
   sound : SoundContents (contentsOf (newest .version) key s file)
   sound =
       let c = cleared .0 in
-      let p = or-neither (ltb longest (length file)) false (c .1 .1 .0) in
+      let p = or-neither (ltb longest (partLength part)) false (c .1 .1 .0) in
       let z = size-bounds s (c .1 .1 .1 .0) in
-      file-sound (newest .version) key s file newest-known (key-iff key fits .1 (c .0, c .1 .0)) (ltb-false longest (length file) (p .0)) (z .0) (z .1)
+      let n : length file ≤ longest = rw (part-length part) (ltb-false longest (partLength part) (p .0)) in
+      file-sound (newest .version) key s file newest-known (key-iff key fits .1 (c .0, c .1 .0)) n (ones (length file)) (z .0) (z .1)
+    where
+      ones : (n : ℕ) → n % layoutOf (newest .version) .lengthUnit ≡ 0
+      ones n = ap (λ (v : Layout). n % v .lengthUnit) newest-is ∙ mod-one n
 
   -- the buffer is as long as the sheet, or longer
   room : total ≤ length buffer
-  room = ltb-false (length buffer) total (cleared .0 .1 .1 .1 .1 .0)
+  room =
+      rw (part-length part, part-bytes part)
+      (ltb-false (length buffer) (sheetLength newest (pageCount s (length (part .bytes)))) (cleared .0 .1 .1 .1 .1 .0))
 
-  pub written-bytes : take (sheetLength newest (pageCount s (length file))) after ≡ sheetBytes (contentsOf (newest .version) key s file)
+  pub written-bytes : take (sheetLength newest (pagesFor s (length (partBits part)))) after ≡ sheetBytes (contentsOf (newest .version) key s (partBits part))
   written-bytes =
       ap (take total) (sym (cleared .1) ∙ overlay-fits sheet buffer (rw length-written room))
       ∙ take-at sheet (drop (length sheet) buffer) total length-written
 
 -- what is written into a buffer reads back
 pub written-reads : WrittenReads
-written-reads key s file buffer after fits done =
-    rw (written-bytes key s file buffer after fits done)
-    (reads (sheetBytes (contentsOf (newest .version) key s file))
-    (record { contents = contentsOf (newest .version) key s file; sound = sound key s file buffer after fits done; bytes = refl }))
+written-reads key s part buffer after fits done =
+    let x = contentsOf (newest .version) key s (partBits part) in
+    rw (written-bytes key s part buffer after fits done)
+    (reads (sheetBytes x) (record { contents = x; sound = sound key s part buffer after fits done; bytes = refl }))
 
 pub written-fingerprint : WrittenFingerprint
 unfolding contentsOf
-written-fingerprint key s file buffer after fits done =
-    rw (written-bytes key s file buffer after fits done)
-    (ap₂ (λ (v : Layout) (c : ℕ). numberAt (pagePlace v c) (v .fingerprintWidth) (sheetBytes (contentsOf (newest .version) key s file)))
-    (sym newest-is) (sym (length-pages (layoutOf (newest .version)) key (pageCount s (length file)) s file))
-    ∙ fingerprint-back (contentsOf (newest .version) key s file)
-    (sound-fits (contentsOf (newest .version) key s file) (sound key s file buffer after fits done)))
+written-fingerprint key s part buffer after fits done =
+    let x = contentsOf (newest .version) key s (partBits part) in
+    rw (written-bytes key s part buffer after fits done)
+    (ap₂ (λ (v : Layout) (c : ℕ). numberAt (pagePlace v c) (v .fingerprintWidth) (sheetBytes x)) (sym newest-is)
+    (sym (length-pages (layoutOf (newest .version)) key (pagesFor s (length (partBits part))) (8 * s) (partBits part)))
+    ∙ fingerprint-back x (sound-fits x (sound key s part buffer after fits done)))
 
 -- ---- checking a file against a well-formed sheet
 
 pub checks : Checks
 unfolding checkSheet
-checks sheet w file fits =
-    clear-done (checkTests sheet file) tt (compared (contentsIn sheet) file)
-    (clear-append (readTests layouts sheet) (passes (length file ∷ []) ⇒ TooLong ∷ []) (rw (← (w .bytes)) at (sound-clear (w .contents) (w .sound)))
-    (rw (le-ltb longest (length file) fits) refl, tt))
-    ∙ ap (λ (x : Contents). Done (compared x file)) (contents-back sheet w)
+checks sheet w file fits used =
+    clear-done (checkTests sheet file) tt (compared (contentsIn sheet) (partBits file))
+    (clear-append (readTests layouts sheet) (passes (partLength file ∷ []) ⇒ TooLong ∷ misused file ⇒ FinalByte ∷ [])
+    (rw (← (w .bytes)) at (sound-clear (w .contents) (w .sound)))
+    (rw (le-ltb longest (partLength file) (rw (part-length file) at fits)) refl, (used, tt)))
+    ∙ ap (λ (x : Contents). Done (compared x (partBits file))) (contents-back sheet w)
 
 pub other-length : OtherLengthTold
 unfolding compared
@@ -166,8 +184,8 @@ module _ (x : Contents) (sound : SoundContents x) (file : List ℕ) (e : length 
   unfolding contentsOf
   as-many =
       sound .count
-      ∙ ap (pageCount (x .pageSize)) (sym e)
-      ∙ sym (length-pages (layoutOf (x .version)) (x .key) (pageCount (x .pageSize) (length file)) (x .pageSize) file)
+      ∙ ap (pagesFor (x .pageSize)) (sym e)
+      ∙ sym (length-pages (layoutOf (x .version)) (x .key) (pagesFor (x .pageSize) (length file)) (8 * x .pageSize) file)
 
 pub page-iff : PageIff
 page-iff x sound file e i = (there, back)

@@ -1,16 +1,16 @@
 -- Laws of the layout, for every version: the bytes of a sheet read back as its numbers, and the numbers read are written as the bytes.
 use mathlib.Core.Path.{_≡_, refl, sym, ap, ap₂, _∙_}
 use mathlib.Core.List.{List, [], _∷_, _++_, append-assoc, append-nil}
-use Prim.Native.Nat.{ℕ, zero, suc, _+_, _*_, _^_, _≤_, _<_}
-use native.Mathlib.Nat.{add-zero, zero-add, add-assoc}
+use Prim.Native.Nat.{ℕ, zero, suc, _+_, _*_, _/_, _%_, _^_, _≤_, _<_}
+use native.Mathlib.Nat.{add-zero, zero-add, add-assoc, mul-comm, mul-div-cancel, div-add-mod'}
 use native.Mathlib.Omega.{arith}
 use lib.ListN.{length, getD, take, drop, length-append}
 use lib.Seq.{take-add, take-all, drop-drop}
 use Rattle.lists.specs.Lists.{All}
 use Rattle.files.specs.Files.{Bytes}
 use Rattle.sheets.specs.Layout.{bytesOf, fieldsOf, numberAt, numbersAt}
-use Rattle.sheets.specs.Layout.{letters, versionIn, Layout, layoutOf, width, fieldWidths, pagePlace, sheetLength, pageCount, Contents, headOf, bytesIn}
-use Rattle.sheets.specs.Layout.{sheetBytes, fieldIn, pagesIn, contentsIn}
+use Rattle.sheets.specs.Layout.{letters, versionIn, Layout, layoutOf, width, fieldWidths, pagePlace, sheetLength, pagesFor, Contents, headOf, bytesIn}
+use Rattle.sheets.specs.Layout.{sheetBytes, fieldIn, lengthIn, pagesIn, contentsIn}
 use Rattle.sheets.proofs.Versions.{place-first}
 use Rattle.sheets.proofs.Numbers.{length-bytesOf, length-fieldsOf, number-seam, number-behind, numbers-seam, bytes-number, fields-numbers}
 
@@ -69,12 +69,13 @@ module _ (sheet : List ℕ) (h : Bytes sheet) where
 
 -- ---- the sheet
 
--- every number fits its field, and there are as many pages as the length and the page size ask
+-- every number fits its field, the length is whole in its field's unit, and there are as many pages as it and the page size ask
 pub record Fits (x : Contents) : Type 0 where
   pub fields : Fit (fieldWidths (layoutOf (x .version))) (headOf x)
   pub pages : All (λ f. f < 2 ^ (8 * layoutOf (x .version) .fingerprintWidth)) (x .pages)
   pub fingerprint : x .fingerprint < 2 ^ (8 * layoutOf (x .version) .fingerprintWidth)
-  pub count : lib.ListN.length (x .pages) ≡ pageCount (x .pageSize) (x .length)
+  pub whole : x .length % layoutOf (x .version) .lengthUnit ≡ 0
+  pub count : lib.ListN.length (x .pages) ≡ pagesFor (x .pageSize) (x .length)
 
 module _ (x : Contents) where
   abbrev v : Layout
@@ -120,20 +121,27 @@ module _ (x : Contents) where
     pub version-back : versionIn (sheetBytes x) ≡ x .version
     version-back = field-back 1 (omega arith)
 
+    -- the length in bits
+    pub length-back : length (layoutOf (x .version) .widths) ≡ 3 → lengthIn (layoutOf (x .version)) (sheetBytes x) ≡ x .length
+    length-back three =
+        ap (λ (n : ℕ). v .lengthUnit * n) (field-back 3 (omega arith))
+        ∙ omega (arith, div-add-mod' (x .length) (v .lengthUnit), mul-comm (v .lengthUnit) (x .length / v .lengthUnit), fits .whole)
+
     -- what is written reads back
     pub read-back : length (layoutOf (x .version) .widths) ≡ 3 → contentsIn (sheetBytes x) ≡ x
     unfolding contentsIn
     read-back three =
         rw version-back
-        (contents-eq refl (field-back 2 (omega arith)) (field-back 3 (omega arith)) (field-back 4 (omega arith))
+        (contents-eq refl (field-back 2 (omega arith)) (length-back three) (field-back 4 (omega arith))
         (ap (λ (c : ℕ). numbersAt (pagePlace v 0) (v .fingerprintWidth) c (sheetBytes x)) count ∙ pages-back)
         (ap (λ (c : ℕ). numberAt (pagePlace v c) (v .fingerprintWidth) (sheetBytes x)) count ∙ fingerprint-back))
       where
         count : pagesIn (layoutOf (x .version)) (sheetBytes x) ≡ length (x .pages)
-        count = ap₂ (λ (s n : ℕ). pageCount s n) (field-back 4 (omega arith)) (field-back 3 (omega arith)) ∙ sym (fits .count)
+        count = ap₂ (λ (s n : ℕ). pagesFor s n) (field-back 4 (omega arith)) (length-back three) ∙ sym (fits .count)
 
 -- bytes with the letters, as many as the length and the page size ask by their version's layout, are those of the numbers in them
 module _ (sheet : List ℕ) (h : Bytes sheet) (three : length (layoutOf (versionIn sheet) .widths) ≡ 3)
+    (some : 0 < layoutOf (versionIn sheet) .lengthUnit)
     (total : length sheet ≡ sheetLength (layoutOf (versionIn sheet)) (pagesIn (layoutOf (versionIn sheet)) sheet))
     (right : fieldIn (layoutOf (versionIn sheet)) 0 sheet ≡ letters) where
   abbrev w : Layout
@@ -144,7 +152,8 @@ module _ (sheet : List ℕ) (h : Bytes sheet) (three : length (layoutOf (version
   agree zero l = right
   agree (suc zero) l = refl
   agree (suc (suc zero)) l = refl
-  agree (suc (suc (suc zero))) l = refl
+  agree (suc (suc (suc zero))) l =
+      sym (ap (λ (n : ℕ). n / w .lengthUnit) (mul-comm (w .lengthUnit) (fieldIn w 3 sheet)) ∙ mul-div-cancel (fieldIn w 3 sheet) some)
   agree (suc (suc (suc (suc zero)))) l = refl
   agree (suc (suc (suc (suc (suc i))))) l = absurd (omega (arith, three, l))
 

@@ -1,10 +1,10 @@
--- Laws of the pages of a file, as each version takes them: their count, and that their marks joined are the mark of the file with zero bytes
--- behind it, none where pages are not filled up.
+-- Laws of the pages of a file, of s bits each, as each version takes them: their count, and that their marks joined are the mark of the file
+-- with zeros behind it, none where pages are not filled up.
 use mathlib.Core.Path.{_≡_, refl, sym, ap, ap₂, _∙_}
 use mathlib.Core.Bool.{Bool, true, false, cond}
 use mathlib.Core.List.{List, [], _∷_, _++_, append-assoc, append-nil}
 use Prim.Native.Nat.{ℕ, zero, suc, _+_, _-_, _*_, _/_, _^_, _≤_, _<_, min}
-use native.Mathlib.Nat.{div-add-mod', le-div-iff-mul-le, mod-lt, mul-add-div-right, mul-le-mul-left, mul-le-mul-right, mul-one, sub-zero, suc-add, suc-mul}
+use native.Mathlib.Nat.{div-add-mod', le-div-iff-mul-le, mod-lt, mul-add-div-right, mul-le-mul-left, mul-le-mul-right, mul-one, sub-zero, suc-add, suc-mul, div-div-eq-div-mul}
 use native.Mathlib.Nat.{add-mul, zero-add, zero-mul, le-refl}
 use native.Mathlib.Decide.{decLe}
 use native.Mathlib.Omega.{arith}
@@ -13,13 +13,13 @@ use lib.ListN.{replicate-append-replicate}
 use lib.Seq.{drop-drop, length-take-le, take-add, take-all, take-at, drop-at}
 use Rattle.gf2.specs.Polynomials.{rem, degree}
 use Rattle.lists.specs.Lists.{All}
+use Rattle.gf2.proofs.Products.{shl-suc}
 use Rattle.gf2.proofs.Residues.{rem-lt}
 use Rattle.files.specs.declared.Mark.{Mark}
-use Rattle.files.specs.Files.{bits, valueFrom, value, fingerprint, markOf, joined}
-use Rattle.files.proofs.Values.{value-byte}
+use Rattle.refusals.specs.Refusals.{longest}
+use Rattle.files.specs.Files.{valueFrom, value, fingerprint, markOf, joined}
 use Rattle.files.proofs.Marks.{fed, joined-true}
-use Rattle.sheets.specs.Layout.{Layout, pageCount}
-use Rattle.sheets.proofs.Numbers.{pow-next}
+use Rattle.sheets.specs.Layout.{Layout, pageCount, pagesFor}
 use Rattle.sheets.specs.Sheets.{filled, pageOf, pageFingerprints, pageLength, joinedPages}
 use Rattle.sheets.specs.Parts.{zerosBehind}
 
@@ -31,8 +31,16 @@ count-covers s n h = omega (arith, div-add-mod' (n + s - 1) s, mod-lt (n + s - 1
 pub count-tight : (s n : ℕ) → 0 < s → pageCount s n * s < n + s
 count-tight s n h = omega (arith, div-add-mod' (n + s - 1) s)
 
-pub count-small : (s n : ℕ) → 16 ≤ s → s ≤ 4096 → n < 2 ^ 32 → pageCount s n < 2 ^ 29
-count-small s n lo hi b = omega (arith, count-tight s n (omega arith), mul-le-mul-left (pageCount s n) lo)
+-- pages of s bytes, an unfinished byte counted as one, are pages of 8s bits
+pub pages-count : (s n : ℕ) → 0 < s → pagesFor s n ≡ pageCount (8 * s) n
+pages-count s n h =
+    let e : (n + 7) / 8 + s - 1 ≡ (n + 8 * s - 1) / 8 = omega arith in
+    ap (λ (m : ℕ). m / s) e ∙ div-div-eq-div-mul (n + 8 * s - 1) 8 s
+
+pub count-small : (s n : ℕ) → 16 ≤ s → s ≤ 4096 → n ≤ longest → pagesFor s n < 2 ^ 29
+count-small s n lo hi b =
+    let c = pageCount s ((n + 7) / 8) in
+    omega (arith, count-tight s ((n + 7) / 8) (omega arith), mul-le-mul-left c lo)
 
 -- ---- a page filled up
 
@@ -64,18 +72,15 @@ page-whole v s page e = go (v .filled)
     go true = filled-whole s page e
     go false = refl
 
--- zero bytes behind a start: a shift
-value-zeros : (m x : ℕ) → valueFrom x (bits (replicate m 0)) ≡ x * 2 ^ (8 * m)
-unfolding valueFrom bits
+-- zeros behind a start: a shift
+value-zeros : (m x : ℕ) → valueFrom x (replicate m 0) ≡ x * 2 ^ m
+unfolding valueFrom
 value-zeros zero x = sym (mul-one x)
-value-zeros (suc m) x =
-    value-byte x 0 (replicate m 0)
-    ∙ value-zeros m (x * 256 + 0)
-    ∙ rw (pow-next m) (omega arith)
+value-zeros (suc m) x = value-zeros m (x * 2 + 0) ∙ omega (arith, shl-suc x m)
 
 module _ {p : ℕ} (pos : 0 < p) where
-  -- the fingerprint of a file with zero bytes behind it
-  pub with-zeros : (m : ℕ) (file : List ℕ) → rem p (fingerprint p file * 2 ^ (8 * m)) ≡ fingerprint p (file ++ replicate m 0)
+  -- the fingerprint of a file with zeros behind it
+  pub with-zeros : (m : ℕ) (file : List ℕ) → rem p (fingerprint p file * 2 ^ m) ≡ fingerprint p (file ++ replicate m 0)
   with-zeros m file = ap (rem p) (sym (value-zeros m (fingerprint p file))) ∙ fed pos file (replicate m 0)
 
   pub fingerprint-lt : (file : List ℕ) → fingerprint p file < 2 ^ degree p
@@ -129,7 +134,7 @@ pages-own v f (suc c) s file =
     ∙ sym (take-add s (c * s) file)
     ∙ ap (λ (k : ℕ). take k file) e
 
--- all pages of a file: the file, and zero bytes where they are filled up
+-- all pages of a file: the file, and zeros where they are filled up
 pages-are : (v : Layout) (s : ℕ) (file : List ℕ) → 0 < s
     → laidPages v s (pageCount s (length file)) file ≡ file ++ replicate (zerosBehind v s (length file)) 0
 pages-are v s file h = go (v .filled) refl
@@ -157,16 +162,16 @@ module _ {p : ℕ} (pos : 0 < p) where
       ∙ joined-pages v c s (pre ++ page) (drop s file)
       ∙ ap (markOf p) (append-assoc pre page (laidPages v s c (drop s file)))
 
-  -- the page marks of a file joined are the mark of the file with zero bytes behind it,
+  -- the page marks of a file joined are the mark of the file with zeros behind it,
   pub pages-joined : (v : Layout) (s : ℕ) (file : List ℕ) → 0 < s
       → joinedPages v p s (length file) (markOf p []) (pageFingerprints v p s (pageCount s (length file)) file)
       ≡ markOf p (file ++ replicate (zerosBehind v s (length file)) 0)
   pages-joined v s file h = joined-pages v (pageCount s (length file)) s [] file ∙ ap (markOf p) (pages-are v s file h)
 
-  -- whose fingerprint is the file's times t^(8 × zero bytes)
+  -- whose fingerprint is the file's times t^(zeros)
   pub pages-joined-print : (v : Layout) (s : ℕ) (file : List ℕ) → 0 < s
       → joinedPages v p s (length file) (markOf p []) (pageFingerprints v p s (pageCount s (length file)) file) .fingerprint
-      ≡ rem p (fingerprint p file * 2 ^ (8 * zerosBehind v s (length file)))
+      ≡ rem p (fingerprint p file * 2 ^ zerosBehind v s (length file))
   unfolding markOf
   pages-joined-print v s file h =
       ap (λ (m : Mark). m .fingerprint) (pages-joined v s file h) ∙ sym (with-zeros pos (zerosBehind v s (length file)) file)
@@ -267,7 +272,7 @@ block-within s i n file h l b =
     let e : pageCount s (length (drop (i * s) file)) ≡ pageCount s (length file - i * s) = ap (pageCount s) (length-drop (i * s) file) in
     omega (arith, e, count-after s (length file) i h l)
 
--- no page is left where the file has no byte more
+-- no page is left where the file has no bit more
 pub count-reached : (s n i : ℕ) → 0 < s → n ≤ i * s → pageCount s n ≤ i
 count-reached s n i h l = go (decLe (pageCount s n) i)
   where
@@ -294,7 +299,7 @@ pages-last v p s n file h =
     ∙ ap (λ (l : List ℕ). pageFingerprints v p s n file ++ fingerprint p (pageOf v s l) ∷ [])
     (take-all s (drop (n * s) file) (rw (length-drop (n * s) file) (omega arith)))
 
--- the bytes from a place on, as the code lends them
+-- what stands from a place on, as the code lends it
 pub all-left : (file : List ℕ) (at : ℕ) → take (length file - at) (drop at file) ≡ drop at file
 all-left file at = take-all (length file - at) (drop at file) (rw (length-drop at file) (le-refl (length file - at)))
 

@@ -9,16 +9,16 @@ use lib.Seq.{take-take, getD-take}
 use Rattle.lists.specs.Lists.{overlay}
 use Rattle.refusals.specs.Refusals.{Done}
 use Rattle.refusals.proofs.Laws.{done-clear, done-eq}
-use Rattle.files.specs.Files.{Bytes, bits, valueFrom, fingerprint}
-use Rattle.sheets.specs.Layout.{numberAt, versionIn, Layout, newest, layouts, layoutOf, pagePlace, sheetLength, pageCount, pagesIn, Contents, contentsIn}
+use Rattle.files.specs.Files.{Bytes, bits, valueFrom, fingerprint, Part, partBits}
+use Rattle.sheets.specs.Layout.{numberAt, versionIn, Layout, newest, layouts, layoutOf, pagePlace, sheetLength, pagesFor, pagesIn, Contents, contentsIn}
 use Rattle.sheets.specs.Sheets.{pageOf, contentsOf, writeSheet, readTests, readSheet, readPages, pagesNow}
 use Rattle.sheets.specs.Claims.{WellFormed}
 use Rattle.sheets.proofs.Numbers.{numbers-one}
 use Rattle.sheets.proofs.Versions.{newest-is}
 use Rattle.sheets.proofs.Pages.{length-pages, page-at}
 use Rattle.sheets.proofs.Sound.{clear-sound}
-use Rattle.sheets.proofs.Guarantee.{reads, pages-given, written-reads, written-fingerprint, checks, same-iff}
-use Rattle.sheets.proofs.Damages.{same-fingerprint}
+use Rattle.sheets.proofs.Guarantee.{reads, pages-given, written-reads, written-fingerprint, same-iff}
+use Rattle.sheets.proofs.Damages.{told-fingerprint}
 
 -- a number of a list's first n entries
 part-within : (p w n : ℕ) (l : List ℕ) → p + w ≤ n → take w (drop p (take n l)) ≡ take w (drop p l)
@@ -33,9 +33,12 @@ number-within p w n l h = ap (λ (part : List ℕ). valueFrom 0 (bits part)) (pa
 
 -- ---- a written sheet
 
-module _ (key s : ℕ) (file buffer after : List ℕ) (fits : key < 2 ^ 64) (done : writeSheet key s file buffer ≡ Done after) where
+module _ (key s : ℕ) (part : Part) (buffer after : List ℕ) (fits : key < 2 ^ 64) (done : writeSheet key s part buffer ≡ Done after) where
+  abbrev file : List ℕ
+  file = partBits part
+
   abbrev count : ℕ
-  count = pageCount s (length file)
+  count = pagesFor s (length file)
 
   abbrev sheet : List ℕ
   sheet = take (sheetLength newest count) after
@@ -44,7 +47,7 @@ module _ (key s : ℕ) (file buffer after : List ℕ) (fits : key < 2 ^ 64) (don
   unfolding readSheet
   numbers =
       done-clear (readTests layouts sheet) tt (contentsIn sheet) (contentsOf (newest .version) key s file)
-      (written-reads key s file buffer after fits done) .1
+      (written-reads key s part buffer after fits done) .1
 
   version-is : versionIn sheet ≡ newest .version
   unfolding contentsIn contentsOf
@@ -53,48 +56,46 @@ module _ (key s : ℕ) (file buffer after : List ℕ) (fits : key < 2 ^ 64) (don
   layout-is : layoutOf (versionIn sheet) ≡ newest
   layout-is = ap layoutOf version-is ∙ newest-is
 
-  pub written-page : (i : ℕ) → i < pageCount s (length file)
-      → numberAt (pagePlace newest i) 8 after ≡ fingerprint key (pageOf newest s (take s (drop (i * s) file)))
+  pub written-page : (i : ℕ) → i < pagesFor s (length (partBits part))
+      → numberAt (pagePlace newest i) 8 after ≡ fingerprint key (pageOf newest (8 * s) (take (8 * s) (drop (i * (8 * s)) (partBits part))))
   unfolding contentsIn contentsOf
   written-page i l =
       let v = layoutOf (versionIn sheet) in
-      let c : pagesIn v sheet ≡ count = ap (λ (x : Contents). pageCount (x .pageSize) (x .length)) numbers in
+      let c : pagesIn v sheet ≡ count = ap (λ (x : Contents). pagesFor (x .pageSize) (x .length)) numbers in
       sym (number-within (pagePlace newest i) 8 (sheetLength newest count) after (omega arith))
       ∙ ap (λ (w : Layout). numberAt (pagePlace w 0 + w .fingerprintWidth * i) (w .fingerprintWidth) sheet) (sym layout-is)
       ∙ sym (numbers-one (pagesIn v sheet) (pagePlace v 0) (v .fingerprintWidth) i sheet (omega (arith, c)))
       ∙ ap (λ (x : Contents). getD (x .pages) i 0) numbers
-      ∙ page-at (layoutOf (newest .version)) key s count i file l
-      ∙ ap (λ (w : Layout). fingerprint key (pageOf w s (take s (drop (i * s) file)))) newest-is
+      ∙ page-at (layoutOf (newest .version)) key (8 * s) count i file l
+      ∙ ap (λ (w : Layout). fingerprint key (pageOf w (8 * s) (take (8 * s) (drop (i * (8 * s)) file)))) newest-is
 
-  pub written-last : numberAt (pagePlace newest (pageCount s (length file))) 8 after ≡ fingerprint key file
+  pub written-last : numberAt (pagePlace newest (pagesFor s (length (partBits part)))) 8 after ≡ fingerprint key (partBits part)
   written-last =
       sym (number-within (pagePlace newest count) 8 (sheetLength newest count) after (omega arith))
-      ∙ written-fingerprint key s file buffer after fits done
+      ∙ written-fingerprint key s part buffer after fits done
 
 -- ---- a sheet that is read, with the page fingerprints of a file
 
 module _ (sheet : List ℕ) (w : WellFormed sheet) (file : List ℕ) (size : w .contents .length ≡ length file)
     (pages : w .contents .pages ≡ pagesNow (w .contents) file) where
   of-file : w .contents .fingerprint ≡ fingerprint (w .contents .key) file
-  of-file =
-      let fits = w .sound .length in
-      sym (same-fingerprint sheet w file (omega arith)
-      (checks sheet w file (omega arith) ∙ ap Done (same-iff (w .contents) (w .sound) file (sym size) .1 pages)))
+  of-file = sym (told-fingerprint (w .contents) (w .sound) file (same-iff (w .contents) (w .sound) file (sym size) .1 pages))
 
   of-page : (words after : List ℕ) (i : ℕ) → readPages sheet words ≡ Done after → i < length (w .contents .pages) → i < length words
       → getD after i 0
       ≡ fingerprint (w .contents .key)
-      (pageOf (layoutOf (w .contents .version)) (w .contents .pageSize) (take (w .contents .pageSize) (drop (i * w .contents .pageSize) file)))
+      (pageOf (layoutOf (w .contents .version)) (8 * w .contents .pageSize)
+      (take (8 * w .contents .pageSize) (drop (i * (8 * w .contents .pageSize)) file)))
   unfolding contentsOf overlay
   of-page words after i e l m =
       let x = w .contents in
-      let c : length (x .pages) ≡ pageCount (x .pageSize) (length file) =
-      ap length pages ∙ length-pages (layoutOf (x .version)) (x .key) (pageCount (x .pageSize) (length file)) (x .pageSize) file in
+      let c : length (x .pages) ≡ pagesFor (x .pageSize) (length file) =
+      ap length pages ∙ length-pages (layoutOf (x .version)) (x .key) (pagesFor (x .pageSize) (length file)) (8 * x .pageSize) file in
       ap (λ (ws : List ℕ). getD ws i 0) (done-eq _ _ (sym e ∙ pages-given sheet w words))
       ∙ List·getD-append (take (length words) (x .pages)) (drop (length (x .pages)) words) 0 i (omega (arith, length-take (length words) (x .pages)))
       ∙ getD-take (length words) (x .pages) i 0 m
       ∙ ap (λ (fs : List ℕ). getD fs i 0) pages
-      ∙ page-at (layoutOf (x .version)) (x .key) (x .pageSize) (pageCount (x .pageSize) (length file)) i file (omega arith)
+      ∙ page-at (layoutOf (x .version)) (x .key) (8 * x .pageSize) (pagesFor (x .pageSize) (length file)) i file (omega arith)
 
 module _ (sheet file : List ℕ) (x : Contents) (bytes : Bytes sheet) (read : readSheet sheet ≡ Done x) (size : x .length ≡ length file)
     (pages : x .pages ≡ pagesNow x file) where
@@ -109,5 +110,5 @@ module _ (sheet file : List ℕ) (x : Contents) (bytes : Bytes sheet) (read : re
   read-fingerprint = rw is at (of-file sheet well file (rw is size) (rw is pages))
 
   pub read-page : (words after : List ℕ) (i : ℕ) → readPages sheet words ≡ Done after → i < length (x .pages) → i < length words
-      → getD after i 0 ≡ fingerprint (x .key) (pageOf (layoutOf (x .version)) (x .pageSize) (take (x .pageSize) (drop (i * x .pageSize) file)))
+      → getD after i 0 ≡ fingerprint (x .key) (pageOf (layoutOf (x .version)) (8 * x .pageSize) (take (8 * x .pageSize) (drop (i * (8 * x .pageSize)) file)))
   read-page words after i e l m = rw is at (of-page sheet well file (rw is size) (rw is pages) words after i e (rw is l) m)

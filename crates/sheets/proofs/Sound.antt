@@ -2,8 +2,8 @@
 use mathlib.Core.Path.{_≡_, refl, sym, ap, _∙_}
 use mathlib.Core.Bool.{Bool, true, false, _||_, not}
 use mathlib.Core.List.{List, [], _∷_, _++_}
-use Prim.Native.Nat.{ℕ, _+_, _-_, _*_, _^_, _≤_, _<_}
-use native.Mathlib.Nat.{lt-of-lt-of-le}
+use Prim.Native.Nat.{ℕ, _+_, _-_, _*_, _%_, _^_, _≤_, _<_}
+use native.Mathlib.Nat.{lt-of-lt-of-le, mul-mod-right}
 use native.Mathlib.Omega.{arith}
 use lib.Dec.{ltb, leb, eqb, lit<}
 use lib.ListN.{length}
@@ -17,15 +17,15 @@ use Rattle.refusals.proofs.Laws.{Clear}
 use Rattle.acceptance.specs.Keys.{accepted}
 use Rattle.lists.proofs.Truth.{or-neither}
 use Rattle.acceptance.proofs.Laws.{accepted-iff, accepted-pos, accepted-small, key-iff}
-use Rattle.files.specs.Files.{Bytes, fingerprint}
+use Rattle.files.specs.Files.{Bytes, fingerprint, markOf}
 use Rattle.sheets.specs.Layout.{numberAt, letters, lettersWidth, versionIn, layouts, known, layoutOf}
-use Rattle.sheets.specs.Layout.{pagePlace, sheetLength, pageCount, Contents, sheetBytes, fieldIn, pagesIn, contentsIn}
-use Rattle.sheets.specs.Sheets.{contentsOf, someUnreduced, pagesJoined, fileFilled, headWrong, readTests}
+use Rattle.sheets.specs.Layout.{pagePlace, sheetLength, pagesFor, Contents, sheetBytes, fieldIn, lengthIn, pagesIn, contentsIn}
+use Rattle.sheets.specs.Sheets.{pageFingerprints, contentsOf, joinedPages, someUnreduced, pagesJoined, fileFilled, headWrong, readTests}
 use Rattle.sheets.specs.Claims.{SoundContents, WellFormed}
 use Rattle.sheets.proofs.Numbers.{number-lt, length-numbersAt}
-use Rattle.sheets.proofs.Versions.{widths-are, eight-wide, length-from, least-needed, known-small}
-use Rattle.sheets.proofs.Layouts.{Fits, length-sheet, field-back, version-back, read-back, write-back}
-use Rattle.sheets.proofs.Pages.{fingerprint-lt, fingerprints-lt, length-pages, pages-joined-print, zeros-are}
+use Rattle.sheets.proofs.Versions.{widths-are, three-wide, eight-wide, unit-some, length-fits, length-from, least-needed, known-small}
+use Rattle.sheets.proofs.Layouts.{Fits, length-sheet, field-back, version-back, length-back, read-back, write-back}
+use Rattle.sheets.proofs.Pages.{pages-count, fingerprint-lt, fingerprints-lt, length-pages, pages-joined-print, zeros-are}
 
 -- ---- reduced fingerprints
 
@@ -53,10 +53,16 @@ pub sound-fits : (x : Contents) → SoundContents x → Fits x
 sound-fits x h =
     record {
       fields =
-          rw (widths-are (x .version))
-          (lit< tt, (known-small (x .version) (h .version), (accepted-small (x .key) (h .key), (omega (arith, h .length), (omega (arith, h .pageSize), tt)))));
+          rw (widths-are (x .version)) (
+            lit< tt,
+            (
+              known-small (x .version) (h .version),
+              (accepted-small (x .key) (h .key), (length-fits (x .version) (x .length) (h .length), (omega (arith, h .pageSize), tt))),
+            ),
+          );
       pages = rw (eight-wide (x .version)) (all-map (λ f l. lt-of-lt-of-le l small) (x .pages) (h .pages));
       fingerprint = rw (eight-wide (x .version)) (lt-of-lt-of-le (h .fingerprint) small);
+      whole = h .whole;
       count = h .count;
     }
   where
@@ -64,7 +70,7 @@ sound-fits x h =
     small = let d = accepted-iff (x .key) .0 (h .key) in pow-mono {i = degree (x .key)} {j = 64} (omega arith)
 
 pub sound-back : (x : Contents) → SoundContents x → contentsIn (sheetBytes x) ≡ x
-sound-back x h = read-back x (sound-fits x h) (ap length (widths-are (x .version)))
+sound-back x h = read-back x (sound-fits x h) (three-wide (x .version))
 
 -- ---- the tests of reading
 
@@ -83,9 +89,14 @@ sound-clear x h =
     let f = sound-fits x h in
     let k = key-iff (x .key) (accepted-small (x .key) (h .key)) .0 (h .key) in
     let total = sheetLength (layoutOf (x .version)) (length (x .pages)) in
-    let long : 27 ≤ total = omega (arith, least-needed (x .version), length-from (x .version) 0, length-from (x .version) (length (x .pages))) in
+    let least = sheetLength (layoutOf (x .version)) 0 in
+    let long : least ≤ total = omega (arith, length-from (x .version) 0, length-from (x .version) (length (x .pages))) in
+    let fits : lengthIn (layoutOf (x .version)) (sheetBytes x) ≤ longest = rw (length-back x f (three-wide (x .version))) (h .length) in
     rw (sound-back x h, length-sheet x, field-back x f 0 (omega arith), version-back x f) (
-      or-clear (le-ltb total 27 long) refl (ap not (h .version)),
+      or-clear
+          (or-clear (le-ltb total 27 (omega (arith, long, least-needed (x .version)))) refl (ap not (h .version)))
+          (le-ltb total least long)
+          (le-ltb longest (lengthIn (layoutOf (x .version)) (sheetBytes x)) fits),
       (
         k .0,
         (
@@ -106,20 +117,28 @@ sound-clear x h =
 pub neither : (a b c : Bool) → (a || b || c) ≡ false → (a ≡ false) × (b ≡ false) × (c ≡ false)
 neither a b c e = let x = or-neither (a || b) c e in let y = or-neither a b (x .0) in (y .0, y .1, x .1)
 
--- size, letters and version are right
+-- size, letters, version, the version's least size and the limit of lengths are right
 pub record HeadRight (sheet : List ℕ) : Type 0 where
   pub long : 27 ≤ length sheet
   pub letters : numberAt 0 lettersWidth sheet ≡ Rattle.sheets.specs.Layout.letters
   pub version : known layouts (versionIn sheet) ≡ true
+  pub least : sheetLength (layoutOf (versionIn sheet)) 0 ≤ length sheet
+  pub length-fits : lengthIn (layoutOf (versionIn sheet)) sheet ≤ longest
 
 pub head-right : (sheet : List ℕ) → headWrong layouts sheet ≡ false → HeadRight sheet
 head-right sheet e =
-    let n =
-    neither (ltb (length sheet) 27) (not (eqb (numberAt 0 lettersWidth sheet) letters)) (not (known layouts (versionIn sheet))) e in
+    let v = layoutOf (versionIn sheet) in
+    let a = ltb (length sheet) 27 in
+    let b = not (eqb (numberAt 0 lettersWidth sheet) letters) in
+    let c = not (known layouts (versionIn sheet)) in
+    let m = neither (a || b || c) (ltb (length sheet) (sheetLength v 0)) (ltb longest (lengthIn v sheet)) e in
+    let n = neither a b c (m .0) in
     record {
       long = ltb-false (length sheet) 27 (n .0);
       letters = eqb-true (numberAt 0 lettersWidth sheet) letters (not-false _ (n .1));
       version = not-false _ (n .2);
+      least = ltb-false (length sheet) (sheetLength v 0) (m .1);
+      length-fits = ltb-false longest (lengthIn v sheet) (m .2);
     }
 
 -- what the tests say of the bytes where none holds
@@ -154,9 +173,6 @@ module _ (sheet : List ℕ) (c : Clear (readTests layouts sheet)) where
   key-small : fieldIn (layoutOf (versionIn sheet)) 2 sheet < 2 ^ 64
   key-small = rw (widths-are (versionIn sheet)) (number-lt _ 8 sheet (omega (arith, head .long)))
 
-  length-small : fieldIn (layoutOf (versionIn sheet)) 3 sheet < 2 ^ 32
-  length-small = rw (widths-are (versionIn sheet)) (number-lt _ 4 sheet (omega (arith, head .long)))
-
   pub clear-contents : SoundContents (contentsIn sheet)
   unfolding x contentsIn
   clear-contents =
@@ -164,7 +180,8 @@ module _ (sheet : List ℕ) (c : Clear (readTests layouts sheet)) where
       record {
         version = head .version;
         key = key-iff (x .key) key-small .1 (c .1 .0, c .1 .1 .0);
-        length = omega (arith, length-small);
+        length = head .length-fits;
+        whole = mul-mod-right (layoutOf (versionIn sheet) .lengthUnit) (fieldIn (layoutOf (versionIn sheet)) 3 sheet);
         pageSize = size-bounds (x .pageSize) (c .1 .1 .1 .0);
         count = count;
         pages = fs .0;
@@ -177,27 +194,32 @@ module _ (sheet : List ℕ) (c : Clear (readTests layouts sheet)) where
       record {
         contents = contentsIn sheet;
         sound = clear-contents;
-        bytes = sym (write-back sheet b (ap length (widths-are (versionIn sheet))) clear-total (head .letters));
+        bytes = sym (write-back sheet b (three-wide (versionIn sheet)) (unit-some (versionIn sheet)) clear-total (head .letters));
       }
 
 -- ---- the numbers of a file's sheet are sound
 
-pub file-sound : (version key s : ℕ) (file : List ℕ) → known layouts version ≡ true → accepted key ≡ true → length file ≤ longest → 16 ≤ s → s ≤ 4096
+pub file-sound : (version key s : ℕ) (file : List ℕ) → known layouts version ≡ true → accepted key ≡ true
+    → length file ≤ longest → length file % layoutOf version .lengthUnit ≡ 0 → 16 ≤ s → s ≤ 4096
     → SoundContents (contentsOf version key s file)
 unfolding contentsOf
-file-sound version key s file v a n lo hi =
+file-sound version key s file v a n u lo hi =
     let pos = accepted-pos key a in
     let l = layoutOf version in
-    let c = length-pages l key (pageCount s (length file)) s file in
+    let count = pagesFor s (length file) in
+    let c = length-pages l key count (8 * s) file in
+    let e = pages-count s (length file) (omega arith) in
     record {
       version = v;
       key = a;
       length = n;
+      whole = u;
       pageSize = (lo, hi);
       count = c;
-      pages = fingerprints-lt pos l (pageCount s (length file)) s file;
+      pages = fingerprints-lt pos l count (8 * s) file;
       fingerprint = fingerprint-lt pos file;
       joined =
-          pages-joined-print pos l s file (omega arith)
-          ∙ ap (λ (m : ℕ). rem key (fingerprint key file * 2 ^ (8 * m))) (sym (zeros-are l key s (length file) _ (omega arith) c));
+          ap (λ (m : ℕ). joinedPages l key (8 * s) (length file) (markOf key []) (pageFingerprints l key (8 * s) m file) .fingerprint) e
+          ∙ pages-joined-print pos l (8 * s) file (omega arith)
+          ∙ ap (λ (m : ℕ). rem key (fingerprint key file * 2 ^ m)) (sym (zeros-are l key (8 * s) (length file) _ (omega arith) (c ∙ e)));
     }

@@ -1,45 +1,69 @@
 -- Laws of the versions: what the layouts that are read have in common.
-use mathlib.Core.Path.{_≡_, refl, sym, ap}
+use mathlib.Core.Path.{_≡_, refl, sym, ap, ap₂, _∙_}
 use mathlib.Core.Logic.{_≢_}
 use mathlib.Core.Bool.{true, false≢true}
 use mathlib.Core.List.{List, [], _∷_}
-use Prim.Native.Nat.{ℕ, _+_, _*_, _^_, _≤_, _<_}
-use native.Mathlib.Nat.{mul-zero, add-zero}
+use Prim.Native.Nat.{ℕ, _+_, _*_, _/_, _^_, _≤_, _<_}
+use native.Mathlib.Nat.{mul-zero, add-zero, div-lt-iff-lt-mul}
 use native.Mathlib.Decide.{ℕ-discrete}
 use native.Mathlib.Omega.{arith}
 use lib.Dec.{lit<}
+use lib.ListN.{length, getD}
 use borrow.Author.Tests.{ne-eqb}
-use Rattle.sheets.specs.Layout.{numberAt, Layout, version1, version2, newest, layouts, known, layoutAmong, layoutOf}
-use Rattle.sheets.specs.Layout.{width, fieldWidths, pagePlace, sheetLength, fieldIn}
+use Rattle.refusals.specs.Refusals.{longest}
+use Rattle.sheets.specs.Layout.{numberAt, Layout, version1, version2, version3, newest, layouts, known, layoutAmong, layoutOf}
+use Rattle.sheets.specs.Layout.{width, fieldWidths, pagePlace, sheetLength, fieldIn, lengthIn}
 use Rattle.sheets.specs.declared.layout.Fields.{Fields}
 use Rattle.sheets.specs.Parts.{LaidOut}
 
--- version 1, and every other number
+-- version 1, version 2, and every other number
 pub first-is : (n : ℕ) → n ≡ 1 → layoutOf n ≡ version1
 unfolding layoutAmong
 first-is n e = rw e
 
-pub other-is : (n : ℕ) → n ≢ 1 → layoutOf n ≡ version2
+pub second-is : (n : ℕ) → n ≡ 2 → layoutOf n ≡ version2
 unfolding layoutAmong
-other-is n e = go (ℕ-discrete 2 n)
+second-is n e = rw e
+
+pub other-is : (n : ℕ) → n ≢ 1 → n ≢ 2 → layoutOf n ≡ version3
+unfolding layoutAmong
+other-is n e f = go (ℕ-discrete 3 n)
   where
-    go : Dec (2 ≡ n) → layoutOf n ≡ version2
+    go : Dec (3 ≡ n) → layoutOf n ≡ version3
     go (yes d) = rw (← d)
-    go (no d) = rw (ne-eqb 1 n (λ h. e (sym h)), ne-eqb 2 n d)
+    go (no d) = rw (ne-eqb 1 n (λ h. e (sym h)), ne-eqb 2 n (λ h. f (sym h)), ne-eqb 3 n d)
 
--- what holds of both holds of the layout of every number
-pub of-each : (P : Layout → Type 0) → P version1 → P version2 → (n : ℕ) → P (layoutOf n)
-of-each P a b n = go (ℕ-discrete n 1)
+-- what holds of each holds of the layout of every number
+pub of-each : (P : Layout → Type 0) → P version1 → P version2 → P version3 → (n : ℕ) → P (layoutOf n)
+of-each P a b c n = go (ℕ-discrete n 1) (ℕ-discrete n 2)
   where
-    go : Dec (n ≡ 1) → P (layoutOf n)
-    go (yes e) = rw (first-is n e) a
-    go (no e) = rw (other-is n e) b
+    go : Dec (n ≡ 1) → Dec (n ≡ 2) → P (layoutOf n)
+    go (yes e) d = rw (first-is n e) a
+    go (no e) (yes d) = rw (second-is n d) b
+    go (no e) (no d) = rw (other-is n e d) c
 
-pub widths-are : (n : ℕ) → layoutOf n .widths ≡ 8 ∷ 4 ∷ 2 ∷ []
-widths-are = of-each (λ v. v .widths ≡ 8 ∷ 4 ∷ 2 ∷ []) refl refl
+-- the width of the length field
+abbrev pub lengthWidth : Layout → ℕ
+lengthWidth v = getD (v .widths) 1 0
+
+pub widths-are : (n : ℕ) → layoutOf n .widths ≡ 8 ∷ lengthWidth (layoutOf n) ∷ 2 ∷ []
+widths-are = of-each (λ v. v .widths ≡ 8 ∷ lengthWidth v ∷ 2 ∷ []) refl refl refl
+
+pub three-wide : (n : ℕ) → length (layoutOf n .widths) ≡ 3
+three-wide n = ap length (widths-are n)
 
 pub eight-wide : (n : ℕ) → layoutOf n .fingerprintWidth ≡ 8
-eight-wide = of-each (λ v. v .fingerprintWidth ≡ 8) refl refl
+eight-wide = of-each (λ v. v .fingerprintWidth ≡ 8) refl refl refl
+
+pub unit-some : (n : ℕ) → 0 < layoutOf n .lengthUnit
+unit-some = of-each (λ v. 0 < v .lengthUnit) (lit< tt) (lit< tt) (lit< tt)
+
+-- every length that is not refused fits its field
+room-for : (n : ℕ) → longest < 2 ^ (8 * lengthWidth (layoutOf n)) * layoutOf n .lengthUnit
+room-for = of-each (λ v. longest < 2 ^ (8 * lengthWidth v) * v .lengthUnit) (lit< tt) (lit< tt) (lit< tt)
+
+pub length-fits : (n m : ℕ) → m ≤ longest → m / layoutOf n .lengthUnit < 2 ^ (8 * lengthWidth (layoutOf n))
+length-fits n m h = div-lt-iff-lt-mul (unit-some n) .1 (omega (arith, room-for n, h))
 
 -- the version that is written
 pub newest-is : layoutOf (newest .version) ≡ newest
@@ -56,24 +80,25 @@ place-first v = sym (rw (mul-zero (v .fingerprintWidth)) (add-zero (width (field
 
 -- where the fingerprint behind i others stands
 pub place-from : (n i : ℕ) → pagePlace (layoutOf n) i ≡ pagePlace (layoutOf n) 0 + 8 * i
-place-from n i = of-each (λ v. pagePlace v i ≡ pagePlace v 0 + 8 * i) (omega arith) (omega arith) n
+place-from n i = of-each (λ v. pagePlace v i ≡ pagePlace v 0 + 8 * i) (omega arith) (omega arith) (omega arith) n
 
 pub length-from : (n c : ℕ) → sheetLength (layoutOf n) c ≡ pagePlace (layoutOf n) 0 + 8 * c + 8
-length-from n c = of-each (λ v. sheetLength v c ≡ pagePlace v 0 + 8 * c + 8) (omega arith) (omega arith) n
+length-from n c = of-each (λ v. sheetLength v c ≡ pagePlace v 0 + 8 * c + 8) (omega arith) (omega arith) (omega arith) n
 
 -- no sheet has fewer than 27 bytes
 pub least-needed : (n : ℕ) → 27 ≤ sheetLength (layoutOf n) 0
-least-needed = of-each (λ v. 27 ≤ sheetLength v 0) (omega arith) (omega arith)
+least-needed = of-each (λ v. 27 ≤ sheetLength v 0) (omega arith) (omega arith) (omega arith)
 
 -- the number of a version that is known fits its field
 pub known-small : (n : ℕ) → known layouts n ≡ true → n < 2 ^ 16
 unfolding known
-known-small n e = go (ℕ-discrete 1 n) (ℕ-discrete 2 n)
+known-small n e = go (ℕ-discrete 1 n) (ℕ-discrete 2 n) (ℕ-discrete 3 n)
   where
-    go : Dec (1 ≡ n) → Dec (2 ≡ n) → n < 2 ^ 16
-    go (yes d) c = rw (← d) (lit< tt)
-    go (no d) (yes c) = rw (← c) (lit< tt)
-    go (no d) (no c) = absurd (false≢true (rw (ne-eqb 1 n d, ne-eqb 2 n c) at e))
+    go : Dec (1 ≡ n) → Dec (2 ≡ n) → Dec (3 ≡ n) → n < 2 ^ 16
+    go (yes d) c b = rw (← d) (lit< tt)
+    go (no d) (yes c) b = rw (← c) (lit< tt)
+    go (no d) (no c) (yes b) = rw (← b) (lit< tt)
+    go (no d) (no c) (no b) = absurd (false≢true (rw (ne-eqb 1 n d, ne-eqb 2 n c, ne-eqb 3 n b) at e))
 
 -- ---- a layout as the code has it
 
@@ -84,8 +109,11 @@ module _ {v : Layout} {r : Fields} (h : LaidOut v r) where
   pub key-laid : (sheet : List ℕ) → fieldIn v 2 sheet ≡ numberAt 5 (r .key) sheet
   key-laid sheet = rw (h .widths)
 
-  pub length-laid : (sheet : List ℕ) → fieldIn v 3 sheet ≡ numberAt (5 + r .key) (r .length) sheet
-  length-laid sheet = rw (h .widths) (ap (λ (n : ℕ). numberAt n (r .length) sheet) (omega arith))
+  pub length-laid : (sheet : List ℕ) → lengthIn v sheet ≡ r .unit * numberAt (5 + r .key) (r .length) sheet
+  length-laid sheet = ap₂ (λ (u x : ℕ). u * x) (h .unit) field
+    where
+      field : fieldIn v 3 sheet ≡ numberAt (5 + r .key) (r .length) sheet
+      field = rw (h .widths) (ap (λ (n : ℕ). numberAt n (r .length) sheet) (omega arith))
 
   pub size-laid : (sheet : List ℕ) → fieldIn v 4 sheet ≡ numberAt (5 + r .key + r .length) (r .size) sheet
   size-laid sheet = rw (h .widths) (ap (λ (n : ℕ). numberAt n (r .size) sheet) (omega arith))

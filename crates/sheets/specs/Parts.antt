@@ -72,6 +72,8 @@ pub record LaidOut (v : Layout) (r : Fields) : Type 0 where
   pub key-fits : r .key ≤ 8
   pub length-fits : r .length ≤ 8
   pub size-fits : r .size ≤ 2
+  pub unit-some : 0 < r .unit
+  pub counts : r .unit * 2 ^ (8 * r .length) ≤ 2 ^ 64
 
 -- the numbers in front of a sheet's fingerprints, as the code reads them
 pub record HeadOf (sheet : List ℕ) (head : Head) : Type 0 where

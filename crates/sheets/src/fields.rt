@@ -6,7 +6,8 @@ ghost use Prim.Native.Nat.{_+_, _*_, _≤_, _<_, _^_};
 ghost use lib.Dec.{ltb};
 ghost use lib.ListN.{length};
 ghost use lib.Seq.{sets};
-ghost use Rattle.sheets.specs.Layout.{bytesOf, numberAt, pageCount};
+ghost use Rattle.refusals.specs.Refusals.{longest};
+ghost use Rattle.sheets.specs.Layout.{bytesOf, numberAt, pageCount, pagesFor};
 
 // Writes the w low bytes of x at a place; every other byte keeps its value.
 pub fn put(bytes: &mut [u8], at: usize, w: usize, x: u64)
@@ -50,6 +51,14 @@ pub fn page_count(s: u64, n: u64) -> u64
     ensures { λ r. ⌜ r ≡ pageCount s n ⌝ }
 {
     (n + s - 1) / s
+}
+
+// How many pages of s bytes a file of n bits has: an unfinished byte counts as one.
+pub fn pages_for(s: u64, n: u64) -> u64
+    requires { ⌜ (0 < s) × (s ≤ 4096) × (n ≤ longest) ⌝ }
+    ensures { λ r. ⌜ r ≡ pagesFor s n ⌝ }
+{
+    page_count(s, (n + 7) / 8)
 }
 
 // Is the page size within 16 to 4,096?

@@ -2,11 +2,11 @@
 // fingerprints. These functions are for the project's own crates: what they require, every caller proves.
 use super::fields;
 ghost use mathlib.Core.Path.{_≡_};
-ghost use mathlib.Core.Bool.{not};
+ghost use mathlib.Core.Bool.{false, not};
 ghost use Prim.Native.Nat.{_≤_, _<_, _^_};
 ghost use lib.ListN.{length};
 ghost use lib.Seq.{sets};
-ghost use Rattle.sheets.specs.Layout.{numberAt, layouts, known, layoutOf, fieldWidths, pagePlace, sheetLength, headOf, bytesIn};
+ghost use Rattle.sheets.specs.Layout.{numberAt, layouts, known, layoutOf, fieldWidths, pagePlace, sheetLength, headOf, bytesIn, lengthIn};
 ghost use Rattle.sheets.specs.Sheets.{headWrong};
 ghost use Rattle.sheets.specs.Parts.{LaidOut, HeadOf, fingerprintsPart, headOnly};
 
@@ -23,13 +23,15 @@ const KEY_PLACE: usize = LETTERS_WIDTH + VERSION_WIDTH;
 const LEAST: usize = 27;
 
 // The version that is written.
-pub const NEWEST: u64 = 2;
+pub const NEWEST: u64 = 3;
 
-// A version: the width of each field behind the version's number, and whether a last page that is not whole is filled up with zero bytes.
+// A version: the width of each field behind the version's number, the bits that the length counts as one, and whether a last page that is not
+// whole is filled up with zeros.
 pub struct Fields {
     pub key: usize,
     pub length: usize,
     pub size: usize,
+    pub unit: u64,
     pub filled: bool,
 }
 
@@ -42,13 +44,24 @@ fn fields_of(version: u64) -> Fields
             key: 8,
             length: 4,
             size: 2,
+            unit: 8,
             filled: true,
+        };
+    }
+    if version == 2 {
+        return Fields {
+            key: 8,
+            length: 4,
+            size: 2,
+            unit: 8,
+            filled: false,
         };
     }
     Fields {
         key: 8,
-        length: 4,
+        length: 8,
         size: 2,
+        unit: 1,
         filled: false,
     }
 }
@@ -58,6 +71,9 @@ fn is_known(version: u64) -> bool
     ensures { λ r. ⌜ r ≡ known layouts version ⌝ }
 {
     if version == NEWEST {
+        return true;
+    }
+    if version == 2 {
         return true;
     }
     version == 1
@@ -78,7 +94,7 @@ pub fn pages_place(version: u64) -> usize
     KEY_PLACE + v.key + v.length + v.size
 }
 
-// The numbers in front of the fingerprints: the version's, the key, the file's length and the page size.
+// The numbers in front of the fingerprints: the version's, the key, the file's length in bits and the page size in bytes.
 pub struct Head {
     pub version: u64,
     pub key: u64,
@@ -86,7 +102,19 @@ pub struct Head {
     pub size: u64,
 }
 
-// Are size, letters and version right?
+// The file's length in bits, by the fields of a version.
+fn length_in(sheet: &[u8], version: u64) -> u64
+    requires { ⌜ pagePlace (layoutOf version) 0 ≤ length (now sheet) ⌝ }
+    ensures { λ r. ⌜ r ≡ lengthIn (layoutOf version) (now (sheet .entry)) ⌝ }
+{
+    let v = fields_of(version);
+    let place = KEY_PLACE + v.key;
+    let w = v.length;
+    let unit = v.unit;
+    unit * fields::number_at(sheet, place, w)
+}
+
+// Are size, letters, version, the version's least size and the limit of lengths right?
 pub fn head_right(sheet: &[u8]) -> bool
     ensures { λ r. ⌜ r ≡ not (headWrong layouts (now (sheet .entry))) ⌝ }
 {
@@ -96,12 +124,19 @@ pub fn head_right(sheet: &[u8]) -> bool
     if fields::number_at(sheet, 0, LETTERS_WIDTH) != LETTERS {
         return false;
     }
-    is_known(fields::number_at(sheet, LETTERS_WIDTH, VERSION_WIDTH))
+    let version = fields::number_at(sheet, LETTERS_WIDTH, VERSION_WIDTH);
+    if !is_known(version) {
+        return false;
+    }
+    if (sheet.len() as u64) < sheet_length(version, 0) {
+        return false;
+    }
+    length_in(sheet, version) <= refusals::LONGEST
 }
 
 // The numbers in front of the fingerprints, in the fields of the sheet's version.
 pub fn read_head(sheet: &[u8]) -> Head
-    requires { ⌜ 27 ≤ length (now sheet) ⌝ }
+    requires { ⌜ headWrong layouts (now sheet) ≡ false ⌝ }
     ensures { λ r. ⌜ HeadOf (now (sheet .entry)) r ⌝ }
 {
     let version = fields::number_at(sheet, LETTERS_WIDTH, VERSION_WIDTH);
@@ -111,7 +146,7 @@ pub fn read_head(sheet: &[u8]) -> Head
     Head {
         version: version,
         key: fields::number_at(sheet, KEY_PLACE, v.key),
-        length: fields::number_at(sheet, length_place, v.length),
+        length: length_in(sheet, version),
         size: fields::number_at(sheet, size_place, v.size),
     }
 }
@@ -122,12 +157,13 @@ pub fn put_head(buffer: &mut [u8], head: Head)
     ensures { λ r. ⌜ now (buffer .exit) ≡ sets (now (buffer .entry)) 0 (bytesIn (fieldWidths (layoutOf (head .version))) (headOf (headOnly head))) ⌝ }
 {
     let v = fields_of(head.version);
+    let n = head.length / v.unit;
     let length_place = KEY_PLACE + v.key;
     let size_place = length_place + v.length;
     fields::put(buffer, 0, LETTERS_WIDTH, LETTERS);
     fields::put(buffer, LETTERS_WIDTH, VERSION_WIDTH, head.version);
     fields::put(buffer, KEY_PLACE, v.key, head.key);
-    fields::put(buffer, length_place, v.length, head.length);
+    fields::put(buffer, length_place, v.length, n);
     fields::put(buffer, size_place, v.size, head.size);
 }
 

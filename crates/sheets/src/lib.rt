@@ -6,7 +6,8 @@ use refusals::Refusal;
 pub mod fields;
 pub mod layout;
 
-// The numbers of a sheet: its version, its key, the file's length, the page size, the number of pages and the file's fingerprint.
+// The numbers of a sheet: its version, its key, the file's length in bits, the page size in bytes, the number of pages and the file's
+// fingerprint.
 pub struct Sheet {
     pub version: u64,
     pub key: u64,

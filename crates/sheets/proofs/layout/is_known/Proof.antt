@@ -22,7 +22,13 @@ exchanged n = go (ℕ-discrete n 1)
 
 returns-2 : tie.Need-returns-2
 unfolding known
-returns-2 c = rw (ne-eqb 2 (c .before .args .version) (λ e. c .if1 .left (sym e))) (exchanged (c .before .args .version))
+returns-2 c = rw (c .if2 .taken)
+
+returns-3 : tie.Need-returns-3
+unfolding known
+returns-3 c =
+    let n = c .before .before .args .version in
+    rw (ne-eqb 3 n (λ e. c .before .if1 .left (sym e)), ne-eqb 2 n (λ e. c .if2 .left (sym e))) (exchanged n)
 
 pub is-known-spec : {M : Type 1} → statement M
-is-known-spec = tie.close (tie.spec returns returns-2)
+is-known-spec = tie.close (tie.spec returns returns-2 returns-3)

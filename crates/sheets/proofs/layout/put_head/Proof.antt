@@ -25,7 +25,7 @@ abbrev letters-put : tie.After-put2 → tie.After-put
 letters-put c = c .before .before .before .before
 
 abbrev fields : tie.After-put → tie.After-fields-of
-fields c = c .before .before .before .before
+fields c = c .before .before .before .before .before .before
 
 abbrev start : tie.After-fields-of → tie.Start
 start c = c .before .before
@@ -67,7 +67,7 @@ returns c =
     let c₃ = key-put c₄ in
     let c₂ = version-put c₃ in
     let c₁ = letters-put c₂ in
-    rw (fields c₁ .fields-of .ensures .widths)
+    rw (fields c₁ .fields-of .ensures .widths, fields c₁ .fields-of .ensures .unit)
     (store-field _ _ _ _ _ _ _ _ (c₁ .put .ensures)
     (store-field _ _ _ _ _ _ _ _ (c₂ .put2 .ensures)
     (store-field _ _ _ _ _ _ _ _ (c₃ .put3 .ensures)
@@ -78,6 +78,7 @@ put-head-spec =
     tie.close
     (tie.spec
     (λ c κs. search needs)
+    (λ c. search needs)
     (λ c. search needs)
     (λ c. search needs)
     (λ c κs. search needs)

@@ -1,58 +1,86 @@
 -- `read_head` meets its contract: every field by the widths of the sheet's version.
-use mathlib.Core.Path.{sym, _∙_}
+use mathlib.Core.Path.{sym, ap, subst, _∙_}
 use mathlib.Core.List.{List}
-use Prim.Native.Nat.{ℕ, _*_, _^_, _≤_, _<_}
+use Prim.Native.Nat.{ℕ, _+_, _*_, _^_, _≤_, _<_}
 use native.Mathlib.Nat.{lt-of-lt-of-le}
 use native.Mathlib.Omega.{arith}
+use lib.ListN.{length}
 use lib.Pow.{pow-mono}
-use Rattle.sheets.specs.Layout.{versionIn, layoutOf}
+use Rattle.refusals.specs.Refusals.{longest}
+use Rattle.sheets.specs.Layout.{versionIn, layoutOf, pagePlace, lengthIn}
 use Rattle.sheets.specs.Parts.{LaidOut}
-use Rattle.sheets.proofs.Versions.{key-laid, length-laid, size-laid}
+use Rattle.sheets.proofs.Versions.{place-laid, key-laid, size-laid, length-from}
+use Rattle.sheets.proofs.Sound.{HeadRight, head-right}
 use borrow.Author.Needs.{needs}
 use Rattle.sheets.proofs.layout.read_head.Statement.{statement}
 use Rattle.sheets.proofs.layout.read_head.Tie as tie
 
-abbrev fields : tie.After-number-at4 → tie.After-fields-of
-fields c = c .before .before .before .before .before
-
-abbrev version : tie.After-fields-of → tie.After-number-at
-version c = c .before
+-- ---- the places, and the head that is right
 
 abbrev start : tie.After-number-at → tie.Start
 start c = c .before .before
 
-abbrev sheet : tie.After-fields-of → List ℕ
-sheet c = start (version c) .args .sheet .now
+abbrev sheet : tie.After-number-at → List ℕ
+sheet c = start c .args .sheet .now
 
-laid : (c : tie.After-fields-of) → LaidOut (layoutOf (versionIn (sheet c))) (c .fields-of .result)
+right : (s : tie.Start) → HeadRight (s .args .sheet .now)
+right s = head-right (s .args .sheet .now) (s .pre)
+
+abbrev version : tie.After-fields-of → tie.After-number-at
+version c = c .before
+
+laid : (c : tie.After-fields-of) → LaidOut (layoutOf (versionIn (sheet (version c)))) (c .fields-of .result)
 laid c = rw (version c .number-at .ensures .0) at (c .fields-of .ensures)
+
+-- all fields are inside the sheet
+inside : (c : tie.After-number-at) → pagePlace (layoutOf (versionIn (sheet c))) 0 ≤ length (sheet c)
+inside c = omega (arith, length-from (versionIn (sheet c)) 0, right (start c) .least)
+
+room : (c : tie.After-fields-of) → 5 + c .fields-of .result .key + c .fields-of .result .length + c .fields-of .result .size ≤ length (sheet (version c))
+room c = omega (arith, place-laid (laid c), inside (version c))
 
 below : {x w n : ℕ} → x < 2 ^ (8 * w) → w ≤ n → x < 2 ^ (8 * n)
 below {x} {w} {n} l h = lt-of-lt-of-le l (pow-mono {i = 8 * w} {j = 8 * n} (omega arith))
 
+number-at-requires : tie.Need-number-at-requires
+number-at-requires c κs = (omega arith, omega (arith, right (c .before) .long))
+
+number-at-requires-2 : tie.Need-number-at-requires-2
+number-at-requires-2 c κs = let f = c .before .before in (laid f .key-fits, omega (arith, room f))
+
+length-in-requires : tie.Need-length-in-requires
+length-in-requires c κs =
+    let v = c .before .before .before .before in
+    subst (λ (n : ℕ). pagePlace (layoutOf n) 0 ≤ length (sheet v)) (sym (v .number-at .ensures .0)) (inside v)
+
+number-at-requires-3 : tie.Need-number-at-requires-3
+number-at-requires-3 c κs = let f = c .before .before .before .before in (omega (arith, laid f .size-fits), omega (arith, room f))
+
 returns : tie.Need-returns
 returns c =
-    let f = fields c in
+    let f = c .before .before .before .before .before in
     let h = laid f in
-    let l = sheet f in
+    let v = version f in
+    let l = sheet v in
+    let n = c .before .length-in .ensures ∙ ap (λ (m : ℕ). lengthIn (layoutOf m) l) (v .number-at .ensures .0) in
     record {
-      version = version f .number-at .ensures .0;
+      version = v .number-at .ensures .0;
       key = c .before .before .number-at2 .ensures .0 ∙ sym (key-laid h l);
-      length = c .before .number-at3 .ensures .0 ∙ sym (length-laid h l);
-      size = c .number-at4 .ensures .0 ∙ sym (size-laid h l);
-      length-fits = below (c .before .number-at3 .ensures .1) (h .length-fits);
-      size-fits = below (c .number-at4 .ensures .1) (h .size-fits);
+      length = n;
+      size = c .number-at3 .ensures .0 ∙ sym (size-laid h l);
+      length-fits = subst (λ (m : ℕ). m ≤ longest) (sym n) (right (start v) .length-fits);
+      size-fits = below (c .number-at3 .ensures .1) (h .size-fits);
     }
 
 pub read-head-spec : {M : Type 1} → statement M
 read-head-spec =
     tie.close
     (tie.spec
-    (λ c κs. search needs)
+    number-at-requires
     (λ c κs. search needs)
     (λ c. search needs)
     (λ c. search needs)
-    (λ c κs. search needs)
-    (λ c κs. search needs)
-    (λ c κs. search needs)
+    number-at-requires-2
+    length-in-requires
+    number-at-requires-3
     returns)
