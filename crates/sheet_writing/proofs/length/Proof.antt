@@ -9,7 +9,7 @@ use Rattle.refusals.proofs.Laws.{holds, fails}
 use Rattle.sheets.specs.Layout.{Layout, sheetLength}
 use Rattle.sheets.proofs.Versions.{newest-is}
 use Rattle.sheets.proofs.Sound.{size-bounds}
-use Rattle.sheets.proofs.Pages.{count-small}
+use Rattle.sheets.proofs.Pages.{count-few}
 use Rattle.sheet_writing.proofs.Answers.{length-long, length-size, length-done}
 use borrow.Author.Needs.{needs}
 use Rattle.sheet_writing.proofs.length.Statement.{statement}
@@ -39,7 +39,7 @@ sheet-length-requires : tie.Need-sheet-length-requires
 sheet-length-requires c κs =
     let a = start (c .before .before) .args in
     let b = size (c .before) in
-    omega (arith, c .page-count .ensures, count-small (a .size) (a .n) (b .0) (b .1) (omega arith))
+    omega (arith, c .page-count .ensures, count-few (a .size) (a .n) (b .0) (b .1) (omega arith))
 
 returns-3 : tie.Need-returns-3
 returns-3 c =
