@@ -1,11 +1,13 @@
-// Joining and page changes, printed and compared with their figures: the fingerprint and the length, or the refusal's number with the mark
-// that went back. Under key 0x11B where nothing else is said.
+// Joining and page changes, printed and compared with their figures: the fingerprint and the length in bits, or the refusal's number with the
+// mark that went back. Under key 0x11B where nothing else is said.
 use files::Mark;
 use marks::Running;
 
-// The limit of lengths.
 // 2^63: twice that is past 64 bits.
 const HALF: u64 = 9223372036854775808;
+
+// 2^61: eight times that is past 64 bits.
+const EIGHTH: u64 = 2305843009213693952;
 
 // The last place of 64 bits.
 const LAST: u64 = 18446744073709551615;
@@ -28,22 +30,37 @@ fn join(what: &[u8], key: u64, f: u64, a: u64, g: u64, b: u64) {
     vectors::fed_or_refused(compose::join_in_front(m, other));
 }
 
-// A page changed in the mark of fingerprint f and length a.
+// A page of whole bytes changed in the mark of fingerprint f and length a.
 fn change(what: &[u8], f: u64, a: u64, place: u64, old: &[u8], new: &[u8]) {
+    change_used(what, f, a, place, old, 8, new, 8);
+}
+
+// The same with the used bits of each page's final byte.
+fn change_used(
+    what: &[u8],
+    f: u64,
+    a: u64,
+    place: u64,
+    old: &[u8],
+    old_used: u32,
+    new: &[u8],
+    new_used: u32,
+) {
     let m = Running {
         key: 0x11B,
         fingerprint: f,
         length: a,
     };
     vectors::text(what);
-    vectors::fed_or_refused(compose::replace_page(m, place, old, new));
+    vectors::fed_or_refused(compose::replace_page(m, place, old, old_used, new, new_used));
 }
 
 fn joins() {
-    join(b"41 and 42", 0x11B, 0x5A, 1, 0x59, 1);
-    join(b"41 and the empty file", 0x11B, 0x5A, 1, 1, 0);
+    join(b"41 and 42", 0x11B, 0x5A, 8, 0x59, 8);
+    join(b"40 of 3 bits and 0A 10 of 13", 0x11B, 0x0A, 3, 0x14, 13);
+    join(b"41 and the empty file", 0x11B, 0x5A, 8, 1, 0);
     join(
-        b"4294967295 bytes and none",
+        b"34359738360 bits and none",
         0x11B,
         0x5A,
         refusals::LONGEST,
@@ -51,38 +68,48 @@ fn joins() {
         0,
     );
     join(
-        b"4294967295 bytes and one",
+        b"34359738360 bits and one",
         0x11B,
         0x5A,
         refusals::LONGEST,
-        0x59,
+        3,
         1,
     );
 }
 
 fn joins_refused() {
-    join(b"2^63 bytes and 2^63", 0x11B, 0x5A, HALF, 0x59, HALF);
-    join(b"a fingerprint of 9 bits", 0x11B, 0x5A, 1, 0x100, 1);
-    join(b"key 255", 0xFF, 0x5A, 1, 0x59, 1);
-    join(b"key 101, 2^63 bytes", 0x101, 0x5A, HALF, 0x59, 1);
+    join(b"2^63 bits and 2^63", 0x11B, 0x5A, HALF, 0x59, HALF);
+    join(b"a fingerprint of 9 bits", 0x11B, 0x5A, 8, 0x100, 8);
+    join(b"key 255", 0xFF, 0x5A, 8, 0x59, 8);
+    join(b"key 101, 2^63 bits", 0x101, 0x5A, HALF, 0x59, 8);
 }
 
 fn changes() {
-    change(b"41 42, 42 becomes 43: ", 0x9D, 2, 1, b"B", b"C");
-    change(b"41 42, 41 becomes 40: ", 0x9D, 2, 0, b"A", b"@");
-    change(b"41 42 becomes 00 00: ", 0x9D, 2, 0, b"AB", b"\0\0");
+    change(b"41 42, 42 becomes 43: ", 0x9D, 16, 1, b"B", b"C");
+    change(b"41 42, 41 becomes 40: ", 0x9D, 16, 0, b"A", b"@");
+    change(b"41 42 becomes 00 00: ", 0x9D, 16, 0, b"AB", b"\0\0");
+    let a0: [u8; 1] = [0xA0];
+    change_used(b"41 42, the 3 bits 40 at place 1 become A0: ", 0x9D, 16, 1, b"@", 3, &a0, 3);
 }
 
 fn changes_at_the_end() {
-    change(b"no byte at the end: ", 0x9D, 2, 2, b"", b"");
-    change(b"no byte past the end: ", 0x9D, 2, 3, b"", b"");
-    change(b"one byte at place 2^64 - 1: ", 0x9D, 2, LAST, b"A", b"@");
+    change(b"no byte at the end: ", 0x9D, 16, 2, b"", b"");
+    change(b"no byte past the end: ", 0x9D, 16, 3, b"", b"");
+    change(b"one byte at place 2^61: ", 0x9D, 16, EIGHTH, b"A", b"@");
+    change(b"one byte at place 2^64 - 1: ", 0x9D, 16, LAST, b"A", b"@");
+    change_used(b"3 bits at the end of 19: ", 0x86, 19, 2, b"@", 3, b"`", 3);
+    change_used(b"4 bits at the end of 19: ", 0x86, 19, 2, b"@", 4, b"`", 4);
 }
 
 fn changes_refused() {
-    change(b"pages of different length: ", 0x9D, 2, LAST, b"A", b"");
-    change(b"a fingerprint of 9 bits: ", 0x100, 2, 3, b"A", b"");
-    change(b"a length of 2^32: ", 0x100, 4294967296, 3, b"A", b"");
+    change(b"pages of different length: ", 0x9D, 16, LAST, b"A", b"");
+    change(b"a fingerprint of 9 bits: ", 0x100, 16, 3, b"A", b"");
+    change(b"a length of 2^35: ", 0x100, 34359738368, 3, b"A", b"");
+    change_used(b"pages of 3 and 4 bits: ", 0x9D, 16, 1, b"@", 3, b"@", 4);
+    change_used(b"an unused bit of the old page is 1: ", 0x9D, 16, 1, b"A", 3, b"@", 3);
+    change_used(b"an unused bit of the new page is 1: ", 0x9D, 16, 1, b"@", 3, b"A", 3);
+    change_used(b"0 used bits, past the end: ", 0x9D, 16, 2, b"A", 0, b"A", 8);
+    change_used(b"0 used bits: ", 0x9D, 16, 1, b"A", 0, b"A", 8);
 }
 
 fn main() {

@@ -2,6 +2,7 @@
 use mathlib.Core.Path.{_≡_, ap, _∙_}
 use mathlib.Core.Bool.{false}
 use mathlib.Core.List.{[], _∷_}
+use Prim.Native.Nat.{_*_}
 use native.Mathlib.Omega.{arith}
 use borrow.Author.Needs.{needs}
 use lib.ListN.{length}
@@ -9,7 +10,7 @@ use Rattle.gf2.specs.Moduli.{polynomial}
 use Rattle.refusals.specs.Refusals.{Done, passes}
 use Rattle.refusals.proofs.Laws.{holds, fails}
 use Rattle.refusals.proofs.Lengths.{within}
-use Rattle.search.proofs.Calls.{call-long, call-empty, call-none, call-done}
+use Rattle.search.proofs.Calls.{both-fit, call-long, call-empty, call-none, call-done}
 use Rattle.search.proofs.search_under.Statement.{statement}
 use Rattle.search.proofs.search_under.Tie as tie
 
@@ -32,7 +33,7 @@ search-text-arg→else2 c = c .before .before
 
 -- ---- what is known at the places
 
-short : (c : tie.Else1) → let a = else1→start c .args in passes (length (a .text .now) ∷ length (a .pattern .now) ∷ []) ≡ false
+short : (c : tie.Else1) → let a = else1→start c .args in passes (8 * length (a .text .now) ∷ 8 * length (a .pattern .now) ∷ []) ≡ false
 short c = fails (c .before .within .result) _ (c .before .within .ensures) (c .if1 .left)
 
 -- ---- the needs
@@ -57,7 +58,7 @@ search-text-requires : tie.Need-search-text-requires
 search-text-requires c κs =
     let s = search-text-arg→start c in
     let a = s .args in
-    let l = within (length (a .text .now) ∷ length (a .pattern .now) ∷ []) (short (search-text-arg→else1 c)) in
+    let l = within (8 * length (a .text .now) ∷ 8 * length (a .pattern .now) ∷ []) (short (search-text-arg→else1 c)) in
     (s .pre .0, s .pre .1, omega (arith, c .before .before .if2 .left), omega (arith, c .before .if3 .left), l .0)
 
 returns-4 : tie.Need-returns-4
