@@ -1,6 +1,6 @@
 -- `printing::report` meets its contract: each text goes behind the one before it.
 use mathlib.Core.List.{List, _++_}
-use Prim.Native.Nat.{ℕ}
+use Prim.Native.Nat.{_/_}
 use native.Mathlib.Omega.{arith}
 use borrow.Author.Needs.{needs}
 use Rattle.gf2.specs.Polynomials.{degree}
@@ -41,7 +41,7 @@ abbrev text-key : Running → List ℕ
 text-key m = text-degree m ++ (ascii " " ++ numeral 16 (m .key))
 
 abbrev text-bytes : Running → List ℕ
-text-bytes m = text-key m ++ (ascii "\nbytes " ++ numeral 10 (m .length))
+text-bytes m = text-key m ++ (ascii "\nbytes " ++ numeral 10 (m .length / 8))
 
 abbrev text-mark : Running → List ℕ
 text-mark m = text-bytes m ++ (ascii "\nmark " ++ numeral 16 (m .fingerprint))
@@ -62,7 +62,7 @@ unfolding ascii
 to-bytes c =
     let m = given (degree-at (key-at c)) in
     let p = c .put-decimal2 in
-    put-next (omega arith) (to-key (key-at c)) (ascii "\nbytes " ++ numeral 10 (m .length)) (p .ensures .0) (p .ensures .1 .1)
+    put-next (omega arith) (to-key (key-at c)) (ascii "\nbytes " ++ numeral 10 (m .length / 8)) (p .ensures .0) (p .ensures .1 .1)
 
 to-mark : (c : tie.After-put-hex2)
     → Holds (buffer (degree-at (key-at (bytes-at c)))) 0 (c .put-hex2 .result) (c .put-hex2 .last .0) (text-mark (given (degree-at (key-at (bytes-at c)))))

@@ -1,6 +1,6 @@
 -- `search_under` meets its contract: each way out by its law of `Calls`.
 use mathlib.Core.Path.{_≡_, ap, _∙_}
-use mathlib.Core.Bool.{false}
+use mathlib.Core.Bool.{false, _&&_, not}
 use mathlib.Core.List.{[], _∷_}
 use Prim.Native.Nat.{_*_}
 use native.Mathlib.Omega.{arith}
@@ -16,11 +16,11 @@ use Rattle.search.proofs.search_under.Tie as tie
 
 -- ---- the places: from each one to an earlier one
 
-abbrev shared-slice-known2→start : tie.After-shared-slice-known2 → tie.Start
-shared-slice-known2→start c = c .before .before
+abbrev bytes-fit2→start : tie.After-bytes-fit2 → tie.Start
+bytes-fit2→start c = c .before .before .before .before .before
 
 abbrev else1→start : tie.Else1 → tie.Start
-else1→start c = shared-slice-known2→start (c .before .before .before)
+else1→start c = bytes-fit2→start (c .before)
 
 abbrev search-text-arg→start : tie.After-search-text-arg → tie.Start
 search-text-arg→start c = else1→start (c .before .before .before)
@@ -33,16 +33,22 @@ search-text-arg→else2 c = c .before .before
 
 -- ---- what is known at the places
 
+-- both fit, as the code has it
+fit : (c : tie.After-bytes-fit2) → let a = bytes-fit2→start c .args in
+    (c .before .bytes-fit .result && c .bytes-fit2 .result) ≡ not (passes (8 * length (a .text .now) ∷ 8 * length (a .pattern .now) ∷ []))
+fit c =
+    let a = bytes-fit2→start c .args in
+    both-fit _ _ (length (a .text .now)) (length (a .pattern .now)) (c .before .bytes-fit .ensures) (c .bytes-fit2 .ensures)
+
 short : (c : tie.Else1) → let a = else1→start c .args in passes (8 * length (a .text .now) ∷ 8 * length (a .pattern .now) ∷ []) ≡ false
-short c = fails (c .before .within .result) _ (c .before .within .ensures) (c .if1 .left)
+short c = fails _ _ (fit (c .before)) (c .if1 .left)
 
 -- ---- the needs
 
 returns : tie.Need-returns
 returns c =
-    let a = shared-slice-known2→start (c .before .before .before) .args in
-    let w = c .before .within in
-    call-long (polynomial (a .p)) (a .text .now) (a .pattern .now) (a .places .now) (holds (w .result) _ (w .ensures) (c .if1 .taken))
+    let a = bytes-fit2→start (c .before) .args in
+    call-long (polynomial (a .p)) (a .text .now) (a .pattern .now) (a .places .now) (holds _ _ (fit (c .before)) (c .if1 .taken))
 
 returns-2 : tie.Need-returns-2
 returns-2 c =
@@ -70,4 +76,4 @@ returns-4 c =
     (ap Done (f .0) ∙ d .0, f .1 ∙ d .1)
 
 pub search-under-spec : {M : Type 1} → statement M
-search-under-spec = tie.close (tie.spec (λ c κs. search needs) returns returns-2 returns-3 search-text-requires (λ c. search needs) returns-4)
+search-under-spec = tie.close (tie.spec (λ c κs. search needs) (λ c κs. search needs) returns returns-2 returns-3 search-text-requires (λ c. search needs) returns-4)
