@@ -1,6 +1,6 @@
 -- `printing::report` meets its contract: each text goes behind the one before it.
 use mathlib.Core.List.{List, _++_}
-use Prim.Native.Nat.{_/_}
+use Prim.Native.Nat.{ℕ, _/_}
 use native.Mathlib.Omega.{arith}
 use borrow.Author.Needs.{needs}
 use Rattle.gf2.specs.Polynomials.{degree}
@@ -24,7 +24,7 @@ abbrev degree-at : tie.After-put-hex → tie.After-put-decimal
 degree-at c = c .before .before .before
 
 abbrev start : tie.After-degree → tie.Start
-start c = c .before .before .before
+start c = c .before .before .before .before
 
 -- the buffer as the call begins, and the mark
 abbrev buffer : tie.After-put-decimal → List ℕ
