@@ -12,13 +12,17 @@ const EIGHTH: u64 = 2305843009213693952;
 // The last place of 64 bits.
 const LAST: u64 = 18446744073709551615;
 
-// The mark of fingerprint f and length a with the one of fingerprint g and length b behind it, and in front of it.
-fn join(what: &[u8], key: u64, f: u64, a: u64, g: u64, b: u64) {
-    let m = Running {
+fn running(key: u64, f: u64, a: u64) -> Running {
+    Running {
         key: key,
         fingerprint: f,
         length: a,
-    };
+    }
+}
+
+// The mark of fingerprint f and length a with the one of fingerprint g and length b behind it, and in front of it.
+fn join(what: &[u8], key: u64, f: u64, a: u64, g: u64, b: u64) {
+    let m = running(key, f, a);
     let other = Mark {
         fingerprint: g,
         length: b,
@@ -32,49 +36,28 @@ fn join(what: &[u8], key: u64, f: u64, a: u64, g: u64, b: u64) {
 
 // A page of whole bytes changed in the mark of fingerprint f and length a.
 fn change(what: &[u8], f: u64, a: u64, place: u64, old: &[u8], new: &[u8]) {
-    change_used(what, f, a, place, old, 8, new, 8);
+    let m = running(0x11B, f, a);
+    vectors::text(what);
+    vectors::fed_or_refused(compose::replace_page(m, place, old, 8, new, 8));
 }
 
-// The same with the used bits of each page's final byte.
-fn change_used(
-    what: &[u8],
-    f: u64,
-    a: u64,
-    place: u64,
-    old: &[u8],
-    old_used: u32,
-    new: &[u8],
-    new_used: u32,
-) {
-    let m = Running {
-        key: 0x11B,
-        fingerprint: f,
-        length: a,
-    };
+// In the mark of 41 42, a page with u used bits in its final byte by one with v.
+fn change_bits(what: &[u8], place: u64, old: &[u8], u: u32, new: &[u8], v: u32) {
+    let m = running(0x11B, 0x9D, 16);
     vectors::text(what);
-    vectors::fed_or_refused(compose::replace_page(m, place, old, old_used, new, new_used));
+    vectors::fed_or_refused(compose::replace_page(m, place, old, u, new, v));
 }
 
 fn joins() {
     join(b"41 and 42", 0x11B, 0x5A, 8, 0x59, 8);
-    join(b"40 of 3 bits and 0A 10 of 13", 0x11B, 0x0A, 3, 0x14, 13);
+    join(b"3 bits of 41 and the 13 behind", 0x11B, 0x0A, 3, 0x14, 13);
     join(b"41 and the empty file", 0x11B, 0x5A, 8, 1, 0);
-    join(
-        b"34359738360 bits and none",
-        0x11B,
-        0x5A,
-        refusals::LONGEST,
-        1,
-        0,
-    );
-    join(
-        b"34359738360 bits and one",
-        0x11B,
-        0x5A,
-        refusals::LONGEST,
-        3,
-        1,
-    );
+}
+
+fn joins_at_the_limit() {
+    let limit = refusals::LONGEST;
+    join(b"34359738360 bits and none", 0x11B, 0x5A, limit, 1, 0);
+    join(b"34359738360 bits and one", 0x11B, 0x5A, limit, 3, 1);
 }
 
 fn joins_refused() {
@@ -85,11 +68,11 @@ fn joins_refused() {
 }
 
 fn changes() {
+    let a0: [u8; 1] = [0xA0];
     change(b"41 42, 42 becomes 43: ", 0x9D, 16, 1, b"B", b"C");
     change(b"41 42, 41 becomes 40: ", 0x9D, 16, 0, b"A", b"@");
     change(b"41 42 becomes 00 00: ", 0x9D, 16, 0, b"AB", b"\0\0");
-    let a0: [u8; 1] = [0xA0];
-    change_used(b"41 42, the 3 bits 40 at place 1 become A0: ", 0x9D, 16, 1, b"@", 3, &a0, 3);
+    change_bits(b"3 bits at place 1, 40 becomes A0: ", 1, b"@", 3, &a0, 3);
 }
 
 fn changes_at_the_end() {
@@ -97,25 +80,30 @@ fn changes_at_the_end() {
     change(b"no byte past the end: ", 0x9D, 16, 3, b"", b"");
     change(b"one byte at place 2^61: ", 0x9D, 16, EIGHTH, b"A", b"@");
     change(b"one byte at place 2^64 - 1: ", 0x9D, 16, LAST, b"A", b"@");
-    change_used(b"3 bits at the end of 19: ", 0x86, 19, 2, b"@", 3, b"`", 3);
-    change_used(b"4 bits at the end of 19: ", 0x86, 19, 2, b"@", 4, b"`", 4);
+    change(b"one byte at place 1 of 19 bits: ", 0x86, 19, 1, b"B", b"C");
+    change(b"one byte at place 2 of 19 bits: ", 0x86, 19, 2, b"B", b"C");
 }
 
 fn changes_refused() {
     change(b"pages of different length: ", 0x9D, 16, LAST, b"A", b"");
     change(b"a fingerprint of 9 bits: ", 0x100, 16, 3, b"A", b"");
     change(b"a length of 2^35: ", 0x100, 34359738368, 3, b"A", b"");
-    change_used(b"pages of 3 and 4 bits: ", 0x9D, 16, 1, b"@", 3, b"@", 4);
-    change_used(b"an unused bit of the old page is 1: ", 0x9D, 16, 1, b"A", 3, b"@", 3);
-    change_used(b"an unused bit of the new page is 1: ", 0x9D, 16, 1, b"@", 3, b"A", 3);
-    change_used(b"0 used bits, past the end: ", 0x9D, 16, 2, b"A", 0, b"A", 8);
-    change_used(b"0 used bits: ", 0x9D, 16, 1, b"A", 0, b"A", 8);
+}
+
+fn changes_misused() {
+    change_bits(b"pages of 3 and 4 bits: ", 1, b"@", 3, b"@", 4);
+    change_bits(b"an unused 1 in the old page: ", 1, b"A", 3, b"@", 3);
+    change_bits(b"an unused 1 in the new page: ", 1, b"@", 3, b"A", 3);
+    change_bits(b"no used bits, past the end: ", 2, b"A", 0, b"A", 8);
+    change_bits(b"no used bits: ", 1, b"A", 0, b"A", 8);
 }
 
 fn main() {
     joins();
+    joins_at_the_limit();
     joins_refused();
     changes();
     changes_at_the_end();
     changes_refused();
+    changes_misused();
 }

@@ -39,12 +39,14 @@ fn test(key: u64, words: &[u64]) {
 
 // A part of whole bytes.
 fn feed(key: u64, fingerprint: u64, length: u64, words: &[u64], part: &[u8]) {
-    vectors::fed_or_refused(running(key, fingerprint, length).feed_table(words, part, 8));
+    let m = running(key, fingerprint, length);
+    vectors::fed_or_refused(m.feed_table(words, part, 8));
 }
 
 // A part with the used bits of its final byte, under 0x11B.
 fn feed_used(fingerprint: u64, length: u64, words: &[u64], part: &[u8], used: u32) {
-    vectors::fed_or_refused(running(0x11B, fingerprint, length).feed_table(words, part, used));
+    let m = running(0x11B, fingerprint, length);
+    vectors::fed_or_refused(m.feed_table(words, part, used));
 }
 
 // The words of document 01's readings.
