@@ -209,10 +209,11 @@ returns-6 c =
     let m = markIn (a .m) in
     let b = else5→else2 e in
     let d = else5→else4 e in
+    let page = else2→else1 b .before .before .before .part-length .result in
     let change : ℕ → ℕ → ℕ = λ q u. fingerprint q (partBits (old s)) ⊕ fingerprint q (partBits (asPart (a .new .now) u)) in
     let is : c .replaced-residue .result ≡ rem key (m .fingerprint ⊕ change key (a .new-used) * 2 ^ (m .length - (8 * a .place + partLength (old s)))) =
     c .replaced-residue .ensures
-    ∙ ap (λ (q : ℕ). rem q (m .fingerprint ⊕ change q (a .old-used) * 2 ^ (m .length - _ - 8 * a .place))) (opened-whole (s .pre))
+    ∙ ap (λ (q : ℕ). rem q (m .fingerprint ⊕ change q (a .old-used) * 2 ^ (m .length - page - 8 * a .place))) (opened-whole (s .pre))
     ∙ ap₂ (λ (u n : ℕ). rem key (m .fingerprint ⊕ change key u * 2 ^ n)) (used e .1)
     (ap (λ (n : ℕ). m .length - n - 8 * a .place) (fits e .0) ∙ after-page (m .length) (partLength (old s)) (a .place)) in
     ap (λ (z : Mark). fedUnder key (Done z)) (mark-eq is refl)
