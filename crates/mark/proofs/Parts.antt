@@ -246,7 +246,8 @@ module _ (key : ℕ) where
         (
           tt,
           ap (begunUnder key)
-              (more-refused (keyTests key) (passes (8 * length file ∷ []) ⇒ TooLong ∷ []) tt tt (markOf key []) (markOf key (bits file)) r (go (begin key) refl e)),
+              (more-refused (keyTests key) (passes (8 * length file ∷ []) ⇒ TooLong ∷ []) tt tt (markOf key []) (markOf key (bits file)) r
+              (go (begin key) refl e)),
         ),
       )
     where

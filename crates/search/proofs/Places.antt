@@ -76,22 +76,26 @@ places-iff text pattern i = (
 
 -- a false alarm: a window with the pattern's fingerprint and other bytes
 module _ (key : ℕ) (text pattern : List ℕ) (i : ℕ) where
+  -- the window's fingerprint
+  abbrev there : ℕ
+  there = fingerprint key (bits (take (length pattern) (drop i text)))
+
   -- what is said of the window's bytes
   abbrev Alarm : Type 0
-  Alarm = (fingerprint key (bits (take (length pattern) (drop i text))) ≡ fingerprint key (bits pattern)) × (take (length pattern) (drop i text) ≢ pattern)
+  Alarm = (there ≡ fingerprint key (bits pattern)) × (take (length pattern) (drop i text) ≢ pattern)
 
   alarm-there : isAlarm key text pattern i ≡ true → Alarm
   unfolding isAlarm
   alarm-there e =
-      let h = and-both (eqb (fingerprint key (bits (take (length pattern) (drop i text)))) (fingerprint key (bits pattern))) (not (isPlace text pattern i)) e in (
-        eqb-true (fingerprint key (bits (take (length pattern) (drop i text)))) (fingerprint key (bits pattern)) (h .0),
+      let h = and-both (eqb there (fingerprint key (bits pattern))) (not (isPlace text pattern i)) e in (
+        eqb-true there (fingerprint key (bits pattern)) (h .0),
         (λ q. true≢false (sym (place-back text pattern i q) ∙ not-true (isPlace text pattern i) (h .1))),
       )
 
   alarm-back : Alarm → isAlarm key text pattern i ≡ true
   unfolding isAlarm
   alarm-back (e, n) =
-      rw (eq-eqb (fingerprint key (bits (take (length pattern) (drop i text)))) (fingerprint key (bits pattern)) e, no-place text pattern i n)
+      rw (eq-eqb there (fingerprint key (bits pattern)) e, no-place text pattern i n)
 
 pub alarms-iff : AlarmsIff
 unfolding alarms windows

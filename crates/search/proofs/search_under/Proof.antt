@@ -76,4 +76,14 @@ returns-4 c =
     (ap Done (f .0) ∙ d .0, f .1 ∙ d .1)
 
 pub search-under-spec : {M : Type 1} → statement M
-search-under-spec = tie.close (tie.spec (λ c κs. search needs) (λ c κs. search needs) returns returns-2 returns-3 search-text-requires (λ c. search needs) returns-4)
+search-under-spec =
+    tie.close
+    (tie.spec
+    (λ c κs. search needs)
+    (λ c κs. search needs)
+    returns
+    returns-2
+    returns-3
+    search-text-requires
+    (λ c. search needs)
+    returns-4)
