@@ -19,8 +19,7 @@ ghost use Rattle.table_tests.specs.TableTests.{tableTests};
 ghost use Rattle.marks.specs.Feeding.{begin, feedTests, feedBits, feedTable, feedHouse};
 ghost use Rattle.marks.specs.Answers.{markIn, measured, begun, begunUnder, fed, fedUnder};
 
-// A running mark (document 01's term): the state of a fingerprint that is taken as the file is read. The length is in bits. Numbers
-// only.
+// A running mark (document 01's term): the state of a fingerprint that is taken as the file is read. The length is in bits. Numbers only.
 pub struct Running {
     pub key: u64,
     pub fingerprint: u64,
