@@ -1,6 +1,6 @@
 -- Laws of parts: how long they are, their bits, and what number 19 leaves.
 use mathlib.Core.Path.{_≡_, refl, sym, ap, ap₂, _∙_}
-use mathlib.Core.Bool.{Bool, true, false, cond, _&&_, _||_, not, false≢true, or-false}
+use mathlib.Core.Bool.{Bool, true, false, cond, _&&_, _||_, not, false≢true, or-false, and-false}
 use mathlib.Core.Logic.{_⊎_, inl, inr}
 use mathlib.Core.List.{List, [], _∷_, _++_}
 use Prim.Native.Nat.{ℕ, zero, suc, _+_, _-_, _*_, _/_, _%_, _^_, _≤_, _<_}
@@ -286,3 +286,9 @@ end-low p w n =
   where
     all : (u : ℕ) → u ≤ 8 → 8 ≡ u + (8 - u)
     all u h = omega arith
+
+-- whole bytes are well used
+pub whole-used : (bytes : List ℕ) → misused (whole bytes) ≡ false
+unfolding misused
+whole-used bytes =
+    rw (and-false (eqb (length bytes) 0), eq-eqb (getD bytes (length bytes - 1) 0 % 1) 0 (omega arith))

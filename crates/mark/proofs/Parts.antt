@@ -7,11 +7,7 @@ use native.Mathlib.Decide.{decLe}
 use native.Mathlib.Omega.{arith}
 use lib.ListN.{length, take, drop, length-append, length-drop}
 use lib.Seq.{drop-append-le, take-all}
-use borrow.Author.Tests.{lt-ltb, le-ltb, ltb-false, eq-eqb}
-use mathlib.Core.Bool.{false, and-false}
-use lib.Dec.{eqb}
-use lib.ListN.{getD}
-use Prim.Native.Nat.{_%_}
+use borrow.Author.Tests.{lt-ltb, le-ltb, ltb-false}
 use Rattle.io.specs.Counts.{Counts}
 use Rattle.lists.specs.Lists.{listFrom}
 use Rattle.refusals.specs.declared.Refusal.{Refusal}
@@ -24,7 +20,7 @@ use Rattle.files.specs.declared.Mark.{Mark}
 use Rattle.files.specs.Files.{bits, markOf, Part, whole, partLength, partBits, misused, unreduced, fedMark}
 use Rattle.files.proofs.Values.{length-bits, bits-append}
 use Rattle.files.proofs.Marks.{true-reduced, fed-true}
-use Rattle.files.proofs.Parts.{whole-long, whole-bits}
+use Rattle.files.proofs.Parts.{whole-long, whole-bits, whole-used}
 use Rattle.lookups.specs.Rule.{word}
 use Rattle.tables.specs.Tables.{makeTable}
 use Rattle.table_tests.specs.TableTests.{tableSizeTest}
@@ -48,12 +44,6 @@ use Rattle.mark.specs.declared.Step.{Step}
 use Rattle.mark.specs.declared.Step.the-variants as step-cases
 use Rattle.mark.specs.Reading.{Stepped, NonEmpty, PrintedInParts}
 use Rattle.mark.specs.Marking.{feeds, stateless, Gives, FedInParts, MarkedInParts}
-
--- TEMP
-whole-used : (bytes : List ℕ) → misused (whole bytes) ≡ false
-unfolding misused
-whole-used bytes =
-    rw (and-false (eqb (length bytes) 0), eq-eqb (getD bytes (length bytes - 1) 0 % 1) 0 (omega arith))
 
 -- ---- one feed, in code
 
