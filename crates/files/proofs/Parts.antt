@@ -103,6 +103,11 @@ pub whole-bits : (bytes : List ℕ) → partBits (whole bytes) ≡ bits bytes
 unfolding partBits
 whole-bits bytes = take-all (partLength (whole bytes)) (bits bytes) (omega (arith, whole-long bytes, length-bits bytes))
 
+-- to which number 19 does not apply
+pub whole-used : (bytes : List ℕ) → misused (whole bytes) ≡ false
+unfolding misused
+whole-used bytes = rw (and-false (eqb (length bytes) 0), eq-eqb (getD bytes (length bytes - 1) 0 % 1) 0 (omega arith))
+
 -- ---- the length as the code counts it
 
 pub counted-none : (p : Part) → length (p .bytes) ≡ 0 → 0 ≡ countedLength p
@@ -286,9 +291,3 @@ end-low p w n =
   where
     all : (u : ℕ) → u ≤ 8 → 8 ≡ u + (8 - u)
     all u h = omega arith
-
--- whole bytes are well used
-pub whole-used : (bytes : List ℕ) → misused (whole bytes) ≡ false
-unfolding misused
-whole-used bytes =
-    rw (and-false (eqb (length bytes) 0), eq-eqb (getD bytes (length bytes - 1) 0 % 1) 0 (omega arith))
