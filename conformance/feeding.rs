@@ -1,7 +1,8 @@
 //! Feeding at every length. The library may go another way for another key, call or length of the part; here every such change is crossed:
 //! parts of every length up to 10,000, files up to 1 MiB cut at random, parts at every offset from an aligned address, and parts of equal bytes
 //! and of a single bit around the lengths at which a way may change. What is expected is the second implementation's, one byte after another.
-//! Each front of a part is fed with whole bytes and with less than 8 used bits of its final byte. Suite bits.rs cuts at every bit.
+//! At the lengths at which a way may change, and at every ninth, the final byte also has less than 8 used bits. Suite
+//! bits.rs cuts at every bit.
 use crate::{generator::{cleaned, Generator}, gfp, marks::{after, ours}, Tally};
 use crate::reference::{self, ByteSteps, Mark, Part};
 use std::{collections::BTreeSet, fmt::Display};
@@ -93,15 +94,20 @@ impl Key {
         part[end] = whole;
     }
 
-    /// The fronts of a part, at each of the lengths: whole bytes, and with 1 to 7 used bits of the final one.
+    /// The fronts of a part, at each of the lengths.
     fn compare_fronts(&self, tally: &mut Tally, call: Call, start: Mark, part: &[u8], what: &str, lengths: impl Iterator<Item = usize>) {
         let expected = self.steps.behind_each(start.fingerprint, part);
-        let mut bytes = part.to_vec();
         for n in lengths {
             self.compare(tally, call, start, &part[..n], what, expected[n]);
-            if n > 0 {
-                self.compare_unfinished(tally, call, start, &mut bytes[..n], what, expected[n - 1]);
-            }
+        }
+    }
+
+    /// The fronts of a part, at each of the lengths, with 1 to 7 used bits of the final byte.
+    fn compare_unfinished_fronts(&self, tally: &mut Tally, call: Call, start: Mark, part: &[u8], lengths: impl Iterator<Item = usize>) {
+        let expected = self.steps.behind_each(start.fingerprint, part);
+        let mut bytes = part.to_vec();
+        for n in lengths.filter(|&n| n > 0) {
+            self.compare_unfinished(tally, call, start, &mut bytes[..n], "unfinished", expected[n - 1]);
         }
     }
 }
@@ -126,6 +132,7 @@ fn every_length(tally: &mut Tally, generator: &mut Generator, key: &Key, calls: 
     for &call in calls {
         let (start, part) = (generator.start(key.key, EVERY), generator.bytes(EVERY));
         key.compare_fronts(tally, call, start, &part, "random bytes", 0..=EVERY);
+        key.compare_unfinished_fronts(tally, call, start, &part, (0..=EVERY).step_by(9));
     }
 }
 
@@ -146,6 +153,7 @@ fn at_turning_lengths(tally: &mut Tally, generator: &mut Generator, key: &Key, c
             for start in [ones, generator.start(key.key, n)] {
                 key.compare_fronts(tally, call, start, &part, what, lengths.iter().copied());
             }
+            key.compare_unfinished_fronts(tally, call, ones, &part, lengths.iter().copied());
         }
     }
 }

@@ -2,6 +2,8 @@
 //! bit by bit, trial comparisons, no tables. It shares no code and no method with the library that it is compared with. `ByteSteps` alone has a
 //! table, of its own, for what is compared at many lengths.
 
+use std::{cell::RefCell, collections::HashSet};
+
 /// The longest file, in bits, and the same in bytes.
 pub const LIMIT: u64 = 34_359_738_360;
 pub const LIMIT_BYTES: u64 = LIMIT / 8;
@@ -206,11 +208,20 @@ fn refuse(tests: &[(u32, bool)]) -> Answer<()> {
     }
 }
 
+thread_local! {
+    /// The keys that `irreducible` has found to be so: most are asked for again and again.
+    static FOUND: RefCell<HashSet<u64>> = RefCell::default();
+}
+
+fn known_irreducible(key: u64) -> bool {
+    FOUND.with_borrow_mut(|found| found.contains(&key) || irreducible(key) && found.insert(key))
+}
+
 pub fn test_key(key: u64) -> Answer<()> {
     if key < 256 {
         return Err(1);
     }
-    refuse(&[(2, !irreducible(key))])
+    refuse(&[(2, !known_irreducible(key))])
 }
 
 /// The stock list: for each degree 8 to 63 the smallest irreducible polynomial of that degree.
@@ -521,8 +532,11 @@ pub enum Check {
 }
 
 pub fn check_file<'a>(bytes: &[u8], file: impl Into<Part<'a>>) -> Answer<Check> {
-    let file = file.into();
-    let sheet = read_sheet(bytes)?;
+    check_against(&read_sheet(bytes)?, file.into())
+}
+
+/// A check against a sheet that was read: 7, then 19, and only then the lengths are compared.
+fn check_against(sheet: &Sheet, file: Part) -> Answer<Check> {
     refuse(&[(7, too_long(&[file.length()])), (19, file.misused())])?;
     if file.length() != u128::from(sheet.bits) {
         return Ok(Check::OtherLength);
@@ -543,8 +557,9 @@ pub enum Changed {
 
 pub fn changed_range<'a>(bytes: &[u8], file: impl Into<Part<'a>>) -> Answer<Changed> {
     let file = file.into();
-    let s = read_sheet(bytes)?.page_size;
-    Ok(match check_file(bytes, file)? {
+    let sheet = read_sheet(bytes)?;
+    let s = sheet.page_size;
+    Ok(match check_against(&sheet, file)? {
         Check::Same => Changed::Same,
         Check::Page(i) => Changed::Bytes(i * s..((i + 1) * s).min(file.bytes.len() as u64)),
         Check::OtherLength => Changed::OtherLength,
