@@ -1,5 +1,5 @@
 // Ours beside the peers, in one run: each line gives both times and how many times as fast ours is. Built and run by `make benchmark`.
-#include "../include/gfp.h"
+#include "calls.h"
 #include "feeding.h"
 #include "librestic.h"
 #include "measure.h"
@@ -74,7 +74,7 @@ static void joining() {
         NTL::GF2X x = polynomial(0x1234567890abcdefu), power, product;
         NTL::ZZ n = NTL::ZZ(4294967295) * 8;
         compare(key == HOUSE ? "join with 2^32 - 1 bytes, house key" : "join with 2^32 - 1 bytes, drawn key, with its test",
-                [&] { f = 5, length = 0, gfp_join_behind(key, &f, &length, 3, 4294967295), sink = f; },
+                [&] { f = 5, length = 0, gfp_join_behind(key, &f, &length, 3, whole::length_of(4294967295)), sink = f; },
                 {{"NTL PowerXMod, MulMod", [&] { PowerXMod(power, n, modulus), MulMod(product, x, power, modulus); }}});
     }
 }
@@ -104,14 +104,14 @@ static void sheets_under(uint64_t key, const std::string &whose) {
     uint64_t k, f, length, s, c;
     uint32_t outcome, page;
     std::vector<Peer> peers = {
-        {"our feed by table", [&] { f = 1, length = 0, gfp_feed_table(key, &f, &length, words, 1024, file.data(), n), sink = f; }},
+        {"our feed by table", [&] { f = 1, length = 0, whole::feed_table(key, &f, &length, words, file.data(), n), sink = f; }},
         {"C slicing by 4", [&] { sink = peer_slicing_by_4(key, 1, words, file.data(), n); }}};
     for (uint64_t size : {16, 4096}) {
         std::vector<uint8_t> sheet(GFP_SHEET_BYTES + 8 * ((n + size - 1) / size));
         std::string pages = whose + "16 MiB, pages of " + std::to_string(size) + " bytes";
-        compare("write a sheet, " + pages, [&] { sink = gfp_write_sheet(key, size, file.data(), n, sheet.data(), sheet.size()); }, peers);
-        compare("read a sheet, " + pages, [&] { sink = gfp_read_sheet(sheet.data(), sheet.size(), &k, &length, &s, &c, &f); }, peers);
-        compare("check a file, " + pages, [&] { sink = gfp_check_file(sheet.data(), sheet.size(), file.data(), n, &outcome, &page); }, peers);
+        compare("write a sheet, " + pages, [&] { sink = whole::write_sheet(key, size, file.data(), n, sheet.data(), sheet.size()); }, peers);
+        compare("read a sheet, " + pages, [&] { sink = whole::read_sheet(sheet.data(), sheet.size(), &k, &length, &s, &c, &f); }, peers);
+        compare("check a file, " + pages, [&] { sink = whole::check_file(sheet.data(), sheet.size(), file.data(), n, &outcome, &page); }, peers);
     }
 }
 
@@ -131,6 +131,7 @@ static void drawing() {
 static void feeding(const char *picture) {
     Figures house = feed_under_house_key(), drawn = feed_under_drawn_key(), both;
     feed_in_other_ways();
+    feed_unfinished();
     printf("\nFeeding under the house key, ns a byte; times as fast as C slicing by 4\n\n");
     print_table(house);
     printf("\nFeeding under a drawn key of degree 61\n\n");
