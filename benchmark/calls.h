@@ -1,5 +1,5 @@
-// The library's calls with whole bytes, in the shape that gfp.h declares: up to GFP_INTERFACE 3 lengths are in bytes, and
-// there are no used bits. So one program measures the library before and after (HEADER and BUILT in the Makefile).
+// The library's calls with whole bytes, in the shape that gfp.h declares: up to GFP_INTERFACE 3 lengths are in bytes,
+// and there are no used bits. So one program measures the library before and after (HEADER, BUILT in the Makefile).
 #ifndef CALLS_H
 #define CALLS_H
 #include "gfp.h"

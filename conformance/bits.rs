@@ -1,5 +1,6 @@
-//! Lengths in bits (document 02, wish 7): its readings; files of 0 to 40 bytes cut at every bit; every u with final bytes
-//! that are clean and dirty, in every call; the limit; places far away. Suite sheets.rs has the sheets of such files.
+//! Lengths in bits (document 02, wish 7): its readings; files of 0 to 40 bytes cut at every bit; every u, with final
+//! bytes that are clean and dirty, in every call; the limit; places far away. Suite sheets.rs has the sheets of such
+//! files.
 use crate::generator::{cleaned, Generator};
 use crate::marks::{after, ours, outcome};
 use crate::reference::{self, pack, Mark, Part};
@@ -85,13 +86,23 @@ fn limit(tally: &mut Tally) {
         tally.same(&format!("the limit, {mark:?}, {part:?}"), answer.1, number);
         tally.same(&format!("the limit, {mark:?}, {part:?}"), answer, outcome(mark, reference::feed(KEY, mark, part)));
     }
-    for (a, b, number) in [(limit, 0, 0), (limit, 1, 7), (limit - 3, 3, 0), (limit - 3, 4, 7), (0, limit, 0), (u64::MAX, 1, 7)] {
-        let (mark, other) = (Mark { fingerprint: 0x5a, bits: a }, Mark { fingerprint: 0x59, bits: b });
-        let behind = after(ours(mark), |m| m.join_behind(KEY, ours(other)));
-        let in_front = after(ours(mark), |m| m.join_in_front(KEY, ours(other)));
-        tally.same(&format!("the limit, {a} and {b} bits"), (behind.1, in_front.1), (number, number));
-        tally.same(&format!("the limit, {a} and {b} bits"), behind, outcome(mark, reference::join_behind(KEY, mark, other)));
+    for (a, b) in [(limit, 0), (limit - 3, 3), (0, limit)] {
+        joined_at_limit(tally, a, b, 0);
     }
+    for (a, b) in [(limit, 1), (limit - 3, 4), (limit + 1, 0), (0, limit + 1), (u64::MAX, 1), (1 << 63, 1 << 63)] {
+        joined_at_limit(tally, a, b, 7);
+    }
+}
+
+/// Marks of a and b bits joined, and the number.
+fn joined_at_limit(tally: &mut Tally, a: u64, b: u64, number: u32) {
+    let (mark, other) = (Mark { fingerprint: 0x5a, bits: a }, Mark { fingerprint: 0x59, bits: b });
+    let behind = after(ours(mark), |m| m.join_behind(KEY, ours(other)));
+    let in_front = after(ours(mark), |m| m.join_in_front(KEY, ours(other)));
+    let what = format!("the limit, {a} and {b} bits");
+    tally.same(&what, (behind.1, in_front.1), (number, number));
+    tally.same(&what, behind, outcome(mark, reference::join_behind(KEY, mark, other)));
+    tally.same(&what, in_front, outcome(mark, reference::join_in_front(KEY, mark, other)));
 }
 
 /// A part of as many zero bytes as the limit has, fed to the empty mark under the house key: the fingerprint is a power

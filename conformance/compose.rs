@@ -139,7 +139,8 @@ fn list(tally: &mut Tally, generator: &mut Generator) {
     let mut book = Book { key, words: reference::table(key), file, mark };
     let calls = generator.below(12);
     for _ in 0..calls {
-        let (given, number) = if generator.one_in(4) { book.bad_call(generator) } else { (book.good_call(generator), 0) };
+        let bad = generator.one_in(4);
+        let (given, number) = if bad { book.bad_call(generator) } else { (book.good_call(generator), 0) };
         tally.same(&format!("refusal in a list, key {key:#x}"), given.err().unwrap_or(0), number);
     }
     let whole = book.true_mark(&book.file);

@@ -103,10 +103,10 @@ impl Key {
     }
 
     /// The fronts of a part, at each of the lengths, with 1 to 7 used bits of the final byte.
-    fn compare_unfinished_fronts(&self, tally: &mut Tally, call: Call, start: Mark, part: &[u8], lengths: impl Iterator<Item = usize>) {
+    fn compare_unfinished_fronts(&self, tally: &mut Tally, call: Call, start: Mark, part: &[u8], lengths: &[usize]) {
         let expected = self.steps.behind_each(start.fingerprint, part);
         let mut bytes = part.to_vec();
-        for n in lengths.filter(|&n| n > 0) {
+        for &n in lengths.iter().filter(|&&n| n > 0) {
             self.compare_unfinished(tally, call, start, &mut bytes[..n], "unfinished", expected[n - 1]);
         }
     }
@@ -132,7 +132,8 @@ fn every_length(tally: &mut Tally, generator: &mut Generator, key: &Key, calls: 
     for &call in calls {
         let (start, part) = (generator.start(key.key, EVERY), generator.bytes(EVERY));
         key.compare_fronts(tally, call, start, &part, "random bytes", 0..=EVERY);
-        key.compare_unfinished_fronts(tally, call, start, &part, (0..=EVERY).step_by(9));
+        let every_ninth: Vec<usize> = (0..=EVERY).step_by(9).collect();
+        key.compare_unfinished_fronts(tally, call, start, &part, &every_ninth);
     }
 }
 
@@ -153,7 +154,7 @@ fn at_turning_lengths(tally: &mut Tally, generator: &mut Generator, key: &Key, c
             for start in [ones, generator.start(key.key, n)] {
                 key.compare_fronts(tally, call, start, &part, what, lengths.iter().copied());
             }
-            key.compare_unfinished_fronts(tally, call, ones, &part, lengths.iter().copied());
+            key.compare_unfinished_fronts(tally, call, ones, &part, &lengths);
         }
     }
 }

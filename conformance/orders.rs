@@ -196,8 +196,8 @@ fn sheets(tally: &mut Tally, long: &[u8]) {
     }
 }
 
-/// The sheet of 41 42 in a version, with the faults: letters, version, page size, total, a fingerprint, the joining, the
-/// highest byte of the length field, under the version's total without pages, under 27 bytes.
+/// The sheet of 41 42 in a version, with the faults: letters, version, page size, total, a fingerprint, the joining,
+/// the highest byte of the length field, under the version's total without pages, under 27 bytes.
 fn faulty_sheet(key: u64, version: reference::Version, fault: &dyn Fn(u32) -> bool) -> Vec<u8> {
     let head = version.head();
     let mut sheet = reference::sheet(version, GOOD, 16, b"AB");

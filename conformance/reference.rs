@@ -546,8 +546,8 @@ fn check_against(sheet: &Sheet, file: Part) -> Answer<Check> {
     Ok(changed.map_or(Check::Same, |i| Check::Page(i as u64)))
 }
 
-/// The bytes of the page that a check names: from its place to the next page's, or to the file's end. An unfinished byte
-/// counts as one.
+/// The bytes of the page that a check names: from its place to the next page's, or to the file's end. An unfinished
+/// byte counts as one.
 #[derive(Clone, Debug, PartialEq, Eq)]
 pub enum Changed {
     Same,

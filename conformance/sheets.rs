@@ -1,5 +1,6 @@
 //! Page sheets: writing; reading and checking in all versions; other versions; sheets damaged in every byte; files that
-//! stop inside a byte. The library writes version 3 alone, so sheets of versions 1 and 2 are the second implementation's.
+//! stop inside a byte. The library writes version 3 alone, so sheets of versions 1 and 2 are the second
+//! implementation's.
 use crate::generator::{cleaned, Generator};
 use crate::reference::{self, pack, Part, Version, VERSIONS};
 use crate::{feeding::turning_lengths, gfp, Tally};
@@ -73,8 +74,8 @@ fn judge_check(tally: &mut Tally, what: &str, sheet: &[u8], file: Part) {
     tally.same(&format!("range, {what}, file of {file:?}"), gfp::changed_range(sheet, file), range(sheet, file));
 }
 
-/// A sheet beside its file, and beside the file with a bit changed at each of the places, one byte and one bit shorter and
-/// longer, and with another u.
+/// A sheet beside its file, and beside the file with a bit changed at each of the places, one byte and one bit shorter
+/// and longer, and with another u.
 fn judge_files(tally: &mut Tally, what: &str, sheet: &[u8], file: Part, places: &[usize]) {
     judge(tally, &format!("as written, {what}"), sheet, file);
     for &at in places {
@@ -193,8 +194,8 @@ fn last_pages(tally: &mut Tally, generator: &mut Generator) {
     }
 }
 
-/// File sizes around no page, one and two, with random bytes and with zero bytes: whole, and with each u below 8 where the
-/// pages are short, also where the bytes are full pages.
+/// File sizes around no page, one and two, with random bytes and with zero bytes: whole, and with each u below 8 where
+/// the pages are short, also where the bytes are full pages.
 fn file_sizes(tally: &mut Tally, generator: &mut Generator) {
     for key in KEYS {
         for size in [16usize, 17, 100, 4096] {
@@ -330,15 +331,19 @@ fn with_other_numbers(tally: &mut Tally, generator: &mut Generator) {
     with_other_number(tally, 0x11b, 64, &file);
 }
 
+/// Sheets of a file, each with its version.
+type Sheets = Vec<(Version, Vec<u8>)>;
+
 /// The sheets of a file: in every version, or in version 3 where it stops inside a byte.
-fn sheets_of(key: u64, size: usize, file: Part) -> Vec<(Version, Vec<u8>)> {
+fn sheets_of(key: u64, size: usize, file: Part) -> Sheets {
     let has_one = |version: &Version| file.length() % u128::from(version.unit) == 0;
     let versions = VERSIONS.into_iter().filter(has_one);
     versions.map(|version| (version, reference::sheet(version, key, size as u64, file))).collect()
 }
 
-/// A changed file of the same length: the library tells the first page on which the two files differ, or same where it is None.
-fn first_change(tally: &mut Tally, what: &str, sheets: &[(Version, Vec<u8>)], file: Part, size: usize, page: Option<usize>) {
+/// A changed file of the same length: the library tells the first page on which the two files differ, or same where it
+/// is None.
+fn first_change(tally: &mut Tally, what: &str, sheets: &Sheets, file: Part, size: usize, page: Option<usize>) {
     let check = page.map_or(gfp::Check::Same, |i| gfp::Check::Page(i as u32));
     let end = |i: usize| (i * size + size).min(file.bytes.len()) as u64;
     let range = page.map_or(gfp::Changed::Same, |i| gfp::Changed::Bytes((i * size) as u64..end(i)));
@@ -419,8 +424,8 @@ fn sheet_of_zeros(version: Version, key: u64, size: u64, n: u64) -> Vec<u8> {
     sheet
 }
 
-/// The longest file, of zero bits, and in version 3 one that is 3 bits shorter. Its pages of 4,096 bytes, filled up, are
-/// longer than the limit of number 7, which the joining does not have.
+/// The longest file, of zero bits, and in version 3 one that is 3 bits shorter. Its pages of 4,096 bytes, filled up,
+/// are longer than the limit of number 7, which the joining does not have.
 fn longest(tally: &mut Tally) {
     let (key, size) = (gfp::HOUSE_KEY, 4096);
     let [first, second, third] = VERSIONS.map(|version| (version, reference::LIMIT));
@@ -476,8 +481,8 @@ fn lengths(tally: &mut Tally, generator: &mut Generator) {
     }
 }
 
-/// Sheets of a version with each of some numbers in the length field, under a good and bad keys and page sizes. A number
-/// past the limit gives 14 whatever the key and the page size are.
+/// Sheets of a version with each of some numbers in the length field, under a good and bad keys and page sizes. A
+/// number past the limit gives 14 whatever the key and the page size are.
 fn length_fields(tally: &mut Tally) {
     let limit = reference::LIMIT;
     let lengths = [0, 1, 15, 16, 17, 128, limit - 7, limit, limit + 1, 1 << 63, u64::MAX - 7, u64::MAX - 6, u64::MAX];
