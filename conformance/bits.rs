@@ -134,7 +134,7 @@ fn longest_parts(tally: &mut Tally) {
 
 // ---- cuts
 
-/// An accepted key with its table, and whether it is fed by the house key's words too.
+/// An accepted key with its table.
 struct Key {
     key: u64,
     words: Vec<u64>,

@@ -452,6 +452,23 @@ fn longest(tally: &mut Tally) {
     }
 }
 
+/// The longest file but 3 bits, itself: its sheet is written, and it is checked against that; so is a file with another
+/// last bit.
+fn longest_file(tally: &mut Tally) {
+    let (key, size, n) = (gfp::HOUSE_KEY, 4096, reference::LIMIT - 3);
+    let mut bytes = vec![0; reference::LIMIT_BYTES as usize];
+    let expected = sheet_of_zeros(VERSIONS[2], key, size, n);
+    let mut sheet = vec![9; expected.len()];
+    let number = gfp::write_sheet(key, size, Part { bytes: &bytes, used: 5 }, &mut sheet).err();
+    tally.same("the longest file, its sheet", (number, sheet == expected), (None, true));
+    let check = gfp::check_file(&sheet, Part { bytes: &bytes, used: 5 });
+    tally.same("the longest file, checked", check, Ok(gfp::Check::Same));
+    bytes[reference::LIMIT_BYTES as usize - 1] = 8;
+    let range = gfp::changed_range(&sheet, Part { bytes: &bytes, used: 5 });
+    let last_page = gfp::Changed::Bytes(reference::LIMIT_BYTES / size * size..reference::LIMIT_BYTES);
+    tally.same("the longest file, its last bit changed", range, Ok(last_page));
+}
+
 /// Every byte of a sheet changed, in every bit.
 fn damage<'a>(tally: &mut Tally, version: Version, key: u64, size: u64, file: impl Into<Part<'a>>) {
     let file = file.into();
@@ -596,6 +613,7 @@ pub fn run(tally: &mut Tally, rounds: u64) {
     short_sheets(tally);
     final_bytes(tally);
     longest(tally);
+    longest_file(tally);
     for version in VERSIONS {
         damage(tally, version, 0x11b, 16, b"AB");
         damage(tally, version, gfp::HOUSE_KEY, 16, b"a file of two pages and a bit more");

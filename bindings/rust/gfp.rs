@@ -106,7 +106,7 @@ pub struct Mark {
 
 /// A part of a file, a page, or a file for a sheet: its bytes, and how many bits of the final byte belong to it, 1 to
 /// 8, at that byte's high end. The low bits that are not used must be 0. A part without bytes has 8. Whole bytes become
-/// a part by themselves: `mark.feed(key, &bytes)`.
+/// a part by themselves: `mark.feed(key, &bytes)`; three bits, 010: `mark.feed(key, Part { bytes: &[0x40], used: 3 })`.
 #[derive(Clone, Copy, Debug, PartialEq, Eq)]
 pub struct Part<'a> {
     pub bytes: &'a [u8],
