@@ -288,12 +288,12 @@ end-low p w n =
     all u h = omega arith
 
 -- at most the final byte is not whole
-pub whole-near : (p : Part) → length (p .bytes) ≤ wholeBytes p + 1
-whole-near p = go (ℕ-discrete (p .used) 8)
+pub whole-range : (p : Part) → (wholeBytes p ≤ length (p .bytes)) × (length (p .bytes) ≤ wholeBytes p + 1)
+whole-range p = go (eqb (p .used) 8)
   where
-    go : Dec (p .used ≡ 8) → length (p .bytes) ≤ wholeBytes p + 1
-    go (yes e) = omega (arith, whole-all p e)
-    go (no n) = omega (arith, whole-front p n)
+    go : (b : Bool) → let w = cond b (length (p .bytes)) (length (p .bytes) - 1) in (w ≤ length (p .bytes)) × (length (p .bytes) ≤ w + 1)
+    go true = (omega arith, omega arith)
+    go false = (omega arith, omega arith)
 
 -- bytes among the whole ones: their bits are a piece of the part's
 pub whole-piece : (p : Part) (at n : ℕ) → at + n ≤ wholeBytes p → take (8 * n) (drop (8 * at) (partBits p)) ≡ bits (take n (drop at (p .bytes)))
