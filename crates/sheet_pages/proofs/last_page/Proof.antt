@@ -1,7 +1,7 @@
 -- `last_page` meets its contract: its own fingerprint, or with zeros behind it, as the version says.
 use mathlib.Core.Path.{_≡_, sym, ap, _∙_}
 use mathlib.Core.Bool.{Bool, cond}
-use Prim.Native.Nat.{ℕ, _-_, _*_, _^_, _≤_}
+use Prim.Native.Nat.{ℕ, _-_, _*_, _^_, _≤_, _<_}
 use native.Mathlib.Omega.{arith}
 use lib.ListN.{length}
 use Rattle.gf2.specs.Polynomials.{rem}
@@ -35,14 +35,35 @@ long c =
     let r = part-range (page s) .0 in
     (c .part-length .ensures ∙ omega (arith, r, s .pre .1, s .pre .2), omega (arith, r, s .pre .1))
 
+residue : (c : tie.After-fed-last) → let s = start c in c .fed-last .result < 2 ^ s .args .x .p .degree
+unfolding fingerprint
+residue c = let s = start c in residue-below (s .args .x .p) (s .pre .0 .0) _ (value (partBits (page s))) (c .fed-last .ensures)
+
 sub-with-zeros : tie.Need-sub-with-zeros
-sub-with-zeros c = ?
+sub-with-zeros c = omega (arith, long c .0, long c .1)
 
 with-zeros-requires : tie.Need-with-zeros-requires
-with-zeros-requires c κs = ?
+with-zeros-requires c κs =
+    let f = fed c in
+    let s = start f in
+    (s .pre .0 .0, residue f)
 
 returns : tie.Need-returns
-returns c = ?
+unfolding filled
+returns c =
+    let l = c .before in
+    let t = l .before in
+    let f = fed l in
+    let s = start f in
+    let p = s .args .x .p in
+    let bits = partBits (page s) in
+    let zeros = 8 * s .args .x .size - length bits in
+    let fills = sym (t .before .fills .ensures) ∙ t .if1 .taken in
+    c .with-zeros .ensures
+    ∙ ap (λ (n : ℕ). rem (key s) (f .fed-last .result * 2 ^ (8 * s .args .x .size - n))) (long l .0 ∙ sym (part-length (page s)))
+    ∙ ap (λ (g : ℕ). rem (key s) (g * 2 ^ zeros)) (f .fed-last .ensures)
+    ∙ with-zeros (monic-pos (p .degree) (p .low) (s .pre .0 .0 .2)) zeros bits
+    ∙ ap (λ (b : Bool). fingerprint (key s) (cond b (filled (8 * s .args .x .size) bits) bits)) (sym fills)
 
 returns-2 : tie.Need-returns-2
 returns-2 c =
