@@ -124,8 +124,8 @@ fn feed_looked(p: Modulus, m: Running, words: &[u64], part: &[u8], used: u32) ->
 // The same, after the test of the key: all words are tested first.
 fn feed_under(p: Modulus, m: Running, words: &[u64], part: &[u8], used: u32) -> Fed
     requires { ⌜ Opened (m .key) p ⌝ }
-    ensures { λ r. ⌜ fed r ≡ fedUnder (m .key) (firstOf (tableTests (m .key) (now (words .entry)) ++ feedTests (m .key) (markIn m) (asPart (now (part .entry)) used))
-        (markIn m) (fedMark (m .key) (markIn m) (asPart (now (part .entry)) used))) ⌝ }
+    ensures { λ r. ⌜ fed r ≡ fedUnder (m .key) (firstOf (tableTests (m .key) (now (words .entry))
+        ++ feedTests (m .key) (markIn m) (asPart (now (part .entry)) used)) (markIn m) (fedMark (m .key) (markIn m) (asPart (now (part .entry)) used))) ⌝ }
 {
     match table_tests::judge(p, words) {
         Reply::Refused(r) => Fed::Refused(r, m),
