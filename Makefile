@@ -43,14 +43,19 @@ conformance: libraries
 # Ours beside the peers, in one run; the picture of feeding goes to target/benchmark/feeding.svg. The peers are Debian packages:
 # libntl-dev libflint-dev libpari-dev golang-go golang-github-restic-chunker-dev zlib1g-dev liblzma-dev libssl-dev
 BENCHMARK = target/benchmark
+# The header and the libraries that are measured. The same program measures those of another tree:
+# make benchmark HEADER=../before/include BUILT=../before/target/staticlib
+HEADER = include
+BUILT = target/staticlib
 benchmark: libraries
 	@rt staticlib gf2_measured > /dev/null
 	@mkdir -p $(BENCHMARK)
 	@cd benchmark && GO111MODULE=off GOPATH=/usr/share/gocode go build -buildmode=c-archive -o ../$(BENCHMARK)/librestic.a restic.go
 	@gcc -O3 -c benchmark/peers.c -o $(BENCHMARK)/peers.o
 	@gcc -O3 -mpclmul -mavx -c benchmark/carryless.c -o $(BENCHMARK)/carryless.o
-	@g++ -O3 -I$(BENCHMARK) benchmark/*.cpp $(BENCHMARK)/peers.o $(BENCHMARK)/carryless.o $(LIBRARIES:%=target/staticlib/lib%.a) \
-		target/staticlib/libgf2_measured.a $(BENCHMARK)/librestic.a -lntl -lflint -lpari -lgmp -lz -llzma -lcrypto -lpthread -o $(BENCHMARK)/benchmark
+	@g++ -O3 -I$(BENCHMARK) -I$(HEADER) benchmark/*.cpp $(BENCHMARK)/peers.o $(BENCHMARK)/carryless.o \
+		$(LIBRARIES:%=$(BUILT)/lib%.a) $(BUILT)/libgf2_measured.a $(BENCHMARK)/librestic.a \
+		-lntl -lflint -lpari -lgmp -lz -llzma -lcrypto -lpthread -o $(BENCHMARK)/benchmark
 	@$(BENCHMARK)/benchmark $(BENCHMARK)/feeding.svg
 	@tools/benchmark-program
 

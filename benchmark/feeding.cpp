@@ -1,6 +1,6 @@
 #define OPENSSL_SUPPRESS_DEPRECATED
 #include "feeding.h"
-#include "../include/gfp.h"
+#include "calls.h"
 #include "measure.h"
 #include "peers.h"
 #include <algorithm>
@@ -31,21 +31,21 @@ struct Way {
 static Way by_house(const Input &in) {
     return {"gfp_feed_house", true, [&in] {
                 uint64_t f = 1, length = 0;
-                gfp_feed_house(in.key, &f, &length, in.file.data(), in.file.size()), sink = f;
+                whole::feed_house(in.key, &f, &length, in.file.data(), in.file.size()), sink = f;
             }};
 }
 
 static Way by_table(const Input &in) {
     return {"gfp_feed_table", true, [&in] {
                 uint64_t f = 1, length = 0;
-                gfp_feed_table(in.key, &f, &length, in.words.data(), in.words.size(), in.file.data(), in.file.size()), sink = f;
+                whole::feed_table(in.key, &f, &length, in.words.data(), in.file.data(), in.file.size()), sink = f;
             }};
 }
 
 static Way without_table(const Input &in) {
     return {"gfp_feed", true, [&in] {
                 uint64_t f = 1, length = 0;
-                gfp_feed(in.key, &f, &length, in.file.data(), in.file.size()), sink = f;
+                whole::feed(in.key, &f, &length, in.file.data(), in.file.size()), sink = f;
             }};
 }
 
@@ -103,15 +103,15 @@ static void same(const char *what, size_t n, uint64_t value, uint64_t ours) {
 static void check_length(const Input &in, size_t n) {
     const uint8_t *part = in.file.data() + n % 17;
     uint64_t start = (n + 1) * UINT64_C(0x9e3779b97f4a7c15) >> 3, length = 0, f = start, g = start, h = start;
-    gfp_feed_table(in.key, &f, &length, in.words.data(), in.words.size(), part, n), length = 0;
-    gfp_feed(in.key, &g, &length, part, n), length = 0;
+    whole::feed_table(in.key, &f, &length, in.words.data(), part, n), length = 0;
+    whole::feed(in.key, &g, &length, part, n), length = 0;
     same("gfp_feed", n, g, f);
     same(SLICING, n, peer_slicing_by_4(in.key, start, in.words.data(), part, n), f);
     same("C branch-free loop", n, peer_feed_bits(in.key, start, part, n), f);
     same("C loop with an if", n, peer_feed_bits_by_if(in.key, start, part, n), f);
     if (in.key != HOUSE)
         return;
-    gfp_feed_house(in.key, &h, &length, part, n);
+    whole::feed_house(in.key, &h, &length, part, n);
     same("gfp_feed_house", n, h, f);
     if (peer_carryless_runs())
         same("C carry-less", n, peer_carryless(start, part, n), f);
@@ -202,3 +202,50 @@ void feed_in_other_ways() {
     feed_alone(HOUSE, "house key", {branch_free_loop});
     feed_alone(drawn_key(), "drawn key", {branch_free_loop, loop_with_an_if});
 }
+
+#if GFP_INTERFACE < 4
+
+void feed_unfinished() {}
+
+#else
+
+using Feed = uint32_t (*)(const Input &in, uint64_t *f, uint64_t *bits, uint32_t used);
+
+static uint32_t fed_by_house(const Input &in, uint64_t *f, uint64_t *bits, uint32_t used) {
+    return gfp_feed_house(in.key, f, bits, in.file.data(), in.file.size(), used);
+}
+
+static uint32_t fed_by_table(const Input &in, uint64_t *f, uint64_t *bits, uint32_t used) {
+    return gfp_feed_table(in.key, f, bits, in.words.data(), in.words.size(), in.file.data(), in.file.size(), used);
+}
+
+static uint32_t fed_without_table(const Input &in, uint64_t *f, uint64_t *bits, uint32_t used) {
+    return gfp_feed(in.key, f, bits, in.file.data(), in.file.size(), used);
+}
+
+static Call with_used(const Input &in, Feed feed, uint32_t used) {
+    return [&in, feed, used] {
+        uint64_t f = 1, bits = 0;
+        feed(in, &f, &bits, used), sink = f;
+    };
+}
+
+// the part with u = 3 beside the same part with u = 8, and how much longer it takes
+static void compare_used(const std::string &what, const Input &in, Feed feed) {
+    std::vector<double> ns = measure({with_used(in, feed, 3), with_used(in, feed, 8)});
+    print(what + ", " + size_name(in.file.size()) + ", u = 3", ns[0], "the same, u = 8", ns[1]);
+    printf("%-52s      %11.1f ns more\n", "", ns[0] - ns[1]);
+}
+
+void feed_unfinished() {
+    for (size_t n : {size_t(64), size_t(4096), size_t(65536)}) {
+        Input house(HOUSE, n), drawn(drawn_key(), n);
+        house.file.back() &= 0xe0, drawn.file.back() &= 0xe0;
+        compare_used("gfp_feed_house, house key", house, fed_by_house);
+        compare_used("gfp_feed_table, house key", house, fed_by_table);
+        compare_used("gfp_feed, house key", house, fed_without_table);
+        compare_used("gfp_feed_table, drawn key", drawn, fed_by_table);
+    }
+}
+
+#endif

@@ -1,5 +1,5 @@
 // Ours beside the peers, in one run: each line gives both times and how many times as fast ours is. Built and run by `make benchmark`.
-#include "../include/gfp.h"
+#include "calls.h"
 #include "feeding.h"
 #include "librestic.h"
 #include "measure.h"
@@ -70,11 +70,12 @@ static void tables() {
 static void joining() {
     for (uint64_t key : {HOUSE, drawn_key()}) {
         uint64_t f, length;
+        const uint64_t longest = whole::length_of(4294967295);
         NTL::GF2XModulus modulus(polynomial(key));
         NTL::GF2X x = polynomial(0x1234567890abcdefu), power, product;
         NTL::ZZ n = NTL::ZZ(4294967295) * 8;
         compare(key == HOUSE ? "join with 2^32 - 1 bytes, house key" : "join with 2^32 - 1 bytes, drawn key, with its test",
-                [&] { f = 5, length = 0, gfp_join_behind(key, &f, &length, 3, 4294967295), sink = f; },
+                [&] { f = 5, length = 0, gfp_join_behind(key, &f, &length, 3, longest), sink = f; },
                 {{"NTL PowerXMod, MulMod", [&] { PowerXMod(power, n, modulus), MulMod(product, x, power, modulus); }}});
     }
 }
@@ -101,17 +102,21 @@ static void sheets_under(uint64_t key, const std::string &whose) {
     std::vector<uint8_t> file = random_bytes(n);
     static uint64_t words[1024];
     gfp_make_table(key, words, 1024);
+    const uint8_t *part = file.data();
     uint64_t k, f, length, s, c;
     uint32_t outcome, page;
     std::vector<Peer> peers = {
-        {"our feed by table", [&] { f = 1, length = 0, gfp_feed_table(key, &f, &length, words, 1024, file.data(), n), sink = f; }},
-        {"C slicing by 4", [&] { sink = peer_slicing_by_4(key, 1, words, file.data(), n); }}};
+        {"our feed by table",
+         [&] { f = 1, length = 0, whole::feed_table(key, &f, &length, words, part, n), sink = f; }},
+        {"C slicing by 4", [&] { sink = peer_slicing_by_4(key, 1, words, part, n); }}};
     for (uint64_t size : {16, 4096}) {
         std::vector<uint8_t> sheet(GFP_SHEET_BYTES + 8 * ((n + size - 1) / size));
         std::string pages = whose + "16 MiB, pages of " + std::to_string(size) + " bytes";
-        compare("write a sheet, " + pages, [&] { sink = gfp_write_sheet(key, size, file.data(), n, sheet.data(), sheet.size()); }, peers);
-        compare("read a sheet, " + pages, [&] { sink = gfp_read_sheet(sheet.data(), sheet.size(), &k, &length, &s, &c, &f); }, peers);
-        compare("check a file, " + pages, [&] { sink = gfp_check_file(sheet.data(), sheet.size(), file.data(), n, &outcome, &page); }, peers);
+        uint8_t *lent = sheet.data();
+        size_t m = sheet.size();
+        compare("write a sheet, " + pages, [&] { sink = whole::write_sheet(key, size, part, n, lent, m); }, peers);
+        compare("read a sheet, " + pages, [&] { sink = whole::read_sheet(lent, m, &k, &length, &s, &c, &f); }, peers);
+        compare("check a file, " + pages, [&] { sink = whole::check_file(lent, m, part, n, &outcome, &page); }, peers);
     }
 }
 
@@ -131,6 +136,7 @@ static void drawing() {
 static void feeding(const char *picture) {
     Figures house = feed_under_house_key(), drawn = feed_under_drawn_key(), both;
     feed_in_other_ways();
+    feed_unfinished();
     printf("\nFeeding under the house key, ns a byte; times as fast as C slicing by 4\n\n");
     print_table(house);
     printf("\nFeeding under a drawn key of degree 61\n\n");

@@ -1,5 +1,5 @@
 #include "measure.h"
-#include "../include/gfp.h"
+#include "gfp.h"
 #include <algorithm>
 #include <chrono>
 #include <cstdio>

@@ -1,5 +1,32 @@
 //! Joining and page change, singly, and lists of calls beside the plain book of document 01.
-use crate::{generator::Generator, gfp, marks::{after, ours, outcome}, reference, Tally};
+use crate::{generator::Generator, gfp, marks::{after, ours, outcome}, reference::{self, pack, Part}, Tally};
+
+/// The place of a page: random, or beside the last one at which the page fits.
+fn place(generator: &mut Generator, mark: reference::Mark, old: Part) -> u64 {
+    let last = mark.bits.wrapping_sub(old.length() as u64) / 8;
+    match generator.below(9) {
+        0 => u64::MAX,
+        1 => generator.next(),
+        2 => last,
+        3 => last.wrapping_add(1),
+        4 => [1 << 61, (1 << 61) + 1, 1 << 62, (1 << 61) - 1][generator.below(4) as usize],
+        _ => generator.below(mark.bits.max(8) / 8),
+    }
+}
+
+fn page_change(tally: &mut Tally, generator: &mut Generator, key: u64, mark: reference::Mark) {
+    let (n, old_used) = (generator.below(30) as usize, generator.used());
+    let m = if generator.one_in(6) { generator.below(30) as usize } else { n };
+    let new_used = if generator.one_in(4) { generator.used() } else { old_used };
+    let (old, new) = (generator.bytes_used(n, old_used), generator.bytes_used(m, new_used));
+    let (old, new) = (Part { bytes: &old, used: old_used }, Part { bytes: &new, used: new_used });
+    let place = place(generator, mark, old);
+    tally.same(
+        &format!("replace page at {place}, {old:?} by {new:?}, key {key:#x}, mark {mark:?}"),
+        after(ours(mark), |m| m.replace_page(key, place, old, new)),
+        outcome(mark, reference::replace_page(key, mark, place, old, new)),
+    );
+}
 
 /// One call of each kind on random input, good and bad.
 fn calls(tally: &mut Tally, generator: &mut Generator) {
@@ -17,96 +44,114 @@ fn calls(tally: &mut Tally, generator: &mut Generator) {
         after(ours(mark), |m| m.join_in_front(key, ours(other))),
         outcome(mark, reference::join_in_front(key, mark, other)),
     );
-    let old = {
-        let n = generator.below(30) as usize;
-        generator.bytes(n)
-    };
-    let new = {
-        let n = if generator.one_in(6) { generator.below(30) as usize } else { old.len() };
-        generator.bytes(n)
-    };
-    let place = match generator.below(8) {
-        0 => u64::MAX,
-        1 => generator.next(),
-        2 => mark.length.wrapping_sub(old.len() as u64),
-        3 => mark.length.wrapping_sub(old.len() as u64).wrapping_add(1),
-        _ => generator.below(mark.length.max(1)),
-    };
-    tally.same(
-        &format!("replace page at {place}, {} by {} bytes, {what}", old.len(), new.len()),
-        after(ours(mark), |m| m.replace_page(key, place, &old, &new)),
-        outcome(mark, reference::replace_page(key, mark, place, &old, &new)),
-    );
+    page_change(tally, generator, key, mark);
 }
 
-/// The book: it holds a file, is told the calls and sees no mark. Refused calls leave the file.
-fn list(tally: &mut Tally, generator: &mut Generator) {
-    let k = generator.degree();
-    let key = generator.accepted(k);
-    let words = reference::table(key);
-    let mut file = {
-        let n = generator.below(20) as usize;
-        generator.bytes(n)
-    };
-    let mut mark = gfp::Mark { fingerprint: reference::fingerprint(key, &file), length: file.len() as u64 };
-    let calls = generator.below(12);
-    for _ in 0..calls {
-        let n = generator.below(24) as usize;
-        let part = generator.bytes(n);
-        let part_mark = gfp::Mark { fingerprint: reference::fingerprint(key, &part), length: n as u64 };
-        let bad = generator.one_in(4);
-        let (number, expected) = match generator.below(5) {
+/// The book: it holds a file as a string of bits, is told the calls and sees no mark. Refused calls leave the file.
+struct Book {
+    key: u64,
+    words: Vec<u64>,
+    file: Vec<bool>,
+    mark: gfp::Mark,
+}
+
+impl Book {
+    fn true_mark(&self, bits: &[bool]) -> gfp::Mark {
+        ours(reference::mark_of(self.key, pack(bits).part()))
+    }
+
+    /// A call that is not refused.
+    fn good_call(&mut self, generator: &mut Generator) -> Result<(), u32> {
+        let bits = bits(generator, 200);
+        let (packed, part_mark, key) = (pack(&bits), self.true_mark(&bits), self.key);
+        match generator.below(5) {
             0 => {
-                file.extend(&part);
-                (mark.feed(key, &part).err().unwrap_or(0), 0)
+                self.file.extend(&bits);
+                self.mark.feed(key, packed.part())
             }
-            1 if bad => {
+            1 => {
+                self.file.extend(&bits);
+                self.mark.feed_table(key, &self.words, packed.part())
+            }
+            2 => {
+                self.file.extend(&bits);
+                self.mark.join_behind(key, part_mark)
+            }
+            3 => {
+                self.file.splice(0..0, bits);
+                self.mark.join_in_front(key, part_mark)
+            }
+            _ => self.page_change(generator, &bits),
+        }
+    }
+
+    /// The first of the bits, as many as fit, stand from some byte of the file on.
+    fn page_change(&mut self, generator: &mut Generator, bits: &[bool]) -> Result<(), u32> {
+        let size = bits.len().min(self.file.len());
+        let place = generator.below((self.file.len() - size) as u64 / 8 + 1) as usize;
+        let page = &mut self.file[8 * place..8 * place + size];
+        let old = pack(page);
+        page.copy_from_slice(&bits[..size]);
+        self.mark.replace_page(self.key, place as u64, old.part(), pack(&bits[..size]).part())
+    }
+
+    /// A call that is refused, and its number; a damaged table may be right all the same.
+    fn bad_call(&mut self, generator: &mut Generator) -> (Result<(), u32>, u32) {
+        let bits = bits(generator, 200);
+        let (packed, key) = (pack(&bits), self.key);
+        let dirty = Part { bytes: &[0xff], used: 1 + generator.below(7) as u32 };
+        match generator.below(5) {
+            0 => (self.mark.feed(key, dirty), 19),
+            1 => {
                 let damaged = generator.table(key);
                 let number = reference::test_table(key, &damaged).err().unwrap_or(0);
                 if number == 0 {
-                    file.extend(&part);
+                    self.file.extend(&bits);
                 }
-                (mark.feed_table(key, &damaged, &part).err().unwrap_or(0), number)
-            }
-            1 => {
-                file.extend(&part);
-                (mark.feed_table(key, &words, &part).err().unwrap_or(0), 0)
-            }
-            2 | 3 if bad => {
-                let other = gfp::Mark { fingerprint: 1 << k, length: n as u64 };
-                (mark.join_behind(key, other).err().unwrap_or(0), 8)
+                (self.mark.feed_table(key, &damaged, packed.part()), number)
             }
             2 => {
-                file.extend(&part);
-                (mark.join_behind(key, part_mark).err().unwrap_or(0), 0)
+                let unreduced = gfp::Mark { fingerprint: 1 << reference::degree(key), bits: bits.len() as u64 };
+                (self.mark.join_behind(key, unreduced), 8)
             }
             3 => {
-                file.splice(0..0, part.iter().copied());
-                (mark.join_in_front(key, part_mark).err().unwrap_or(0), 0)
-            }
-            _ if bad => {
-                let place = file.len() as u64 + 1;
-                (mark.replace_page(key, place, &part, &part).err().unwrap_or(0), 10)
+                let place = reference::bytes_for(self.file.len() as u64) + 1;
+                (self.mark.replace_page(key, place, packed.part(), packed.part()), 10)
             }
             _ => {
-                let size = n.min(file.len());
-                let place = generator.below((file.len() - size) as u64 + 1) as usize;
-                let old = file[place..place + size].to_vec();
-                file[place..place + size].copy_from_slice(&part[..size]);
-                (mark.replace_page(key, place as u64, &old, &part[..size]).err().unwrap_or(0), 0)
+                let number = if (self.file.len() as u128) < dirty.length() { 10 } else { 19 };
+                (self.mark.replace_page(key, 0, dirty, dirty), number)
             }
-        };
-        tally.same(&format!("refusal in a list, key {key:#x}"), number, expected);
+        }
     }
-    let whole = gfp::Mark { fingerprint: reference::fingerprint(key, &file), length: file.len() as u64 };
-    tally.same(&format!("mark after a list of {calls} calls, key {key:#x}"), mark, whole);
+}
+
+/// A random string of fewer bits than n.
+fn bits(generator: &mut Generator, n: u64) -> Vec<bool> {
+    (0..generator.below(n)).map(|_| generator.one_in(2)).collect()
+}
+
+fn list(tally: &mut Tally, generator: &mut Generator) {
+    let k = generator.degree();
+    let key = generator.accepted(k);
+    let file = bits(generator, 160);
+    let mark = ours(reference::mark_of(key, pack(&file).part()));
+    let mut book = Book { key, words: reference::table(key), file, mark };
+    let calls = generator.below(12);
+    for _ in 0..calls {
+        let bad = generator.one_in(4);
+        let (given, number) = if bad { book.bad_call(generator) } else { (book.good_call(generator), 0) };
+        tally.same(&format!("refusal in a list, key {key:#x}"), given.err().unwrap_or(0), number);
+    }
+    let whole = book.true_mark(&book.file);
+    tally.same(&format!("mark after a list of {calls} calls, key {key:#x}"), book.mark, whole);
 }
 
 pub fn run(tally: &mut Tally, rounds: u64) {
     let mut generator = Generator::new(5);
-    let mut joined = gfp::Mark { fingerprint: 0x5a, length: 1 };
-    let number = joined.join_behind(0x11b, gfp::Mark { fingerprint: 0x59, length: 1 });
-    tally.same("reading, 5a and 59 joined", (number, joined), (Ok(()), gfp::Mark { fingerprint: 0x9d, length: 2 }));
+    let mut joined = gfp::Mark { fingerprint: 0x5a, bits: 8 };
+    let number = joined.join_behind(0x11b, gfp::Mark { fingerprint: 0x59, bits: 8 });
+    tally.same("reading, 5a and 59 joined", (number, joined), (Ok(()), gfp::Mark { fingerprint: 0x9d, bits: 16 }));
     for _ in 0..rounds * 3000 {
         calls(tally, &mut generator);
     }

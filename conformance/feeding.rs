@@ -1,7 +1,10 @@
 //! Feeding at every length. The library may go another way for another key, call or length of the part; here every such change is crossed:
 //! parts of every length up to 10,000, files up to 1 MiB cut at random, parts at every offset from an aligned address, and parts of equal bytes
 //! and of a single bit around the lengths at which a way may change. What is expected is the second implementation's, one byte after another.
-use crate::{generator::Generator, gfp, marks::{after, ours}, reference::{self, ByteSteps, Mark}, Tally};
+//! At the lengths at which a way may change, and at every ninth, the final byte also has less than 8 used bits. Suite
+//! bits.rs cuts at every bit.
+use crate::{generator::{cleaned, Generator}, gfp, marks::{after, ours}, Tally};
+use crate::reference::{self, ByteSteps, Mark, Part};
 use std::{collections::BTreeSet, fmt::Display};
 
 /// Parts up to this length are fed at every length.
@@ -60,15 +63,35 @@ impl Key {
     }
 
     /// One call: the mark that it leaves has the expected fingerprint, and the part's length is added.
-    fn compare(&self, tally: &mut Tally, call: Call, start: Mark, part: &[u8], what: impl Display, fingerprint: u64) {
+    fn compare<'a>(
+        &self,
+        tally: &mut Tally,
+        call: Call,
+        start: Mark,
+        part: impl Into<Part<'a>>,
+        what: impl Display,
+        fingerprint: u64,
+    ) {
+        let part = part.into();
         let given = after(ours(start), |m| match call {
             Feed => m.feed(self.key, part),
             FeedTable => m.feed_table(self.key, &self.words, part),
             FeedHouse => m.feed_house(self.key, part),
         });
-        let expected = gfp::Mark { fingerprint, length: start.length + part.len() as u64 };
-        let name = format_args!("{call:?}, key {:#x}, start {start:?}, {what}, part of {} bytes", self.key, part.len());
+        let expected = gfp::Mark { fingerprint, bits: start.bits + part.length() as u64 };
+        let name = format_args!("{call:?}, key {:#x}, start {start:?}, {what}, part of {part:?}", self.key);
         tally.same(name, given, (expected, 0));
+    }
+
+    /// A part with 1 to 7 used bits of the final byte, of which the others are 0 in the call; `before` is the residue
+    /// behind all bytes but that one.
+    fn compare_unfinished(&self, tally: &mut Tally, call: Call, start: Mark, part: &mut [u8], what: &str, before: u64) {
+        let (used, end) = (1 + part.len() as u32 % 7, part.len() - 1);
+        let whole = part[end];
+        part[end] = cleaned(vec![whole], used)[0];
+        let fingerprint = reference::divide(self.key, before, Part { bytes: &part[end..], used }.bits());
+        self.compare(tally, call, start, Part { bytes: part, used }, what, fingerprint);
+        part[end] = whole;
     }
 
     /// The fronts of a part, at each of the lengths.
@@ -76,6 +99,15 @@ impl Key {
         let expected = self.steps.behind_each(start.fingerprint, part);
         for n in lengths {
             self.compare(tally, call, start, &part[..n], what, expected[n]);
+        }
+    }
+
+    /// The fronts of a part, at each of the lengths, with 1 to 7 used bits of the final byte.
+    fn compare_unfinished_fronts(&self, tally: &mut Tally, call: Call, start: Mark, part: &[u8], lengths: &[usize]) {
+        let expected = self.steps.behind_each(start.fingerprint, part);
+        let mut bytes = part.to_vec();
+        for &n in lengths.iter().filter(|&&n| n > 0) {
+            self.compare_unfinished(tally, call, start, &mut bytes[..n], "unfinished", expected[n - 1]);
         }
     }
 }
@@ -100,6 +132,8 @@ fn every_length(tally: &mut Tally, generator: &mut Generator, key: &Key, calls: 
     for &call in calls {
         let (start, part) = (generator.start(key.key, EVERY), generator.bytes(EVERY));
         key.compare_fronts(tally, call, start, &part, "random bytes", 0..=EVERY);
+        let every_ninth: Vec<usize> = (0..=EVERY).step_by(9).collect();
+        key.compare_unfinished_fronts(tally, call, start, &part, &every_ninth);
     }
 }
 
@@ -114,12 +148,13 @@ fn random_lengths(tally: &mut Tally, generator: &mut Generator, key: &Key) {
 fn at_turning_lengths(tally: &mut Tally, generator: &mut Generator, key: &Key, calls: &[Call], longest: usize) {
     let lengths = turning_lengths(longest);
     let n = lengths.last().copied().unwrap_or(0);
-    let ones = Mark { fingerprint: (1 << reference::degree(key.key)) - 1, length: reference::LIMIT - n as u64 };
+    let ones = Mark { fingerprint: (1 << reference::degree(key.key)) - 1, bits: reference::LIMIT - 8 * n as u64 };
     for (what, part) in [("zero bytes", vec![0; n]), ("bytes of ones", vec![0xff; n]), ("random bytes", generator.bytes(n))] {
         for &call in calls {
             for start in [ones, generator.start(key.key, n)] {
                 key.compare_fronts(tally, call, start, &part, what, lengths.iter().copied());
             }
+            key.compare_unfinished_fronts(tally, call, ones, &part, &lengths);
         }
     }
 }
@@ -184,7 +219,7 @@ fn random_cuts(tally: &mut Tally, generator: &mut Generator, key: &Key) {
     while at < size {
         let n = next_length(generator, size - at);
         let call = key.calls()[generator.below(key.calls().len() as u64) as usize];
-        let mark = Mark { fingerprint: expected[at], length: start.length + at as u64 };
+        let mark = Mark { fingerprint: expected[at], bits: start.bits + 8 * at as u64 };
         let what = format_args!("from byte {at} of a file of {size} bytes");
         key.compare(tally, call, mark, &file[at..at + n], what, expected[at + n]);
         at += n;

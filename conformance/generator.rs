@@ -1,6 +1,14 @@
 //! Pseudo-random inputs (xorshift), and the edges of each kind of input.
 use crate::reference;
 
+/// The bytes with the unused low bits of the final one set to 0. Of a u outside 1 to 8 none is unused.
+pub fn cleaned(mut bytes: Vec<u8>, used: u32) -> Vec<u8> {
+    if let (Some(last), 1..=8) = (bytes.last_mut(), used) {
+        *last &= !(0xff_u32 >> used) as u8;
+    }
+    bytes
+}
+
 pub struct Generator(u64);
 
 impl Generator {
@@ -79,21 +87,38 @@ impl Generator {
             1 => 1 << width.min(63),
             _ => self.next() & ((1 << width.min(63)) - 1),
         };
-        let length = match self.below(10) {
+        let bits = match self.below(10) {
             0 => self.next(),
             1 => reference::LIMIT,
-            2 => reference::LIMIT - self.below(100),
+            2 => reference::LIMIT - self.below(800),
             3 => reference::LIMIT + 1,
             4 => u64::MAX,
-            _ => self.below(100_000),
+            5 => self.below(300),
+            _ => self.below(800_000),
         };
-        reference::Mark { fingerprint, length }
+        reference::Mark { fingerprint, bits }
     }
 
     /// A mark under an accepted key to which up to n bytes can be fed.
     pub fn start(&mut self, key: u64, n: usize) -> reference::Mark {
         let fingerprint = self.below(1 << reference::degree(key));
-        reference::Mark { fingerprint, length: self.below(reference::LIMIT - n as u64 + 1) }
+        reference::Mark { fingerprint, bits: self.below(reference::LIMIT - 8 * n as u64 + 1) }
+    }
+
+    /// The used bits of a final byte: mostly 8 or 1 to 7, sometimes a number outside.
+    pub fn used(&mut self) -> u32 {
+        match self.below(20) {
+            0 => [0, 9, 16, 1 << 31, u32::MAX][self.below(5) as usize],
+            1 => self.next() as u32,
+            2..=9 => 8,
+            _ => 1 + self.below(8) as u32,
+        }
+    }
+
+    /// Random bytes whose final one has u used bits: mostly the others are 0.
+    pub fn bytes_used(&mut self, n: usize, used: u32) -> Vec<u8> {
+        let bytes = self.bytes(n);
+        if self.one_in(10) { bytes } else { cleaned(bytes, used) }
     }
 
     /// A table under a key: mostly right, sometimes of another size or with one bit changed.

@@ -12,7 +12,8 @@
 #define KEY UINT64_C(0x11b)
 #define SMALL UINT64_C(0xff)
 #define REDUCIBLE UINT64_C(0x101)
-#define LONGEST UINT64_C(4294967295)
+#define LONGEST UINT64_C(34359738360) /* in bits */
+#define LONGEST_BYTES UINT64_C(4294967295)
 #define NONE UINT64_C(0x1234567812345678)
 #define NONE32 UINT32_C(0x12345678)
 
@@ -29,13 +30,15 @@ static void same(const char *what, uint64_t ours, uint64_t expected) {
 
 /* the number, and what a mark's places hold afterwards */
 static void marked(const char *what, uint32_t number, uint32_t expected, const uint64_t *fingerprint,
-                   const uint64_t *length, uint64_t fingerprint_after, uint64_t length_after) {
+                   const uint64_t *bits, uint64_t fingerprint_after, uint64_t bits_after) {
     same(what, number, expected);
     same(what, *fingerprint, fingerprint_after);
-    same(what, *length, length_after);
+    same(what, *bits, bits_after);
 }
 
 static const uint8_t AB[2] = {0x41, 0x42}, CD[2] = {0x43, 0x44};
+/* a final byte with 3 used bits, and another */
+static const uint8_t UNFINISHED[2] = {0x41, 0x40}, OTHER[2] = {0x41, 0xa0};
 static uint64_t words[GFP_TABLE_WORDS];
 static const uint8_t *too_long; /* 4,294,967,296 bytes, of which none is touched */
 static const size_t TOO_LONG = (size_t)1 << 32;
@@ -88,51 +91,88 @@ static void keys_and_tables(void) {
 }
 
 /* the three ways of feeding, by number */
-static uint32_t fed(int way, uint64_t key, uint64_t *f, uint64_t *n, const uint8_t *part, size_t part_length) {
+static uint32_t fed(int way, uint64_t key, uint64_t *f, uint64_t *n, const uint8_t *part, size_t part_length,
+                    uint32_t used) {
     switch (way) {
     case 0:
-        return gfp_feed(key, f, n, part, part_length);
+        return gfp_feed(key, f, n, part, part_length, used);
     case 1:
-        return gfp_feed_table(key, f, n, words, GFP_TABLE_WORDS, part, part_length);
+        return gfp_feed_table(key, f, n, words, GFP_TABLE_WORDS, part, part_length, used);
     default:
-        return gfp_feed_house(key, f, n, part, part_length);
+        return gfp_feed_house(key, f, n, part, part_length, used);
     }
 }
 
+static const char *const WAYS[3] = {"feed", "feed_table", "feed_house"};
+
 static void feeding(void) {
-    static const char *const NAMES[3] = {"feed", "feed_table", "feed_house"};
     static uint64_t damaged[GFP_TABLE_WORDS];
     uint64_t f, n;
     int way;
     for (way = 0; way < 3; way++) {
         const uint64_t key = way == 2 ? GFP_HOUSE_KEY : KEY, above = UINT64_C(1) << (way == 2 ? 61 : 8);
         f = 1, n = 0;
-        marked(NAMES[way], fed(way, key, &f, &n, AB, 2), GFP_OK, &f, &n, way == 2 ? 0x14142 : 0x9d, 2);
-        marked(NAMES[way], fed(way, key, &f, &n, AB, 0), GFP_OK, &f, &n, way == 2 ? 0x14142 : 0x9d, 2);
+        marked(WAYS[way], fed(way, key, &f, &n, AB, 2, 8), GFP_OK, &f, &n, way == 2 ? 0x14142 : 0x9d, 16);
+        marked(WAYS[way], fed(way, key, &f, &n, AB, 0, 8), GFP_OK, &f, &n, way == 2 ? 0x14142 : 0x9d, 16);
         f = 5, n = 6;
-        marked(NAMES[way], fed(way, SMALL, &f, &n, AB, 2), GFP_KEY_BELOW_256, &f, &n, 5, 6);
-        marked(NAMES[way], fed(way, REDUCIBLE, &f, &n, AB, 2), GFP_KEY_REDUCIBLE, &f, &n, 5, 6);
-        marked(NAMES[way], fed(way, key, &f, &n, too_long, TOO_LONG), GFP_TOO_LONG, &f, &n, 5, 6);
+        marked(WAYS[way], fed(way, SMALL, &f, &n, AB, 2, 8), GFP_KEY_BELOW_256, &f, &n, 5, 6);
+        marked(WAYS[way], fed(way, REDUCIBLE, &f, &n, AB, 2, 8), GFP_KEY_REDUCIBLE, &f, &n, 5, 6);
+        marked(WAYS[way], fed(way, key, &f, &n, too_long, TOO_LONG, 8), GFP_TOO_LONG, &f, &n, 5, 6);
+        marked(WAYS[way], fed(way, key, &f, &n, too_long, TOO_LONG, 1), GFP_TOO_LONG, &f, &n, 5, 6);
         n = LONGEST;
-        marked(NAMES[way], fed(way, key, &f, &n, AB, 1), GFP_TOO_LONG, &f, &n, 5, LONGEST);
+        marked(WAYS[way], fed(way, key, &f, &n, AB, 1, 8), GFP_TOO_LONG, &f, &n, 5, LONGEST);
+        marked(WAYS[way], fed(way, key, &f, &n, UNFINISHED + 1, 1, 2), GFP_TOO_LONG, &f, &n, 5, LONGEST);
         f = above, n = 6;
-        marked(NAMES[way], fed(way, key, &f, &n, AB, 2), GFP_MARK_NOT_REDUCED, &f, &n, above, 6);
+        marked(WAYS[way], fed(way, key, &f, &n, AB, 2, 8), GFP_MARK_NOT_REDUCED, &f, &n, above, 6);
     }
     f = 5, n = 6;
     memcpy(damaged, words, sizeof damaged);
     damaged[700] ^= 1;
-    marked("feed_table", gfp_feed_table(KEY, &f, &n, words, 1023, AB, 2), GFP_TABLE_SIZE, &f, &n, 5, 6);
-    marked("feed_table", gfp_feed_table(KEY, &f, &n, damaged, GFP_TABLE_WORDS, AB, 2), GFP_TABLE_WORD, &f, &n, 5, 6);
-    marked("feed_house", gfp_feed_house(KEY, &f, &n, AB, 2), GFP_TABLE_WORD, &f, &n, 5, 6);
+    marked("feed_table", gfp_feed_table(KEY, &f, &n, words, 1023, AB, 2, 8), GFP_TABLE_SIZE, &f, &n, 5, 6);
+    marked("feed_table", gfp_feed_table(KEY, &f, &n, damaged, GFP_TABLE_WORDS, AB, 2, 8), GFP_TABLE_WORD, &f, &n, 5, 6);
+    marked("feed_house", gfp_feed_house(KEY, &f, &n, AB, 2, 8), GFP_TABLE_WORD, &f, &n, 5, 6);
+}
+
+/* parts that stop inside a byte, and each wrong final byte */
+static void unfinished_parts(void) {
+    static const uint8_t REST[2] = {0x0a, 0x10};
+    uint64_t f, n;
+    int way;
+    for (way = 0; way < 3; way++) {
+        const uint64_t key = way == 2 ? GFP_HOUSE_KEY : KEY;
+        f = 1, n = 0;
+        marked(WAYS[way], fed(way, key, &f, &n, UNFINISHED, 2, 3), GFP_OK, &f, &n, way == 2 ? 0xa0a : 0xe4, 11);
+        f = 1, n = 0;
+        marked(WAYS[way], fed(way, key, &f, &n, UNFINISHED + 1, 1, 3), GFP_OK, &f, &n, 0x0a, 3);
+        marked(WAYS[way], fed(way, key, &f, &n, REST, 2, 5), GFP_OK, &f, &n, way == 2 ? 0x14142 : 0x9d, 16);
+        f = 5, n = 6;
+        marked(WAYS[way], fed(way, key, &f, &n, AB, 2, 0), GFP_FINAL_BYTE, &f, &n, 5, 6);
+        marked(WAYS[way], fed(way, key, &f, &n, AB, 2, 9), GFP_FINAL_BYTE, &f, &n, 5, 6);
+        marked(WAYS[way], fed(way, key, &f, &n, AB, 2, UINT32_MAX), GFP_FINAL_BYTE, &f, &n, 5, 6);
+        marked(WAYS[way], fed(way, key, &f, &n, AB, 2, 6), GFP_FINAL_BYTE, &f, &n, 5, 6);
+        marked(WAYS[way], fed(way, key, &f, &n, AB, 0, 7), GFP_FINAL_BYTE, &f, &n, 5, 6);
+        /* in a length 0 and 9 count as 8 */
+        n = LONGEST - 7;
+        marked(WAYS[way], fed(way, key, &f, &n, AB, 1, 0), GFP_TOO_LONG, &f, &n, 5, LONGEST - 7);
+        marked(WAYS[way], fed(way, key, &f, &n, AB, 1, 9), GFP_TOO_LONG, &f, &n, 5, LONGEST - 7);
+        marked(WAYS[way], fed(way, key, &f, &n, AB, 1, 7), GFP_FINAL_BYTE, &f, &n, 5, LONGEST - 7);
+    }
 }
 
 /* ---- Site */
 
 static void joining(void) {
-    uint64_t f = 0x5a, n = 1;
-    marked("join_behind", gfp_join_behind(KEY, &f, &n, 0x59, 1), GFP_OK, &f, &n, 0x9d, 2);
-    f = 0x59, n = 1;
-    marked("join_in_front", gfp_join_in_front(KEY, &f, &n, 0x5a, 1), GFP_OK, &f, &n, 0x9d, 2);
+    uint64_t f = 0x5a, n = 8;
+    marked("join_behind", gfp_join_behind(KEY, &f, &n, 0x59, 8), GFP_OK, &f, &n, 0x9d, 16);
+    f = 0x59, n = 8;
+    marked("join_in_front", gfp_join_in_front(KEY, &f, &n, 0x5a, 8), GFP_OK, &f, &n, 0x9d, 16);
+    f = 0x0a, n = 3;
+    marked("join_behind", gfp_join_behind(KEY, &f, &n, 0x14, 13), GFP_OK, &f, &n, 0x9d, 16);
+    f = 0x14, n = 13;
+    marked("join_in_front", gfp_join_in_front(KEY, &f, &n, 0x0a, 3), GFP_OK, &f, &n, 0x9d, 16);
+    f = 5, n = LONGEST;
+    marked("join_behind", gfp_join_behind(KEY, &f, &n, 1, 0), GFP_OK, &f, &n, 5, LONGEST);
+    marked("join_behind", gfp_join_behind(KEY, &f, &n, 1, 1), GFP_TOO_LONG, &f, &n, 5, LONGEST);
     f = 5, n = 6;
     marked("join_behind", gfp_join_behind(SMALL, &f, &n, 1, 1), GFP_KEY_BELOW_256, &f, &n, 5, 6);
     marked("join_behind", gfp_join_behind(REDUCIBLE, &f, &n, 1, 1), GFP_KEY_REDUCIBLE, &f, &n, 5, 6);
@@ -144,20 +184,56 @@ static void joining(void) {
     marked("join_in_front", gfp_join_in_front(KEY, &f, &n, 0x100, 1), GFP_MARK_NOT_REDUCED, &f, &n, 5, 6);
 }
 
+static uint64_t page_f, page_n;
+
+/* a call of gfp_replace_page with pages of one length in bytes, its number, and the fingerprint after it */
+static void replaced(uint64_t key, uint64_t place, const uint8_t *old_page, uint32_t old_used, const uint8_t *new_page,
+                     uint32_t new_used, size_t length, uint32_t expected, uint64_t after) {
+    const uint64_t bits = page_n;
+    const uint32_t number = gfp_replace_page(key, &page_f, &page_n, place, old_page, length, old_used, new_page, length,
+                                             new_used);
+    marked("replace_page", number, expected, &page_f, &page_n, after, bits);
+}
+
 static void page_change(void) {
-    uint64_t f = 0x9d, n = 2, whole = 1, zero = 0;
-    same("feed", gfp_feed(KEY, &whole, &zero, CD, 2), GFP_OK);
-    marked("replace_page", gfp_replace_page(KEY, &f, &n, 0, AB, 2, CD, 2), GFP_OK, &f, &n, whole, 2);
-    f = 5, n = 6;
-    marked("replace_page", gfp_replace_page(SMALL, &f, &n, 0, AB, 2, CD, 2), GFP_KEY_BELOW_256, &f, &n, 5, 6);
-    marked("replace_page", gfp_replace_page(REDUCIBLE, &f, &n, 0, AB, 2, CD, 2), GFP_KEY_REDUCIBLE, &f, &n, 5, 6);
-    marked("replace_page", gfp_replace_page(KEY, &f, &n, 0, too_long, TOO_LONG, CD, 2), GFP_TOO_LONG, &f, &n, 5, 6);
-    marked("replace_page", gfp_replace_page(KEY, &f, &n, 0, AB, 2, CD, 1), GFP_PAGE_LENGTHS_DIFFER, &f, &n, 5, 6);
-    marked("replace_page", gfp_replace_page(KEY, &f, &n, 5, AB, 2, CD, 2), GFP_PAGE_PAST_END, &f, &n, 5, 6);
+    uint64_t f = 5, n = 48, whole = 1, zero = 0;
+    same("feed", gfp_feed(KEY, &whole, &zero, CD, 2, 8), GFP_OK);
+    page_f = 0x9d, page_n = 16;
+    replaced(KEY, 0, AB, 8, CD, 8, 2, GFP_OK, whole);
+    page_f = 5, page_n = 48;
+    replaced(SMALL, 0, AB, 8, CD, 8, 2, GFP_KEY_BELOW_256, 5);
+    replaced(REDUCIBLE, 0, AB, 8, CD, 8, 2, GFP_KEY_REDUCIBLE, 5);
+    replaced(KEY, 5, AB, 8, CD, 8, 2, GFP_PAGE_PAST_END, 5);
+    replaced(KEY, UINT64_C(1) << 61, AB, 8, CD, 8, 2, GFP_PAGE_PAST_END, 5);
+    replaced(KEY, UINT64_MAX, AB, 8, CD, 8, 0, GFP_PAGE_PAST_END, 5);
     /* both pages are only read, and may be one */
-    marked("replace_page", gfp_replace_page(KEY, &f, &n, 4, AB, 2, AB, 2), GFP_OK, &f, &n, 5, 6);
-    f = 0x100;
-    marked("replace_page", gfp_replace_page(KEY, &f, &n, 0, AB, 2, CD, 2), GFP_MARK_NOT_REDUCED, &f, &n, 0x100, 6);
+    replaced(KEY, 4, AB, 8, AB, 8, 2, GFP_OK, 5);
+    page_f = 0x100;
+    replaced(KEY, 0, AB, 8, CD, 8, 2, GFP_MARK_NOT_REDUCED, 0x100);
+    marked("replace_page", gfp_replace_page(KEY, &f, &n, 0, too_long, TOO_LONG, 8, CD, 2, 8), GFP_TOO_LONG, &f, &n, 5,
+           48);
+    marked("replace_page", gfp_replace_page(KEY, &f, &n, 0, AB, 2, 8, CD, 1, 8), GFP_PAGE_LENGTHS_DIFFER, &f, &n, 5,
+           48);
+}
+
+/* pages that stop inside a byte, in the middle of the file and at its end, and each wrong final byte */
+static void unfinished_pages(void) {
+    page_f = 0x9d, page_n = 16;
+    replaced(KEY, 1, UNFINISHED + 1, 3, OTHER + 1, 3, 1, GFP_OK, 0x7d);
+    page_f = 0xe4, page_n = 11;
+    replaced(KEY, 0, UNFINISHED, 3, UNFINISHED, 3, 2, GFP_OK, 0xe4);
+    replaced(KEY, 0, UNFINISHED, 4, UNFINISHED, 4, 2, GFP_PAGE_PAST_END, 0xe4);
+    replaced(KEY, 0, UNFINISHED, 3, UNFINISHED, 2, 2, GFP_PAGE_LENGTHS_DIFFER, 0xe4);
+    page_n = 16;
+    replaced(KEY, 0, AB, 6, CD, 6, 2, GFP_FINAL_BYTE, 0xe4);
+    replaced(KEY, 0, CD, 6, AB, 6, 2, GFP_FINAL_BYTE, 0xe4);
+    replaced(KEY, 0, AB, 0, CD, 8, 2, GFP_FINAL_BYTE, 0xe4);
+    replaced(KEY, 0, AB, 8, CD, UINT32_MAX, 2, GFP_FINAL_BYTE, 0xe4);
+    replaced(KEY, 2, AB, 7, CD, 7, 0, GFP_FINAL_BYTE, 0xe4);
+    /* in a length 0 counts as 8 */
+    replaced(KEY, 0, UNFINISHED, 0, OTHER, 7, 2, GFP_PAGE_LENGTHS_DIFFER, 0xe4);
+    page_n = 15;
+    replaced(KEY, 0, UNFINISHED, 0, OTHER, 0, 2, GFP_PAGE_PAST_END, 0xe4);
 }
 
 static void searching(void) {
@@ -175,96 +251,178 @@ static void searching(void) {
     same("search", places[0] == 0 && count == 4 && alarms == 0, 1);
 }
 
-static void sheets(void) {
-    static const uint8_t expected[35] = {'G', 'F', 'P', 0, 2, 0, 0, 0, 0, 0, 0, 1,    0x1b, 0, 0, 0, 2, 0,
-                                         16,  0,   0,   0, 0, 0, 0, 0, 0x9d, 0, 0, 0, 0,    0, 0, 0, 0x9d};
-    uint8_t sheet[36];
-    uint64_t key = NONE, length = NONE, size = NONE, pages = NONE, f = NONE, fingerprints[2] = {7, 7};
-    uint32_t outcome = NONE32, page = NONE32;
+/* what gfp_read_sheet writes */
+static uint32_t version;
+static uint64_t key_read, bits_read, size_read, pages_read, fingerprint_read;
+
+static uint32_t read_all(const uint8_t *sheet, size_t sheet_length) {
+    version = NONE32, key_read = bits_read = size_read = pages_read = fingerprint_read = NONE;
+    return gfp_read_sheet(sheet, sheet_length, &version, &key_read, &bits_read, &size_read, &pages_read,
+                          &fingerprint_read);
+}
+
+static int nothing_read(void) {
+    return version == NONE32 && key_read == NONE && bits_read == NONE && size_read == NONE && pages_read == NONE
+           && fingerprint_read == NONE;
+}
+
+/* of a sheet under KEY with one page of 16 bytes */
+static int one_page_read(uint32_t version_expected, uint64_t bits, uint64_t fingerprint) {
+    return version == version_expected && key_read == KEY && bits_read == bits && size_read == 16 && pages_read == 1
+           && fingerprint_read == fingerprint;
+}
+
+static void writing_sheets(void) {
+    static const uint8_t expected[39] = {'G', 'F', 'P', 0, 3, 0, 0, 0, 0, 0, 0, 1, 0x1b, 0, 0, 0, 0, 0, 0, 0,
+                                         16, 0, 16, 0, 0, 0, 0, 0, 0, 0, 0x9d, 0, 0, 0, 0, 0, 0, 0, 0x9d};
+    uint8_t sheet[40];
     memset(sheet, 9, sizeof sheet);
-    same("write_sheet", gfp_write_sheet(SMALL, 16, AB, 2, sheet, 36), GFP_KEY_BELOW_256);
-    same("write_sheet", gfp_write_sheet(REDUCIBLE, 16, AB, 2, sheet, 36), GFP_KEY_REDUCIBLE);
-    same("write_sheet", gfp_write_sheet(KEY, 16, too_long, TOO_LONG, sheet, 36), GFP_TOO_LONG);
-    same("write_sheet", gfp_write_sheet(KEY, 15, AB, 2, sheet, 36), GFP_PAGE_SIZE);
-    same("write_sheet", gfp_write_sheet(KEY, 16, AB, 2, sheet, 34), GFP_BUFFER_SHORT);
-    same("write_sheet", sheet[0] == 9 && sheet[34] == 9, 1);
-    same("write_sheet", gfp_write_sheet(KEY, 16, AB, 2, sheet, 36), GFP_OK);
-    same("write_sheet", memcmp(sheet, expected, 35) == 0 && sheet[35] == 9, 1);
+    same("write_sheet", gfp_write_sheet(SMALL, 16, AB, 2, 8, sheet, 40), GFP_KEY_BELOW_256);
+    same("write_sheet", gfp_write_sheet(REDUCIBLE, 16, AB, 2, 8, sheet, 40), GFP_KEY_REDUCIBLE);
+    same("write_sheet", gfp_write_sheet(KEY, 16, too_long, TOO_LONG, 8, sheet, 40), GFP_TOO_LONG);
+    same("write_sheet", gfp_write_sheet(KEY, 15, AB, 2, 8, sheet, 40), GFP_PAGE_SIZE);
+    same("write_sheet", gfp_write_sheet(KEY, 16, AB, 2, 8, sheet, 38), GFP_BUFFER_SHORT);
+    same("write_sheet", gfp_write_sheet(KEY, 16, AB, 2, 0, sheet, 38), GFP_BUFFER_SHORT);
+    same("write_sheet", gfp_write_sheet(KEY, 16, AB, 2, 0, sheet, 40), GFP_FINAL_BYTE);
+    same("write_sheet", gfp_write_sheet(KEY, 16, AB, 2, 9, sheet, 40), GFP_FINAL_BYTE);
+    same("write_sheet", gfp_write_sheet(KEY, 16, AB, 2, 6, sheet, 40), GFP_FINAL_BYTE);
+    same("write_sheet", gfp_write_sheet(KEY, 16, AB, 0, 7, sheet, 40), GFP_FINAL_BYTE);
+    same("write_sheet", sheet[0] == 9 && sheet[38] == 9, 1);
+    same("write_sheet", gfp_write_sheet(KEY, 16, AB, 2, 8, sheet, 40), GFP_OK);
+    same("write_sheet", memcmp(sheet, expected, 39) == 0 && sheet[39] == 9, 1);
     same("GFP_SHEET_VERSION", (unsigned)sheet[3] << 8 | sheet[4], GFP_SHEET_VERSION);
-    same("read_sheet", gfp_read_sheet(sheet, 36, &key, &length, &size, &pages, &f), GFP_SHEET_MALFORMED);
-    same("read_sheet", key == NONE && length == NONE && size == NONE && pages == NONE && f == NONE, 1);
-    same("read_sheet", gfp_read_sheet(sheet, 35, &key, &length, &size, &pages, &f), GFP_OK);
-    same("read_sheet", key == KEY && length == 2 && size == 16 && pages == 1 && f == 0x9d, 1);
-    same("read_pages", gfp_read_pages(sheet, 36, fingerprints, 2), GFP_SHEET_MALFORMED);
+    same("write_sheet", gfp_write_sheet(KEY, 16, UNFINISHED, 2, 3, sheet, 40), GFP_OK);
+    same("write_sheet", sheet[20] == 11 && sheet[30] == 0xe4 && sheet[38] == 0xe4 && sheet[39] == 9, 1);
+}
+
+static void reading_sheets(void) {
+    uint8_t sheet[40];
+    uint64_t fingerprints[2] = {7, 7};
+    memset(sheet, 9, sizeof sheet);
+    same("write_sheet", gfp_write_sheet(KEY, 16, AB, 2, 8, sheet, 40), GFP_OK);
+    same("read_sheet", read_all(sheet, 40), GFP_SHEET_MALFORMED);
+    same("read_sheet", nothing_read(), 1);
+    same("read_sheet", read_all(sheet, 39), GFP_OK);
+    same("read_sheet", one_page_read(3, 16, 0x9d), 1);
+    same("read_pages", gfp_read_pages(sheet, 40, fingerprints, 2), GFP_SHEET_MALFORMED);
     same("read_pages", fingerprints[0], 7);
-    same("read_pages", gfp_read_pages(sheet, 35, fingerprints, 2), GFP_OK);
+    same("read_pages", gfp_read_pages(sheet, 39, fingerprints, 2), GFP_OK);
     same("read_pages", fingerprints[0] == 0x9d && fingerprints[1] == 7, 1);
-    same("check_file", gfp_check_file(sheet, 35, too_long, TOO_LONG, &outcome, &page), GFP_TOO_LONG);
-    same("check_file", gfp_check_file(sheet, 34, AB, 2, &outcome, &page), GFP_SHEET_MALFORMED);
+    sheet[22] = 15;
+    same("read_sheet", read_all(sheet, 39), GFP_PAGE_SIZE);
+    sheet[11] = 0, sheet[12] = 0xff;
+    same("read_sheet", read_all(sheet, 39), GFP_KEY_BELOW_256);
+    same("read_sheet", read_all(sheet, 31), GFP_KEY_BELOW_256);
+    same("read_sheet", read_all(sheet, 30), GFP_SHEET_MALFORMED);
+    same("read_sheet", read_all(sheet, 27), GFP_SHEET_MALFORMED);
+    sheet[11] = 1, sheet[12] = 1;
+    same("read_sheet", read_all(sheet, 39), GFP_KEY_REDUCIBLE);
+    /* the length field past the limit, by one and by far, whatever the key */
+    sheet[16] = 7, sheet[17] = sheet[18] = sheet[19] = 0xff, sheet[20] = 0xf8;
+    same("read_sheet", read_all(sheet, 39), GFP_KEY_REDUCIBLE);
+    sheet[20] = 0xf9;
+    same("read_sheet", read_all(sheet, 39), GFP_SHEET_MALFORMED);
+    memset(sheet + 13, 0xff, 8);
+    same("read_sheet", read_all(sheet, 39), GFP_SHEET_MALFORMED);
+    same("read_sheet", nothing_read(), 1);
+}
+
+static void checking_files(void) {
+    uint8_t sheet[39];
+    uint32_t outcome = NONE32, page = NONE32;
+    same("write_sheet", gfp_write_sheet(KEY, 16, AB, 2, 8, sheet, 39), GFP_OK);
+    same("check_file", gfp_check_file(sheet, 39, too_long, TOO_LONG, 8, &outcome, &page), GFP_TOO_LONG);
+    same("check_file", gfp_check_file(sheet, 39, too_long, TOO_LONG, 0, &outcome, &page), GFP_TOO_LONG);
+    same("check_file", gfp_check_file(sheet, 38, AB, 2, 8, &outcome, &page), GFP_SHEET_MALFORMED);
+    same("check_file", gfp_check_file(sheet, 39, AB, 2, 0, &outcome, &page), GFP_FINAL_BYTE);
+    same("check_file", gfp_check_file(sheet, 39, AB, 1, 9, &outcome, &page), GFP_FINAL_BYTE);
+    same("check_file", gfp_check_file(sheet, 39, AB, 2, 6, &outcome, &page), GFP_FINAL_BYTE);
     same("check_file", outcome == NONE32 && page == NONE32, 1);
-    same("check_file", gfp_check_file(sheet, 35, AB, 1, &outcome, &page), GFP_OK);
+    same("check_file", gfp_check_file(sheet, 39, AB, 1, 8, &outcome, &page), GFP_OK);
+    same("check_file", outcome == GFP_OTHER_LENGTH && page == 0, 1);
+    page = outcome = NONE32;
+    same("check_file", gfp_check_file(sheet, 39, AB, 2, 7, &outcome, &page), GFP_OK);
     same("check_file", outcome == GFP_OTHER_LENGTH && page == 0, 1);
     page = NONE32;
-    same("check_file", gfp_check_file(sheet, 35, AB, 2, &outcome, &page), GFP_OK);
+    same("check_file", gfp_check_file(sheet, 39, AB, 2, 8, &outcome, &page), GFP_OK);
     same("check_file", outcome == GFP_SAME && page == 0, 1);
     page = NONE32;
-    same("check_file", gfp_check_file(sheet, 35, CD, 2, &outcome, &page), GFP_OK);
+    same("check_file", gfp_check_file(sheet, 39, CD, 2, 8, &outcome, &page), GFP_OK);
     same("check_file", outcome == GFP_PAGE && page == 0, 1);
-    sheet[18] = 15;
-    same("read_sheet", gfp_read_sheet(sheet, 35, &key, &length, &size, &pages, &f), GFP_PAGE_SIZE);
-    sheet[11] = 0, sheet[12] = 0xff;
-    same("read_sheet", gfp_read_sheet(sheet, 35, &key, &length, &size, &pages, &f), GFP_KEY_BELOW_256);
-    sheet[11] = 1, sheet[12] = 1;
-    same("read_sheet", gfp_read_sheet(sheet, 35, &key, &length, &size, &pages, &f), GFP_KEY_REDUCIBLE);
-}
-
-/* the sheet of 41 42 in version 1: its page is filled up with zero bytes */
-static void sheets_of_version_1(void) {
-    uint8_t sheet[35] = {'G', 'F', 'P', 0, 1, 0, 0, 0, 0, 0, 0, 1,    0x1b, 0, 0, 0, 2, 0,
-                         16,  0,   0,   0, 0, 0, 0, 0, 0xac, 0, 0, 0, 0,    0, 0, 0, 0x9d};
-    uint64_t key = NONE, length = NONE, size = NONE, pages = NONE, f = NONE, fingerprints[2] = {7, 7};
-    uint64_t from = NONE, to = NONE;
-    uint32_t outcome = NONE32, page = NONE32;
-    same("read_sheet", gfp_read_sheet(sheet, 35, &key, &length, &size, &pages, &f), GFP_OK);
-    same("read_sheet", key == KEY && length == 2 && size == 16 && pages == 1 && f == 0x9d, 1);
-    same("read_pages", gfp_read_pages(sheet, 35, fingerprints, 2), GFP_OK);
-    same("read_pages", fingerprints[0] == 0xac && fingerprints[1] == 7, 1);
-    same("check_file", gfp_check_file(sheet, 35, AB, 2, &outcome, &page), GFP_OK);
+    same("write_sheet", gfp_write_sheet(KEY, 16, UNFINISHED, 2, 3, sheet, 39), GFP_OK);
+    same("check_file", gfp_check_file(sheet, 39, UNFINISHED, 2, 3, &outcome, &page), GFP_OK);
     same("check_file", outcome == GFP_SAME && page == 0, 1);
-    same("changed_range", gfp_changed_range(sheet, 35, CD, 2, &outcome, &from, &to), GFP_OK);
-    same("changed_range", outcome == GFP_PAGE && from == 0 && to == 2, 1);
-    sheet[4] = 2;
-    same("read_sheet", gfp_read_sheet(sheet, 35, &key, &length, &size, &pages, &f), GFP_SHEET_MALFORMED);
-    sheet[4] = 3;
-    same("read_sheet", gfp_read_sheet(sheet, 35, &key, &length, &size, &pages, &f), GFP_SHEET_MALFORMED);
-    sheet[3] = 1, sheet[4] = 1;
-    same("check_file", gfp_check_file(sheet, 35, AB, 2, &outcome, &page), GFP_SHEET_MALFORMED);
+    same("check_file", gfp_check_file(sheet, 39, OTHER, 2, 3, &outcome, &page), GFP_OK);
+    same("check_file", outcome == GFP_PAGE && page == 0, 1);
+    same("check_file", gfp_check_file(sheet, 39, UNFINISHED, 2, 4, &outcome, &page), GFP_OK);
+    same("check_file", outcome == GFP_OTHER_LENGTH && page == 0, 1);
 }
 
-static void ranges(void) {
-    static uint8_t file[40], sheet[51];
-    uint64_t bytes = NONE, from = NONE, to = NONE;
-    uint32_t outcome = NONE32;
-    same("sheet_length", gfp_sheet_length(LONGEST + 1, 16, &bytes), GFP_TOO_LONG);
+/* the sheet of 41 42 in version 1, whose page is filled up with zero bytes, or in version 2 */
+static void sheets_of_version(uint8_t number, uint8_t page_field) {
+    uint8_t sheet[35] = {'G', 'F', 'P', 0, 0, 0, 0, 0, 0, 0, 0, 1, 0x1b, 0, 0, 0, 2, 0,
+                         16,  0,   0,   0, 0, 0, 0, 0, 0, 0, 0, 0, 0,    0, 0, 0, 0x9d};
+    uint64_t fingerprints[2] = {7, 7}, from = NONE, to = NONE;
+    uint32_t outcome = NONE32, page = NONE32;
+    sheet[4] = number, sheet[26] = page_field;
+    same("read_sheet", read_all(sheet, 35), GFP_OK);
+    same("read_sheet", one_page_read(number, 16, 0x9d), 1);
+    same("read_pages", gfp_read_pages(sheet, 35, fingerprints, 2), GFP_OK);
+    same("read_pages", fingerprints[0] == page_field && fingerprints[1] == 7, 1);
+    same("check_file", gfp_check_file(sheet, 35, AB, 2, 8, &outcome, &page), GFP_OK);
+    same("check_file", outcome == GFP_SAME && page == 0, 1);
+    same("check_file", gfp_check_file(sheet, 35, UNFINISHED, 2, 3, &outcome, &page), GFP_OK);
+    same("check_file", outcome == GFP_OTHER_LENGTH && page == 0, 1);
+    same("changed_range", gfp_changed_range(sheet, 35, CD, 2, 8, &outcome, &from, &to), GFP_OK);
+    same("changed_range", outcome == GFP_PAGE && from == 0 && to == 2, 1);
+    sheet[4] = (uint8_t)(3 - number);
+    same("read_sheet", read_all(sheet, 35), GFP_SHEET_MALFORMED);
+    sheet[4] = 3;
+    same("read_sheet", read_all(sheet, 35), GFP_PAGE_SIZE);
+    sheet[4] = 4;
+    same("read_sheet", read_all(sheet, 35), GFP_SHEET_MALFORMED);
+    sheet[3] = 1, sheet[4] = number;
+    same("check_file", gfp_check_file(sheet, 35, AB, 2, 8, &outcome, &page), GFP_SHEET_MALFORMED);
+}
+
+static void sheet_lengths(void) {
+    uint64_t bytes = NONE;
+    same("sheet_length", gfp_sheet_length(LONGEST_BYTES + 1, 16, &bytes), GFP_TOO_LONG);
+    same("sheet_length", gfp_sheet_length(UINT64_C(1) << 61, 16, &bytes), GFP_TOO_LONG);
     same("sheet_length", gfp_sheet_length(40, 4097, &bytes), GFP_PAGE_SIZE);
     same("sheet_length", bytes, NONE);
     same("sheet_length", gfp_sheet_length(40, 16, &bytes), GFP_OK);
-    same("sheet_length", bytes, sizeof sheet);
+    same("sheet_length", bytes, 55);
     same("sheet_length", gfp_sheet_length(0, 16, &bytes), GFP_OK);
     same("sheet_length", bytes, GFP_SHEET_BYTES);
-    same("write_sheet", gfp_write_sheet(GFP_HOUSE_KEY, 16, file, 40, sheet, 51), GFP_OK);
-    same("changed_range", gfp_changed_range(sheet, 50, file, 40, &outcome, &from, &to), GFP_SHEET_MALFORMED);
-    same("changed_range", gfp_changed_range(sheet, 51, too_long, TOO_LONG, &outcome, &from, &to), GFP_TOO_LONG);
+    same("sheet_length", gfp_sheet_length(LONGEST_BYTES, 4096, &bytes), GFP_OK);
+    same("sheet_length", bytes, GFP_SHEET_BYTES + 8 * UINT64_C(1048576));
+}
+
+/* a file of 40 bytes, with all bits of the final byte or with 1 */
+static void ranges(uint32_t used) {
+    static uint8_t file[40], sheet[55];
+    uint64_t from = NONE, to = NONE;
+    uint32_t outcome = NONE32;
+    memset(file, 0, sizeof file);
+    same("write_sheet", gfp_write_sheet(GFP_HOUSE_KEY, 16, file, 40, used, sheet, 55), GFP_OK);
+    same("changed_range", gfp_changed_range(sheet, 54, file, 40, used, &outcome, &from, &to), GFP_SHEET_MALFORMED);
+    same("changed_range", gfp_changed_range(sheet, 55, too_long, TOO_LONG, used, &outcome, &from, &to), GFP_TOO_LONG);
+    same("changed_range", gfp_changed_range(sheet, 55, file, 40, 0, &outcome, &from, &to), GFP_FINAL_BYTE);
+    same("changed_range", gfp_changed_range(sheet, 55, file, 0, 7, &outcome, &from, &to), GFP_FINAL_BYTE);
     same("changed_range", outcome == NONE32 && from == NONE && to == NONE, 1);
-    same("changed_range", gfp_changed_range(sheet, 51, file, 40, &outcome, &from, &to), GFP_OK);
+    same("changed_range", gfp_changed_range(sheet, 55, file, 40, used, &outcome, &from, &to), GFP_OK);
     same("changed_range", outcome == GFP_SAME && from == 0 && to == 0, 1);
-    file[39] = 1;
-    same("changed_range", gfp_changed_range(sheet, 51, file, 40, &outcome, &from, &to), GFP_OK);
+    file[39] = 0x80;
+    same("changed_range", gfp_changed_range(sheet, 55, file, 40, used, &outcome, &from, &to), GFP_OK);
     same("changed_range", outcome == GFP_PAGE && from == 32 && to == 40, 1);
     file[16] = 1;
-    same("changed_range", gfp_changed_range(sheet, 51, file, 40, &outcome, &from, &to), GFP_OK);
+    same("changed_range", gfp_changed_range(sheet, 55, file, 40, used, &outcome, &from, &to), GFP_OK);
     same("changed_range", outcome == GFP_PAGE && from == 16 && to == 32, 1);
-    same("changed_range", gfp_changed_range(sheet, 51, file, 39, &outcome, &from, &to), GFP_OK);
+    same("changed_range", gfp_changed_range(sheet, 55, file, 39, used, &outcome, &from, &to), GFP_OK);
+    same("changed_range", outcome == GFP_OTHER_LENGTH && from == 0 && to == 0, 1);
+    outcome = NONE32;
+    same("changed_range", gfp_changed_range(sheet, 55, file, 40, used == 8 ? 7 : 8, &outcome, &from, &to), GFP_OK);
     same("changed_range", outcome == GFP_OTHER_LENGTH && from == 0 && to == 0, 1);
 }
 
@@ -284,7 +442,7 @@ static void drawing(void) {
 static void read_only(void) {
     uint64_t *u = (uint64_t *)area(65536);
     uint32_t *v = (uint32_t *)(u + 4096);
-    uint8_t *b = (uint8_t *)(u + 6144);
+    uint8_t *b = (uint8_t *)(u + 6144), written[GFP_SHEET_BYTES];
     uint64_t key;
     int way, i;
     u[0] = 0x100, u[1] = 2;
@@ -297,27 +455,38 @@ static void read_only(void) {
         static const uint32_t NUMBERS[3] = {GFP_KEY_BELOW_256, GFP_KEY_REDUCIBLE, GFP_MARK_NOT_REDUCED};
         key = KEYS[i];
         for (way = 0; way < 2; way++)
-            same("read-only, feeding", fed(way, key, u, u + 1, AB, 2), NUMBERS[i]);
-        same("read-only, feed_house", gfp_feed_house(key, u, u + 1, AB, 2), i == 2 ? GFP_TABLE_WORD : NUMBERS[i]);
+            same("read-only, feeding", fed(way, key, u, u + 1, AB, 2, 8), NUMBERS[i]);
+        same("read-only, feed_house", gfp_feed_house(key, u, u + 1, AB, 2, 8), i == 2 ? GFP_TABLE_WORD : NUMBERS[i]);
         same("read-only, join_behind", gfp_join_behind(key, u, u + 1, 1, 1), NUMBERS[i]);
         same("read-only, join_in_front", gfp_join_in_front(key, u, u + 1, 1, 1), NUMBERS[i]);
-        same("read-only, replace_page", gfp_replace_page(key, u, u + 1, 0, AB, 2, CD, 2), NUMBERS[i]);
+        same("read-only, replace_page", gfp_replace_page(key, u, u + 1, 0, AB, 2, 8, CD, 2, 8), NUMBERS[i]);
         same("read-only, make_table", gfp_make_table(key, u, i == 2 ? 1023 : 1024),
              i == 2 ? GFP_TABLE_SIZE : NUMBERS[i]);
         same("read-only, search", gfp_search(key, AB, 2, AB, i == 2 ? 0 : 1, v, 2, v + 2, v + 3),
              i == 2 ? GFP_EMPTY_PATTERN : NUMBERS[i]);
-        same("read-only, write_sheet", gfp_write_sheet(key, 16, AB, 2, b, 34), i == 2 ? GFP_BUFFER_SHORT : NUMBERS[i]);
+        same("read-only, write_sheet", gfp_write_sheet(key, 16, AB, 2, 8, b, 38),
+             i == 2 ? GFP_BUFFER_SHORT : NUMBERS[i]);
     }
     same("read-only, begin", gfp_begin(SMALL, u, u + 1), GFP_KEY_BELOW_256);
-    same("read-only, feed", gfp_feed(KEY, u, u + 1, too_long, TOO_LONG), GFP_TOO_LONG);
+    same("read-only, feed", gfp_feed(KEY, u, u + 1, too_long, TOO_LONG, 8), GFP_TOO_LONG);
     same("read-only, join_behind", gfp_join_behind(KEY, u, u + 1, 1, LONGEST), GFP_TOO_LONG);
-    same("read-only, replace_page", gfp_replace_page(KEY, u + 2, u + 1, 0, AB, 2, CD, 1), GFP_PAGE_LENGTHS_DIFFER);
-    same("read-only, read_sheet", gfp_read_sheet(AB, 2, u, u + 1, u + 2, u + 3, u + 4), GFP_SHEET_MALFORMED);
+    same("read-only, replace_page", gfp_replace_page(KEY, u + 2, u + 1, 0, AB, 2, 8, CD, 1, 8),
+         GFP_PAGE_LENGTHS_DIFFER);
+    same("read-only, replace_page", gfp_replace_page(KEY, u + 2, u + 1, 0, AB, 0, 7, CD, 0, 7), GFP_FINAL_BYTE);
+    same("read-only, feed", gfp_feed(KEY, u + 2, u + 1, AB, 2, 0), GFP_FINAL_BYTE);
+    same("read-only, feed_table", gfp_feed_table(KEY, u + 2, u + 1, words, GFP_TABLE_WORDS, AB, 2, 6), GFP_FINAL_BYTE);
+    same("read-only, feed_house", gfp_feed_house(GFP_HOUSE_KEY, u + 2, u + 1, AB, 0, 7), GFP_FINAL_BYTE);
+    same("read-only, write_sheet", gfp_write_sheet(KEY, 16, AB, 2, 9, b, 39), GFP_FINAL_BYTE);
+    same("read-only, read_sheet", gfp_read_sheet(AB, 2, v, u, u + 1, u + 2, u + 3, u + 4), GFP_SHEET_MALFORMED);
     same("read-only, read_pages", gfp_read_pages(AB, 2, u, 2), GFP_SHEET_MALFORMED);
-    same("read-only, check_file", gfp_check_file(AB, 2, AB, 2, v, v + 1), GFP_SHEET_MALFORMED);
-    same("read-only, changed_range", gfp_changed_range(AB, 2, AB, 2, v, u, u + 1), GFP_SHEET_MALFORMED);
+    same("read-only, check_file", gfp_check_file(AB, 2, AB, 2, 8, v, v + 1), GFP_SHEET_MALFORMED);
+    same("read-only, changed_range", gfp_changed_range(AB, 2, AB, 2, 8, v, u, u + 1), GFP_SHEET_MALFORMED);
+    same("write_sheet", gfp_write_sheet(KEY, 16, AB, 0, 8, written, GFP_SHEET_BYTES), GFP_OK);
+    same("read-only, check_file", gfp_check_file(written, GFP_SHEET_BYTES, AB, 2, 0, v, v + 1), GFP_FINAL_BYTE);
+    same("read-only, changed_range", gfp_changed_range(written, GFP_SHEET_BYTES, AB, 2, 6, v, u, u + 1),
+         GFP_FINAL_BYTE);
     same("read-only, sheet_length", gfp_sheet_length(2, 15, u), GFP_PAGE_SIZE);
-    same("read-only, sheet_length", gfp_sheet_length(LONGEST + 1, 16, u), GFP_TOO_LONG);
+    same("read-only, sheet_length", gfp_sheet_length(LONGEST_BYTES + 1, 16, u), GFP_TOO_LONG);
     same("read-only, draw", gfp_draw(12, 2, u), GFP_DEGREE_NOT_LISTED);
     same("read-only, draw", gfp_draw(11, 1, u), GFP_ELEMENT_OUT_OF_RANGE);
     munmap(u, 65536);
@@ -335,37 +504,40 @@ static const uint64_t KEYS[4] = {KEY, GFP_HOUSE_KEY, UINT64_C(0x80000009), UINT6
 
 /* keys of degree 8, 61, 31 and 63; short and long parts; every function with all of them */
 static uint64_t f, n, w[5];
-static uint32_t c[2];
+static uint32_t c[2], used_now;
+static size_t sheet_now; /* the sheet's bytes */
 static uint8_t lent[sizeof sheet];
 
 static void run_test_key(uint64_t key, size_t m) { (void)m, gfp_test_key(key ^ 2), gfp_test_key(key); }
 static void run_stock_key(uint64_t key, size_t m) { (void)key, gfp_stock_key(m); }
 static void run_begin(uint64_t key, size_t m) { (void)m, gfp_begin(key, &f, &n); }
-static void run_feed(uint64_t key, size_t m) { f = 1, n = 0, gfp_feed(key, &f, &n, file, m); }
+static void run_feed(uint64_t key, size_t m) { f = 1, n = 0, gfp_feed(key, &f, &n, file, m, used_now); }
 static void run_make_table(uint64_t key, size_t m) { (void)m, gfp_make_table(key, words, GFP_TABLE_WORDS); }
 static void run_test_table(uint64_t key, size_t m) { (void)m, gfp_test_table(key, words, GFP_TABLE_WORDS); }
 static void run_feed_table(uint64_t key, size_t m) {
-    f = 1, n = 0, gfp_feed_table(key, &f, &n, words, GFP_TABLE_WORDS, file, m);
+    f = 1, n = 0, gfp_feed_table(key, &f, &n, words, GFP_TABLE_WORDS, file, m, used_now);
 }
-static void run_feed_house(uint64_t key, size_t m) { f = 1, n = 0, gfp_feed_house(key, &f, &n, file, m); }
+static void run_feed_house(uint64_t key, size_t m) { f = 1, n = 0, gfp_feed_house(key, &f, &n, file, m, used_now); }
 static void run_join_behind(uint64_t key, size_t m) { f = 1, n = 0, gfp_join_behind(key, &f, &n, 1, m); }
 static void run_join_in_front(uint64_t key, size_t m) { f = 1, n = 0, gfp_join_in_front(key, &f, &n, 1, m); }
 static void run_replace_page(uint64_t key, size_t m) {
-    f = 1, n = FILE_BYTES, gfp_replace_page(key, &f, &n, 0, file, m, file, m);
+    f = 1, n = 8 * FILE_BYTES, gfp_replace_page(key, &f, &n, 0, file, m, used_now, file, m, used_now);
 }
 static void run_search(uint64_t key, size_t m) { gfp_search(key, file, m, file, m / 100 + 1, found, 64, c, c + 1); }
-static void run_write_sheet(uint64_t key, size_t m) { gfp_write_sheet(key, 16 + m % 64, file, m, lent, sizeof lent); }
+static void run_write_sheet(uint64_t key, size_t m) {
+    gfp_write_sheet(key, 16 + m % 64, file, m, used_now, lent, sizeof lent);
+}
 static void run_read_sheet(uint64_t key, size_t m) {
-    (void)key, gfp_read_sheet(sheet, GFP_SHEET_BYTES + 8 * ((m + 31) / 32), w, w + 1, w + 2, w + 3, w + 4);
+    (void)key, (void)m, gfp_read_sheet(sheet, sheet_now, c, w, w + 1, w + 2, w + 3, w + 4);
 }
 static void run_read_pages(uint64_t key, size_t m) {
-    (void)key, gfp_read_pages(sheet, GFP_SHEET_BYTES + 8 * ((m + 31) / 32), page_marks, FILE_BYTES / 16);
+    (void)key, (void)m, gfp_read_pages(sheet, sheet_now, page_marks, FILE_BYTES / 16);
 }
 static void run_check_file(uint64_t key, size_t m) {
-    (void)key, gfp_check_file(sheet, GFP_SHEET_BYTES + 8 * ((m + 31) / 32), file, m, c, c + 1);
+    (void)key, gfp_check_file(sheet, sheet_now, file, m, used_now, c, c + 1);
 }
 static void run_changed_range(uint64_t key, size_t m) {
-    (void)key, gfp_changed_range(sheet, GFP_SHEET_BYTES + 8 * ((m + 31) / 32), file, m, c, w, w + 1);
+    (void)key, gfp_changed_range(sheet, sheet_now, file, m, used_now, c, w, w + 1);
 }
 static void run_sheet_length(uint64_t key, size_t m) { (void)key, gfp_sheet_length(m, 16, w); }
 static void run_draw(uint64_t key, size_t m) { (void)m, gfp_draw(61, key >> 4, w), gfp_draw(11, 3, w); }
@@ -426,54 +598,86 @@ static size_t taken(uint8_t *stack) {
     return (size_t)(top - (stack + i));
 }
 
-/* Turns the sheet of m bytes, with pages of 32, into one of version 1: zero bytes are fed behind a short last page. */
+/* Turns the sheet of m bytes into one of version 2: its length field has 4 bytes and is in bytes. */
+static void to_version_2(size_t m) {
+    uint8_t *field = sheet + 13;
+    memmove(sheet + 17, sheet + 21, sizeof sheet - 21);
+    sheet[4] = 2, sheet_now -= 4;
+    field[0] = (uint8_t)(m >> 24), field[1] = (uint8_t)(m >> 16), field[2] = (uint8_t)(m >> 8), field[3] = (uint8_t)m;
+}
+
+/* Turns a sheet of version 2 with pages of 32 bytes into one of version 1: zero bytes are fed behind a short last
+ * page. */
 static void to_version_1(uint64_t key, size_t m) {
     static const uint8_t zeros[32] = {0};
-    uint8_t *field = sheet + GFP_SHEET_BYTES - 8 + 8 * (m / 32);
-    uint64_t fingerprint = 0, length = 0;
+    uint8_t *field = sheet + 19 + 8 * (m / 32);
+    uint64_t fingerprint = 0, bits = 0;
     int i;
     sheet[4] = 1;
     if (m % 32 == 0)
         return;
     for (i = 0; i < 8; i++)
         fingerprint = fingerprint << 8 | field[i];
-    gfp_feed(key, &fingerprint, &length, zeros, 32 - m % 32);
+    gfp_feed(key, &fingerprint, &bits, zeros, 32 - m % 32, 8);
     for (i = 7; i >= 0; i--, fingerprint >>= 8)
         field[i] = (uint8_t)fingerprint;
 }
 
-/* the sheet that the functions are measured with, of version 1 or 2 */
-static void make_sheet(uint64_t key, size_t m, int version) {
+/* the sheet that the functions are measured with, of a version */
+static void make_sheet(uint64_t key, size_t m, int number) {
     uint32_t outcome = NONE32, page;
-    gfp_write_sheet(key, 32, file, m, sheet, sizeof sheet);
-    if (version == 1)
+    gfp_write_sheet(key, 32, file, m, used_now, sheet, sizeof sheet);
+    sheet_now = GFP_SHEET_BYTES + 8 * ((m + 31) / 32);
+    if (number < 3)
+        to_version_2(m);
+    if (number < 2)
         to_version_1(key, m);
-    if (gfp_check_file(sheet, GFP_SHEET_BYTES + 8 * ((m + 31) / 32), file, m, &outcome, &page) != GFP_OK
-        || outcome != GFP_SAME) {
-        fprintf(stderr, "no sheet of version %d\n", version);
+    if (gfp_check_file(sheet, sheet_now, file, m, used_now, &outcome, &page) != GFP_OK || outcome != GFP_SAME) {
+        fprintf(stderr, "no sheet of version %d\n", number);
         exit(2);
     }
+}
+
+/* a version of the sheet, and the used bits of the final byte */
+static const struct {
+    int number;
+    uint32_t used;
+} CASES[4] = {{1, 8}, {2, 8}, {3, 8}, {3, 3}};
+
+/* the most that a function takes under a key and with a part of m bytes */
+static size_t most_taken(uint8_t *stack, size_t running, uint64_t key, size_t m) {
+    size_t i, bytes, most = 0;
+    const uint8_t last = m == 0 ? 0 : file[m - 1];
+    gfp_make_table(key, words, GFP_TABLE_WORDS);
+    for (i = 0; i < 4; i++) {
+        used_now = m == 0 ? 8 : CASES[i].used;
+        if (used_now == 3)
+            file[m - 1] &= 0xe0;
+        make_sheet(key, m, CASES[i].number);
+        now_running = running, now_key = key, now_m = m;
+        bytes = taken(stack);
+        if (most < bytes)
+            most = bytes;
+    }
+    if (m != 0)
+        file[m - 1] = last;
+    return most;
 }
 
 static void measure(void) {
     static const size_t SIZES[5] = {0, 9, 1000, 4999, FILE_BYTES};
     uint8_t *stack = (uint8_t *)area(STACK);
     size_t i, j, k;
-    int version;
     for (i = 0; i < FILE_BYTES; i++)
         file[i] = (uint8_t)(i * i >> 7);
     for (i = 0; i < sizeof RUNS / sizeof RUNS[0]; i++) {
         size_t most = 0;
         for (j = 0; j < 4; j++)
-            for (k = 0; k < 5; k++)
-                for (version = 1; version <= 2; version++) {
-                    gfp_make_table(KEYS[j], words, GFP_TABLE_WORDS);
-                    make_sheet(KEYS[j], SIZES[k], version);
-                    now_running = i, now_key = KEYS[j], now_m = SIZES[k];
-                    size_t bytes = taken(stack);
-                    if (most < bytes)
-                        most = bytes;
-                }
+            for (k = 0; k < 5; k++) {
+                const size_t bytes = most_taken(stack, i, KEYS[j], SIZES[k]);
+                if (most < bytes)
+                    most = bytes;
+            }
         printf("%s %lu\n", RUNS[i].name, (unsigned long)most);
     }
 }
@@ -486,12 +690,19 @@ int main(int argc, char **argv) {
     }
     keys_and_tables();
     feeding();
+    unfinished_parts();
     joining();
     page_change();
+    unfinished_pages();
     searching();
-    sheets();
-    sheets_of_version_1();
-    ranges();
+    writing_sheets();
+    reading_sheets();
+    checking_files();
+    sheets_of_version(1, 0xac);
+    sheets_of_version(2, 0x9d);
+    sheet_lengths();
+    ranges(8);
+    ranges(1);
     drawing();
     read_only();
     printf("%u right, %u wrong\n", right, wrong);

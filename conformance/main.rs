@@ -1,5 +1,6 @@
 //! Compares every public C function with the second implementation of reference.rs, refusals and buffers included.
 //! Usage: conformance [rounds]. The last line counts the comparisons: "N passed, 0 failed".
+mod bits;
 mod compose;
 mod draw;
 mod feeding;
@@ -35,10 +36,11 @@ impl Tally {
 fn main() {
     let rounds = std::env::args().nth(1).map_or(1, |n| n.parse().expect("a number of rounds"));
     let mut tally = Tally { passed: 0, failed: 0 };
-    let suites: [(&str, fn(&mut Tally, u64)); 8] = [
+    let suites: [(&str, fn(&mut Tally, u64)); 9] = [
         ("keys", keys::run),
         ("marks and tables", marks::run),
         ("feeding at every length", feeding::run),
+        ("lengths in bits", bits::run),
         ("joining, page change, lists of calls", compose::run),
         ("search", search::run),
         ("page sheets", sheets::run),

@@ -1,8 +1,14 @@
 //! Beginning and feeding marks, by bits and by tables, and the tables themselves. Suite feeding.rs has long parts.
-use crate::{generator::Generator, gfp, reference, Tally};
+use crate::{generator::Generator, gfp, reference::{self, Part}, Tally};
 
 pub fn ours(mark: reference::Mark) -> gfp::Mark {
-    gfp::Mark { fingerprint: mark.fingerprint, length: mark.length }
+    gfp::Mark { fingerprint: mark.fingerprint, bits: mark.bits }
+}
+
+impl<'a> From<reference::Part<'a>> for gfp::Part<'a> {
+    fn from(part: reference::Part<'a>) -> Self {
+        gfp::Part { bytes: part.bytes, used: part.used }
+    }
 }
 
 /// The state after a call, and the number: on refusal the state handed in.
@@ -38,11 +44,11 @@ fn readings(tally: &mut Tally) {
     }
     for (file, fingerprint) in READINGS {
         let empty = gfp::begin(0x11b).expect("an accepted key");
-        let whole = gfp::Mark { fingerprint, length: file.len() as u64 };
+        let whole = gfp::Mark { fingerprint, bits: 8 * file.len() as u64 };
         tally.same("reading, fed by bits", after(empty, |m| m.feed(0x11b, file)), (whole, 0));
         tally.same("reading, fed by table", after(empty, |m| m.feed_table(0x11b, &words, file)), (whole, 0));
     }
-    let long = gfp::Mark { fingerprint: 1, length: reference::LIMIT };
+    let long = gfp::Mark { fingerprint: 1, bits: reference::LIMIT };
     tally.same("reading, one byte past the limit", after(long, |m| m.feed(0x11b, &[0])), (long, 7));
     tally.same("reading, nothing at the limit", after(long, |m| m.feed(0x11b, &[])), (long, 0));
 }
@@ -54,7 +60,7 @@ fn cuts(tally: &mut Tally, generator: &mut Generator) {
     let words = reference::table(key);
     let n = generator.below(40) as usize;
     let file = generator.bytes(n);
-    let whole = gfp::Mark { fingerprint: reference::fingerprint(key, &file), length: n as u64 };
+    let whole = ours(reference::mark_of(key, &file));
     for cut in 0..=n {
         let (front, back) = file.split_at(cut);
         let by_bits = after(gfp::begin(key).expect("an accepted key"), |m| m.feed(key, front).and(m.feed(key, back)));
@@ -65,9 +71,9 @@ fn cuts(tally: &mut Tally, generator: &mut Generator) {
 }
 
 /// A part fed by the house key's words under any key.
-fn house(tally: &mut Tally, key: u64, mark: reference::Mark, part: &[u8]) {
+fn house(tally: &mut Tally, key: u64, mark: reference::Mark, part: Part) {
     tally.same(
-        &format!("feed by the house key's words, key {key:#x}, mark {mark:?}, part of {} bytes", part.len()),
+        &format!("feed by the house key's words, key {key:#x}, mark {mark:?}, part of {part:?}"),
         after(ours(mark), |m| m.feed_house(key, part)),
         outcome(mark, reference::feed_house(key, mark, part)),
     );
@@ -81,7 +87,7 @@ fn shared_words(tally: &mut Tally, generator: &mut Generator) {
         for key in [one, other] {
             let (mut made, part) = (vec![0; gfp::TABLE_WORDS], generator.bytes(5000));
             tally.same(&format!("table of {key:#x}"), (gfp::make_table(key, &mut made), made), (Ok(()), words.clone()));
-            let whole = gfp::Mark { fingerprint: reference::fingerprint(key, &part), length: 5000 };
+            let whole = ours(reference::mark_of(key, &part));
             let empty = gfp::begin(key).expect("an accepted key");
             tally.same(&format!("shared table, key {key:#x}"), after(empty, |m| m.feed_table(key, &words, &part)), (whole, 0));
             let expected = if one == gfp::HOUSE_KEY { (whole, 0) } else { (empty, 6) };
@@ -95,20 +101,26 @@ fn calls(tally: &mut Tally, generator: &mut Generator) {
     let key = generator.key();
     let mark = generator.mark(key);
     let n = if generator.one_in(50) { 4000 + generator.below(9000) } else { generator.below(80) };
-    let part = generator.bytes(n as usize);
+    let used = generator.used();
+    let bytes = generator.bytes_used(n as usize, used);
+    let part = Part { bytes: &bytes, used };
     let words = generator.table(key);
-    let what = format!("key {key:#x}, mark {mark:?}, part of {n} bytes");
+    let what = format!("key {key:#x}, mark {mark:?}, part of {part:?}");
     let second_begin = reference::begin(key).map(ours);
     tally.same(&format!("begin, key {key:#x}"), gfp::begin(key), second_begin);
-    tally.same(&format!("feed, {what}"), after(ours(mark), |m| m.feed(key, &part)), outcome(mark, reference::feed(key, mark, &part)));
+    tally.same(
+        &format!("feed, {what}"),
+        after(ours(mark), |m| m.feed(key, part)),
+        outcome(mark, reference::feed(key, mark, part)),
+    );
     tally.same(
         &format!("feed by table of {} words, {what}", words.len()),
-        after(ours(mark), |m| m.feed_table(key, &words, &part)),
-        outcome(mark, reference::feed_table(key, mark, &words, &part)),
+        after(ours(mark), |m| m.feed_table(key, &words, part)),
+        outcome(mark, reference::feed_table(key, mark, &words, part)),
     );
     tally.same(&format!("test of table, key {key:#x}"), gfp::test_table(key, &words), reference::test_table(key, &words));
-    house(tally, gfp::HOUSE_KEY, generator.mark(gfp::HOUSE_KEY), &part);
-    house(tally, key, mark, &part);
+    house(tally, gfp::HOUSE_KEY, generator.mark(gfp::HOUSE_KEY), part);
+    house(tally, key, mark, part);
     let mut made = words.clone();
     let number = gfp::make_table(key, &mut made).err().unwrap_or(0);
     let second = reference::make_table(key, &words);

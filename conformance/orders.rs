@@ -1,13 +1,30 @@
 //! The order of refusals: for each call every combination of the faults that it can be refused for, alone and together.
-use crate::{gfp, marks::{after, ours, outcome}, reference, Tally};
+use crate::{gfp, marks::{after, ours, outcome}, reference::{self, Part}, Tally};
 
 const GOOD: u64 = 0x11b;
 /// An accepted key, one below 256 and a reducible one.
 const KEYS: [u64; 3] = [GOOD, 0xff, 0x101];
 
-/// A file of more than 4,294,967,295 bytes: its pages are never touched, since its length alone is judged.
+/// A part whose final byte is right, and parts whose final byte is not: u outside 1 to 8, an unused bit that is 1, and
+/// u other than 8 without bytes.
+const PARTS: [Part; 7] = [
+    Part { bytes: b"AB", used: 8 },
+    Part { bytes: b"AB", used: 0 },
+    Part { bytes: b"AB", used: 9 },
+    Part { bytes: b"AB", used: u32::MAX },
+    Part { bytes: b"AB", used: 6 },
+    Part { bytes: b"", used: 7 },
+    Part { bytes: b"", used: 0 },
+];
+
+/// A file of more than 4,294,967,295 bytes: its length is judged, and its final byte at most is read.
 fn too_long() -> Vec<u8> {
-    vec![0; reference::LIMIT as usize + 1]
+    vec![0; reference::LIMIT_BYTES as usize + 1]
+}
+
+/// The part, or one that is too long with as many used bits.
+fn or_long<'a>(part: Part<'a>, is_long: bool, long: &'a [u8]) -> Part<'a> {
+    Part { bytes: if is_long { long } else { part.bytes }, used: part.used }
 }
 
 /// Calls f with every choice of n yes-or-no faults.
@@ -17,65 +34,114 @@ fn each(n: u32, mut f: impl FnMut(&dyn Fn(u32) -> bool)) {
     }
 }
 
+/// Feeding by bits and by a table, and the table's own calls, under a key.
+fn marks_under(tally: &mut Tally, long: &[u8], key: u64, good: Part) {
+    // faults: size, word, own length, part's length, sum, fingerprint
+    each(6, |fault| {
+        let mut words = reference::table(GOOD);
+        if fault(1) {
+            words[700] ^= 1;
+        }
+        if fault(0) {
+            words.pop();
+        }
+        let bits = if fault(2) { reference::LIMIT + 1 } else if fault(4) { reference::LIMIT } else { 5 };
+        let mark = reference::Mark { fingerprint: if fault(5) { 0x100 } else { 0x5a }, bits };
+        let part = or_long(good, fault(3), long);
+        let what = format!("order, key {key:#x}, mark {mark:?}, {} words, part of {part:?}", words.len());
+        tally.same(
+            &what,
+            after(ours(mark), |m| m.feed(key, part)),
+            outcome(mark, reference::feed(key, mark, part)),
+        );
+        tally.same(
+            &what,
+            after(ours(mark), |m| m.feed_table(key, &words, part)),
+            outcome(mark, reference::feed_table(key, mark, &words, part)),
+        );
+        tally.same(&what, gfp::test_table(key, &words), reference::test_table(key, &words));
+        tally.same(&what, gfp::make_table(key, &mut words.clone()), reference::make_table(key, &words).map(drop));
+    });
+}
+
+/// Feeding by the house key's words under a key, and the lowest power of t that is not below it.
+fn house_under(tally: &mut Tally, long: &[u8], key: u64, above: u32, good: Part) {
+    // faults: own length, part's length, sum, fingerprint
+    each(4, |fault| {
+        let bits = if fault(0) { reference::LIMIT + 1 } else if fault(2) { reference::LIMIT } else { 5 };
+        let mark = reference::Mark { fingerprint: if fault(3) { 1 << above } else { 0x5a }, bits };
+        let part = or_long(good, fault(1), long);
+        let what = format!("order, the house key's words, key {key:#x}, mark {mark:?}, part of {part:?}");
+        let answer = after(ours(mark), |m| m.feed_house(key, part));
+        tally.same(&what, answer, outcome(mark, reference::feed_house(key, mark, part)));
+        if key == GOOD {
+            tally.same(&what, answer, (ours(mark), 6));
+        }
+    });
+}
+
 fn marks(tally: &mut Tally, long: &[u8]) {
     for key in KEYS {
         tally.same(&format!("order, begin, key {key:#x}"), gfp::begin(key), reference::begin(key).map(ours));
-        // faults: size, word, own length, part's length, sum, fingerprint
-        each(6, |fault| {
-            let mut words = reference::table(GOOD);
-            if fault(1) {
-                words[700] ^= 1;
-            }
-            if fault(0) {
-                words.pop();
-            }
-            let length = if fault(2) { reference::LIMIT + 1 } else if fault(4) { reference::LIMIT } else { 5 };
-            let mark = reference::Mark { fingerprint: if fault(5) { 0x100 } else { 0x5a }, length };
-            let part = if fault(3) { long } else { b"AB" };
-            let what = format!("order, key {key:#x}, mark {mark:?}, {} words, part of {} bytes", words.len(), part.len());
-            tally.same(&what, after(ours(mark), |m| m.feed(key, part)), outcome(mark, reference::feed(key, mark, part)));
-            tally.same(&what, after(ours(mark), |m| m.feed_table(key, &words, part)), outcome(mark, reference::feed_table(key, mark, &words, part)));
-            tally.same(&what, gfp::test_table(key, &words), reference::test_table(key, &words));
-            tally.same(&what, gfp::make_table(key, &mut words.clone()), reference::make_table(key, &words).map(drop));
-        });
+        for part in PARTS {
+            marks_under(tally, long, key, part);
+        }
     }
     // An accepted key whose table differs from the house key's, the house key, one that shares its table, and the refused ones.
     for (key, above) in [(GOOD, 8), (gfp::HOUSE_KEY, 61), (0x400_0000_0027, 42), (KEYS[1], 8), (KEYS[2], 8)] {
-        // faults: own length, part's length, sum, fingerprint
-        each(4, |fault| {
-            let length = if fault(0) { reference::LIMIT + 1 } else if fault(2) { reference::LIMIT } else { 5 };
-            let mark = reference::Mark { fingerprint: if fault(3) { 1 << above } else { 0x5a }, length };
-            let part = if fault(1) { long } else { b"AB" };
-            let what = format!("order, the house key's words, key {key:#x}, mark {mark:?}, part of {} bytes", part.len());
-            let answer = after(ours(mark), |m| m.feed_house(key, part));
-            tally.same(&what, answer, outcome(mark, reference::feed_house(key, mark, part)));
-            if key == GOOD {
-                tally.same(&what, answer, (ours(mark), 6));
-            }
-        });
+        for part in PARTS {
+            house_under(tally, long, key, above, part);
+        }
     }
 }
 
+fn joining(tally: &mut Tally, key: u64) {
+    // faults: own length, other's length, sum, own fingerprint, other's fingerprint
+    each(5, |fault| {
+        let bits = if fault(0) { u64::MAX } else if fault(2) { reference::LIMIT } else { 5 };
+        let mark = reference::Mark { fingerprint: if fault(3) { 0x100 } else { 0x5a }, bits };
+        let other_bits = if fault(1) { 1 << 63 } else { 2 };
+        let other = reference::Mark { fingerprint: if fault(4) { 0x1ff } else { 0x59 }, bits: other_bits };
+        let what = format!("order, key {key:#x}, mark {mark:?}, other {other:?}");
+        tally.same(
+            &what,
+            after(ours(mark), |m| m.join_behind(key, ours(other))),
+            outcome(mark, reference::join_behind(key, mark, other)),
+        );
+        tally.same(
+            &what,
+            after(ours(mark), |m| m.join_in_front(key, ours(other))),
+            outcome(mark, reference::join_in_front(key, mark, other)),
+        );
+    });
+}
+
+/// Page change with given used bits of both pages' final bytes: with 6 the old page's is wrong, with 5 both are.
+fn page_change(tally: &mut Tally, long: &[u8], key: u64, old_used: u32, new_used: u32) {
+    // faults: own length, old page's length, new page's length, fingerprint, unequal pages, past the end
+    each(6, |fault| {
+        let bits = if fault(0) { reference::LIMIT + 1 } else { 72 };
+        let mark = reference::Mark { fingerprint: if fault(3) { 0x100 } else { 0x5a }, bits };
+        let old = or_long(Part { bytes: b"AB", used: old_used }, fault(1), long);
+        let new_bytes: &[u8] = if fault(4) { b"A" } else { b"CD" };
+        let new = or_long(Part { bytes: new_bytes, used: new_used }, fault(2), long);
+        let place = if fault(5) { u64::MAX } else { 7 };
+        let what = format!("order, key {key:#x}, mark {mark:?}, place {place}, {old:?} by {new:?}");
+        tally.same(
+            &what,
+            after(ours(mark), |m| m.replace_page(key, place, old, new)),
+            outcome(mark, reference::replace_page(key, mark, place, old, new)),
+        );
+    });
+}
+
 fn compose(tally: &mut Tally, long: &[u8]) {
+    const USED: [u32; 6] = [8, 0, 9, u32::MAX, 6, 5];
     for key in KEYS {
-        // faults: own length, other's length, sum, own fingerprint, other's fingerprint
-        each(5, |fault| {
-            let length = if fault(0) { u64::MAX } else if fault(2) { reference::LIMIT } else { 5 };
-            let mark = reference::Mark { fingerprint: if fault(3) { 0x100 } else { 0x5a }, length };
-            let other = reference::Mark { fingerprint: if fault(4) { 0x1ff } else { 0x59 }, length: if fault(1) { 1 << 63 } else { 2 } };
-            let what = format!("order, key {key:#x}, mark {mark:?}, other {other:?}");
-            tally.same(&what, after(ours(mark), |m| m.join_behind(key, ours(other))), outcome(mark, reference::join_behind(key, mark, other)));
-            tally.same(&what, after(ours(mark), |m| m.join_in_front(key, ours(other))), outcome(mark, reference::join_in_front(key, mark, other)));
-        });
-        // faults: own length, old page's length, new page's length, fingerprint, unequal pages, past the end
-        each(6, |fault| {
-            let mark = reference::Mark { fingerprint: if fault(3) { 0x100 } else { 0x5a }, length: if fault(0) { reference::LIMIT + 1 } else { 9 } };
-            let old = if fault(1) { long } else { b"AB" };
-            let new: &[u8] = if fault(2) { long } else if fault(4) { b"A" } else { b"CD" };
-            let place = if fault(5) { u64::MAX } else { 7 };
-            let what = format!("order, key {key:#x}, mark {mark:?}, place {place}, pages of {} and {} bytes", old.len(), new.len());
-            tally.same(&what, after(ours(mark), |m| m.replace_page(key, place, old, new)), outcome(mark, reference::replace_page(key, mark, place, old, new)));
-        });
+        joining(tally, key);
+        for (old_used, new_used) in USED.into_iter().flat_map(|old| USED.map(|new| (old, new))) {
+            page_change(tally, long, key, old_used, new_used);
+        }
     }
 }
 
@@ -99,84 +165,105 @@ fn search(tally: &mut Tally, long: &[u8]) {
     }
 }
 
+/// Writing a sheet; the number is told by hand, since every fault has its own.
+fn writing(tally: &mut Tally, long: &[u8], key: u64, good: Part) {
+    // faults: file's length, page size, buffer
+    each(3, |fault| {
+        let file = or_long(good, fault(0), long);
+        let size = if fault(1) { 15 } else { 16 };
+        let total = if good.bytes.is_empty() { 31 } else { 39 };
+        let before = vec![9; if fault(2) { total - 1 } else { total }];
+        let mut sheet = before.clone();
+        let number = gfp::write_sheet(key, size, file, &mut sheet).err().unwrap_or(0);
+        let faults = [(7, fault(0)), (12, fault(1)), (13, fault(2)), (19, good != PARTS[0])];
+        let lowest = faults.into_iter().find(|(_, applies)| *applies).map_or(0, |(number, _)| number);
+        let expected = reference::test_key(key).err().unwrap_or(lowest);
+        let what = format!("order, write, key {key:#x}, {file:?}, page size {size}, {} lent", before.len());
+        tally.same(&what, number, expected);
+        tally.same(&what, sheet == before, expected != 0);
+        tally.same(&what, number, reference::write_sheet(key, size, file, &before).err().unwrap_or(0));
+    });
+}
+
 fn sheets(tally: &mut Tally, long: &[u8]) {
     for key in KEYS {
-        // faults: file's length, page size, buffer
-        each(3, |fault| {
-            let file = if fault(0) { long } else { b"AB" };
-            let size = if fault(1) { 15 } else { 16 };
-            let before = vec![9; if fault(2) { 34 } else { 35 }];
-            let mut sheet = before.clone();
-            let number = gfp::write_sheet(key, size, file, &mut sheet).err().unwrap_or(0);
-            let expected = if key != GOOD {
-                reference::test_key(key).err().unwrap_or(0)
-            } else if fault(0) {
-                7
-            } else if fault(1) {
-                12
-            } else if fault(2) {
-                13
-            } else {
-                0
-            };
-            let what = format!("order, write, key {key:#x}, {} bytes, page size {size}, {} lent", file.len(), before.len());
-            tally.same(&what, number, expected);
-            tally.same(&what, sheet == before, expected != 0);
-        });
+        for part in PARTS {
+            writing(tally, long, key, part);
+        }
         for version in reference::VERSIONS {
             sheet_faults(tally, long, key, version);
         }
     }
 }
 
-/// Sheets of a version, read and checked.
+/// The sheet of 41 42 in a version, with the faults: letters, version, page size, total, a fingerprint, the joining,
+/// the highest byte of the length field, under the version's total without pages, under 27 bytes.
+fn faulty_sheet(key: u64, version: reference::Version, fault: &dyn Fn(u32) -> bool) -> Vec<u8> {
+    let head = version.head();
+    let mut sheet = reference::sheet(version, GOOD, 16, b"AB");
+    sheet[5..13].copy_from_slice(&key.to_be_bytes());
+    if fault(0) {
+        sheet[1] = b'f';
+    }
+    if fault(1) {
+        // 257 to 259: the version has two bytes
+        sheet[3] = 1;
+    }
+    if fault(2) {
+        sheet[head - 2] = 0x11;
+    }
+    if fault(4) {
+        sheet[head + 6] = 1;
+    }
+    if fault(5) {
+        sheet[head + 7] ^= 1;
+    }
+    if fault(6) {
+        sheet[13] = 1;
+    }
+    if fault(3) {
+        sheet.push(0);
+    }
+    if fault(7) {
+        sheet.truncate(version.total(0) as usize - 1);
+    }
+    if fault(8) {
+        sheet.truncate(26);
+    }
+    sheet
+}
+
+/// Sheets of a version, read and checked with files that are right, too long, of another length, or whose final byte is
+/// wrong.
 fn sheet_faults(tally: &mut Tally, long: &[u8], key: u64, version: reference::Version) {
     let page = if version.filled { 0xac } else { 0x9d };
-    // faults: letters, version, page size, total, a fingerprint, the joining, the file's length, under 27 bytes
-    each(8, |fault| {
-        let mut sheet = reference::sheet(version, GOOD, 16, b"AB");
-        sheet[5..13].copy_from_slice(&key.to_be_bytes());
-        if fault(0) {
-            sheet[1] = b'f';
-        }
-        if fault(1) {
-            // 257 or 258: the version has two bytes
-            sheet[3] = 1;
-        }
-        if fault(2) {
-            sheet[17] = 0x11;
-        }
-        if fault(4) {
-            sheet[25] = 1;
-        }
-        if fault(5) {
-            sheet[26] ^= 1;
-        }
-        if fault(3) {
-            sheet.push(0);
-        }
-        if fault(7) {
-            sheet.truncate(26);
-        }
+    let whole_long = Part::from(long);
+    let long_and_bad = Part { bytes: long, used: 9 };
+    each(9, |fault| {
+        let sheet = faulty_sheet(key, version, fault);
         let what = format!("order, sheet {sheet:02x?}");
         let second = reference::read_sheet(&sheet);
-        tally.same(&what, gfp::read_sheet(&sheet).map(|x| x.fingerprint), second.clone().map(|x| x.fingerprint));
+        let fingerprint = second.as_ref().map(|x| x.fingerprint).map_err(|&number| number);
+        tally.same(&what, gfp::read_sheet(&sheet).map(|x| x.fingerprint), fingerprint);
         let mut words = [7; 2];
         let number = gfp::read_pages(&sheet, &mut words).err();
-        tally.same(&what, (number, words), (second.clone().err(), if second.is_ok() { [page, 7] } else { [7; 2] }));
-        let file = if fault(6) { long } else { b"AB" };
-        let number = second.err().or(if fault(6) { Some(7) } else { None });
-        tally.same(&what, gfp::check_file(&sheet, file).err(), number);
-        tally.same(&what, gfp::changed_range(&sheet, file).err(), number);
+        tally.same(&what, (number, words), (fingerprint.err(), if second.is_ok() { [page, 7] } else { [7; 2] }));
+        for file in PARTS.into_iter().chain([whole_long, long_and_bad]) {
+            let number = reference::check_file(&sheet, file).err();
+            tally.same(format_args!("{what}, file of {file:?}"), gfp::check_file(&sheet, file).err(), number);
+            tally.same(format_args!("{what}, file of {file:?}"), gfp::changed_range(&sheet, file).err(), number);
+            let of_file = if file.bytes.len() > 2 { Some(7) } else { (file != PARTS[0]).then_some(19) };
+            tally.same(format_args!("{what}, file of {file:?}, by hand"), number, fingerprint.err().or(of_file));
+        }
     });
 }
 
 /// The size of a sheet. Faults: the file's length, the page size.
 fn lengths(tally: &mut Tally) {
     each(2, |fault| {
-        let length = if fault(0) { reference::LIMIT + 1 } else { 33 };
+        let length = if fault(0) { reference::LIMIT_BYTES + 1 } else { 33 };
         let size = if fault(1) { 4097 } else { 16 };
-        let expected = if fault(0) { Err(7) } else if fault(1) { Err(12) } else { Ok(51) };
+        let expected = if fault(0) { Err(7) } else if fault(1) { Err(12) } else { Ok(55) };
         tally.same(&format!("order, length {length}, page size {size}"), gfp::sheet_length(length, size), expected);
     });
 }

@@ -26,7 +26,10 @@ fn printed(input: &[u8]) -> String {
         return "no key\n".to_string();
     };
     match reference::begin(key).and_then(|mark| reference::feed(key, mark, file)) {
-        Ok(mark) => format!("key {} {key:x}\nbytes {}\nmark {:x}\n", reference::degree(key), mark.length, mark.fingerprint),
+        Ok(mark) => {
+            let (degree, bytes, fingerprint) = (reference::degree(key), mark.bits / 8, mark.fingerprint);
+            format!("key {degree} {key:x}\nbytes {bytes}\nmark {fingerprint:x}\n")
+        }
         Err(number) => format!("refused {number}\n"),
     }
 }

@@ -2,7 +2,11 @@
 //! bit by bit, trial comparisons, no tables. It shares no code and no method with the library that it is compared with. `ByteSteps` alone has a
 //! table, of its own, for what is compared at many lengths.
 
-pub const LIMIT: u64 = 4_294_967_295;
+use std::{cell::RefCell, collections::HashSet};
+
+/// The longest file, in bits, and the same in bytes.
+pub const LIMIT: u64 = 34_359_738_360;
+pub const LIMIT_BYTES: u64 = LIMIT / 8;
 
 /// The place of the highest one bit.
 pub fn degree(p: u64) -> u32 {
@@ -26,10 +30,77 @@ fn bits_of(bytes: &[u8]) -> impl Iterator<Item = bool> + '_ {
     bytes.iter().flat_map(|b| (0..8).rev().map(move |i| b >> i & 1 == 1))
 }
 
-/// The residue of t^(8n) plus the file's bits.
-pub fn fingerprint(key: u64, file: &[u8]) -> u64 {
+/// A part of a file, a page, or a file for a sheet: bytes, and u, the used bits of the final byte, at its high end.
+#[derive(Clone, Copy, PartialEq, Eq)]
+pub struct Part<'a> {
+    pub bytes: &'a [u8],
+    pub used: u32,
+}
+
+/// Whole bytes.
+impl<'a, T: AsRef<[u8]> + ?Sized> From<&'a T> for Part<'a> {
+    fn from(bytes: &'a T) -> Self {
+        Part { bytes: bytes.as_ref(), used: 8 }
+    }
+}
+
+impl<'a> Part<'a> {
+    /// The length in bits: a u outside 1 to 8 counts as 8, and a part without bytes is 0 long.
+    pub fn length(self) -> u128 {
+        let used = if (1..=8).contains(&self.used) { self.used } else { 8 };
+        match self.bytes.split_last() {
+            Some((_, front)) => 8 * front.len() as u128 + u128::from(used),
+            None => 0,
+        }
+    }
+
+    /// The bits that belong to the part.
+    pub fn bits(self) -> impl Iterator<Item = bool> + 'a {
+        bits_of(self.bytes).take(self.length() as usize)
+    }
+
+    /// Number 19: u outside 1 to 8, or not 8 for a part without bytes, or unused low bits of the final byte not zero.
+    pub fn misused(self) -> bool {
+        let Some(last) = self.bytes.last() else {
+            return self.used != 8;
+        };
+        !(1..=8).contains(&self.used) || (self.used..8).any(|place| last >> (7 - place) & 1 == 1)
+    }
+}
+
+/// A string of bits as bytes and u.
+pub struct Packed {
+    bytes: Vec<u8>,
+    used: u32,
+}
+
+impl Packed {
+    pub fn part(&self) -> Part<'_> {
+        Part { bytes: &self.bytes, used: self.used }
+    }
+}
+
+/// The first bit stands at the high end of the first byte.
+pub fn pack(bits: &[bool]) -> Packed {
+    let byte = |bits: &[bool]| bits.iter().zip(0..8).fold(0u8, |b, (&bit, i)| b | u8::from(bit) << (7 - i));
+    let used = if bits.len() % 8 == 0 { 8 } else { bits.len() as u32 % 8 };
+    Packed { bytes: bits.chunks(8).map(byte).collect(), used }
+}
+
+impl std::fmt::Debug for Part<'_> {
+    fn fmt(&self, f: &mut std::fmt::Formatter) -> std::fmt::Result {
+        write!(f, "{} bytes ending in {:02x?} with u {}", self.bytes.len(), self.bytes.last(), self.used)
+    }
+}
+
+/// The residue of t^n plus the n bits.
+pub fn fingerprint_of_bits(key: u64, bits: impl Iterator<Item = bool>) -> u64 {
     let one = divide(key, 0, std::iter::once(true));
-    divide(key, one, bits_of(file))
+    divide(key, one, bits)
+}
+
+pub fn fingerprint<'a>(key: u64, file: impl Into<Part<'a>>) -> u64 {
+    fingerprint_of_bits(key, file.into().bits())
 }
 
 /// The residue of a polynomial of up to 128 bits.
@@ -137,11 +208,20 @@ fn refuse(tests: &[(u32, bool)]) -> Answer<()> {
     }
 }
 
+thread_local! {
+    /// The keys that `irreducible` has found to be so: most are asked for again and again.
+    static FOUND: RefCell<HashSet<u64>> = RefCell::default();
+}
+
+fn known_irreducible(key: u64) -> bool {
+    FOUND.with_borrow_mut(|found| found.contains(&key) || irreducible(key) && found.insert(key))
+}
+
 pub fn test_key(key: u64) -> Answer<()> {
     if key < 256 {
         return Err(1);
     }
-    refuse(&[(2, !irreducible(key))])
+    refuse(&[(2, !known_irreducible(key))])
 }
 
 /// The stock list: for each degree 8 to 63 the smallest irreducible polynomial of that degree.
@@ -149,15 +229,22 @@ pub fn stock_key(k: u64) -> Option<u64> {
     (8..=63).contains(&k).then(|| (1u64 << k..).find(|&p| irreducible(p)).expect("one of each degree"))
 }
 
+/// A fingerprint and a length in bits.
 #[derive(Clone, Copy, Debug, PartialEq, Eq)]
 pub struct Mark {
     pub fingerprint: u64,
-    pub length: u64,
+    pub bits: u64,
+}
+
+/// The mark of a file.
+pub fn mark_of<'a>(key: u64, file: impl Into<Part<'a>>) -> Mark {
+    let file = file.into();
+    Mark { fingerprint: fingerprint_of_bits(key, file.bits()), bits: file.length() as u64 }
 }
 
 pub fn begin(key: u64) -> Answer<Mark> {
     test_key(key)?;
-    Ok(Mark { fingerprint: fingerprint(key, &[]), length: 0 })
+    Ok(mark_of(key, &[]))
 }
 
 fn too_long(lengths: &[u128]) -> bool {
@@ -168,18 +255,19 @@ fn unreduced(key: u64, fingerprint: u64) -> bool {
     fingerprint >> degree(key) != 0
 }
 
-fn sum_too_long(a: u64, b: u64) -> bool {
-    too_long(&[a.into(), b.into(), u128::from(a) + u128::from(b)])
+fn sum_too_long(a: u128, b: u128) -> bool {
+    too_long(&[a, b, a + b])
 }
 
-fn fed(key: u64, mark: Mark, part: &[u8]) -> Mark {
-    Mark { fingerprint: divide(key, mark.fingerprint, bits_of(part)), length: mark.length + part.len() as u64 }
-}
-
-pub fn feed(key: u64, mark: Mark, part: &[u8]) -> Answer<Mark> {
+pub fn feed<'a>(key: u64, mark: Mark, part: impl Into<Part<'a>>) -> Answer<Mark> {
+    let part = part.into();
     test_key(key)?;
-    refuse(&[(7, sum_too_long(mark.length, part.len() as u64)), (8, unreduced(key, mark.fingerprint))])?;
-    Ok(fed(key, mark, part))
+    refuse(&[
+        (7, sum_too_long(mark.bits.into(), part.length())),
+        (8, unreduced(key, mark.fingerprint)),
+        (19, part.misused()),
+    ])?;
+    Ok(Mark { fingerprint: divide(key, mark.fingerprint, part.bits()), bits: mark.bits + part.length() as u64 })
 }
 
 /// Word 256·j + i: the residue of i·t^(k + 8j).
@@ -203,7 +291,7 @@ pub fn test_table(key: u64, words: &[u64]) -> Answer<()> {
     refuse(&[(6, words.iter().enumerate().any(|(n, &w)| w != table_word(key, n)))])
 }
 
-pub fn feed_table(key: u64, mark: Mark, words: &[u64], part: &[u8]) -> Answer<Mark> {
+pub fn feed_table<'a>(key: u64, mark: Mark, words: &[u64], part: impl Into<Part<'a>>) -> Answer<Mark> {
     test_table(key, words)?;
     feed(key, mark, part)
 }
@@ -211,23 +299,23 @@ pub fn feed_table(key: u64, mark: Mark, words: &[u64], part: &[u8]) -> Answer<Ma
 pub const HOUSE_KEY: u64 = 0x2000_0000_0000_0027;
 
 /// Feeding by the house key's words, whatever the key is.
-pub fn feed_house(key: u64, mark: Mark, part: &[u8]) -> Answer<Mark> {
+pub fn feed_house<'a>(key: u64, mark: Mark, part: impl Into<Part<'a>>) -> Answer<Mark> {
     feed_table(key, mark, &table(HOUSE_KEY), part)
 }
 
 // ---- Site: joining, page change, search, page sheets
 
-/// F·t^(8b) + G + t^(8b), length a + b.
+/// F·t^b + G + t^b, length a + b, where a and b are in bits.
 fn joined(key: u64, front: Mark, back: Mark) -> Mark {
-    let power = power_of_t(key, 8 * back.length);
+    let power = power_of_t(key, back.bits);
     let fingerprint = multiply_modulo(key, front.fingerprint, power) ^ back.fingerprint ^ power;
-    Mark { fingerprint, length: front.length + back.length }
+    Mark { fingerprint, bits: front.bits + back.bits }
 }
 
 fn join_tests(key: u64, mark: Mark, other: Mark) -> Answer<()> {
     test_key(key)?;
     refuse(&[
-        (7, sum_too_long(mark.length, other.length)),
+        (7, sum_too_long(mark.bits.into(), other.bits.into())),
         (8, unreduced(key, mark.fingerprint) || unreduced(key, other.fingerprint)),
     ])
 }
@@ -242,24 +330,34 @@ pub fn join_in_front(key: u64, mark: Mark, other: Mark) -> Answer<Mark> {
     Ok(joined(key, other, mark))
 }
 
-pub fn replace_page(key: u64, mark: Mark, place: u64, old: &[u8], new: &[u8]) -> Answer<Mark> {
+/// The place is in bytes, the lengths are in bits.
+pub fn replace_page<'a, 'b>(
+    key: u64,
+    mark: Mark,
+    place: u64,
+    old: impl Into<Part<'a>>,
+    new: impl Into<Part<'b>>,
+) -> Answer<Mark> {
+    let (old, new): (Part, Part) = (old.into(), new.into());
     test_key(key)?;
-    let end = u128::from(place) + old.len() as u128;
+    let end = 8 * u128::from(place) + old.length();
     refuse(&[
-        (7, too_long(&[mark.length.into(), old.len() as u128, new.len() as u128])),
+        (7, too_long(&[mark.bits.into(), old.length(), new.length()])),
         (8, unreduced(key, mark.fingerprint)),
-        (9, old.len() != new.len()),
-        (10, end > u128::from(mark.length)),
+        (9, old.length() != new.length()),
+        (10, end > u128::from(mark.bits)),
+        (19, old.misused() || new.misused()),
     ])?;
     let difference = fingerprint(key, old) ^ fingerprint(key, new);
-    let after = power_of_t(key, 8 * (mark.length - end as u64));
-    Ok(Mark { fingerprint: mark.fingerprint ^ multiply_modulo(key, difference, after), length: mark.length })
+    let after = power_of_t(key, mark.bits - end as u64);
+    Ok(Mark { fingerprint: mark.fingerprint ^ multiply_modulo(key, difference, after), bits: mark.bits })
 }
 
-/// The places, and the number of windows with the pattern's fingerprint and other bytes.
+/// The places in bytes, and the number of windows with the pattern's fingerprint and other bytes.
 pub fn search(key: u64, text: &[u8], pattern: &[u8]) -> Answer<(Vec<u32>, u64)> {
     test_key(key)?;
-    refuse(&[(7, too_long(&[text.len() as u128, pattern.len() as u128])), (11, pattern.is_empty())])?;
+    let lengths = [text, pattern].map(|bytes| Part::from(bytes).length());
+    refuse(&[(7, too_long(&lengths)), (11, pattern.is_empty())])?;
     let wanted = fingerprint(key, pattern);
     let mut places = Vec::new();
     let mut alarms = 0;
@@ -273,40 +371,72 @@ pub fn search(key: u64, text: &[u8], pattern: &[u8]) -> Answer<(Vec<u32>, u64)> 
     Ok((places, alarms))
 }
 
+/// The bytes that a number of bits takes, an unfinished byte counted as one.
+pub fn bytes_for(bits: u64) -> u64 {
+    bits / 8 + u64::from(bits % 8 != 0)
+}
+
+/// The pages of a file of n bytes: n / s, rounded up.
 fn pages(n: u64, s: u64) -> u64 {
     (u128::from(n) + u128::from(s) - 1).div_euclid(u128::from(s)) as u64
 }
 
-/// A version of page sheets: its number, and whether a last page shorter than the page size is taken as filled up with zero bytes.
+/// A version of page sheets: its number, the bytes of its length field, how many bits that field counts as one, and
+/// whether a last page shorter than the page size is taken as filled up with zeros.
 #[derive(Clone, Copy, Debug, PartialEq, Eq)]
 pub struct Version {
     pub number: u64,
+    pub width: usize,
+    pub unit: u64,
     pub filled: bool,
 }
 
-/// The versions that are read.
-pub const VERSIONS: [Version; 2] = [Version { number: 1, filled: true }, Version { number: 2, filled: false }];
-/// The version that is written.
-pub const WRITTEN: Version = VERSIONS[1];
+impl Version {
+    /// Where the page fingerprints begin: behind letters, version, key, length and page size.
+    pub fn head(self) -> usize {
+        3 + 2 + 8 + self.width + 2
+    }
 
-/// The fingerprint of each page of a file.
-fn page_fingerprints(version: Version, key: u64, s: usize, file: &[u8]) -> impl Iterator<Item = u64> + '_ {
-    file.chunks(s).map(move |bytes| {
-        let mut page = bytes.to_vec();
-        if version.filled {
-            page.resize(s, 0);
-        }
-        fingerprint(key, &page)
-    })
+    /// The bytes of a sheet with c pages: 27 + 8c, or 31 + 8c.
+    pub fn total(self, c: u64) -> u64 {
+        self.head() as u64 + 8 * c + 8
+    }
 }
 
-pub fn sheet(version: Version, key: u64, s: u64, file: &[u8]) -> Vec<u8> {
+/// The versions that are read.
+pub const VERSIONS: [Version; 3] = [
+    Version { number: 1, width: 4, unit: 8, filled: true },
+    Version { number: 2, width: 4, unit: 8, filled: false },
+    Version { number: 3, width: 8, unit: 1, filled: false },
+];
+/// The version that is written.
+pub const WRITTEN: Version = VERSIONS[2];
+
+/// The fingerprint of each page of a file: its bits, cut in pages of s bytes.
+fn page_fingerprints(version: Version, key: u64, s: u64, file: Part) -> Vec<u64> {
+    let bits: Vec<bool> = file.bits().collect();
+    let size = 8 * s as usize;
+    let page_fingerprint = |page: &[bool]| {
+        let mut page = page.to_vec();
+        if version.filled {
+            page.resize(size, false);
+        }
+        fingerprint_of_bits(key, page.into_iter())
+    };
+    bits.chunks(size).map(page_fingerprint).collect()
+}
+
+/// The sheet of a file. Versions 1 and 2 have no sheet of a file that stops inside a byte.
+pub fn sheet<'a>(version: Version, key: u64, s: u64, file: impl Into<Part<'a>>) -> Vec<u8> {
+    let file = file.into();
+    let length = file.length() as u64;
+    assert!(length % version.unit == 0, "no sheet of {length} bits in version {}", version.number);
     let mut bytes = b"GFP".to_vec();
     bytes.extend((version.number as u16).to_be_bytes());
     bytes.extend(key.to_be_bytes());
-    bytes.extend((file.len() as u32).to_be_bytes());
+    bytes.extend(&(length / version.unit).to_be_bytes()[8 - version.width..]);
     bytes.extend((s as u16).to_be_bytes());
-    for f in page_fingerprints(version, key, s as usize, file) {
+    for f in page_fingerprints(version, key, s, file) {
         bytes.extend(f.to_be_bytes());
     }
     bytes.extend(fingerprint(key, file).to_be_bytes());
@@ -314,25 +444,29 @@ pub fn sheet(version: Version, key: u64, s: u64, file: &[u8]) -> Vec<u8> {
 }
 
 /// The lent buffer after the call.
-pub fn write_sheet(key: u64, s: u64, file: &[u8], buffer: &[u8]) -> Answer<Vec<u8>> {
+pub fn write_sheet<'a>(key: u64, s: u64, file: impl Into<Part<'a>>, buffer: &[u8]) -> Answer<Vec<u8>> {
+    let file = file.into();
     test_key(key)?;
-    refuse(&[(7, too_long(&[file.len() as u128])), (12, !(16..=4096).contains(&s))])?;
-    refuse(&[(13, (buffer.len() as u64) < 27 + 8 * pages(file.len() as u64, s))])?;
+    refuse(&[(7, too_long(&[file.length()])), (12, !(16..=4096).contains(&s))])?;
+    let total = WRITTEN.total(pages(file.bytes.len() as u64, s));
+    refuse(&[(13, (buffer.len() as u64) < total), (19, file.misused())])?;
     let mut after = sheet(WRITTEN, key, s, file);
     after.extend(&buffer[after.len()..]);
     Ok(after)
 }
 
+/// The bytes of the sheet of a file of n bytes, an unfinished byte counted as one.
 pub fn sheet_length(n: u64, s: u64) -> Answer<u64> {
-    refuse(&[(7, too_long(&[n.into()])), (12, !(16..=4096).contains(&s))])?;
-    Ok(27 + 8 * pages(n, s))
+    refuse(&[(7, too_long(&[8 * u128::from(n)])), (12, !(16..=4096).contains(&s))])?;
+    Ok(WRITTEN.total(pages(n, s)))
 }
 
+/// The length is in bits, the page size in bytes.
 #[derive(Clone, Debug, PartialEq, Eq)]
 pub struct Sheet {
     pub version: Version,
     pub key: u64,
-    pub length: u64,
+    pub bits: u64,
     pub page_size: u64,
     pub pages: Vec<u64>,
     pub fingerprint: u64,
@@ -342,27 +476,28 @@ fn number(bytes: &[u8]) -> u64 {
     bytes.iter().fold(0, |n, &b| n << 8 | u64::from(b))
 }
 
-/// Page fingerprints joined behind f, each page b bytes long: F·t^(8b) + G + t^(8b). No length is limited.
+/// Page fingerprints joined behind f, each page b bits long: F·t^b + G + t^b. No length is limited.
 fn joined_pages(key: u64, f: u64, pages: &[u64], b: u64) -> u64 {
-    let power = power_of_t(key, 8 * b);
+    let power = power_of_t(key, b);
     pages.iter().fold(f, |f, g| multiply_modulo(key, f, power) ^ g ^ power)
 }
 
-/// Version 1: the page marks joined, each of length s, give the file's fingerprint times t^(8 × (c × s − n)); no pages give 1.
+/// Version 1: the page marks joined, each of length s, give the file's fingerprint times t^(8 × c × s − n), n being in
+/// bits; no pages give 1.
 fn joins_filled(x: &Sheet) -> bool {
-    let whole = joined_pages(x.key, residue(x.key, 1), &x.pages, x.page_size);
-    let behind = x.pages.len() as u64 * x.page_size - x.length;
-    whole == multiply_modulo(x.key, x.fingerprint, power_of_t(x.key, 8 * behind))
+    let whole = joined_pages(x.key, residue(x.key, 1), &x.pages, 8 * x.page_size);
+    let behind = 8 * x.pages.len() as u64 * x.page_size - x.bits;
+    whole == multiply_modulo(x.key, x.fingerprint, power_of_t(x.key, behind))
 }
 
-/// Version 2: the page marks joined, each of its own length, give the file's fingerprint; no pages give 1.
+/// Versions 2 and 3: the page marks joined, each of its own length, give the file's fingerprint; no pages give 1.
 fn joins_unfilled(x: &Sheet) -> bool {
     let one = residue(x.key, 1);
     let Some((&last, front)) = x.pages.split_last() else {
         return x.fingerprint == one;
     };
-    let front_joined = joined_pages(x.key, one, front, x.page_size);
-    let last_length = x.length - front.len() as u64 * x.page_size;
+    let front_joined = joined_pages(x.key, one, front, 8 * x.page_size);
+    let last_length = x.bits - 8 * front.len() as u64 * x.page_size;
     joined_pages(x.key, front_joined, &[last], last_length) == x.fingerprint
 }
 
@@ -372,16 +507,18 @@ pub fn read_sheet(bytes: &[u8]) -> Answer<Sheet> {
     }
     let version_number = number(&bytes[3..5]);
     let version = VERSIONS.into_iter().find(|v| v.number == version_number).ok_or(14u32)?;
-    let key = number(&bytes[5..13]);
-    let length = number(&bytes[13..17]);
-    let page_size = number(&bytes[17..19]);
+    refuse(&[(14, (bytes.len() as u64) < version.total(0))])?;
+    let (behind_key, head) = (13 + version.width, version.head());
+    let bits = u128::from(version.unit) * u128::from(number(&bytes[13..behind_key]));
+    refuse(&[(14, too_long(&[bits]))])?;
+    let (key, bits, page_size) = (number(&bytes[5..13]), bits as u64, number(&bytes[behind_key..head]));
     test_key(key)?;
     refuse(&[(12, !(16..=4096).contains(&page_size))])?;
-    refuse(&[(14, bytes.len() as u64 != 27 + 8 * pages(length, page_size))])?;
-    let fields: Vec<u64> = bytes[19..].chunks(8).map(number).collect();
+    refuse(&[(14, bytes.len() as u64 != version.total(pages(bytes_for(bits), page_size)))])?;
+    let fields: Vec<u64> = bytes[head..].chunks(8).map(number).collect();
     refuse(&[(14, fields.iter().any(|&f| unreduced(key, f)))])?;
     let (&fingerprint, page_marks) = fields.split_last().expect("the file's field");
-    let sheet = Sheet { version, key, length, page_size, pages: page_marks.to_vec(), fingerprint };
+    let sheet = Sheet { version, key, bits, page_size, pages: page_marks.to_vec(), fingerprint };
     let joins = if version.filled { joins_filled(&sheet) } else { joins_unfilled(&sheet) };
     refuse(&[(14, !joins)])?;
     Ok(sheet)
@@ -394,18 +531,23 @@ pub enum Check {
     OtherLength,
 }
 
-pub fn check_file(bytes: &[u8], file: &[u8]) -> Answer<Check> {
-    let sheet = read_sheet(bytes)?;
-    refuse(&[(7, too_long(&[file.len() as u128]))])?;
-    if file.len() as u64 != sheet.length {
+pub fn check_file<'a>(bytes: &[u8], file: impl Into<Part<'a>>) -> Answer<Check> {
+    check_against(&read_sheet(bytes)?, file.into())
+}
+
+/// A check against a sheet that was read: 7, then 19, and only then the lengths are compared.
+fn check_against(sheet: &Sheet, file: Part) -> Answer<Check> {
+    refuse(&[(7, too_long(&[file.length()])), (19, file.misused())])?;
+    if file.length() != u128::from(sheet.bits) {
         return Ok(Check::OtherLength);
     }
-    let now = page_fingerprints(sheet.version, sheet.key, sheet.page_size as usize, file);
-    let changed = now.zip(&sheet.pages).position(|(f, &g)| f != g);
+    let now = page_fingerprints(sheet.version, sheet.key, sheet.page_size, file);
+    let changed = now.iter().zip(&sheet.pages).position(|(f, g)| f != g);
     Ok(changed.map_or(Check::Same, |i| Check::Page(i as u64)))
 }
 
-/// The bytes of the page that a check names: from its place to the next page's, or to the file's end.
+/// The bytes of the page that a check names: from its place to the next page's, or to the file's end. An unfinished
+/// byte counts as one.
 #[derive(Clone, Debug, PartialEq, Eq)]
 pub enum Changed {
     Same,
@@ -413,11 +555,13 @@ pub enum Changed {
     OtherLength,
 }
 
-pub fn changed_range(bytes: &[u8], file: &[u8]) -> Answer<Changed> {
-    let s = read_sheet(bytes)?.page_size;
-    Ok(match check_file(bytes, file)? {
+pub fn changed_range<'a>(bytes: &[u8], file: impl Into<Part<'a>>) -> Answer<Changed> {
+    let file = file.into();
+    let sheet = read_sheet(bytes)?;
+    let s = sheet.page_size;
+    Ok(match check_against(&sheet, file)? {
         Check::Same => Changed::Same,
-        Check::Page(i) => Changed::Bytes(i * s..((i + 1) * s).min(file.len() as u64)),
+        Check::Page(i) => Changed::Bytes(i * s..((i + 1) * s).min(file.bytes.len() as u64)),
         Check::OtherLength => Changed::OtherLength,
     })
 }

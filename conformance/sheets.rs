@@ -1,15 +1,25 @@
-//! Page sheets: writing; reading and checking in both versions; other versions; sheets damaged in every byte.
-//! The library writes version 2 alone, so sheets of version 1 are the second implementation's.
-use crate::{feeding::turning_lengths, generator::Generator, gfp, reference::{self, Version, VERSIONS}, Tally};
+//! Page sheets: writing; reading and checking in all versions; other versions; sheets damaged in every byte; files that
+//! stop inside a byte. The library writes version 3 alone, so sheets of versions 1 and 2 are the second
+//! implementation's.
+use crate::generator::{cleaned, Generator};
+use crate::reference::{self, pack, Part, Version, VERSIONS};
+use crate::{feeding::turning_lengths, gfp, Tally};
 
 /// Keys of degree 8, 31, 61 and 63.
 const KEYS: [u64; 4] = [0x11b, 0x8000_0009, gfp::HOUSE_KEY, 0x8000_0000_0000_0003];
 
 fn numbers(x: &reference::Sheet) -> gfp::Sheet {
-    gfp::Sheet { key: x.key, length: x.length, page_size: x.page_size, pages: x.pages.len() as u64, fingerprint: x.fingerprint }
+    gfp::Sheet {
+        version: x.version.number as u32,
+        key: x.key,
+        bits: x.bits,
+        page_size: x.page_size,
+        pages: x.pages.len() as u64,
+        fingerprint: x.fingerprint,
+    }
 }
 
-fn check(sheet: &[u8], file: &[u8]) -> Result<gfp::Check, u32> {
+fn check(sheet: &[u8], file: Part) -> Result<gfp::Check, u32> {
     reference::check_file(sheet, file).map(|c| match c {
         reference::Check::Same => gfp::Check::Same,
         reference::Check::Page(i) => gfp::Check::Page(i as u32),
@@ -17,7 +27,7 @@ fn check(sheet: &[u8], file: &[u8]) -> Result<gfp::Check, u32> {
     })
 }
 
-fn range(sheet: &[u8], file: &[u8]) -> Result<gfp::Changed, u32> {
+fn range(sheet: &[u8], file: Part) -> Result<gfp::Changed, u32> {
     reference::changed_range(sheet, file).map(|c| match c {
         reference::Changed::Same => gfp::Changed::Same,
         reference::Changed::Bytes(range) => gfp::Changed::Bytes(range),
@@ -26,14 +36,15 @@ fn range(sheet: &[u8], file: &[u8]) -> Result<gfp::Changed, u32> {
 }
 
 /// Writes a sheet on both sides, with room to spare or too little, and compares what was written.
-fn write(tally: &mut Tally, key: u64, size: u64, file: &[u8], room: usize) -> Vec<u8> {
-    let what = format!("sheet of {} bytes, page size {size}, key {key:#x}, {room} bytes lent", file.len());
+fn write(tally: &mut Tally, key: u64, size: u64, file: Part, room: usize) -> Vec<u8> {
+    let what = format!("sheet of {file:?}, page size {size}, key {key:#x}, {room} bytes lent");
     let before: Vec<u8> = (0..room).map(|i| i as u8 ^ 0xa5).collect();
     let mut ours = before.clone();
     let number = gfp::write_sheet(key, size, file, &mut ours).err().unwrap_or(0);
     let second = reference::write_sheet(key, size, file, &before);
     tally.same(&what, number, second.clone().err().unwrap_or(0));
-    tally.same(&format!("length, {what}"), gfp::sheet_length(file.len() as u64, size), reference::sheet_length(file.len() as u64, size));
+    let n = file.bytes.len() as u64;
+    tally.same(&format!("length, {what}"), gfp::sheet_length(n, size), reference::sheet_length(n, size));
     tally.same(&format!("bytes, {what}"), &ours, &second.unwrap_or(before));
     ours
 }
@@ -44,7 +55,8 @@ fn pages(x: &reference::Sheet, lent: usize) -> Vec<u64> {
     x.pages.iter().chain(behind).take(lent).copied().collect()
 }
 
-fn judge(tally: &mut Tally, what: &str, sheet: &[u8], file: &[u8]) {
+fn judge<'a>(tally: &mut Tally, what: &str, sheet: &[u8], file: impl Into<Part<'a>>) {
+    let file = file.into();
     let second = reference::read_sheet(sheet);
     let number = second.as_ref().err().copied().unwrap_or(0);
     tally.same(&format!("read, {what}"), gfp::read_sheet(sheet), second.as_ref().map(numbers).map_err(|_| number));
@@ -54,69 +66,100 @@ fn judge(tally: &mut Tally, what: &str, sheet: &[u8], file: &[u8]) {
         let after = second.as_ref().map_or(vec![7; lent], |x| pages(x, lent));
         tally.same(&format!("pages into {lent} words, {what}"), (ours, words), (number, after));
     }
-    tally.same(&format!("check, {what}"), gfp::check_file(sheet, file), check(sheet, file));
-    tally.same(&format!("range, {what}"), gfp::changed_range(sheet, file), range(sheet, file));
+    judge_check(tally, what, sheet, file);
 }
 
-/// A sheet beside its file, and beside the file with a bit changed at each of the places, one byte shorter and one byte longer.
-fn judge_files(tally: &mut Tally, what: &str, sheet: &[u8], file: &[u8], places: &[usize]) {
+fn judge_check(tally: &mut Tally, what: &str, sheet: &[u8], file: Part) {
+    tally.same(&format!("check, {what}, file of {file:?}"), gfp::check_file(sheet, file), check(sheet, file));
+    tally.same(&format!("range, {what}, file of {file:?}"), gfp::changed_range(sheet, file), range(sheet, file));
+}
+
+/// A sheet beside its file, and beside the file with a bit changed at each of the places, one byte and one bit shorter
+/// and longer, and with another u.
+fn judge_files(tally: &mut Tally, what: &str, sheet: &[u8], file: Part, places: &[usize]) {
     judge(tally, &format!("as written, {what}"), sheet, file);
     for &at in places {
-        let mut changed = file.to_vec();
+        let mut changed = file.bytes.to_vec();
         changed[at] ^= 1 << (at % 8);
-        judge(tally, &format!("byte {at} of the file changed, {what}"), sheet, &changed);
+        let changed = Part { bytes: &changed, used: file.used };
+        judge_check(tally, &format!("byte {at} of the file changed, {what}"), sheet, changed);
     }
-    if let Some((_, shorter)) = file.split_last() {
-        judge(tally, &format!("file one byte shorter, {what}"), sheet, shorter);
+    let used = file.used;
+    if let Some((_, shorter)) = file.bytes.split_last() {
+        judge_check(tally, &format!("file one byte shorter, {what}"), sheet, Part { bytes: shorter, used });
     }
-    judge(tally, &format!("file one byte longer, {what}"), sheet, &[file, &[0]].concat());
+    let longer = [file.bytes, &[0]].concat();
+    judge_check(tally, &format!("file one byte longer, {what}"), sheet, Part { bytes: &longer, used });
+    let mut bits: Vec<bool> = file.bits().collect();
+    bits.push(false);
+    judge_check(tally, &format!("file one bit longer, {what}"), sheet, pack(&bits).part());
+    bits.truncate(bits.len().saturating_sub(2));
+    judge_check(tally, &format!("file one bit shorter, {what}"), sheet, pack(&bits).part());
+    for used in [0, 1, 4, 7, 8, 9] {
+        judge_check(tally, &format!("another u, {what}"), sheet, Part { bytes: file.bytes, used });
+    }
 }
 
-/// The sheet in version 1, where the key and the page size have one.
-fn in_version_1(key: u64, size: u64, file: &[u8]) -> Option<Vec<u8>> {
-    let has_one = reference::test_key(key).is_ok() && reference::sheet_length(file.len() as u64, size).is_ok();
-    has_one.then(|| reference::sheet(VERSIONS[0], key, size, file))
+/// The sheets of the file's bytes in versions 1 and 2, where the key and the page size have one.
+fn in_older_versions(key: u64, size: u64, bytes: &[u8]) -> Vec<Vec<u8>> {
+    let has_one = reference::test_key(key).is_ok() && reference::sheet_length(bytes.len() as u64, size).is_ok();
+    let versions = if has_one { &VERSIONS[..2] } else { &[] };
+    versions.iter().map(|&version| reference::sheet(version, key, size, bytes)).collect()
 }
 
-/// Writes the sheet of a file; judges it, and the sheet in version 1.
-fn judge_versions(tally: &mut Tally, key: u64, size: u64, file: &[u8], places: &[usize]) {
-    let total = reference::sheet_length(file.len() as u64, size).map_or(0, |total| total as usize);
+/// Writes the sheet of a file; judges it, and the sheets in versions 1 and 2.
+fn judge_versions(tally: &mut Tally, key: u64, size: u64, file: Part, places: &[usize]) {
+    let total = reference::sheet_length(file.bytes.len() as u64, size).map_or(0, |total| total as usize);
     let mut written = write(tally, key, size, file, total + 8);
     written.truncate(total);
-    for sheet in [Some(written), in_version_1(key, size, file)].into_iter().flatten() {
-        let what = format!("file of {} bytes, page size {size}, key {key:#x}, version {:?}", file.len(), sheet.get(3..5));
+    for sheet in in_older_versions(key, size, file.bytes).into_iter().chain([written]) {
+        let what = format!("{file:?}, page size {size}, key {key:#x}, version {:?}", sheet.get(3..5));
         judge_files(tally, &what, &sheet, file, places);
     }
 }
 
-fn random(tally: &mut Tally, generator: &mut Generator) {
-    let key = generator.key();
-    let size = match generator.below(8) {
+fn random_page_size(generator: &mut Generator) -> u64 {
+    match generator.below(8) {
         0 => [0, 15, 4097, 65_552, u64::MAX, 1 << 32][generator.below(6) as usize],
         1 => [16, 17, 4095, 4096][generator.below(4) as usize],
         _ => 16 + generator.below(200),
-    };
+    }
+}
+
+/// The bytes of a file: none to some pages of the size, and a last one that is full or not.
+fn random_file_length(generator: &mut Generator, size: u64) -> usize {
     // pages are taken in blocks of 64 and joined in four runs from 64 on
     let many = 60 + generator.below(10) + [0, 64, 192][generator.below(3) as usize];
     let pages = if size < 100 && generator.below(2) == 0 { many } else { generator.below(6) };
-    let n = (pages * size.min(4096) + [0, 1, size.min(4096) - 1, generator.below(16)][generator.below(4) as usize]) as usize;
-    let file = generator.bytes(n.min(30_000));
-    let total = 27 + 8 * (file.len() as u64).div_ceil(size.clamp(16, 4096)) as usize;
-    let room = [total, total, total - 1, total + 5, generator.below(27) as usize, 0][generator.below(6) as usize];
-    let mut written = write(tally, key, size, &file, room);
+    let last = [0, 1, size.min(4096) - 1, generator.below(16)][generator.below(4) as usize];
+    (pages * size.min(4096)).wrapping_add(last).min(30_000) as usize
+}
+
+fn random(tally: &mut Tally, generator: &mut Generator) {
+    let (key, size, used) = (generator.key(), random_page_size(generator), generator.used());
+    let n = random_file_length(generator, size);
+    let bytes = generator.bytes_used(n, used);
+    let file = Part { bytes: &bytes, used };
+    let total = 31 + 8 * (n as u64).div_ceil(size.clamp(16, 4096)) as usize;
+    let room = [total, total, total - 1, total + 5, generator.below(31) as usize, 0][generator.below(6) as usize];
+    let mut written = write(tally, key, size, file, room);
     written.truncate(total);
-    let sheets = [Some(written), in_version_1(key, size, &file)];
-    let place = (!file.is_empty()).then(|| generator.below(file.len() as u64) as usize);
-    for mut sheet in sheets.into_iter().flatten() {
-        judge_files(tally, &format!("page size {size}, key {key:#x}"), &sheet, &file, place.as_slice());
+    let place = (n > 0).then(|| generator.below(n as u64) as usize);
+    for mut sheet in in_older_versions(key, size, &bytes).into_iter().chain([written]) {
+        judge_files(tally, &format!("page size {size}, key {key:#x}"), &sheet, file, place.as_slice());
         if !sheet.is_empty() {
             let at = generator.below(sheet.len() as u64) as usize;
             sheet[at] ^= 1 << generator.below(8);
-            judge(tally, &format!("byte {at} of the sheet changed"), &sheet, &file);
+            judge(tally, &format!("byte {at} of the sheet changed"), &sheet, file);
             sheet.pop();
-            judge(tally, "sheet one byte shorter", &sheet, &file);
+            judge(tally, "sheet one byte shorter", &sheet, file);
         }
     }
+}
+
+/// 8 or a random number below.
+fn good_used(generator: &mut Generator) -> u32 {
+    if generator.one_in(2) { 8 } else { 1 + generator.below(7) as u32 }
 }
 
 /// Pages of the lengths beside which feeding may go another way, and of random ones, under the house key and a random one.
@@ -127,9 +170,10 @@ fn page_sizes(tally: &mut Tally, generator: &mut Generator) {
         for size in turning_lengths(4096).into_iter().chain(random.iter().copied()) {
             let pages = if generator.one_in(10) { 60 + generator.below(10) } else { generator.below(4) } as usize;
             let n = pages * size + generator.below(size as u64 + 1) as usize;
-            let file = generator.bytes(n + 1);
+            let used = good_used(generator);
+            let bytes = cleaned(generator.bytes(n + 1), used);
             let place = generator.below(n as u64 + 1) as usize;
-            judge_versions(tally, key, size as u64, &file, &[place]);
+            judge_versions(tally, key, size as u64, Part { bytes: &bytes, used }, &[place]);
         }
     }
 }
@@ -141,21 +185,28 @@ fn last_pages(tally: &mut Tally, generator: &mut Generator) {
         for size in [4096, 16 + generator.below(4081) as usize] {
             for last in turning_lengths(size).into_iter().filter(|&last| 0 < last && last <= size) {
                 let before = if generator.one_in(2) { size } else { 0 };
-                let file = generator.bytes(before + last);
-                judge_versions(tally, key, size as u64, &file, &[before, before + last - 1]);
+                let used = good_used(generator);
+                let bytes = cleaned(generator.bytes(before + last), used);
+                let file = Part { bytes: &bytes, used };
+                judge_versions(tally, key, size as u64, file, &[before, before + last - 1]);
             }
         }
     }
 }
 
-/// File sizes around no page, one and two, with random bytes and with zero bytes.
+/// File sizes around no page, one and two, with random bytes and with zero bytes: whole, and with each u below 8 where
+/// the pages are short, also where the bytes are full pages.
 fn file_sizes(tally: &mut Tally, generator: &mut Generator) {
     for key in KEYS {
         for size in [16usize, 17, 100, 4096] {
             for n in [0, 1, size - 1, size, size + 1, 2 * size - 1, 2 * size] {
                 let places: Vec<usize> = [0, size - 1, size, n.saturating_sub(1)].into_iter().filter(|&at| at < n).collect();
-                for file in [generator.bytes(n), vec![0; n]] {
-                    judge_versions(tally, key, size as u64, &file, &places);
+                let few = [8, 1 + generator.below(7) as u32];
+                let used = if size < 20 { &[1, 2, 3, 4, 5, 6, 7, 8][..] } else { &few };
+                for &used in used {
+                    for bytes in [cleaned(generator.bytes(n), used), vec![0; n]] {
+                        judge_versions(tally, key, size as u64, Part { bytes: &bytes, used }, &places);
+                    }
                 }
             }
         }
@@ -163,26 +214,30 @@ fn file_sizes(tally: &mut Tally, generator: &mut Generator) {
 }
 
 /// The last page fingerprint that the library reads.
-fn last_page(sheet: &[u8]) -> Result<Option<u64>, u32> {
-    let mut words = vec![0; (sheet.len() - 27) / 8];
+fn last_page(version: Version, sheet: &[u8]) -> Result<Option<u64>, u32> {
+    let mut words = vec![0; (sheet.len() - version.total(0) as usize) / 8];
     gfp::read_pages(sheet, &mut words).map(|()| words.last().copied())
 }
 
-/// A file whose last page has two bytes or more, of which the last is zero, beside the file without that byte. It is another length in both
-/// versions. The two last pages have equal fingerprints in version 1. In version 2 they are f and f·t^8, which are equal only where f is 0.
+/// A file that ends in a zero, and the file without it, both with a last page that has bits: they are of another length
+/// in every version. Where pages are filled up, the two last pages have equal fingerprints. Else they are f and f times
+/// a power of t, which are equal only where f is 0.
+fn lost_zero(tally: &mut Tally, version: Version, key: u64, size: usize, file: Part, shorter: Part) {
+    let what = format!("zero lost, {file:?}, page size {size}, key {key:#x}, {version:?}");
+    let sheets = [file, shorter].map(|file| reference::sheet(version, key, size as u64, file));
+    for (sheet, other) in sheets.iter().zip([shorter, file]) {
+        tally.same(&format!("check, {what}"), gfp::check_file(sheet, other), Ok(gfp::Check::OtherLength));
+        tally.same(&format!("range, {what}"), gfp::changed_range(sheet, other), Ok(gfp::Changed::OtherLength));
+    }
+    let [whole, lost] = sheets.map(|sheet| last_page(version, &sheet));
+    let equal = version.filled || lost == Ok(Some(0));
+    tally.same(&format!("last page, {what}"), (whole.is_ok(), lost.is_ok(), whole == lost), (true, true, equal));
+}
+
+/// A zero byte lost, in every version.
 fn lost_zero_byte(tally: &mut Tally, key: u64, size: usize, file: &[u8]) {
-    let shorter = &file[..file.len() - 1];
-    let f = reference::fingerprint(key, shorter.chunks(size).last().unwrap_or(&[]));
     for version in VERSIONS {
-        let what = format!("zero byte lost, file of {} bytes, page size {size}, key {key:#x}, {version:?}", file.len());
-        let sheets = [file, shorter].map(|file| reference::sheet(version, key, size as u64, file));
-        for (sheet, other) in sheets.iter().zip([shorter, file]) {
-            tally.same(&format!("check, {what}"), gfp::check_file(sheet, other), Ok(gfp::Check::OtherLength));
-            tally.same(&format!("range, {what}"), gfp::changed_range(sheet, other), Ok(gfp::Changed::OtherLength));
-        }
-        let [whole, lost] = sheets.map(|sheet| last_page(&sheet));
-        let equal = version.filled || f == 0;
-        tally.same(&format!("last page, {what}"), (whole.is_ok(), lost.is_ok(), whole == lost), (true, true, equal));
+        lost_zero(tally, version, key, size, file.into(), (&file[..file.len() - 1]).into());
     }
 }
 
@@ -202,6 +257,21 @@ fn lost_zero_bytes(tally: &mut Tally, generator: &mut Generator) {
     }
 }
 
+/// A zero bit lost, in version 3: last pages of every number of bits.
+fn lost_zero_bits(tally: &mut Tally, generator: &mut Generator) {
+    for key in KEYS {
+        let size = 16;
+        for last in 2..=8 * size {
+            for before in [0, 8 * size] {
+                let mut bits: Vec<bool> = (0..before + last).map(|_| generator.one_in(2)).collect();
+                bits[before + last - 1] = false;
+                let (file, shorter) = (pack(&bits), pack(&bits[..before + last - 1]));
+                lost_zero(tally, VERSIONS[2], key, size, file.part(), shorter.part());
+            }
+        }
+    }
+}
+
 /// Every call that reads a sheet refuses it with the number.
 fn refused(tally: &mut Tally, what: &str, sheet: &[u8], file: &[u8], number: u32) {
     let mut words = [7; 3];
@@ -211,12 +281,12 @@ fn refused(tally: &mut Tally, what: &str, sheet: &[u8], file: &[u8], number: u32
     tally.same(&format!("range, {what}"), gfp::changed_range(sheet, file), Err(number));
 }
 
-/// Sheets of ten other versions are refused with 14. The version has two bytes: 257 and 258 are 01 01 and 01 02.
+/// Sheets of eleven other versions are refused with 14. The version has two bytes: 257 to 259 are 01 01 to 01 03.
 fn other_versions(tally: &mut Tally) {
-    for number in [0, 3, 4, 255, 256, 257, 258, 512, 513, 65_535] {
-        for filled in [true, false] {
+    for number in [0, 4, 5, 255, 256, 257, 258, 259, 512, 513, 65_535] {
+        for version in VERSIONS {
             for file in [&b""[..], b"AB", b"one page, whole.", b"one page and a bit"] {
-                let sheet = reference::sheet(Version { number, filled }, 0x11b, 16, file);
+                let sheet = reference::sheet(Version { number, ..version }, 0x11b, 16, file);
                 judge(tally, &format!("version {number}"), &sheet, file);
                 refused(tally, &format!("version {number}"), &sheet, file, 14);
             }
@@ -224,19 +294,25 @@ fn other_versions(tally: &mut Tally) {
     }
 }
 
-/// A sheet of one version with the other's number: right where the fields are the other's too, else refused with 14.
+/// A sheet of version 1 or 2 with the other's number: right where the fields are the other's too, else refused with 14.
+/// Of version 3 with an older number, or the other way round: refused.
 fn with_other_number(tally: &mut Tally, key: u64, size: usize, file: &[u8]) {
     let sheets = VERSIONS.map(|version| reference::sheet(version, key, size as u64, file));
     let fields_equal = sheets[0][19..] == sheets[1][19..];
-    for (sheet, version) in sheets.iter().zip([VERSIONS[1], VERSIONS[0]]) {
-        let what = format!("number changed to {}, file of {} bytes, page size {size}, key {key:#x}", version.number, file.len());
-        let mut sheet = sheet.clone();
-        sheet[4] = version.number as u8;
-        judge(tally, &what, &sheet, file);
-        if fields_equal {
-            tally.same(&what, gfp::check_file(&sheet, file), Ok(gfp::Check::Same));
-        } else {
-            refused(tally, &what, &sheet, file, 14);
+    for (sheet, version) in sheets.iter().zip(VERSIONS) {
+        for other in VERSIONS.into_iter().filter(|&other| other != version) {
+            let (from, to) = (version.number, other.number);
+            let what = format!("number {from} changed to {to}, {} bytes, page size {size}, key {key:#x}", file.len());
+            let mut sheet = sheet.clone();
+            sheet[4] = to as u8;
+            judge(tally, &what, &sheet, file);
+            if from + to != 3 {
+                tally.same(&what, gfp::read_sheet(&sheet).is_err(), true);
+            } else if fields_equal {
+                tally.same(&what, gfp::check_file(&sheet, file), Ok(gfp::Check::Same));
+            } else {
+                refused(tally, &what, &sheet, file, 14);
+            }
         }
     }
 }
@@ -255,11 +331,23 @@ fn with_other_numbers(tally: &mut Tally, generator: &mut Generator) {
     with_other_number(tally, 0x11b, 64, &file);
 }
 
-/// A changed file of the same length: the library tells the first page on which the two files differ, or same where it is None.
-fn first_change(tally: &mut Tally, what: &str, sheets: &[Vec<u8>; 2], file: &[u8], size: usize, page: Option<usize>) {
+/// Sheets of a file, each with its version.
+type Sheets = Vec<(Version, Vec<u8>)>;
+
+/// The sheets of a file: in every version, or in version 3 where it stops inside a byte.
+fn sheets_of(key: u64, size: usize, file: Part) -> Sheets {
+    let has_one = |version: &Version| file.length() % u128::from(version.unit) == 0;
+    let versions = VERSIONS.into_iter().filter(has_one);
+    versions.map(|version| (version, reference::sheet(version, key, size as u64, file))).collect()
+}
+
+/// A changed file of the same length: the library tells the first page on which the two files differ, or same where it
+/// is None.
+fn first_change(tally: &mut Tally, what: &str, sheets: &Sheets, file: Part, size: usize, page: Option<usize>) {
     let check = page.map_or(gfp::Check::Same, |i| gfp::Check::Page(i as u32));
-    let range = page.map_or(gfp::Changed::Same, |i| gfp::Changed::Bytes((i * size) as u64..(i * size + size).min(file.len()) as u64));
-    for (sheet, version) in sheets.iter().zip(VERSIONS) {
+    let end = |i: usize| (i * size + size).min(file.bytes.len()) as u64;
+    let range = page.map_or(gfp::Changed::Same, |i| gfp::Changed::Bytes((i * size) as u64..end(i)));
+    for (version, sheet) in sheets {
         tally.same(&format!("check, {what}, {version:?}"), gfp::check_file(sheet, file), Ok(check));
         tally.same(&format!("range, {what}, {version:?}"), gfp::changed_range(sheet, file), Ok(range.clone()));
     }
@@ -279,20 +367,24 @@ fn with_bits(file: &[u8], place: usize, bits: u64, width: usize) -> Vec<u8> {
 /// files and not from the second implementation's check.
 fn bursts(tally: &mut Tally, generator: &mut Generator) {
     for key in KEYS {
-        let k = reference::degree(key) as usize;
-        for (size, n) in [(16, 32), (16, 53), (20, 41)] {
-            let file = generator.bytes(n);
-            let sheets = VERSIONS.map(|version| reference::sheet(version, key, size as u64, &file));
-            for place in 0..8 * n {
-                for width in [1, 1 + generator.below(k as u64) as usize, k].map(|width| width.min(8 * n - place)) {
-                    // the first and the last bit are changed
-                    let bits = generator.below(1 << width) | 1 << (width - 1) | 1;
-                    let changed = with_bits(&file, place, bits, width);
-                    let page = file.iter().zip(&changed).position(|(a, b)| a != b).map(|at| at / size);
-                    let what = format!("{width} bits from {place} on, file of {n} bytes, page size {size}, key {key:#x}");
-                    first_change(tally, &what, &sheets, &changed, size, page);
-                }
-            }
+        for (size, n, used) in [(16, 32, 8), (16, 53, 8), (20, 41, 8), (16, 32, 3), (16, 33, 1), (20, 41, 7)] {
+            let bytes = cleaned(generator.bytes(n), used);
+            bursts_in(tally, generator, key, size, Part { bytes: &bytes, used });
+        }
+    }
+}
+
+fn bursts_in(tally: &mut Tally, generator: &mut Generator, key: u64, size: usize, file: Part) {
+    let (k, n) = (reference::degree(key) as usize, file.length() as usize);
+    let sheets = sheets_of(key, size, file);
+    for place in 0..n {
+        for width in [1, 1 + generator.below(k as u64) as usize, k].map(|width| width.min(n - place)) {
+            // the first and the last bit are changed
+            let bits = generator.below(1 << width) | 1 << (width - 1) | 1;
+            let changed = with_bits(file.bytes, place, bits, width);
+            let page = file.bytes.iter().zip(&changed).position(|(a, b)| a != b).map(|at| at / size);
+            let what = format!("{width} bits from {place} on, {file:?}, page size {size}, key {key:#x}");
+            first_change(tally, &what, &sheets, Part { bytes: &changed, used: file.used }, size, page);
         }
     }
 }
@@ -302,45 +394,84 @@ fn bursts(tally: &mut Tally, generator: &mut Generator) {
 fn key_added(tally: &mut Tally, generator: &mut Generator) {
     for key in KEYS {
         let width = reference::degree(key) as usize + 1;
-        let (size, n) = (16, 45);
-        let file = generator.bytes(n);
-        let sheets = VERSIONS.map(|version| reference::sheet(version, key, size as u64, &file));
-        for place in 0..=8 * n - width {
-            let (first, last) = (place / 8 / size, (place + width - 1) / 8 / size);
-            let what = format!("the key {key:#x} added from bit {place} on");
-            let page = (first != last).then_some(first);
-            first_change(tally, &what, &sheets, &with_bits(&file, place, key, width), size, page);
+        for used in [8, 5] {
+            let (size, bytes) = (16, cleaned(generator.bytes(45), used));
+            let file = Part { bytes: &bytes, used };
+            let sheets = sheets_of(key, size, file);
+            for place in 0..=file.length() as usize - width {
+                let (first, last) = (place / 8 / size, (place + width - 1) / 8 / size);
+                let what = format!("the key {key:#x} added from bit {place} on");
+                let page = (first != last).then_some(first);
+                let changed = with_bits(&bytes, place, key, width);
+                first_change(tally, &what, &sheets, Part { bytes: &changed, used }, size, page);
+            }
         }
     }
 }
 
-/// The sheet of 4,294,967,295 zero bytes, whose fingerprints are powers of t. Its pages of 4,096 bytes, filled up, are longer than the limit of
-/// number 7, which the joining does not have.
+/// The sheet of n zero bits, whose fingerprints are powers of t.
+fn sheet_of_zeros(version: Version, key: u64, size: u64, n: u64) -> Vec<u8> {
+    let c = reference::bytes_for(n).div_ceil(size);
+    let zeros = |count: u64| reference::power_of_t(key, count).to_be_bytes();
+    // the head is that of a sheet without pages, but for the length
+    let mut sheet = reference::sheet(version, key, size, b"")[..version.head()].to_vec();
+    let field = (n / version.unit).to_be_bytes();
+    sheet[13..13 + version.width].copy_from_slice(&field[8 - version.width..]);
+    let whole = zeros(8 * size);
+    (1..c).for_each(|_| sheet.extend(whole));
+    sheet.extend(if version.filled { whole } else { zeros(n - 8 * (c - 1) * size) });
+    sheet.extend(zeros(n));
+    sheet
+}
+
+/// The longest file, of zero bits, and in version 3 one that is 3 bits shorter. Its pages of 4,096 bytes, filled up,
+/// are longer than the limit of number 7, which the joining does not have.
 fn longest(tally: &mut Tally) {
-    let (key, size, n) = (gfp::HOUSE_KEY, 4096, reference::LIMIT);
-    let c = n.div_ceil(size);
-    let zero_bytes = |count: u64| reference::power_of_t(key, 8 * count);
-    for version in VERSIONS {
-        // the head is that of a sheet without pages, but for the length
-        let mut sheet = reference::sheet(version, key, size, b"")[..19].to_vec();
-        sheet[13..17].copy_from_slice(&(n as u32).to_be_bytes());
-        let whole = zero_bytes(size).to_be_bytes();
-        (1..c).for_each(|_| sheet.extend(whole));
-        sheet.extend(if version.filled { whole } else { zero_bytes(n - (c - 1) * size).to_be_bytes() });
-        sheet.extend(zero_bytes(n).to_be_bytes());
-        let expected = gfp::Sheet { key, length: n, page_size: size, pages: c, fingerprint: zero_bytes(n) };
-        tally.same(&format!("the longest file, {version:?}"), gfp::read_sheet(&sheet), Ok(expected));
+    let (key, size) = (gfp::HOUSE_KEY, 4096);
+    let [first, second, third] = VERSIONS.map(|version| (version, reference::LIMIT));
+    for (version, n) in [first, second, third, (VERSIONS[2], reference::LIMIT - 3)] {
+        let mut sheet = sheet_of_zeros(version, key, size, n);
+        let expected = gfp::Sheet {
+            version: version.number as u32,
+            key,
+            bits: n,
+            page_size: size,
+            pages: reference::LIMIT_BYTES.div_ceil(size),
+            fingerprint: reference::power_of_t(key, n),
+        };
+        let what = format!("the longest file, {n} bits, {version:?}");
+        tally.same(&what, gfp::read_sheet(&sheet), Ok(expected));
         let last = sheet.len() - 9;
         sheet[last] ^= 1;
-        tally.same(&format!("the longest file, last page changed, {version:?}"), gfp::read_sheet(&sheet), Err(14));
+        tally.same(&format!("{what}, last page changed"), gfp::read_sheet(&sheet), Err(14));
         sheet[last] ^= 1;
-        sheet[4] ^= 3;
-        tally.same(&format!("the longest file, the other number, {version:?}"), gfp::read_sheet(&sheet), Err(14));
+        if version.number < 3 {
+            sheet[4] ^= 3;
+            tally.same(&format!("{what}, the other number"), gfp::read_sheet(&sheet), Err(14));
+        }
     }
 }
 
+/// The longest file but 3 bits, itself: its sheet is written, and it is checked against that; so is a file with another
+/// last bit.
+fn longest_file(tally: &mut Tally) {
+    let (key, size, n) = (gfp::HOUSE_KEY, 4096, reference::LIMIT - 3);
+    let mut bytes = vec![0; reference::LIMIT_BYTES as usize];
+    let expected = sheet_of_zeros(VERSIONS[2], key, size, n);
+    let mut sheet = vec![9; expected.len()];
+    let number = gfp::write_sheet(key, size, Part { bytes: &bytes, used: 5 }, &mut sheet).err();
+    tally.same("the longest file, its sheet", (number, sheet == expected), (None, true));
+    let check = gfp::check_file(&sheet, Part { bytes: &bytes, used: 5 });
+    tally.same("the longest file, checked", check, Ok(gfp::Check::Same));
+    bytes[reference::LIMIT_BYTES as usize - 1] = 8;
+    let range = gfp::changed_range(&sheet, Part { bytes: &bytes, used: 5 });
+    let last_page = gfp::Changed::Bytes(reference::LIMIT_BYTES / size * size..reference::LIMIT_BYTES);
+    tally.same("the longest file, its last bit changed", range, Ok(last_page));
+}
+
 /// Every byte of a sheet changed, in every bit.
-fn damage(tally: &mut Tally, version: Version, key: u64, size: u64, file: &[u8]) {
+fn damage<'a>(tally: &mut Tally, version: Version, key: u64, size: u64, file: impl Into<Part<'a>>) {
+    let file = file.into();
     let sheet = reference::sheet(version, key, size, file);
     judge(tally, "undamaged", &sheet, file);
     for at in 0..sheet.len() {
@@ -358,37 +489,109 @@ fn damage(tally: &mut Tally, version: Version, key: u64, size: u64, file: &[u8])
 /// The lengths of sheets around the edges of lengths and page sizes.
 fn lengths(tally: &mut Tally, generator: &mut Generator) {
     let sizes = [0, 15, 16, 17, 4095, 4096, 4097, 1 << 32, (1 << 32) + 16, u64::MAX];
-    for n in [0, 1, 15, 16, 17, reference::LIMIT - 1, reference::LIMIT, reference::LIMIT + 1, 1 << 63, u64::MAX, generator.below(1 << 32)] {
+    let limit = reference::LIMIT_BYTES;
+    let far = [limit - 1, limit, limit + 1, reference::LIMIT, 1 << 61, 1 << 63, u64::MAX, generator.below(1 << 32)];
+    for n in [0, 1, 15, 16, 17].into_iter().chain(far) {
         for size in sizes.into_iter().chain([16 + generator.below(4081)]) {
             tally.same(&format!("length of a sheet of {n} bytes, page size {size}"), gfp::sheet_length(n, size), reference::sheet_length(n, size));
         }
     }
 }
 
-/// The sheets of 41 42 with pages of 16 bytes under 0x11B: document 01's, and wish 1's in version 2, byte for byte.
-const AB: [&[u8; 35]; 2] = [
+/// Sheets of a version with each of some numbers in the length field, under a good and bad keys and page sizes. A
+/// number past the limit gives 14 whatever the key and the page size are.
+fn length_fields(tally: &mut Tally) {
+    let limit = reference::LIMIT;
+    let lengths = [0, 1, 15, 16, 17, 128, limit - 7, limit, limit + 1, 1 << 63, u64::MAX - 7, u64::MAX - 6, u64::MAX];
+    for version in VERSIONS {
+        for key in [0x11b, 0, 0xff, 0x101, 1 << 63] {
+            for size in [0u16, 15, 16, 4096, 4097, 65_535] {
+                for length in lengths {
+                    let head = version.head();
+                    let mut sheet = reference::sheet(version, 0x11b, 16, b"AB");
+                    sheet[5..13].copy_from_slice(&u64::to_be_bytes(key));
+                    sheet[13..13 + version.width].copy_from_slice(&length.to_be_bytes()[8 - version.width..]);
+                    sheet[head - 2..head].copy_from_slice(&size.to_be_bytes());
+                    let what = format!("length field {length}, key {key:#x}, page size {size}, {version:?}");
+                    judge(tally, &what, &sheet, b"AB");
+                    if version.unit == 1 && length > limit {
+                        refused(tally, &what, &sheet, b"AB", 14);
+                    }
+                }
+            }
+        }
+    }
+}
+
+/// Sheets cut to 27 to 30 bytes, under a good and bad keys: in version 3 that is 14 whatever the key is.
+fn short_sheets(tally: &mut Tally) {
+    for version in VERSIONS {
+        for key in [0x11b, 0, 0xff, 0x101, 1 << 63] {
+            for file in [&b""[..], b"AB", b"a page of 16 bytes, and a bit more"] {
+                for n in 26..=31 {
+                    let mut sheet = reference::sheet(version, 0x11b, 16, file);
+                    sheet[5..13].copy_from_slice(&u64::to_be_bytes(key));
+                    sheet.resize(n, 0);
+                    let what = format!("cut to {n} bytes, key {key:#x}, {version:?}");
+                    judge(tally, &what, &sheet, file);
+                    if version.number == 3 && n < 31 {
+                        refused(tally, &what, &sheet, file, 14);
+                    }
+                }
+            }
+        }
+    }
+}
+
+/// A check judges 7 and 19 after all of reading, and before it compares lengths.
+fn final_bytes(tally: &mut Tally) {
+    for version in VERSIONS {
+        let sheet = reference::sheet(version, 0x11b, 16, b"AB");
+        let file = |bytes: &'static [u8], used: u32| Part { bytes, used };
+        for (file, answer) in [
+            (file(b"AB", 8), Ok(gfp::Check::Same)),
+            (file(b"AB", 7), Ok(gfp::Check::OtherLength)),
+            (file(b"A", 8), Ok(gfp::Check::OtherLength)),
+            (file(b"A", 7), Err(19)),
+            (file(b"AB", 6), Err(19)),
+            (file(b"AB", 0), Err(19)),
+            (file(b"ABC", 9), Err(19)),
+            (file(b"", 7), Err(19)),
+            (file(b"", 8), Ok(gfp::Check::OtherLength)),
+        ] {
+            tally.same(&format!("check, {file:?}, {version:?}"), gfp::check_file(&sheet, file), answer);
+        }
+    }
+}
+
+/// The sheets of 41 42 with pages of 16 bytes under 0x11B: document 01's, wish 1's in version 2 and wish 7's in version
+/// 3, byte for byte.
+const AB: [&[u8]; 3] = [
     b"GFP\x00\x01\0\0\0\0\0\0\x01\x1b\0\0\0\x02\0\x10\0\0\0\0\0\0\0\xac\0\0\0\0\0\0\0\x9d",
     b"GFP\x00\x02\0\0\0\0\0\0\x01\x1b\0\0\0\x02\0\x10\0\0\0\0\0\0\0\x9d\0\0\0\0\0\0\0\x9d",
+    b"GFP\x00\x03\0\0\0\0\0\0\x01\x1b\0\0\0\0\0\0\0\x10\0\x10\0\0\0\0\0\0\0\x9d\0\0\0\0\0\0\0\x9d",
 ];
 
 /// The page fingerprints of the bytes 00 to 10 with pages of 16 bytes under 0x11B, in each version. The file's is 45.
-const SEVENTEEN: [[u64; 2]; 2] = [[0x6e, 0x90], [0x6e, 0x0b]];
+const SEVENTEEN: [[u64; 2]; 3] = [[0x6e, 0x90], [0x6e, 0x0b], [0x6e, 0x0b]];
 
 fn readings(tally: &mut Tally) {
-    let written = write(tally, 0x11b, 16, b"AB", 35);
-    tally.same("reading, the sheet of 41 42", &written[..], &AB[1][..]);
+    let written = write(tally, 0x11b, 16, b"AB".into(), 39);
+    tally.same("reading, the sheet of 41 42", &written[..], AB[2]);
     tally.same("reading, the version written", &written[3..5], &gfp::SHEET_VERSION.to_be_bytes()[..]);
     for (version, sheet) in VERSIONS.into_iter().zip(AB) {
-        let expected = gfp::Sheet { key: 0x11b, length: 2, page_size: 16, pages: 1, fingerprint: 0x9d };
-        tally.same(&format!("reading, {version:?}, by the second implementation"), &reference::sheet(version, 0x11b, 16, b"AB")[..], &sheet[..]);
+        let number = version.number as u32;
+        let expected = gfp::Sheet { version: number, key: 0x11b, bits: 16, page_size: 16, pages: 1, fingerprint: 0x9d };
+        let second = reference::sheet(version, 0x11b, 16, b"AB");
+        tally.same(&format!("reading, {version:?}, by the second implementation"), &second[..], sheet);
         tally.same(&format!("reading, {version:?}"), gfp::read_sheet(sheet), Ok(expected));
         tally.same(&format!("reading, {version:?}, checked"), gfp::check_file(sheet, b"AB"), Ok(gfp::Check::Same));
         let mut damaged = sheet.to_vec();
-        damaged[26] ^= 1;
+        damaged[version.head() + 7] ^= 1;
         tally.same(&format!("reading, {version:?}, damaged"), gfp::read_sheet(&damaged), Err(14));
     }
     let file: Vec<u8> = (0..=0x10).collect();
-    write(tally, 0x11b, 16, &file, 43);
+    write(tally, 0x11b, 16, (&file).into(), 47);
     for (version, pages) in VERSIONS.into_iter().zip(SEVENTEEN) {
         let sheet = reference::sheet(version, 0x11b, 16, &file);
         let mut words = [7; 2];
@@ -406,18 +609,29 @@ pub fn run(tally: &mut Tally, rounds: u64) {
     }
     readings(tally);
     other_versions(tally);
+    length_fields(tally);
+    short_sheets(tally);
+    final_bytes(tally);
     longest(tally);
+    longest_file(tally);
     for version in VERSIONS {
         damage(tally, version, 0x11b, 16, b"AB");
         damage(tally, version, gfp::HOUSE_KEY, 16, b"a file of two pages and a bit more");
         damage(tally, version, 0x80000009, 20, b"");
         damage(tally, version, 0x11b, 16, b"two pages of 16 bytes, all whole");
     }
+    for used in 1..8 {
+        for n in [1, 16, 17, 32] {
+            let bytes = cleaned(b"two pages, the last of which is unfinished"[..n].to_vec(), used);
+            damage(tally, VERSIONS[2], gfp::HOUSE_KEY, 16, Part { bytes: &bytes, used });
+        }
+    }
     for _ in 0..rounds {
         page_sizes(tally, &mut generator);
         last_pages(tally, &mut generator);
         file_sizes(tally, &mut generator);
         lost_zero_bytes(tally, &mut generator);
+        lost_zero_bits(tally, &mut generator);
         with_other_numbers(tally, &mut generator);
         bursts(tally, &mut generator);
         key_added(tally, &mut generator);

@@ -15,7 +15,12 @@
  * writes to must not overlap anything else that is lent to the same call.
  *
  * A key is a polynomial over the field of two elements: bit i is the coefficient of t^i. A mark is a fingerprint and
- * a length in bytes. Lengths are at most 4294967295.
+ * a length in bits. Lengths are at most 34359738360 bits, which are 4294967295 bytes.
+ *
+ * A part of a file, a page and a file for a sheet come as bytes and `used`: how many bits of the final byte belong to
+ * it, 1 to 8, at that byte's high end. The low bits that are not used must be 0. For whole bytes, and where there are
+ * no bytes, used is 8. The next part that is fed goes on at the next bit, also inside a byte. Places, page sizes and
+ * the search are in bytes.
  */
 #ifndef GFP_H
 #define GFP_H
@@ -30,10 +35,16 @@ extern "C" {
 /* The version of this interface. It counts the breaks: a program that was right with one number may be wrong with a
  * higher one, and stays right while the number stays. 2: gfp_feed_house takes the key. 3: gfp_write_sheet writes sheets
  * of version 2, which a library of a lower number refuses, and in which a last page's fingerprint is that of the bytes
- * it has. A new function is no break; the minor number of the pkg-config version counts these additions. */
-#define GFP_INTERFACE 3
+ * it has. 4: the lengths of marks, and the length that gfp_read_sheet gives, are in bits; behind the length of each
+ * part, page and file for a sheet stands `used`, which is 8 for whole bytes; gfp_read_sheet gives the version first;
+ * gfp_write_sheet writes sheets of version 3, which are 4 bytes longer and which a library of a lower number refuses.
+ * Two functions keep their declaration and change their meaning: gfp_join_behind and gfp_join_in_front take both
+ * lengths in bits. A compiler does not see it: look at each of these calls, and multiply lengths in bytes by 8, also
+ * those of marks kept from before. A new function is no break; the minor number of the pkg-config version counts these
+ * additions. */
+#define GFP_INTERFACE 4
 
-/* What a function returns: not refused, or one of 14 refusals. */
+/* What a function returns: not refused, or one of 15 refusals. */
 #define GFP_OK 0
 #define GFP_KEY_BELOW_256 1
 #define GFP_KEY_REDUCIBLE 2
@@ -49,6 +60,10 @@ extern "C" {
 #define GFP_PAGE_SIZE 12
 #define GFP_BUFFER_SHORT 13
 #define GFP_SHEET_MALFORMED 14
+/* The final byte of a part, page or file: used is not 1 to 8, or is not 8 and there are no bytes, or a low bit that is
+ * not used is 1. To mend: pass 8 for whole bytes and for none; else the number of bits, counted from the high end, and
+ * the 8 - used low bits 0. */
+#define GFP_FINAL_BYTE 19
 
 /* The words of a table buffer. */
 #define GFP_TABLE_WORDS 1024
@@ -65,13 +80,15 @@ uint32_t gfp_test_key(uint64_t key);
  * is. Refusals: none. Stack: 1,024 bytes. */
 uint64_t gfp_stock_key(uint64_t degree);
 
-/* The mark of the empty file: fingerprint 1, length 0. Refusals: 1, 2. Stack: 1,536 bytes. */
-uint32_t gfp_begin(uint64_t key, uint64_t *fingerprint, uint64_t *length);
+/* The mark of the empty file: fingerprint 1, no bits. Refusals: 1, 2. Stack: 1,536 bytes. */
+uint32_t gfp_begin(uint64_t key, uint64_t *fingerprint, uint64_t *bits);
 
 /* Feeds the next part of a file to a mark, with no table: fast under GFP_HOUSE_KEY, one to seven bytes at a time under
- * the other stock keys from degree 16 on, bit by bit under most other keys.
- * Refusals: 1, 2, 7, 8. Stack: 7,680 bytes. */
-uint32_t gfp_feed(uint64_t key, uint64_t *fingerprint, uint64_t *length, const uint8_t *part, size_t part_length);
+ * the other stock keys from degree 16 on, bit by bit under most other keys. The part's bits go behind those that were
+ * fed, from the next bit on.
+ * Refusals: 1, 2, 7, 8, 19. Stack: 7,680 bytes. */
+uint32_t gfp_feed(uint64_t key, uint64_t *fingerprint, uint64_t *bits, const uint8_t *part, size_t part_length,
+                  uint32_t used);
 
 /* Fills a lent buffer of 1,024 words with the key's table. Refusals: 1, 2, 5. Stack: 1,536 bytes. */
 uint32_t gfp_make_table(uint64_t key, uint64_t *words, size_t words_length);
@@ -80,33 +97,37 @@ uint32_t gfp_make_table(uint64_t key, uint64_t *words, size_t words_length);
 uint32_t gfp_test_table(uint64_t key, const uint64_t *words, size_t words_length);
 
 /* Feeds the next part by a table: the same mark as gfp_feed, under a drawn key many times faster. All words are tested
- * first. Refusals: 1, 2, 5, 6, 7, 8. Stack: 7,680 bytes. */
-uint32_t gfp_feed_table(uint64_t key, uint64_t *fingerprint, uint64_t *length, const uint64_t *words,
-                        size_t words_length, const uint8_t *part, size_t part_length);
+ * first. Refusals: 1, 2, 5, 6, 7, 8, 19. Stack: 7,680 bytes. */
+uint32_t gfp_feed_table(uint64_t key, uint64_t *fingerprint, uint64_t *bits, const uint64_t *words,
+                        size_t words_length, const uint8_t *part, size_t part_length, uint32_t used);
 
 /* Feeds the next part by the table of GFP_HOUSE_KEY, which the library holds: the same as gfp_feed_table with its
  * words. Under that key no word is tested, since they are proved right, and none is read: that is the fastest way to
- * feed. Under another key they are tested like a lent table. Refusals: 1, 2, 6, 7, 8. Stack: 15,360 bytes. */
-uint32_t gfp_feed_house(uint64_t key, uint64_t *fingerprint, uint64_t *length, const uint8_t *part, size_t part_length);
+ * feed. Under another key they are tested like a lent table. Refusals: 1, 2, 6, 7, 8, 19. Stack: 15,360 bytes. */
+uint32_t gfp_feed_house(uint64_t key, uint64_t *fingerprint, uint64_t *bits, const uint8_t *part, size_t part_length,
+                        uint32_t used);
 
 /* ---- Site: link libgfp_site.a and libgfp_bench.a */
 
-/* Joins marks: the file of the mark (other_fingerprint, other_length) goes behind the file of the mark in the two
- * places. Refusals: 1, 2, 7, 8. Stack: 1,024 bytes. */
-uint32_t gfp_join_behind(uint64_t key, uint64_t *fingerprint, uint64_t *length, uint64_t other_fingerprint,
-                         uint64_t other_length);
-
-/* Joins marks: the file of the mark (other_fingerprint, other_length) goes in front.
+/* Joins marks: the file of the mark (other_fingerprint, other_bits) goes behind the file of the mark in the two
+ * places. Both lengths are in bits; up to GFP_INTERFACE 3 they were in bytes.
  * Refusals: 1, 2, 7, 8. Stack: 1,024 bytes. */
-uint32_t gfp_join_in_front(uint64_t key, uint64_t *fingerprint, uint64_t *length, uint64_t other_fingerprint,
-                           uint64_t other_length);
+uint32_t gfp_join_behind(uint64_t key, uint64_t *fingerprint, uint64_t *bits, uint64_t other_fingerprint,
+                         uint64_t other_bits);
 
-/* Changes a page in a file's mark: the new bytes stand where the old ones stood, from the byte at the given place on.
- * The mark is right where the old bytes are what stood there.
- * Refusals: 1, 2, 7, 8, 9, 10. Stack: 1,536 bytes. */
-uint32_t gfp_replace_page(uint64_t key, uint64_t *fingerprint, uint64_t *length, uint64_t place,
-                          const uint8_t *old_page, size_t old_page_length, const uint8_t *new_page,
-                          size_t new_page_length);
+/* Joins marks: the file of the mark (other_fingerprint, other_bits) goes in front. Both lengths are in bits; up to
+ * GFP_INTERFACE 3 they were in bytes.
+ * Refusals: 1, 2, 7, 8. Stack: 1,024 bytes. */
+uint32_t gfp_join_in_front(uint64_t key, uint64_t *fingerprint, uint64_t *bits, uint64_t other_fingerprint,
+                           uint64_t other_bits);
+
+/* Changes a page in a file's mark: the new bits stand where the old ones stood, from the byte at the given place on.
+ * The mark is right where the old bits are what stood there. Both pages have the same number of bits; a page with used
+ * below 8 may stand anywhere in the file, and the bits behind it stay.
+ * Refusals: 1, 2, 7, 8, 9, 10, 19. Stack: 1,536 bytes. */
+uint32_t gfp_replace_page(uint64_t key, uint64_t *fingerprint, uint64_t *bits, uint64_t place,
+                          const uint8_t *old_page, size_t old_page_length, uint32_t old_used, const uint8_t *new_page,
+                          size_t new_page_length, uint32_t new_used);
 
 /* All places of the pattern in the text, byte offsets from 0, overlaps included, rising: the first ones into the lent
  * places, as far as they reach; further ones keep their value. The number of places goes to *count, however many were
@@ -116,40 +137,42 @@ uint32_t gfp_replace_page(uint64_t key, uint64_t *fingerprint, uint64_t *length,
 uint32_t gfp_search(uint64_t key, const uint8_t *text, size_t text_length, const uint8_t *pattern,
                     size_t pattern_length, uint32_t *places, size_t places_length, uint32_t *count, uint32_t *alarms);
 
-/* The bytes of a sheet without pages, of either version; each page adds 8. */
-#define GFP_SHEET_BYTES 27
+/* The bytes of a sheet without pages, as gfp_write_sheet writes it; each page adds 8. In versions 1 and 2 it is 27. */
+#define GFP_SHEET_BYTES 31
 
-/* The version of the sheets that gfp_write_sheet writes; sheets of version 1 are read and checked too. The versions
- * differ in a last page that is shorter than the page size. In version 2 its fingerprint is that of the bytes it has,
- * in version 1 that of the page filled up with zero bytes to the page size. */
-#define GFP_SHEET_VERSION 2
+/* The version of the sheets that gfp_write_sheet writes; sheets of versions 1 and 2 are read and checked too. The
+ * versions differ in the length field, which has 8 bytes and is in bits in version 3, and has 4 bytes and is in bytes
+ * in versions 1 and 2; and in a last page that is shorter than the page size. In versions 2 and 3 its fingerprint is
+ * that of the bits it has, in version 1 that of the page filled up with zero bytes to the page size. */
+#define GFP_SHEET_VERSION 3
 
-/* The bytes of the sheet of a file of the given length, with pages of the given size, to *sheet_length: 27 + 8 * pages.
- * Refusals: 7, 12. Stack: 512 bytes. */
+/* The bytes of the sheet of a file of the given length in bytes, an unfinished byte counted as one, with pages of the
+ * given size, to *sheet_length: 31 + 8 * pages. Refusals: 7, 12. Stack: 512 bytes. */
 uint32_t gfp_sheet_length(uint64_t file_length, uint64_t page_size, uint64_t *sheet_length);
 
 /* Writes the page sheet of a file into the lent bytes; further bytes keep their value. The page size is 16 to 4,096
- * bytes, and the sheet takes 27 + 8 * pages bytes, pages being the file's length over the page size, rounded up: the
- * letters GFP, the version GFP_SHEET_VERSION (2 bytes), the key (8), the file's length (4), the page size (2), the
- * fingerprint of each page (8 each, the last page as long as it is, without filling) and the file's (8), high byte
- * first.
- * Refusals: 1, 2, 7, 12, 13. Stack: 26,624 bytes. */
-uint32_t gfp_write_sheet(uint64_t key, uint64_t page_size, const uint8_t *file, size_t file_length, uint8_t *sheet,
-                         size_t sheet_length);
+ * bytes, and the sheet takes 31 + 8 * pages bytes, pages being the file's length in bytes, an unfinished byte counted
+ * as one, over the page size, rounded up: the letters GFP, the version GFP_SHEET_VERSION (2 bytes), the key (8), the
+ * file's length in bits (8), the page size in bytes (2), the fingerprint of each page (8 each, the last page as long as
+ * it is, without filling) and the file's (8), high byte first.
+ * Refusals: 1, 2, 7, 12, 13, 19. Stack: 26,624 bytes. */
+uint32_t gfp_write_sheet(uint64_t key, uint64_t page_size, const uint8_t *file, size_t file_length, uint32_t used,
+                         uint8_t *sheet, size_t sheet_length);
 
-/* Reads a page sheet of version 1 or 2: its key, the file's length, the page size, the number of pages and the file's
- * fingerprint. It does not tell the version. The joining of number 14: in version 2 the page marks joined, each with
- * its own length, must give the file's fingerprint; in version 1 the page marks joined, each as long as the page size,
- * must give that of the file with zero bytes behind it, as many as its last page is filled up with. Without pages the
- * file's fingerprint must be 1 in both.
- * Refusals, in this order: 14 (size, letters, version), 1, 2, 12, 14 (total, fingerprints, joining).
+/* Reads a page sheet of version 1, 2 or 3: its version, the key, the file's length in bits whatever the version, the
+ * page size in bytes, the number of pages and the file's fingerprint. The joining of number 14: in versions 2 and 3 the
+ * page marks joined, each with its own length, must give the file's fingerprint; in version 1 the page marks joined,
+ * each as long as the page size, must give that of the file with zero bytes behind it, as many as its last page is
+ * filled up with. Without pages the file's fingerprint must be 1 in all.
+ * Refusals, in this order: 14 (size under 27, letters, version, shorter than the version's sheet without pages, a
+ * length past the limit), 1, 2, 12, 14 (total, fingerprints, joining).
  * Stack: 17,408 bytes. */
-uint32_t gfp_read_sheet(const uint8_t *sheet, size_t sheet_length, uint64_t *key, uint64_t *length, uint64_t *page_size,
-                        uint64_t *pages, uint64_t *fingerprint);
+uint32_t gfp_read_sheet(const uint8_t *sheet, size_t sheet_length, uint32_t *version, uint64_t *key, uint64_t *bits,
+                        uint64_t *page_size, uint64_t *pages, uint64_t *fingerprint);
 
 /* The page fingerprints of a page sheet into the lent places: the first ones, as far as they reach; further ones keep
  * their value. A sheet has as many as gfp_read_sheet writes to *pages. They are given as the sheet has them: the last
- * one is that of the page filled up in version 1, and of the page as long as it is in version 2.
+ * one is that of the page filled up in version 1, and of the page as long as it is in versions 2 and 3.
  * Refusals, as of gfp_read_sheet: 14, 1, 2, 12, 14. Stack: 17,408 bytes. */
 uint32_t gfp_read_pages(const uint8_t *sheet, size_t sheet_length, uint64_t *fingerprints, size_t fingerprints_length);
 
@@ -158,18 +181,19 @@ uint32_t gfp_read_pages(const uint8_t *sheet, size_t sheet_length, uint64_t *fin
 #define GFP_OTHER_LENGTH 2
 
 /* Checks a file against a page sheet: *outcome is GFP_SAME, GFP_PAGE with the first page whose fingerprint differs,
- * counted from 0, in *page, or GFP_OTHER_LENGTH. *page is 0 where the outcome is not GFP_PAGE. Against a sheet of
- * version 1 the file's last page is filled up with zero bytes to the page size, against one of version 2 it is not.
- * Refusals, those of gfp_read_sheet first: 14, 1, 2, 12, 14, 7. Stack: 26,624 bytes. */
+ * counted from 0, in *page, or GFP_OTHER_LENGTH. *page is 0 where the outcome is not GFP_PAGE. Lengths are compared in
+ * bits: against a sheet of version 1 or 2 a file with used below 8 has another length. Against a sheet of version 1 the
+ * file's last page is filled up with zero bytes to the page size, against one of version 2 or 3 it is not.
+ * Refusals, those of gfp_read_sheet first: 14, 1, 2, 12, 14, 7, 19. Stack: 26,624 bytes. */
 uint32_t gfp_check_file(const uint8_t *sheet, size_t sheet_length, const uint8_t *file, size_t file_length,
-                        uint32_t *outcome, uint32_t *page);
+                        uint32_t used, uint32_t *outcome, uint32_t *page);
 
 /* Checks a file as gfp_check_file does, and names the bytes of the page: where *outcome is GFP_PAGE, they stand from
- * *from on, and end before *to, which is the file's end where the last page is not full. *from and *to are 0 where the
- * outcome is not GFP_PAGE.
- * Refusals, those of gfp_read_sheet first: 14, 1, 2, 12, 14, 7. Stack: 26,624 bytes. */
+ * *from on, and end before *to, which is the file's end where the last page is not full. Both are in bytes; an
+ * unfinished byte at the file's end counts as one. *from and *to are 0 where the outcome is not GFP_PAGE.
+ * Refusals, those of gfp_read_sheet first: 14, 1, 2, 12, 14, 7, 19. Stack: 26,624 bytes. */
 uint32_t gfp_changed_range(const uint8_t *sheet, size_t sheet_length, const uint8_t *file, size_t file_length,
-                           uint32_t *outcome, uint64_t *from, uint64_t *to);
+                           uint32_t used, uint32_t *outcome, uint64_t *from, uint64_t *to);
 
 /* ---- Keyholder: link libgfp_keyholder.a, libgfp_site.a and libgfp_bench.a */
 

@@ -1,31 +1,65 @@
-//! Safe Rust over the C interface of include/gfp.h. Each function answers what the C function writes, or the refusal's number.
+//! Safe Rust over the C interface of include/gfp.h. Each function answers what the C function writes, or the refusal's
+//! number. A part of a file, a page and a file for a sheet are a `Part`; whole bytes are passed as `&[u8]`, `&Vec<u8>`
+//! or `&[u8; N]`.
 #![allow(dead_code)]
 
 mod raw {
     extern "C" {
         pub fn gfp_test_key(key: u64) -> u32;
         pub fn gfp_stock_key(degree: u64) -> u64;
-        pub fn gfp_begin(key: u64, fingerprint: *mut u64, length: *mut u64) -> u32;
-        pub fn gfp_feed(key: u64, fingerprint: *mut u64, length: *mut u64, part: *const u8, part_length: usize) -> u32;
+        pub fn gfp_begin(key: u64, fingerprint: *mut u64, bits: *mut u64) -> u32;
+        pub fn gfp_feed(
+            key: u64, fingerprint: *mut u64, bits: *mut u64, part: *const u8, part_length: usize, used: u32,
+        ) -> u32;
         pub fn gfp_make_table(key: u64, words: *mut u64, words_length: usize) -> u32;
         pub fn gfp_test_table(key: u64, words: *const u64, words_length: usize) -> u32;
-        pub fn gfp_feed_table(key: u64, fingerprint: *mut u64, length: *mut u64, words: *const u64, words_length: usize, part: *const u8, part_length: usize) -> u32;
-        pub fn gfp_feed_house(key: u64, fingerprint: *mut u64, length: *mut u64, part: *const u8, part_length: usize) -> u32;
-        pub fn gfp_join_behind(key: u64, fingerprint: *mut u64, length: *mut u64, other_fingerprint: u64, other_length: u64) -> u32;
-        pub fn gfp_join_in_front(key: u64, fingerprint: *mut u64, length: *mut u64, other_fingerprint: u64, other_length: u64) -> u32;
-        pub fn gfp_replace_page(key: u64, fingerprint: *mut u64, length: *mut u64, place: u64, old_page: *const u8, old_page_length: usize, new_page: *const u8, new_page_length: usize) -> u32;
-        pub fn gfp_search(key: u64, text: *const u8, text_length: usize, pattern: *const u8, pattern_length: usize, places: *mut u32, places_length: usize, count: *mut u32, alarms: *mut u32) -> u32;
+        pub fn gfp_feed_table(
+            key: u64, fingerprint: *mut u64, bits: *mut u64, words: *const u64, words_length: usize,
+            part: *const u8, part_length: usize, used: u32,
+        ) -> u32;
+        pub fn gfp_feed_house(
+            key: u64, fingerprint: *mut u64, bits: *mut u64, part: *const u8, part_length: usize, used: u32,
+        ) -> u32;
+        pub fn gfp_join_behind(
+            key: u64, fingerprint: *mut u64, bits: *mut u64, other_fingerprint: u64, other_bits: u64,
+        ) -> u32;
+        pub fn gfp_join_in_front(
+            key: u64, fingerprint: *mut u64, bits: *mut u64, other_fingerprint: u64, other_bits: u64,
+        ) -> u32;
+        pub fn gfp_replace_page(
+            key: u64, fingerprint: *mut u64, bits: *mut u64, place: u64,
+            old_page: *const u8, old_page_length: usize, old_used: u32,
+            new_page: *const u8, new_page_length: usize, new_used: u32,
+        ) -> u32;
+        pub fn gfp_search(
+            key: u64, text: *const u8, text_length: usize, pattern: *const u8, pattern_length: usize,
+            places: *mut u32, places_length: usize, count: *mut u32, alarms: *mut u32,
+        ) -> u32;
         pub fn gfp_sheet_length(file_length: u64, page_size: u64, sheet_length: *mut u64) -> u32;
-        pub fn gfp_write_sheet(key: u64, page_size: u64, file: *const u8, file_length: usize, sheet: *mut u8, sheet_length: usize) -> u32;
-        pub fn gfp_read_sheet(sheet: *const u8, sheet_length: usize, key: *mut u64, length: *mut u64, page_size: *mut u64, pages: *mut u64, fingerprint: *mut u64) -> u32;
-        pub fn gfp_read_pages(sheet: *const u8, sheet_length: usize, fingerprints: *mut u64, fingerprints_length: usize) -> u32;
-        pub fn gfp_check_file(sheet: *const u8, sheet_length: usize, file: *const u8, file_length: usize, outcome: *mut u32, page: *mut u32) -> u32;
-        pub fn gfp_changed_range(sheet: *const u8, sheet_length: usize, file: *const u8, file_length: usize, outcome: *mut u32, from: *mut u64, to: *mut u64) -> u32;
+        pub fn gfp_write_sheet(
+            key: u64, page_size: u64, file: *const u8, file_length: usize, used: u32,
+            sheet: *mut u8, sheet_length: usize,
+        ) -> u32;
+        pub fn gfp_read_sheet(
+            sheet: *const u8, sheet_length: usize, version: *mut u32, key: *mut u64, bits: *mut u64,
+            page_size: *mut u64, pages: *mut u64, fingerprint: *mut u64,
+        ) -> u32;
+        pub fn gfp_read_pages(
+            sheet: *const u8, sheet_length: usize, fingerprints: *mut u64, fingerprints_length: usize,
+        ) -> u32;
+        pub fn gfp_check_file(
+            sheet: *const u8, sheet_length: usize, file: *const u8, file_length: usize, used: u32,
+            outcome: *mut u32, page: *mut u32,
+        ) -> u32;
+        pub fn gfp_changed_range(
+            sheet: *const u8, sheet_length: usize, file: *const u8, file_length: usize, used: u32,
+            outcome: *mut u32, from: *mut u64, to: *mut u64,
+        ) -> u32;
         pub fn gfp_draw(degree: u64, element: u64, key: *mut u64) -> u32;
     }
 }
 
-/// The number of a refusal, 1 to 14; `refusal` has their names.
+/// The number of a refusal, 1 to 14 or 19; `refusal` has their names.
 pub type Refusal = u32;
 
 /// The names of the refusals.
@@ -45,23 +79,45 @@ pub mod refusal {
     pub const PAGE_SIZE: Refusal = 12;
     pub const BUFFER_SHORT: Refusal = 13;
     pub const SHEET_MALFORMED: Refusal = 14;
+    /// The final byte of a `Part`: `used` is not 1 to 8, or is not 8 and there are no bytes, or a low bit that is not
+    /// used is 1. To mend: pass the bytes alone where all their bits count; else clear the 8 − `used` low bits of the
+    /// final byte.
+    pub const FINAL_BYTE: Refusal = 19;
 }
 
 /// The version of the C interface that this wrapper is for (`GFP_INTERFACE`).
-pub const INTERFACE: u32 = 3;
+pub const INTERFACE: u32 = 4;
 
 pub const HOUSE_KEY: u64 = 0x2000_0000_0000_0027;
 pub const TABLE_WORDS: usize = 1024;
 
-/// The version of the sheets that `write_sheet` writes (`GFP_SHEET_VERSION`); sheets of version 1 are read and checked too. A last page shorter
-/// than the page size is fingerprinted in version 2 over the bytes it has, in version 1 filled up with zero bytes to the page size.
-pub const SHEET_VERSION: u16 = 2;
+/// The version of the sheets that `write_sheet` writes (`GFP_SHEET_VERSION`); sheets of versions 1 and 2 are read and
+/// checked too. The length field is in bits and has 8 bytes in version 3; it is in bytes and has 4 in versions 1 and 2.
+/// A last page shorter than the page size is fingerprinted in versions 2 and 3 over the bits it has, in version 1
+/// filled up with zero bytes to the page size.
+pub const SHEET_VERSION: u16 = 3;
 
-/// A fingerprint and a length in bytes.
+/// A fingerprint and a length in bits.
 #[derive(Clone, Copy, Debug, PartialEq, Eq)]
 pub struct Mark {
     pub fingerprint: u64,
-    pub length: u64,
+    pub bits: u64,
+}
+
+/// A part of a file, a page, or a file for a sheet: its bytes, and how many bits of the final byte belong to it, 1 to
+/// 8, at that byte's high end. The low bits that are not used must be 0. A part without bytes has 8. Whole bytes become
+/// a part by themselves: `mark.feed(key, &bytes)`; three bits, 010: `mark.feed(key, Part { bytes: &[0x40], used: 3 })`.
+#[derive(Clone, Copy, Debug, PartialEq, Eq)]
+pub struct Part<'a> {
+    pub bytes: &'a [u8],
+    pub used: u32,
+}
+
+/// Whole bytes.
+impl<'a, T: AsRef<[u8]> + ?Sized> From<&'a T> for Part<'a> {
+    fn from(bytes: &'a T) -> Self {
+        Part { bytes: bytes.as_ref(), used: 8 }
+    }
 }
 
 fn answer<T>(number: u32, value: T) -> Result<T, Refusal> {
@@ -82,44 +138,67 @@ pub fn stock_key(degree: u64) -> Option<u64> {
 
 /// The mark of the empty file.
 pub fn begin(key: u64) -> Result<Mark, Refusal> {
-    let mut mark = Mark { fingerprint: 0, length: 0 };
-    let number = unsafe { raw::gfp_begin(key, &mut mark.fingerprint, &mut mark.length) };
+    let mut mark = Mark { fingerprint: 0, bits: 0 };
+    let number = unsafe { raw::gfp_begin(key, &mut mark.fingerprint, &mut mark.bits) };
     answer(number, mark)
 }
 
 impl Mark {
-    /// Feeds the next part of a file, with no table. On refusal the mark is unchanged.
-    pub fn feed(&mut self, key: u64, part: &[u8]) -> Result<(), Refusal> {
-        answer(unsafe { raw::gfp_feed(key, &mut self.fingerprint, &mut self.length, part.as_ptr(), part.len()) }, ())
+    /// Feeds the next part of a file, with no table, from the next bit on. On refusal the mark is unchanged.
+    pub fn feed<'a>(&mut self, key: u64, part: impl Into<Part<'a>>) -> Result<(), Refusal> {
+        let Part { bytes, used } = part.into();
+        let (fingerprint, bits) = (&mut self.fingerprint, &mut self.bits);
+        answer(unsafe { raw::gfp_feed(key, fingerprint, bits, bytes.as_ptr(), bytes.len(), used) }, ())
     }
 
     /// Feeds the next part by a table.
-    pub fn feed_table(&mut self, key: u64, words: &[u64], part: &[u8]) -> Result<(), Refusal> {
+    pub fn feed_table<'a>(&mut self, key: u64, words: &[u64], part: impl Into<Part<'a>>) -> Result<(), Refusal> {
+        let Part { bytes, used } = part.into();
+        let (fingerprint, bits) = (&mut self.fingerprint, &mut self.bits);
+        let (table, size) = (words.as_ptr(), words.len());
         let number = unsafe {
-            raw::gfp_feed_table(key, &mut self.fingerprint, &mut self.length, words.as_ptr(), words.len(), part.as_ptr(), part.len())
+            raw::gfp_feed_table(key, fingerprint, bits, table, size, bytes.as_ptr(), bytes.len(), used)
         };
         answer(number, ())
     }
 
-    /// Feeds the next part by the table of `HOUSE_KEY`, which the library holds. Under another key its words are tested first.
-    pub fn feed_house(&mut self, key: u64, part: &[u8]) -> Result<(), Refusal> {
-        answer(unsafe { raw::gfp_feed_house(key, &mut self.fingerprint, &mut self.length, part.as_ptr(), part.len()) }, ())
+    /// Feeds the next part by the table of `HOUSE_KEY`, which the library holds. Under another key its words are tested
+    /// first.
+    pub fn feed_house<'a>(&mut self, key: u64, part: impl Into<Part<'a>>) -> Result<(), Refusal> {
+        let Part { bytes, used } = part.into();
+        let (fingerprint, bits) = (&mut self.fingerprint, &mut self.bits);
+        answer(unsafe { raw::gfp_feed_house(key, fingerprint, bits, bytes.as_ptr(), bytes.len(), used) }, ())
     }
 
     /// The other mark's file goes behind this one's.
     pub fn join_behind(&mut self, key: u64, other: Mark) -> Result<(), Refusal> {
-        answer(unsafe { raw::gfp_join_behind(key, &mut self.fingerprint, &mut self.length, other.fingerprint, other.length) }, ())
+        let (fingerprint, bits) = (&mut self.fingerprint, &mut self.bits);
+        answer(unsafe { raw::gfp_join_behind(key, fingerprint, bits, other.fingerprint, other.bits) }, ())
     }
 
     /// The other mark's file goes in front of this one's.
     pub fn join_in_front(&mut self, key: u64, other: Mark) -> Result<(), Refusal> {
-        answer(unsafe { raw::gfp_join_in_front(key, &mut self.fingerprint, &mut self.length, other.fingerprint, other.length) }, ())
+        let (fingerprint, bits) = (&mut self.fingerprint, &mut self.bits);
+        answer(unsafe { raw::gfp_join_in_front(key, fingerprint, bits, other.fingerprint, other.bits) }, ())
     }
 
-    /// The new page stands where the old one stood, from the byte at `place` on.
-    pub fn replace_page(&mut self, key: u64, place: u64, old: &[u8], new: &[u8]) -> Result<(), Refusal> {
+    /// The new page stands where the old one stood, from the byte at `place` on. Both have the same number of bits; a
+    /// page with `used` below 8 may stand anywhere in the file.
+    pub fn replace_page<'a, 'b>(
+        &mut self,
+        key: u64,
+        place: u64,
+        old: impl Into<Part<'a>>,
+        new: impl Into<Part<'b>>,
+    ) -> Result<(), Refusal> {
+        let (old, new): (Part, Part) = (old.into(), new.into());
+        let (old_page, old_length) = (old.bytes.as_ptr(), old.bytes.len());
+        let (new_page, new_length) = (new.bytes.as_ptr(), new.bytes.len());
+        let (fingerprint, bits) = (&mut self.fingerprint, &mut self.bits);
         let number = unsafe {
-            raw::gfp_replace_page(key, &mut self.fingerprint, &mut self.length, place, old.as_ptr(), old.len(), new.as_ptr(), new.len())
+            raw::gfp_replace_page(
+                key, fingerprint, bits, place, old_page, old_length, old.used, new_page, new_length, new.used,
+            )
         };
         answer(number, ())
     }
@@ -140,52 +219,67 @@ pub struct Counts {
     pub alarms: u32,
 }
 
-/// The places of the pattern in the text, the first ones into `places`, as far as they reach.
+/// The places of the pattern in the text, byte offsets, the first ones into `places`, as far as they reach.
 pub fn search(key: u64, text: &[u8], pattern: &[u8], places: &mut [u32]) -> Result<Counts, Refusal> {
     let mut counts = Counts { places: 0, alarms: 0 };
+    let (lent, room) = (places.as_mut_ptr(), places.len());
+    let (count, alarms) = (&mut counts.places, &mut counts.alarms);
     let number = unsafe {
-        raw::gfp_search(key, text.as_ptr(), text.len(), pattern.as_ptr(), pattern.len(), places.as_mut_ptr(), places.len(), &mut counts.places, &mut counts.alarms)
+        raw::gfp_search(key, text.as_ptr(), text.len(), pattern.as_ptr(), pattern.len(), lent, room, count, alarms)
     };
     answer(number, counts)
 }
 
-/// The bytes of the page sheet of a file of the given length: 27 + 8 × pages.
-pub fn sheet_length(length: u64, page_size: u64) -> Result<u64, Refusal> {
+/// The bytes of the page sheet of a file of the given length in bytes, an unfinished byte counted as one:
+/// 31 + 8 × pages.
+pub fn sheet_length(file_length: u64, page_size: u64) -> Result<u64, Refusal> {
     let mut bytes = 0;
-    let number = unsafe { raw::gfp_sheet_length(length, page_size, &mut bytes) };
+    let number = unsafe { raw::gfp_sheet_length(file_length, page_size, &mut bytes) };
     answer(number, bytes)
 }
 
-/// Writes the page sheet of a file, of version `SHEET_VERSION`: 27 + 8 × pages bytes.
-pub fn write_sheet(key: u64, page_size: u64, file: &[u8], sheet: &mut [u8]) -> Result<(), Refusal> {
-    answer(unsafe { raw::gfp_write_sheet(key, page_size, file.as_ptr(), file.len(), sheet.as_mut_ptr(), sheet.len()) }, ())
+/// Writes the page sheet of a file, of version `SHEET_VERSION`: 31 + 8 × pages bytes.
+pub fn write_sheet<'a>(
+    key: u64,
+    page_size: u64,
+    file: impl Into<Part<'a>>,
+    sheet: &mut [u8],
+) -> Result<(), Refusal> {
+    let Part { bytes, used } = file.into();
+    let (lent, room) = (sheet.as_mut_ptr(), sheet.len());
+    answer(unsafe { raw::gfp_write_sheet(key, page_size, bytes.as_ptr(), bytes.len(), used, lent, room) }, ())
 }
 
-/// The numbers of a page sheet.
+/// The numbers of a page sheet: `bits` is the file's length in bits whatever the version, `page_size` is in bytes.
 #[derive(Clone, Copy, Debug, Default, PartialEq, Eq)]
 pub struct Sheet {
+    pub version: u32,
     pub key: u64,
-    pub length: u64,
+    pub bits: u64,
     pub page_size: u64,
     pub pages: u64,
     pub fingerprint: u64,
 }
 
-/// Reads a page sheet of version 1 or 2; it does not tell the version. The joining of number 14: in version 2 the page marks joined, each with its
-/// own length, must give the file's fingerprint; in version 1 the page marks joined, each as long as the page size, must give that of the file with
-/// zero bytes behind it, as many as its last page is filled up with. Without pages the file's fingerprint must be 1 in both.
+/// Reads a page sheet of version 1, 2 or 3. The joining of number 14: in versions 2 and 3 the page marks joined, each
+/// with its own length, must give the file's fingerprint; in version 1 the page marks joined, each as long as the page
+/// size, must give that of the file with zero bytes behind it, as many as its last page is filled up with. Without
+/// pages the file's fingerprint must be 1 in all.
 pub fn read_sheet(sheet: &[u8]) -> Result<Sheet, Refusal> {
     let mut x = Sheet::default();
+    let (version, key, bits) = (&mut x.version, &mut x.key, &mut x.bits);
+    let (page_size, pages, fingerprint) = (&mut x.page_size, &mut x.pages, &mut x.fingerprint);
     let number = unsafe {
-        raw::gfp_read_sheet(sheet.as_ptr(), sheet.len(), &mut x.key, &mut x.length, &mut x.page_size, &mut x.pages, &mut x.fingerprint)
+        raw::gfp_read_sheet(sheet.as_ptr(), sheet.len(), version, key, bits, page_size, pages, fingerprint)
     };
     answer(number, x)
 }
 
-/// The page fingerprints of a page sheet, the first ones into `fingerprints`, as far as they reach. The last one is that of the page filled up
-/// in version 1, and of the page as long as it is in version 2.
+/// The page fingerprints of a page sheet, the first ones into `fingerprints`, as far as they reach. The last one is
+/// that of the page filled up in version 1, and of the page as long as it is in versions 2 and 3.
 pub fn read_pages(sheet: &[u8], fingerprints: &mut [u64]) -> Result<(), Refusal> {
-    answer(unsafe { raw::gfp_read_pages(sheet.as_ptr(), sheet.len(), fingerprints.as_mut_ptr(), fingerprints.len()) }, ())
+    let (lent, room) = (fingerprints.as_mut_ptr(), fingerprints.len());
+    answer(unsafe { raw::gfp_read_pages(sheet.as_ptr(), sheet.len(), lent, room) }, ())
 }
 
 /// The answer of a check.
@@ -197,11 +291,16 @@ pub enum Check {
     OtherLength,
 }
 
-/// Checks a file against a page sheet. Against one of version 1 the file's last page is filled up with zero bytes to the page size, against one of
-/// version 2 it is not.
-pub fn check_file(sheet: &[u8], file: &[u8]) -> Result<Check, Refusal> {
+/// Checks a file against a page sheet. Lengths are compared in bits: against a sheet of version 1 or 2 a file with
+/// `used` below 8 has another length. Against one of version 1 the file's last page is filled up with zero bytes to the
+/// page size, against one of version 2 or 3 it is not.
+pub fn check_file<'a>(sheet: &[u8], file: impl Into<Part<'a>>) -> Result<Check, Refusal> {
+    let Part { bytes, used } = file.into();
     let (mut outcome, mut page) = (0, 0);
-    let number = unsafe { raw::gfp_check_file(sheet.as_ptr(), sheet.len(), file.as_ptr(), file.len(), &mut outcome, &mut page) };
+    let (lent, size) = (sheet.as_ptr(), sheet.len());
+    let number = unsafe {
+        raw::gfp_check_file(lent, size, bytes.as_ptr(), bytes.len(), used, &mut outcome, &mut page)
+    };
     answer(number, [Check::Same, Check::Page(page), Check::OtherLength][outcome as usize])
 }
 
@@ -209,15 +308,19 @@ pub fn check_file(sheet: &[u8], file: &[u8]) -> Result<Check, Refusal> {
 #[derive(Clone, Debug, PartialEq, Eq)]
 pub enum Changed {
     Same,
-    /// The bytes of the first page whose fingerprint differs.
+    /// The bytes of the first page whose fingerprint differs; an unfinished byte at the file's end counts as one.
     Bytes(std::ops::Range<u64>),
     OtherLength,
 }
 
 /// Checks a file as `check_file` does, and names the bytes of the page.
-pub fn changed_range(sheet: &[u8], file: &[u8]) -> Result<Changed, Refusal> {
+pub fn changed_range<'a>(sheet: &[u8], file: impl Into<Part<'a>>) -> Result<Changed, Refusal> {
+    let Part { bytes, used } = file.into();
     let (mut outcome, mut from, mut to) = (0, 0, 0);
-    let number = unsafe { raw::gfp_changed_range(sheet.as_ptr(), sheet.len(), file.as_ptr(), file.len(), &mut outcome, &mut from, &mut to) };
+    let (lent, size) = (sheet.as_ptr(), sheet.len());
+    let number = unsafe {
+        raw::gfp_changed_range(lent, size, bytes.as_ptr(), bytes.len(), used, &mut outcome, &mut from, &mut to)
+    };
     answer(number, [Changed::Same, Changed::Bytes(from..to), Changed::OtherLength][outcome as usize].clone())
 }
 

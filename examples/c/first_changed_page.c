@@ -12,12 +12,12 @@ int main(void) {
     memset(file, 'x', sizeof file);
     if (gfp_sheet_length(sizeof file, page_size, &bytes) != GFP_OK || bytes != sizeof sheet)
         return 1;
-    if (gfp_write_sheet(key, page_size, file, sizeof file, sheet, sizeof sheet) != GFP_OK)
+    if (gfp_write_sheet(key, page_size, file, sizeof file, 8, sheet, sizeof sheet) != GFP_OK)
         return 1;
     file[70] ^= 1;
-    if (gfp_check_file(sheet, sizeof sheet, file, sizeof file, &outcome, &page) != GFP_OK)
+    if (gfp_check_file(sheet, sizeof sheet, file, sizeof file, 8, &outcome, &page) != GFP_OK)
         return 1;
-    if (gfp_changed_range(sheet, sizeof sheet, file, sizeof file, &outcome, &from, &to) != GFP_OK)
+    if (gfp_changed_range(sheet, sizeof sheet, file, sizeof file, 8, &outcome, &from, &to) != GFP_OK)
         return 1;
     if (outcome != GFP_PAGE) {
         printf("no page changed\n");

@@ -24,7 +24,8 @@ fn main() -> Result<(), u32> {
         mark_of(key, b"offset 0.0130 mrad; checked 2026-11-15;")?,
     ];
     for ((name, mark), whole) in register.iter().zip(expected) {
-        println!("{name}: {} bytes, fingerprint {:x}, {}", mark.length, mark.fingerprint, if *mark == whole { "as read anew" } else { "differs" });
+        let said = if *mark == whole { "as read anew" } else { "differs" };
+        println!("{name}: {} bytes, fingerprint {:x}, {said}", mark.bits / 8, mark.fingerprint);
     }
     Ok(())
 }

@@ -1,17 +1,19 @@
--- Laws of the tests of two marks.
+-- Laws of the tests of two marks, and of a page.
 use mathlib.Core.Path.{_≡_, ap, ap₂, _∙_}
-use mathlib.Core.Bool.{Bool, true, false, _||_, or-comm}
-use mathlib.Core.List.{List, [], _∷_}
-use Prim.Native.Nat.{ℕ, _+_, _≤_, _<_}
+use mathlib.Core.Bool.{Bool, true, false, _||_, not, or-comm}
+use mathlib.Core.List.{[], _∷_}
+use Prim.Native.Nat.{ℕ, _+_, _-_, _*_, _/_, _^_, _≤_, min}
 use native.Mathlib.Nat.{add-comm}
-use lib.Dec.{ltb}
-use lib.ListN.{length}
-use borrow.Author.Tests.{eq-eqb, ne-eqb, lt-ltb, le-ltb}
+use native.Mathlib.Decide.{decLe}
+use native.Mathlib.Omega.{arith}
+use lib.Dec.{leb, ltb}
+use borrow.Author.Tests.{eq-eqb, ne-eqb, le-leb, lt-leb, lt-ltb, le-ltb}
 use Rattle.lists.proofs.Truth.{or-left-comm}
-use Rattle.refusals.specs.declared.Refusal.the-variants.{TooLong, MarkNotReduced, PageLengthsDiffer, PagePastEnd}
+use Rattle.refusals.specs.declared.Refusal.the-variants.{TooLong, MarkNotReduced, PageLengthsDiffer, PagePastEnd, FinalByte}
 use Rattle.refusals.specs.Refusals.{Done, Refused, _⇒_, firstOf, longest, passes}
+use Rattle.refusals.proofs.Lengths.{counted}
 use Rattle.files.specs.declared.Mark.{Mark}
-use Rattle.files.specs.Files.{unreduced}
+use Rattle.files.specs.Files.{unreduced, Part, partLength, misused}
 use Rattle.compose.specs.Composing.{marksTests, pageTests}
 
 -- ---- they do not depend on the order of the marks
@@ -36,23 +38,41 @@ module _ {S A : Type 0} (key : ℕ) (x y : Mark) (s : S) (v : A) where
     pub marks-passed : unreduced key x ≡ false → unreduced key y ≡ false → firstOf (marksTests key x y) s v ≡ Done v
     marks-passed e f = rw (short, e, f)
 
--- ---- numbers 7 to 10 in turn
+-- ---- numbers 7 to 10 and 19 of a page in turn
 
-module _ {S A : Type 0} (key : ℕ) (m : Mark) (place : ℕ) (old new : List ℕ) (s : S) (v : A) where
-  pub page-long : passes (m .length ∷ length old ∷ length new ∷ []) ≡ true → firstOf (pageTests key m place old new) s v ≡ Refused TooLong s
+module _ {S A : Type 0} (key : ℕ) (m : Mark) (place : ℕ) (old new : Part) (s : S) (v : A) where
+  pub page-long : passes (m .length ∷ partLength old ∷ partLength new ∷ []) ≡ true → firstOf (pageTests key m place old new) s v ≡ Refused TooLong s
   page-long e = rw e
 
-  module _ (short : passes (m .length ∷ length old ∷ length new ∷ []) ≡ false) where
+  module _ (short : passes (m .length ∷ partLength old ∷ partLength new ∷ []) ≡ false) where
     pub page-unreduced : unreduced key m ≡ true → firstOf (pageTests key m place old new) s v ≡ Refused MarkNotReduced s
     page-unreduced e = rw (short, e)
 
     module _ (low : unreduced key m ≡ false) where
-      pub page-lengths : (length old ≡ length new → ⊥) → firstOf (pageTests key m place old new) s v ≡ Refused PageLengthsDiffer s
-      page-lengths d = rw (short, low, ne-eqb (length old) (length new) d)
+      pub page-lengths : (partLength old ≡ partLength new → ⊥) → firstOf (pageTests key m place old new) s v ≡ Refused PageLengthsDiffer s
+      page-lengths d = rw (short, low, ne-eqb (partLength old) (partLength new) d)
 
-      module _ (same : length old ≡ length new) where
-        pub page-past : m .length < place + length old → firstOf (pageTests key m place old new) s v ≡ Refused PagePastEnd s
-        page-past l = rw (short, low, eq-eqb (length old) (length new) same, lt-ltb (m .length) (place + length old) l)
+      module _ (same : partLength old ≡ partLength new) where
+        pub page-past : ltb (m .length) (8 * place + partLength old) ≡ true → firstOf (pageTests key m place old new) s v ≡ Refused PagePastEnd s
+        page-past e = rw (short, low, eq-eqb (partLength old) (partLength new) same, e)
 
-        pub page-passed : place + length old ≤ m .length → firstOf (pageTests key m place old new) s v ≡ Done v
-        page-passed l = rw (short, low, eq-eqb (length old) (length new) same, le-ltb (m .length) (place + length old) l)
+        module _ (inside : ltb (m .length) (8 * place + partLength old) ≡ false) where
+          pub page-misused : (misused old || misused new) ≡ true → firstOf (pageTests key m place old new) s v ≡ Refused FinalByte s
+          page-misused e = rw (short, low, eq-eqb (partLength old) (partLength new) same, inside, e)
+
+          pub page-passed : (misused old || misused new) ≡ false → firstOf (pageTests key m place old new) s v ≡ Done v
+          page-passed e = rw (short, low, eq-eqb (partLength old) (partLength new) same, inside, e)
+
+-- ---- as the code counts them
+
+-- number 7 of a page change
+pub counted-page : (a m n : ℕ) → passes (a ∷ min m (2 ^ 36) ∷ min n (2 ^ 36) ∷ []) ≡ passes (a ∷ m ∷ n ∷ [])
+counted-page a m n = ap₂ (λ (p q : Bool). ltb longest a || (p || (q || false))) (counted m) (counted n)
+
+-- number 10: the last place at which the page ends within the file, in bytes
+pub last-place : (length place n : ℕ) → n ≤ length → leb place ((length - n) / 8) ≡ not (ltb length (8 * place + n))
+last-place length place n h = go (decLe place ((length - n) / 8))
+  where
+    go : Dec (place ≤ (length - n) / 8) → leb place ((length - n) / 8) ≡ not (ltb length (8 * place + n))
+    go (yes l) = rw (le-leb place ((length - n) / 8) l, le-ltb length (8 * place + n) (omega arith))
+    go (no l) = rw (lt-leb place ((length - n) / 8) (omega arith), lt-ltb length (8 * place + n) (omega arith))

@@ -6,9 +6,12 @@ use marks::Fed;
 use marks::Running;
 use refusals::Refusal;
 ghost use mathlib.Core.Path.{_≡_};
+ghost use mathlib.Core.Bool.{not};
+ghost use Prim.Native.Nat.{_+_, _*_};
+ghost use lib.Dec.{ltb};
 ghost use Rattle.refusals.specs.Refusals.{firstOf};
 ghost use Rattle.acceptance.specs.Opened.{Opened};
-ghost use Rattle.files.specs.Files.{joined, replaced};
+ghost use Rattle.files.specs.Files.{asPart, joined, replaced};
 ghost use Rattle.marks.specs.Answers.{markIn, fed, fedUnder};
 ghost use Rattle.compose.specs.Composing.{marksTests, joinTests, joinBehind, joinInFront, pageTests, replacePage};
 
@@ -47,34 +50,55 @@ fn join(m: Running, first: Mark, second: Mark) -> Fed
     }
 }
 
+// Number 10 does not apply to a page of n bits, from the byte at a place on, in a file of so many bits. The page's end is not made: it might not
+// fit 64 bits.
+fn page_within(length: u64, place: u64, n: u64) -> bool
+    ensures { λ r. ⌜ r ≡ not (ltb length (8 * place + n)) ⌝ }
+{
+    if length < n {
+        return false;
+    }
+    let last = length - n;
+    place <= last / 8
+}
+
 // A page changed, after the test of the key.
-fn replace(p: Modulus, m: Running, place: u64, old: &[u8], new: &[u8]) -> Fed
+fn replace(
+    p: Modulus,
+    m: Running,
+    place: u64,
+    old: &[u8],
+    old_used: u32,
+    new: &[u8],
+    new_used: u32,
+) -> Fed
     requires { ⌜ Opened (m .key) p ⌝ }
-    ensures { λ r. ⌜ fed r ≡ fedUnder (m .key) (firstOf (pageTests (m .key) (markIn m) place (now (old .entry)) (now (new .entry))) (markIn m)
-        (replaced (m .key) (markIn m) place (now (old .entry)) (now (new .entry)))) ⌝ }
+    ensures { λ r. ⌜ fed r ≡ fedUnder (m .key) (firstOf (pageTests (m .key) (markIn m) place (asPart (now (old .entry)) «old_used»)
+        (asPart (now (new .entry)) «new_used»)) (markIn m)
+        (replaced (m .key) (markIn m) place (asPart (now (old .entry)) «old_used») (asPart (now (new .entry)) «new_used»))) ⌝ }
 {
     let f = m.fingerprint;
     let length = m.length;
-    let n = old.len() as u64;
-    if !refusals::within(length, n, new.len() as u64) {
+    let n = files::part_length(old, old_used);
+    let other = files::part_length(new, new_used);
+    if !refusals::within(length, n, other) {
         return Fed::Refused(Refusal::TooLong, m);
     }
     if !gf2::is_residue(p, f) {
         return Fed::Refused(Refusal::MarkNotReduced, m);
     }
-    if old.len() != new.len() {
+    if n != other {
         return Fed::Refused(Refusal::PageLengthsDiffer, m);
     }
-    if length < n {
+    if !page_within(length, place, n) {
         return Fed::Refused(Refusal::PagePastEnd, m);
     }
-    let last = length - n;
-    if last < place {
-        return Fed::Refused(Refusal::PagePastEnd, m);
+    if files::is_misused(old, old_used) | files::is_misused(new, new_used) {
+        return Fed::Refused(Refusal::FinalByte, m);
     }
     Fed::Next(Running {
         key: m.key,
-        fingerprint: files::replaced_residue(p, f, old, new, last - place),
+        fingerprint: files::replaced_residue(p, f, old, new, old_used, length - n - 8 * place),
         length: length,
     })
 }
@@ -93,12 +117,21 @@ pub fn join_in_front(m: Running, other: Mark) -> Fed
     join(m, other, m.mark())
 }
 
-// The new page stands where the old one stood, from the byte at the given place on. Numbers 1, 2, 7, 8, 9, 10.
-pub fn replace_page(m: Running, place: u64, old: &[u8], new: &[u8]) -> Fed
-    ensures { λ r. ⌜ fed r ≡ fedUnder (m .key) (replacePage (m .key) (markIn m) place (now (old .entry)) (now (new .entry))) ⌝ }
+// The new page stands where the old one stood, from the byte at the given place on, each with the used bits of its final byte. Numbers 1, 2, 7, 8,
+// 9, 10, 19.
+pub fn replace_page(
+    m: Running,
+    place: u64,
+    old: &[u8],
+    old_used: u32,
+    new: &[u8],
+    new_used: u32,
+) -> Fed
+    ensures { λ r. ⌜ fed r ≡ fedUnder (m .key) (replacePage (m .key) (markIn m) place (asPart (now (old .entry)) «old_used»)
+        (asPart (now (new .entry)) «new_used»)) ⌝ }
 {
     match keys::test(m.key) {
         Tested::Refused(r) => Fed::Refused(r, m),
-        Tested::Accepted(p) => replace(p, m, place, old, new),
+        Tested::Accepted(p) => replace(p, m, place, old, old_used, new, new_used),
     }
 }

@@ -1,22 +1,28 @@
-// Joining and page changes, printed and compared with their figures: the fingerprint and the length, or the refusal's number with the mark
-// that went back. Under key 0x11B where nothing else is said.
+// Joining and page changes, printed and compared with their figures: the fingerprint and the length in bits, or the refusal's number with the
+// mark that went back. Under key 0x11B where nothing else is said.
 use files::Mark;
 use marks::Running;
 
-// The limit of lengths.
 // 2^63: twice that is past 64 bits.
 const HALF: u64 = 9223372036854775808;
+
+// 2^61: eight times that is past 64 bits.
+const EIGHTH: u64 = 2305843009213693952;
 
 // The last place of 64 bits.
 const LAST: u64 = 18446744073709551615;
 
-// The mark of fingerprint f and length a with the one of fingerprint g and length b behind it, and in front of it.
-fn join(what: &[u8], key: u64, f: u64, a: u64, g: u64, b: u64) {
-    let m = Running {
+fn running(key: u64, f: u64, a: u64) -> Running {
+    Running {
         key: key,
         fingerprint: f,
         length: a,
-    };
+    }
+}
+
+// The mark of fingerprint f and length a with the one of fingerprint g and length b behind it, and in front of it.
+fn join(what: &[u8], key: u64, f: u64, a: u64, g: u64, b: u64) {
+    let m = running(key, f, a);
     let other = Mark {
         fingerprint: g,
         length: b,
@@ -28,67 +34,76 @@ fn join(what: &[u8], key: u64, f: u64, a: u64, g: u64, b: u64) {
     vectors::fed_or_refused(compose::join_in_front(m, other));
 }
 
-// A page changed in the mark of fingerprint f and length a.
+// A page of whole bytes changed in the mark of fingerprint f and length a.
 fn change(what: &[u8], f: u64, a: u64, place: u64, old: &[u8], new: &[u8]) {
-    let m = Running {
-        key: 0x11B,
-        fingerprint: f,
-        length: a,
-    };
+    let m = running(0x11B, f, a);
     vectors::text(what);
-    vectors::fed_or_refused(compose::replace_page(m, place, old, new));
+    vectors::fed_or_refused(compose::replace_page(m, place, old, 8, new, 8));
+}
+
+// In the mark of 41 42, a page with u used bits in its final byte by one with v.
+fn change_bits(what: &[u8], place: u64, old: &[u8], u: u32, new: &[u8], v: u32) {
+    let m = running(0x11B, 0x9D, 16);
+    vectors::text(what);
+    vectors::fed_or_refused(compose::replace_page(m, place, old, u, new, v));
 }
 
 fn joins() {
-    join(b"41 and 42", 0x11B, 0x5A, 1, 0x59, 1);
-    join(b"41 and the empty file", 0x11B, 0x5A, 1, 1, 0);
-    join(
-        b"4294967295 bytes and none",
-        0x11B,
-        0x5A,
-        refusals::LONGEST,
-        1,
-        0,
-    );
-    join(
-        b"4294967295 bytes and one",
-        0x11B,
-        0x5A,
-        refusals::LONGEST,
-        0x59,
-        1,
-    );
+    join(b"41 and 42", 0x11B, 0x5A, 8, 0x59, 8);
+    join(b"3 bits of 41 and the 13 behind", 0x11B, 0x0A, 3, 0x14, 13);
+    join(b"41 and the empty file", 0x11B, 0x5A, 8, 1, 0);
+}
+
+fn joins_at_the_limit() {
+    let limit = refusals::LONGEST;
+    join(b"34359738360 bits and none", 0x11B, 0x5A, limit, 1, 0);
+    join(b"34359738360 bits and one", 0x11B, 0x5A, limit, 3, 1);
 }
 
 fn joins_refused() {
-    join(b"2^63 bytes and 2^63", 0x11B, 0x5A, HALF, 0x59, HALF);
-    join(b"a fingerprint of 9 bits", 0x11B, 0x5A, 1, 0x100, 1);
-    join(b"key 255", 0xFF, 0x5A, 1, 0x59, 1);
-    join(b"key 101, 2^63 bytes", 0x101, 0x5A, HALF, 0x59, 1);
+    join(b"2^63 bits and 2^63", 0x11B, 0x5A, HALF, 0x59, HALF);
+    join(b"a fingerprint of 9 bits", 0x11B, 0x5A, 8, 0x100, 8);
+    join(b"key 255", 0xFF, 0x5A, 8, 0x59, 8);
+    join(b"key 101, 2^63 bits", 0x101, 0x5A, HALF, 0x59, 8);
 }
 
 fn changes() {
-    change(b"41 42, 42 becomes 43: ", 0x9D, 2, 1, b"B", b"C");
-    change(b"41 42, 41 becomes 40: ", 0x9D, 2, 0, b"A", b"@");
-    change(b"41 42 becomes 00 00: ", 0x9D, 2, 0, b"AB", b"\0\0");
+    let a0: [u8; 1] = [0xA0];
+    change(b"41 42, 42 becomes 43: ", 0x9D, 16, 1, b"B", b"C");
+    change(b"41 42, 41 becomes 40: ", 0x9D, 16, 0, b"A", b"@");
+    change(b"41 42 becomes 00 00: ", 0x9D, 16, 0, b"AB", b"\0\0");
+    change_bits(b"3 bits at place 1, 40 becomes A0: ", 1, b"@", 3, &a0, 3);
 }
 
 fn changes_at_the_end() {
-    change(b"no byte at the end: ", 0x9D, 2, 2, b"", b"");
-    change(b"no byte past the end: ", 0x9D, 2, 3, b"", b"");
-    change(b"one byte at place 2^64 - 1: ", 0x9D, 2, LAST, b"A", b"@");
+    change(b"no byte at the end: ", 0x9D, 16, 2, b"", b"");
+    change(b"no byte past the end: ", 0x9D, 16, 3, b"", b"");
+    change(b"one byte at place 2^61: ", 0x9D, 16, EIGHTH, b"A", b"@");
+    change(b"one byte at place 2^64 - 1: ", 0x9D, 16, LAST, b"A", b"@");
+    change(b"one byte at place 1 of 19 bits: ", 0x86, 19, 1, b"B", b"C");
+    change(b"one byte at place 2 of 19 bits: ", 0x86, 19, 2, b"B", b"C");
 }
 
 fn changes_refused() {
-    change(b"pages of different length: ", 0x9D, 2, LAST, b"A", b"");
-    change(b"a fingerprint of 9 bits: ", 0x100, 2, 3, b"A", b"");
-    change(b"a length of 2^32: ", 0x100, 4294967296, 3, b"A", b"");
+    change(b"pages of different length: ", 0x9D, 16, LAST, b"A", b"");
+    change(b"a fingerprint of 9 bits: ", 0x100, 16, 3, b"A", b"");
+    change(b"a length of 2^35: ", 0x100, 34359738368, 3, b"A", b"");
+}
+
+fn changes_misused() {
+    change_bits(b"pages of 3 and 4 bits: ", 1, b"@", 3, b"@", 4);
+    change_bits(b"an unused 1 in the old page: ", 1, b"A", 3, b"@", 3);
+    change_bits(b"an unused 1 in the new page: ", 1, b"@", 3, b"A", 3);
+    change_bits(b"no used bits, past the end: ", 2, b"A", 0, b"A", 8);
+    change_bits(b"no used bits: ", 1, b"A", 0, b"A", 8);
 }
 
 fn main() {
     joins();
+    joins_at_the_limit();
     joins_refused();
     changes();
     changes_at_the_end();
     changes_refused();
+    changes_misused();
 }

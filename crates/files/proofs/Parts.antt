@@ -1,6 +1,6 @@
 -- Laws of parts: how long they are, their bits, and what number 19 leaves.
 use mathlib.Core.Path.{_≡_, refl, sym, ap, ap₂, _∙_}
-use mathlib.Core.Bool.{Bool, true, false, cond, _&&_, _||_, not, false≢true, or-false}
+use mathlib.Core.Bool.{Bool, true, false, cond, _&&_, _||_, not, false≢true, or-false, and-false}
 use mathlib.Core.Logic.{_⊎_, inl, inr}
 use mathlib.Core.List.{List, [], _∷_, _++_}
 use Prim.Native.Nat.{ℕ, zero, suc, _+_, _-_, _*_, _/_, _%_, _^_, _≤_, _<_}
@@ -102,6 +102,11 @@ whole-long bytes = go (decLt 0 (length bytes))
 pub whole-bits : (bytes : List ℕ) → partBits (whole bytes) ≡ bits bytes
 unfolding partBits
 whole-bits bytes = take-all (partLength (whole bytes)) (bits bytes) (omega (arith, whole-long bytes, length-bits bytes))
+
+-- to which number 19 does not apply
+pub whole-used : (bytes : List ℕ) → misused (whole bytes) ≡ false
+unfolding misused
+whole-used bytes = rw (and-false (eqb (length bytes) 0), eq-eqb (getD bytes (length bytes - 1) 0 % 1) 0 (omega arith))
 
 -- ---- the length as the code counts it
 

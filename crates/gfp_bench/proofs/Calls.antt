@@ -3,7 +3,6 @@
 use mathlib.Core.Path.{_≡_, refl}
 use mathlib.Core.List.{List, [], _∷_, _++_}
 use Prim.Native.Nat.{ℕ}
-use lib.ListN.{length}
 use Rattle.lists.specs.Lists.{listFrom}
 use Rattle.lists.proofs.Lists.{rising, length-list}
 use Rattle.gf2.specs.Opening.{modulusOf}
@@ -12,7 +11,7 @@ use Rattle.refusals.specs.Refusals.{_⇒_, firstOf}
 use Rattle.refusals.proofs.Laws.{skip, gives-lowest}
 use Rattle.acceptance.specs.Keys.{keyTests}
 use Rattle.files.specs.declared.Mark.{Mark}
-use Rattle.files.specs.Files.{markOf, fedMark}
+use Rattle.files.specs.Files.{markOf, Part, fedMark}
 use Rattle.lookups.specs.Rule.{word, differs}
 use Rattle.house.specs.House.{houseKey, houseWords}
 use Rattle.keys.specs.Testing.{testKey}
@@ -20,14 +19,14 @@ use Rattle.tables.specs.Tables.{makeTable, testTable}
 use Rattle.marks.specs.Feeding.{begin, feedTests, feedBits, feedTable, feedHouse}
 use Rattle.gfp_bench.specs.Calls.{EachCall}
 
-module _ (key : ℕ) (m : Mark) (words part : List ℕ) where
+module _ (key : ℕ) (m : Mark) (words : List ℕ) (part : Part) where
   -- number 5 does not apply to the house key's words
   without-5 : feedHouse key m part
-      ≡ firstOf (keyTests key ++ differs (word 8 key) 0 houseWords ⇒ TableWord ∷ feedTests key m (length part)) m (fedMark key m part)
+      ≡ firstOf (keyTests key ++ differs (word 8 key) 0 houseWords ⇒ TableWord ∷ feedTests key m part) m (fedMark key m part)
   unfolding feedHouse feedTable
   without-5 =
       rw (length-list (word 8 houseKey) 0 1024)
-      (skip (keyTests key) (differs (word 8 key) 0 houseWords ⇒ TableWord ∷ feedTests key m (length part)) TableSize m (fedMark key m part))
+      (skip (keyTests key) (differs (word 8 key) 0 houseWords ⇒ TableWord ∷ feedTests key m part) TableSize m (fedMark key m part))
 
   pub each-call : EachCall key m words part
   unfolding testKey begin feedBits makeTable testTable feedTable rising

@@ -3,11 +3,12 @@ use mathlib.Core.Path.{_≡_}
 use mathlib.Core.List.{List, [], _∷_, _++_}
 use Prim.Native.Nat.{ℕ, _<_}
 use lib.ListN.{length}
-use Rattle.refusals.specs.Refusals.{Answer, stateOf, numberOf, Test, firstOf}
+use Rattle.refusals.specs.declared.Refusal.the-variants.{FinalByte}
+use Rattle.refusals.specs.Refusals.{Answer, stateOf, numberOf, Test, _⇒_, firstOf}
 use Rattle.refusals.proofs.Laws.{agree}
 use Rattle.acceptance.specs.Keys.{keyTests}
 use Rattle.files.specs.declared.Mark.{Mark}
-use Rattle.files.specs.Files.{markOf, fedMark}
+use Rattle.files.specs.Files.{markOf, Part, partLength, partBits, misused, fedMark}
 use Rattle.files.proofs.Marks.{fed-true}
 use Rattle.table_tests.specs.TableTests.{tableTests}
 use Rattle.marks.specs.Feeding.{sumTest, feedTests, feedBits, feedTable}
@@ -26,22 +27,27 @@ pub agrees-by : (key : ℕ) (s : Answer Mark Mark) (ts : List Test) (kept next :
 agrees-by key s ts kept next nxt e h = rw e (agree (markOf key) ts kept next nxt h)
 
 module _ (key : ℕ) (pos : 0 < key) (file : List ℕ) where
+  -- numbers 7 and 19, as the book has them
+  abbrev tests : Part → List Test
+  tests part = sumTest (length file) (partLength part) ∷ misused part ⇒ FinalByte ∷ []
+
   -- feeding, whatever is tested before
-  feed-agrees : (ts : List Test) (part : List ℕ)
-      → Agrees key (firstOf (ts ++ feedTests key (markOf key file) (length part)) (markOf key file) (fedMark key (markOf key file) part))
-      (firstOf (ts ++ sumTest (length file) (length part) ∷ []) file (file ++ part))
+  feed-agrees : (ts : List Test) (part : Part)
+      → Agrees key (firstOf (ts ++ feedTests key (markOf key file) part) (markOf key file) (fedMark key (markOf key file) part))
+      (firstOf (ts ++ tests part) file (file ++ partBits part))
   unfolding markOf
   feed-agrees ts part =
-      agrees-by key (firstOf (ts ++ feedTests key (markOf key file) (length part)) (markOf key file) (fedMark key (markOf key file) part))
-      (ts ++ sumTest (length file) (length part) ∷ []) file (file ++ part) (fedMark key (markOf key file) part)
-      (leave-out-8 key pos file ts (sumTest (length file) (length part) ∷ []) [] (markOf key file) (fedMark key (markOf key file) part))
+      agrees-by key (firstOf (ts ++ feedTests key (markOf key file) part) (markOf key file) (fedMark key (markOf key file) part))
+      (ts ++ tests part) file (file ++ partBits part) (fedMark key (markOf key file) part)
+      (leave-out-8 key pos file ts (sumTest (length file) (partLength part) ∷ []) (misused part ⇒ FinalByte ∷ []) (markOf key file)
+      (fedMark key (markOf key file) part))
       (λ e. fed-true key pos file part)
 
-  bits-agree : (part : List ℕ) → Agrees key (step key (markOf key file) (ByBits part)) (bookStep bench key file (ByBits part))
+  bits-agree : (part : Part) → Agrees key (step key (markOf key file) (ByBits part)) (bookStep bench key file (ByBits part))
   unfolding step feedBits bookStep bookTests written
   bits-agree part = feed-agrees (keyTests key) part
 
-  table-agree : (words part : List ℕ) → Agrees key (step key (markOf key file) (ByTable words part)) (bookStep bench key file (ByTable words part))
+  table-agree : (words : List ℕ) (part : Part) → Agrees key (step key (markOf key file) (ByTable words part)) (bookStep bench key file (ByTable words part))
   unfolding step feedTable bookStep bookTests written
   table-agree words part = feed-agrees (keyTests key ++ tableTests key words) part
 

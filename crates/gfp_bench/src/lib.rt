@@ -1,8 +1,10 @@
 // The Bench level: the functions that it sells, for C. Each answers 0 or the refusal's number; on refusal every lent place and buffer
-// keeps what it held. The guarantee over lists of these calls stands in specs/ and proofs/.
+// keeps what it held. A mark's length is in bits, and `used` counts the used bits of a part's final byte. The guarantee over lists of
+// these calls stands in specs/ and proofs/.
 ghost use mathlib.Core.Path.{_≡_};
 ghost use Rattle.refusals.specs.Refusals.{numberOf, stateOf, valueOr};
 ghost use Rattle.keys.specs.Testing.{testKey};
+ghost use Rattle.files.specs.Files.{asPart};
 ghost use Rattle.tables.specs.Tables.{makeTable, testTable};
 ghost use Rattle.marks.specs.Feeding.{begin, feedBits, feedTable, feedHouse};
 ghost use Rattle.stock.specs.Stock.{stockKey};
@@ -32,36 +34,43 @@ pub extern "C" fn gfp_stock_key(degree: u64) -> u64
 
 // The mark of the empty file. Numbers 1, 2.
 #[no_mangle]
-pub extern "C" fn gfp_begin(key: u64, fingerprint: &mut u64, length: &mut u64) -> u32
+pub extern "C" fn gfp_begin(key: u64, fingerprint: &mut u64, bits: &mut u64) -> u32
     ensures { λ r. ⌜
         (r ≡ numberOf (begin key))
-        × (markAt (now (fingerprint .exit)) (now (length .exit)) ≡ valueOr (markAt (now (fingerprint .entry)) (now (length .entry))) (begin key))
+        × (markAt (now (fingerprint .exit)) (now (bits .exit)) ≡ valueOr (markAt (now (fingerprint .entry)) (now (bits .entry))) (begin key))
         ⌝ }
 {
     match Running::begin(key) {
         Begun::Started(m) => {
             *fingerprint = m.fingerprint;
-            *length = m.length;
+            *bits = m.length;
             0
         }
         Begun::Refused(r) => refusals::number(r),
     }
 }
 
-// The next part of a file, bit by bit. Numbers 1, 2, 7, 8.
+// The next part of a file, bit by bit. Numbers 1, 2, 7, 8, 19.
 #[no_mangle]
-pub extern "C" fn gfp_feed(key: u64, fingerprint: &mut u64, length: &mut u64, part: &[u8]) -> u32
+pub extern "C" fn gfp_feed(
+    key: u64,
+    fingerprint: &mut u64,
+    bits: &mut u64,
+    part: &[u8],
+    used: u32,
+) -> u32
     ensures { λ r. ⌜
-        (r ≡ numberOf (feedBits key (markAt (now (fingerprint .entry)) (now (length .entry))) (now (part .entry))))
-        × (markAt (now (fingerprint .exit)) (now (length .exit)) ≡ stateOf (feedBits key (markAt (now (fingerprint .entry)) (now (length .entry))) (now (part .entry))))
+        (r ≡ numberOf (feedBits key (markAt (now (fingerprint .entry)) (now (bits .entry))) (asPart (now (part .entry)) used)))
+        × (markAt (now (fingerprint .exit)) (now (bits .exit))
+            ≡ stateOf (feedBits key (markAt (now (fingerprint .entry)) (now (bits .entry))) (asPart (now (part .entry)) used)))
         ⌝ }
 {
     let m = Running {
         key: key,
         fingerprint: *fingerprint,
-        length: *length,
+        length: *bits,
     };
-    places::store(m.feed(part), fingerprint, length)
+    places::store(m.feed(part, used), fingerprint, bits)
 }
 
 // The key's table into the lent words. Numbers 1, 2, 5.
@@ -83,45 +92,49 @@ pub extern "C" fn gfp_test_table(key: u64, words: &[u64]) -> u32
     refusals::number_of(tables::test(key, words))
 }
 
-// The next part by a table. Numbers 1, 2, 5, 6, 7, 8.
+// The next part by a table. Numbers 1, 2, 5, 6, 7, 8, 19.
 #[no_mangle]
 pub extern "C" fn gfp_feed_table(
     key: u64,
     fingerprint: &mut u64,
-    length: &mut u64,
+    bits: &mut u64,
     words: &[u64],
     part: &[u8],
+    used: u32,
 ) -> u32
     ensures { λ r. ⌜
-        (r ≡ numberOf (feedTable key (markAt (now (fingerprint .entry)) (now (length .entry))) (now (words .entry)) (now (part .entry))))
-        × (markAt (now (fingerprint .exit)) (now (length .exit)) ≡ stateOf (feedTable key (markAt (now (fingerprint .entry)) (now (length .entry))) (now (words .entry)) (now (part .entry))))
+        (r ≡ numberOf (feedTable key (markAt (now (fingerprint .entry)) (now (bits .entry))) (now (words .entry)) (asPart (now (part .entry)) used)))
+        × (markAt (now (fingerprint .exit)) (now (bits .exit))
+            ≡ stateOf (feedTable key (markAt (now (fingerprint .entry)) (now (bits .entry))) (now (words .entry)) (asPart (now (part .entry)) used)))
         ⌝ }
 {
     let m = Running {
         key: key,
         fingerprint: *fingerprint,
-        length: *length,
+        length: *bits,
     };
-    places::store(m.feed_table(words, part), fingerprint, length)
+    places::store(m.feed_table(words, part, used), fingerprint, bits)
 }
 
-// The next part by the house key's table, which the library holds. Numbers 1, 2, 6, 7, 8.
+// The next part by the house key's table, which the library holds. Numbers 1, 2, 6, 7, 8, 19.
 #[no_mangle]
 pub extern "C" fn gfp_feed_house(
     key: u64,
     fingerprint: &mut u64,
-    length: &mut u64,
+    bits: &mut u64,
     part: &[u8],
+    used: u32,
 ) -> u32
     ensures { λ r. ⌜
-        (r ≡ numberOf (feedHouse key (markAt (now (fingerprint .entry)) (now (length .entry))) (now (part .entry))))
-        × (markAt (now (fingerprint .exit)) (now (length .exit)) ≡ stateOf (feedHouse key (markAt (now (fingerprint .entry)) (now (length .entry))) (now (part .entry))))
+        (r ≡ numberOf (feedHouse key (markAt (now (fingerprint .entry)) (now (bits .entry))) (asPart (now (part .entry)) used)))
+        × (markAt (now (fingerprint .exit)) (now (bits .exit))
+            ≡ stateOf (feedHouse key (markAt (now (fingerprint .entry)) (now (bits .entry))) (asPart (now (part .entry)) used)))
         ⌝ }
 {
     let m = Running {
         key: key,
         fingerprint: *fingerprint,
-        length: *length,
+        length: *bits,
     };
-    places::store(m.feed_house(part), fingerprint, length)
+    places::store(m.feed_house(part, used), fingerprint, bits)
 }

@@ -7,7 +7,7 @@ use native.Mathlib.Omega.{arith}
 use lib.Dec.{ltb, ltb→lt}
 use lib.ListN.{replicate}
 use Rattle.refusals.specs.Refusals.{Done}
-use Rattle.sheets.specs.Layout.{bytesOf, fieldsOf, numberAt, numbersAt, version1, version2, known, layoutAmong, bytesIn, sheetBytes, contentsIn}
+use Rattle.sheets.specs.Layout.{bytesOf, fieldsOf, numberAt, numbersAt, version1, version3, known, layoutAmong, bytesIn, sheetBytes, contentsIn}
 use Rattle.sheets.specs.Sheets.{filled, pageFingerprints, contentsOf, writeSheet, joinedPages, someUnreduced, readSheet, readPages}
 use Rattle.sheets.proofs.Guarantee.{written-reads}
 use Rattle.lists.proofs.Lists.{all-map, every, all-by-test}
@@ -15,7 +15,9 @@ use Rattle.gf2.specs.Polynomials.{_⊕_, halvings, degree, reduce, longDivision
 use Rattle.lists.specs.Lists.{listFrom, anyBelow, overlay}
 use Rattle.acceptance.specs.Keys.{reducible}
 use Rattle.files.specs.declared.Mark.{Mark}
-use Rattle.files.specs.Files.{lowBits, bits, valueFrom, value, fingerprint, markOf, fedMark, joined, replaced}
+use Rattle.files.specs.Files.{lowBits, bits, valueFrom, value, fingerprint, markOf, asPart, whole, usedBits, partLength, partBits, misused}
+use Rattle.files.specs.Files.{fedMark, joined, replaced}
+use Rattle.files.proofs.Parts.{whole-bits}
 use Rattle.lookups.specs.Rule.{differs}
 use Rattle.marks.specs.Feeding.{feedBits, feedTable}
 use Rattle.compose.specs.Composing.{joinBehind, joinInFront, replacePage}
@@ -32,37 +34,43 @@ mark f n = record { fingerprint = f; length = n }
 
 -- ---- feeding: the Bench level's list, by bits and by tables, refused and not
 
-pub the-feeding-list : run (step 0x11B) (mark 0x01 0) (map Feeding bench-examples.calls) ≡ (mark 0x9D 2, 0 ∷ 7 ∷ 5 ∷ 6 ∷ 0 ∷ [])
+pub the-feeding-list : run (step 0x11B) (mark 0x01 0) (map Feeding bench-examples.calls) ≡ (mark 0x9D 16, 0 ∷ 7 ∷ 5 ∷ 6 ∷ 0 ∷ [])
 the-feeding-list = bench-lists 0x11B (mark 0x01 0) bench-examples.calls ∙ bench-examples.the-list
 
 -- ---- joining and page change, refused and not, between feeding. Both sides are computed.
 
 pub calls : List Call
 calls =
-    Feeding (bench-level.ByBits (0x41 ∷ []))
-    ∷ Feeding (bench-level.ByTable [] (0x00 ∷ []))
-    ∷ Behind (mark 0x59 1) (0x42 ∷ [])
-    ∷ Behind (mark 0x100 1) []
-    ∷ InFront (mark 0x5A 4294967295) []
-    ∷ Page 0 (0x41 ∷ 0x42 ∷ []) (0x00 ∷ 0x00 ∷ [])
-    ∷ Page 0 (0x41 ∷ []) []
-    ∷ Page 2 (0x41 ∷ []) (0x00 ∷ [])
-    ∷ InFront (mark 0x5A 1) (0x41 ∷ [])
+    Feeding (bench-level.ByBits (whole (0x41 ∷ [])))
+    ∷ Feeding (bench-level.ByTable [] (whole (0x00 ∷ [])))
+    ∷ Behind (mark 0x59 8) (bits (0x42 ∷ []))
+    ∷ Behind (mark 0x100 8) []
+    ∷ InFront (mark 0x5A 34359738360) []
+    ∷ Page 1 (asPart (0x40 ∷ []) 3) (asPart (0xA0 ∷ []) 3)
+    ∷ Page 1 (asPart (0xA0 ∷ []) 3) (asPart (0x41 ∷ []) 3)
+    ∷ Page 0 (whole (0x41 ∷ 0xA2 ∷ [])) (whole (0x00 ∷ 0x00 ∷ []))
+    ∷ Page 0 (whole (0x41 ∷ [])) (asPart (0x40 ∷ []) 7)
+    ∷ Page 2 (whole (0x41 ∷ [])) (whole (0x00 ∷ []))
+    ∷ InFront (mark 0x5A 8) (bits (0x41 ∷ []))
     ∷ []
 
--- the book's file, and the numbers
-pub the-book : run (bookStep site 0x11B) [] calls ≡ (0x41 ∷ 0x00 ∷ 0x00 ∷ [], 0 ∷ 5 ∷ 0 ∷ 8 ∷ 7 ∷ 0 ∷ 9 ∷ 10 ∷ 0 ∷ [])
+-- the numbers; the book's file
+abbrev numbers : List ℕ
+numbers = 0 ∷ 5 ∷ 0 ∷ 8 ∷ 7 ∷ 0 ∷ 19 ∷ 0 ∷ 9 ∷ 10 ∷ 0 ∷ []
+
+pub the-book : run (bookStep site 0x11B) [] calls ≡ (bits (0x41 ∷ 0x00 ∷ 0x00 ∷ []), numbers)
 unfolding calls run bookStep bookTests written bench-level.bookTests bench-level.written reducible anyBelow rem longDivision reduce degree halvings _⊕_ differs
+    bits lowBits usedBits partLength partBits misused
 the-book = refl
 
-pub the-list : run (step 0x11B) (mark 0x01 0) calls ≡ (mark (fingerprint 0x11B (0x41 ∷ 0x00 ∷ 0x00 ∷ [])) 3, 0 ∷ 5 ∷ 0 ∷ 8 ∷ 7 ∷ 0 ∷ 9 ∷ 10 ∷ 0 ∷ [])
+pub the-list : run (step 0x11B) (mark 0x01 0) calls ≡ (mark (fingerprint 0x11B (bits (0x41 ∷ 0x00 ∷ 0x00 ∷ []))) 24, numbers)
 unfolding calls run step bench-level.step feedBits feedTable fedMark joinBehind joinInFront joined replacePage replaced
-    reducible anyBelow fingerprint value valueFrom bits lowBits rem longDivision reduce degree halvings _⊕_ differs
+    reducible anyBelow fingerprint value valueFrom bits lowBits usedBits partLength partBits misused rem longDivision reduce degree halvings _⊕_ differs
 the-list = refl
 
 pub the-list-is-honest : Honest site 0x11B [] calls
 unfolding calls bookStep bookTests written bench-level.bookTests bench-level.written
-    reducible anyBelow fingerprint value valueFrom bits lowBits markOf rem longDivision reduce degree halvings _⊕_ differs
+    reducible anyBelow fingerprint value valueFrom bits lowBits usedBits partLength partBits misused markOf rem longDivision reduce degree halvings _⊕_ differs
 the-list-is-honest = (
   λ e. tt,
   (
@@ -71,46 +79,67 @@ the-list-is-honest = (
       λ e. refl,
       (
         λ e. absurd (omega (arith, e)),
-        (λ e. absurd (omega (arith, e)), (λ e. refl, (λ e. absurd (omega (arith, e)), (λ e. absurd (omega (arith, e)), (λ e. refl, tt))))),
+        (
+          λ e. absurd (omega (arith, e)),
+          (
+            λ e. refl,
+            (
+              λ e. absurd (omega (arith, e)),
+              (λ e. refl, (λ e. absurd (omega (arith, e)), (λ e. absurd (omega (arith, e)), (λ e. refl, tt)))),
+            ),
+          ),
+        ),
       ),
     ),
   ),
 )
 
+-- the three first bits of the byte 42 changed in the mark of 41 42
+pub three-bits : replacePage 0x11B (mark 0x9D 16) 1 (asPart (0x40 ∷ []) 3) (asPart (0xA0 ∷ []) 3) ≡ Done (mark 0x7D 16)
+unfolding replacePage replaced reducible anyBelow fingerprint value valueFrom bits lowBits usedBits partLength partBits misused
+    rem longDivision reduce degree halvings _⊕_
+three-bits = refl
+
 -- ---- routes through the sheets of the file 41 42, with pages of 16 bytes: its one page is not whole
 
 abbrev two : List ℕ
-two = 0x41 ∷ 0x42 ∷ []
+two = bits (0x41 ∷ 0x42 ∷ [])
 
--- of a version, with a page fingerprint and the file's
-abbrev sheetWith : ℕ → ℕ → ℕ → List ℕ
-sheetWith version page file =
-    0x47 ∷ 0x46 ∷ 0x50 ∷ 0x00 ∷ version ∷ 0x00 ∷ 0x00 ∷ 0x00 ∷ 0x00 ∷ 0x00 ∷ 0x00 ∷ 0x01 ∷ 0x1B ∷ 0x00 ∷ 0x00 ∷ 0x00 ∷ 0x02 ∷ 0x00 ∷ 0x10
-    ∷ 0x00 ∷ 0x00 ∷ 0x00 ∷ 0x00 ∷ 0x00 ∷ 0x00 ∷ 0x00 ∷ page ∷ 0x00 ∷ 0x00 ∷ 0x00 ∷ 0x00 ∷ 0x00 ∷ 0x00 ∷ 0x00 ∷ file ∷ []
+-- the key 0x11B in its field; a fingerprint in its field
+abbrev keyField : List ℕ
+keyField = 0x00 ∷ 0x00 ∷ 0x00 ∷ 0x00 ∷ 0x00 ∷ 0x00 ∷ 0x01 ∷ 0x1B ∷ []
 
--- what is written: version 2, the page as it is
+abbrev field : ℕ → List ℕ
+field f = 0x00 ∷ 0x00 ∷ 0x00 ∷ 0x00 ∷ 0x00 ∷ 0x00 ∷ 0x00 ∷ f ∷ []
+
+-- what is written: version 3, the length in bits, the page as it is. 39 bytes.
 sheet : List ℕ
-sheet = sheetWith 0x02 0x9D 0x9D
+sheet = 0x47 ∷ 0x46 ∷ 0x50 ∷ 0x00 ∷ 0x03 ∷ keyField ++ field 0x10 ++ 0x00 ∷ 0x10 ∷ field 0x9D ++ field 0x9D
 
-written-sheet : writeSheet 0x11B 16 two (replicate 35 0) ≡ Done sheet
+written-sheet : writeSheet 0x11B 16 (whole (0x41 ∷ 0x42 ∷ [])) (replicate 39 0) ≡ Done sheet
 unfolding sheet writeSheet overlay sheetBytes layoutAmong bytesIn fieldsOf bytesOf contentsOf pageFingerprints filled
-    reducible anyBelow fingerprint value valueFrom bits lowBits rem longDivision reduce degree halvings _⊕_
+    reducible anyBelow fingerprint value valueFrom bits lowBits usedBits partLength partBits misused rem longDivision reduce degree halvings _⊕_
 written-sheet = refl
+
+the-two : partBits (whole (0x41 ∷ 0x42 ∷ [])) ≡ two
+the-two = whole-bits (0x41 ∷ 0x42 ∷ [])
 
 pub last-field : Route 0x11B two 0x9D
 unfolding sheet numberAt valueFrom bits lowBits
-last-field = InSheet 16 (replicate 35 0) sheet written-sheet refl
+last-field = InSheet 16 (whole (0x41 ∷ 0x42 ∷ [])) (replicate 39 0) sheet written-sheet the-two refl
 
 pub page-field : Route 0x11B two 0x9D
-unfolding sheet filled numberAt valueFrom bits lowBits
-page-field = InPageField 16 0 two (replicate 35 0) sheet written-sheet (omega arith) refl refl
+unfolding sheet filled numberAt valueFrom bits lowBits usedBits partLength partBits
+page-field = InPageField 16 0 (whole (0x41 ∷ 0x42 ∷ [])) (replicate 39 0) sheet written-sheet (omega arith) refl refl
 
-true-pages : TruePages 0x11B two sheet (contentsOf 2 0x11B 16 two)
+true-pages : TruePages 0x11B two sheet (contentsOf 3 0x11B 16 two)
 unfolding sheet every contentsOf
 true-pages =
     record {
       bytes = all-map (λ b t. ltb→lt b 256 t) sheet (all-by-test (λ b. ltb b 256) sheet tt);
-      read = written-reads 0x11B 16 two (replicate 35 0) sheet (omega arith) written-sheet;
+      read =
+          rw (← the-two)
+          (written-reads 0x11B 16 (whole (0x41 ∷ 0x42 ∷ [])) (replicate 39 0) sheet (omega arith) written-sheet);
       same-key = refl;
       same-length = refl;
       same-pages = refl;
@@ -118,11 +147,11 @@ true-pages =
 
 pub read-9D : Route 0x11B two 0x9D
 unfolding contentsOf fingerprint value valueFrom bits lowBits rem longDivision reduce degree halvings _⊕_
-read-9D = ByReading sheet (contentsOf 2 0x11B 16 two) true-pages refl
+read-9D = ByReading sheet (contentsOf 3 0x11B 16 two) true-pages refl
 
--- version 1 is read by its filling: document 01's sheet of 41 42
+-- version 1 is read by its filling: document 01's sheet of 41 42, its length in bytes
 old-sheet : List ℕ
-old-sheet = sheetWith 0x01 0xAC 0x9D
+old-sheet = 0x47 ∷ 0x46 ∷ 0x50 ∷ 0x00 ∷ 0x01 ∷ keyField ++ 0x00 ∷ 0x00 ∷ 0x00 ∷ 0x02 ∷ 0x00 ∷ 0x10 ∷ field 0xAC ++ field 0x9D
 
 old-pages : TruePages 0x11B two old-sheet (contentsOf 1 0x11B 16 two)
 unfolding old-sheet every overlay filled contentsOf pageFingerprints readSheet contentsIn known layoutAmong numbersAt numberAt
@@ -136,21 +165,21 @@ old-pages =
       same-pages = refl;
     }
 
-pub read-AC : Route 0x11B (two ++ replicate 14 0) 0xAC
+pub read-AC : Route 0x11B (two ++ replicate 112 0) 0xAC
 unfolding old-sheet overlay filled contentsOf pageFingerprints readPages readSheet contentsIn known layoutAmong numbersAt numberAt
     fingerprint value valueFrom bits lowBits joinedPages joined someUnreduced markOf reducible anyBelow rem longDivision reduce degree halvings _⊕_
 read-AC = ByReadingPages two old-sheet (0x00 ∷ []) (0xAC ∷ []) (contentsOf 1 0x11B 16 two) 0 old-pages refl (omega arith) (omega arith) refl refl
 
--- ---- the pages of the 17 bytes 00 to 10, the last of one byte: filled up in version 1, as it is in version 2
+-- ---- the pages of the 17 bytes 00 to 10, the last of one byte: filled up in version 1, as it is in versions 2 and 3
 
 abbrev seventeen : List ℕ
-seventeen = listFrom (λ b. b) 0 17
+seventeen = bits (listFrom (λ b. b) 0 17)
 
-pub filled-pages : pageFingerprints version1 0x11B 16 2 seventeen ≡ 0x6E ∷ 0x90 ∷ []
+pub filled-pages : pageFingerprints version1 0x11B 128 2 seventeen ≡ 0x6E ∷ 0x90 ∷ []
 unfolding listFrom pageFingerprints filled fingerprint value valueFrom bits lowBits rem longDivision reduce degree halvings _⊕_
 filled-pages = refl
 
-pub own-pages : pageFingerprints version2 0x11B 16 2 seventeen ≡ 0x6E ∷ 0x0B ∷ []
+pub own-pages : pageFingerprints version3 0x11B 128 2 seventeen ≡ 0x6E ∷ 0x0B ∷ []
 unfolding listFrom pageFingerprints filled fingerprint value valueFrom bits lowBits rem longDivision reduce degree halvings _⊕_
 own-pages = refl
 
@@ -159,7 +188,7 @@ unfolding listFrom fingerprint value valueFrom bits lowBits rem longDivision red
 their-file = refl
 
 -- ---- a key that confuses two files: 00 00 and 01 1B under 0x11B
-pub both-5E : Confuses Route 8 (0x00 ∷ 0x00 ∷ []) (0x01 ∷ 0x1B ∷ []) 0x11B
+pub both-5E : Confuses Route 8 (bits (0x00 ∷ 0x00 ∷ [])) (bits (0x01 ∷ 0x1B ∷ [])) 0x11B
 both-5E =
     let c = bench-examples.both-5E in
     record { is-accepted = c .is-accepted; of-degree = c .of-degree; fingerprint = c .fingerprint; one = OfBench (c .one); other = OfBench (c .other) }

@@ -3,6 +3,7 @@ use mathlib.Core.Path.{_≡_, refl, sym, ap, _∙_}
 use mathlib.Core.List.{List, map}
 use Prim.Native.Nat.{ℕ}
 use lib.Dec.{T}
+use lib.ListN.{length}
 use Rattle.lists.proofs.Lists.{rising}
 use Rattle.refusals.specs.Lowest.{numbers}
 use Rattle.acceptance.proofs.Laws.{accepted-small}
@@ -13,12 +14,12 @@ use Rattle.book.specs.Confusions.{Sound, Reaches}
 use Rattle.book.specs.Claims.{Lists, Lowest, Confusions, Counted, Bursts}
 use Rattle.book.proofs.Guarantee as any-level
 use Rattle.book.proofs.RunLaws.{run-map}
-use Rattle.sheets.specs.Layout.{layoutOf}
+use Rattle.sheets.specs.Layout.{layoutOf, pagesFor}
 use Rattle.sheets.proofs.Routes.{written-page, written-last, read-fingerprint, read-page}
 use Rattle.gfp_bench.specs.Book as bench-book
 use Rattle.gfp_bench.proofs.Guarantee as bench-level
 use Rattle.gfp_site.specs.Book.{Call, Feeding, Behind, InFront, Page, step, bookTests, site}
-use Rattle.gfp_site.specs.Book.{pageIn, Route, OfBench, ByCalls, InSheet, InPageField, ByReading, ByReadingPages}
+use Rattle.gfp_site.specs.Book.{pageIn, fieldAt, Route, OfBench, ByCalls, InSheet, InPageField, ByReading, ByReadingPages}
 use Rattle.gfp_site.proofs.StepLaws.{keeps}
 
 -- the book's tests stand in the order of their numbers
@@ -48,9 +49,13 @@ bench-lists key m calls = run-map (bench-book.step key) (step key) Feeding (λ s
 pub sound : Sound Route
 sound key file f a (OfBench r) = bench-level.sound key file f a r
 sound key file f a (ByCalls l) = any-level.list-sound site lists key file f a l
-sound key file f a (InSheet s buffer after done e) = sym e ∙ written-last key s file buffer after (accepted-small key a) done
-sound key file f a (InPageField s i whole buffer after done l page e) =
-    sym e ∙ written-page key s whole buffer after (accepted-small key a) done i l ∙ ap (fingerprint key) (sym page)
+sound key file f a (InSheet s part buffer after done is e) =
+    sym e
+    ∙ ap (λ (l : List ℕ). fieldAt after (pagesFor s (length l))) (sym is)
+    ∙ written-last key s part buffer after (accepted-small key a) done
+    ∙ ap (fingerprint key) is
+sound key file f a (InPageField s i part buffer after done l page e) =
+    sym e ∙ written-page key s part buffer after (accepted-small key a) done i l ∙ ap (fingerprint key) (sym page)
 sound key file f a (ByReading sheet x t e) =
     sym e
     ∙ read-fingerprint sheet file x (t .bytes) (t .read) (t .same-length) (t .same-pages)

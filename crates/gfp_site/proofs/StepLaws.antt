@@ -9,13 +9,14 @@ use lib.ListN.{length, take, drop, length-append, length-drop, take-append-drop}
 use lib.Seq.{drop-drop, length-take-le}
 use borrow.Author.Tests.{eqb-true, not-false, ltb-false}
 use Rattle.gf2.specs.Polynomials.{_⊕_, rem}
-use Rattle.refusals.specs.declared.Refusal.the-variants.{TooLong, MarkNotReduced, PageLengthsDiffer, PagePastEnd}
+use Rattle.refusals.specs.declared.Refusal.the-variants.{TooLong, MarkNotReduced, PageLengthsDiffer, PagePastEnd, FinalByte}
 use Rattle.refusals.specs.Refusals.{numberOf, Test, _⇒_, firstOf, passes}
 use Rattle.refusals.proofs.Laws.{passed}
 use Rattle.acceptance.specs.Keys.{keyTests}
 use Rattle.files.specs.declared.Mark.{Mark}
-use Rattle.files.specs.Files.{fingerprint, markOf, True, unreduced, joined, replaced}
+use Rattle.files.specs.Files.{fingerprint, markOf, True, unreduced, Part, partLength, partBits, misused, joined, replaced}
 use Rattle.files.proofs.Marks.{mark-eq, page, true-reduced, joined-true}
+use Rattle.files.proofs.Parts.{part-length}
 use Rattle.marks.specs.Feeding.{sumTest}
 use Rattle.marks.proofs.Laws.{leave-out-8}
 use Rattle.compose.specs.Composing.{joinTests, joinBehind, joinInFront, replacePage}
@@ -59,66 +60,82 @@ module _ (key : ℕ) (pos : 0 < key) (file : List ℕ) where
       (λ e. ap (λ (x : Mark). joined key x (markOf key file)) (h e) ∙ joined-true pos its file)
 
   -- a page replaced in a file that has the old one there
-  replaced-is : (place : ℕ) (old new : List ℕ) → length old ≡ length new → place + length old ≤ length file → take (length old) (drop place file) ≡ old
-      → replaced key (markOf key file) place old new ≡ markOf key (take place file ++ new ++ drop (place + length old) file)
+  replaced-is : (place : ℕ) (old new : Part) → partLength old ≡ partLength new → 8 * place + partLength old ≤ length file
+      → take (partLength old) (drop (8 * place) file) ≡ partBits old
+      → replaced key (markOf key file) place old new ≡ markOf key (take (8 * place) file ++ partBits new ++ drop (8 * place + partLength old) file)
   unfolding replaced markOf
   replaced-is place old new e l t =
       mark-eq
-      (ap (λ (n : ℕ). rem key (fingerprint key file ⊕ (fingerprint key old ⊕ fingerprint key new) * 2 ^ (8 * n))) (sym (length-drop (place + length old) file))
-      ∙ ap (λ (f : List ℕ). rem key (fingerprint key f ⊕ (fingerprint key old ⊕ fingerprint key new) * 2 ^ (8 * length (drop (place + length old) file))))
-      (sym whole)
-      ∙ page pos (take place file) old new (drop (place + length old) file) e)
+      (ap (λ (n : ℕ). rem key (fingerprint key file ⊕ change * 2 ^ n)) (sym (length-drop (at + partLength old) file))
+      ∙ ap (λ (f : List ℕ). rem key (fingerprint key f ⊕ change * 2 ^ length after)) (sym whole)
+      ∙ page pos (take at file) (partBits old) (partBits new) after (part-length old ∙ e ∙ sym (part-length new)))
       size
     where
-      whole : take place file ++ old ++ drop (place + length old) file ≡ file
-      whole =
-          append-assoc (take place file) old (drop (place + length old) file)
-          ∙ ap (λ (r : List ℕ). take place file ++ r)
-          (ap (λ (r : List ℕ). r ++ drop (place + length old) file) (sym t)
-          ∙ ap (λ (r : List ℕ). take (length old) (drop place file) ++ r) (sym (drop-drop (length old) place file))
-          ∙ take-append-drop (length old) (drop place file))
-          ∙ take-append-drop place file
+      at : ℕ
+      at = 8 * place
 
-      size : length file ≡ length (take place file ++ new ++ drop (place + length old) file)
+      after : List ℕ
+      after = drop (at + partLength old) file
+
+      change : ℕ
+      change = fingerprint key (partBits old) ⊕ fingerprint key (partBits new)
+
+      whole : take at file ++ partBits old ++ after ≡ file
+      whole =
+          append-assoc (take at file) (partBits old) after
+          ∙ ap (λ (r : List ℕ). take at file ++ r)
+          (ap (λ (r : List ℕ). r ++ after) (sym t)
+          ∙ ap (λ (r : List ℕ). take (partLength old) (drop at file) ++ r) (sym (drop-drop (partLength old) at file))
+          ∙ take-append-drop (partLength old) (drop at file))
+          ∙ take-append-drop at file
+
+      size : length file ≡ length (take at file ++ partBits new ++ after)
       size =
           omega (
             arith,
-            length-append (take place file ++ new) (drop (place + length old) file),
-            length-append (take place file) new,
-            length-take-le place file (omega arith),
-            length-drop (place + length old) file,
+            length-append (take at file ++ partBits new) after,
+            length-append (take at file) (partBits new),
+            length-take-le at file (omega (arith, l)),
+            length-drop (at + partLength old) file,
+            part-length new,
+            e,
+            l,
           )
 
-  page-agrees : (place : ℕ) (old new : List ℕ) → (numberOf (bookStep site key file (Page place old new)) ≡ 0 → take (length old) (drop place file) ≡ old)
+  page-agrees : (place : ℕ) (old new : Part)
+      → (numberOf (bookStep site key file (Page place old new)) ≡ 0 → take (partLength old) (drop (8 * place) file) ≡ partBits old)
       → Agrees key (step key (markOf key file) (Page place old new)) (bookStep site key file (Page place old new))
   unfolding step replacePage bookStep bookTests written markOf
   page-agrees place old new h =
-      agrees-by key (replacePage key (markOf key file) place old new) (keyTests key ++ seven ∷ nine ∷ ten ∷ []) file to
+      agrees-by key (replacePage key (markOf key file) place old new) (keyTests key ++ seven ∷ nine ∷ ten ∷ nineteen ∷ []) file to
       (replaced key (markOf key file) place old new)
-      (leave-out-8 key pos file (keyTests key) (seven ∷ []) (nine ∷ ten ∷ []) (markOf key file) (replaced key (markOf key file) place old new))
+      (leave-out-8 key pos file (keyTests key) (seven ∷ []) (nine ∷ ten ∷ nineteen ∷ []) (markOf key file) (replaced key (markOf key file) place old new))
       (λ e. replaced-is place old new (same e) (inside e) (h e))
     where
       seven : Test
-      seven = passes (length file ∷ length old ∷ length new ∷ []) ⇒ TooLong
+      seven = passes (length file ∷ partLength old ∷ partLength new ∷ []) ⇒ TooLong
 
       nine : Test
-      nine = not (eqb (length old) (length new)) ⇒ PageLengthsDiffer
+      nine = not (eqb (partLength old) (partLength new)) ⇒ PageLengthsDiffer
 
       ten : Test
-      ten = ltb (length file) (place + length old) ⇒ PagePastEnd
+      ten = ltb (length file) (8 * place + partLength old) ⇒ PagePastEnd
+
+      nineteen : Test
+      nineteen = (misused old || misused new) ⇒ FinalByte
 
       to : List ℕ
-      to = take place file ++ new ++ drop (place + length old) file
+      to = take (8 * place) file ++ partBits new ++ drop (8 * place + partLength old) file
 
-      same : numberOf (firstOf (keyTests key ++ seven ∷ nine ∷ ten ∷ []) file to) ≡ 0 → length old ≡ length new
+      same : numberOf (firstOf (keyTests key ++ seven ∷ nine ∷ ten ∷ nineteen ∷ []) file to) ≡ 0 → partLength old ≡ partLength new
       same e =
-          eqb-true (length old) (length new)
-          (not-false (eqb (length old) (length new)) (passed (keyTests key ++ seven ∷ []) (ten ∷ [])
-          (not (eqb (length old) (length new))) PageLengthsDiffer file to e))
+          eqb-true (partLength old) (partLength new)
+          (not-false (eqb (partLength old) (partLength new)) (passed (keyTests key ++ seven ∷ []) (ten ∷ nineteen ∷ [])
+          (not (eqb (partLength old) (partLength new))) PageLengthsDiffer file to e))
 
-      inside : numberOf (firstOf (keyTests key ++ seven ∷ nine ∷ ten ∷ []) file to) ≡ 0 → place + length old ≤ length file
-      inside e = ltb-false (length file) (place + length old)
-          (passed (keyTests key ++ seven ∷ nine ∷ []) [] (ltb (length file) (place + length old)) PagePastEnd file to e)
+      inside : numberOf (firstOf (keyTests key ++ seven ∷ nine ∷ ten ∷ nineteen ∷ []) file to) ≡ 0 → 8 * place + partLength old ≤ length file
+      inside e = ltb-false (length file) (8 * place + partLength old)
+          (passed (keyTests key ++ seven ∷ nine ∷ []) (nineteen ∷ []) (ltb (length file) (8 * place + partLength old)) PagePastEnd file to e)
 
   each : (c : Call) → (numberOf (bookStep site key file c) ≡ 0 → Brings key file c) → Agrees key (step key (markOf key file) c) (bookStep site key file c)
   each (Feeding c) h = feeding-agrees c

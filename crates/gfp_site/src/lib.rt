@@ -3,6 +3,7 @@
 ghost use mathlib.Core.Path.{_≡_};
 ghost use mathlib.Core.List.{[], _∷_};
 ghost use Rattle.refusals.specs.Refusals.{numberOf, stateOf, valueOr};
+ghost use Rattle.files.specs.Files.{asPart};
 ghost use Rattle.places.specs.Places.{markAt, heldAfter};
 ghost use Rattle.compose.specs.Composing.{joinBehind, joinInFront, replacePage};
 ghost use Rattle.search.specs.Searching.{search, placesAfter};
@@ -17,82 +18,86 @@ use sheets::Checked;
 use sheets::Reading;
 use sheets::SheetLength;
 
-// The file of the mark (other_fingerprint, other_length) goes behind the file of the mark in the two places. Numbers 1, 2, 7, 8.
+// The file of the mark (other_fingerprint, other_bits) goes behind the file of the mark in the two places; lengths are in bits.
+// Numbers 1, 2, 7, 8.
 #[no_mangle]
 pub extern "C" fn gfp_join_behind(
     key: u64,
     fingerprint: &mut u64,
-    length: &mut u64,
+    bits: &mut u64,
     other_fingerprint: u64,
-    other_length: u64,
+    other_bits: u64,
 ) -> u32
     ensures { λ r. ⌜
-        (r ≡ numberOf (joinBehind key (markAt (now (fingerprint .entry)) (now (length .entry))) (markAt «other_fingerprint» «other_length»)))
-        × (markAt (now (fingerprint .exit)) (now (length .exit)) ≡ stateOf (joinBehind key (markAt (now (fingerprint .entry)) (now (length .entry))) (markAt «other_fingerprint» «other_length»)))
+        (r ≡ numberOf (joinBehind key (markAt (now (fingerprint .entry)) (now (bits .entry))) (markAt «other_fingerprint» «other_bits»)))
+        × (markAt (now (fingerprint .exit)) (now (bits .exit)) ≡ stateOf (joinBehind key (markAt (now (fingerprint .entry)) (now (bits .entry))) (markAt «other_fingerprint» «other_bits»)))
         ⌝ }
 {
     let m = Running {
         key: key,
         fingerprint: *fingerprint,
-        length: *length,
+        length: *bits,
     };
     let behind = Mark {
         fingerprint: other_fingerprint,
-        length: other_length,
+        length: other_bits,
     };
-    places::store(compose::join_behind(m, behind), fingerprint, length)
+    places::store(compose::join_behind(m, behind), fingerprint, bits)
 }
 
-// The file of the mark (other_fingerprint, other_length) goes in front. Numbers 1, 2, 7, 8.
+// The file of the mark (other_fingerprint, other_bits) goes in front; lengths are in bits. Numbers 1, 2, 7, 8.
 #[no_mangle]
 pub extern "C" fn gfp_join_in_front(
     key: u64,
     fingerprint: &mut u64,
-    length: &mut u64,
+    bits: &mut u64,
     other_fingerprint: u64,
-    other_length: u64,
+    other_bits: u64,
 ) -> u32
     ensures { λ r. ⌜
-        (r ≡ numberOf (joinInFront key (markAt (now (fingerprint .entry)) (now (length .entry))) (markAt «other_fingerprint» «other_length»)))
-        × (markAt (now (fingerprint .exit)) (now (length .exit)) ≡ stateOf (joinInFront key (markAt (now (fingerprint .entry)) (now (length .entry))) (markAt «other_fingerprint» «other_length»)))
+        (r ≡ numberOf (joinInFront key (markAt (now (fingerprint .entry)) (now (bits .entry))) (markAt «other_fingerprint» «other_bits»)))
+        × (markAt (now (fingerprint .exit)) (now (bits .exit)) ≡ stateOf (joinInFront key (markAt (now (fingerprint .entry)) (now (bits .entry))) (markAt «other_fingerprint» «other_bits»)))
         ⌝ }
 {
     let m = Running {
         key: key,
         fingerprint: *fingerprint,
-        length: *length,
+        length: *bits,
     };
     let front = Mark {
         fingerprint: other_fingerprint,
-        length: other_length,
+        length: other_bits,
     };
-    places::store(compose::join_in_front(m, front), fingerprint, length)
+    places::store(compose::join_in_front(m, front), fingerprint, bits)
 }
 
-// The new page stands where the old one stood, from the byte at the given place on. Numbers 1, 2, 7, 8, 9, 10.
+// The new page stands where the old one stood, from the byte at the given place on. Each page comes with the used bits of its final byte.
+// Numbers 1, 2, 7, 8, 9, 10, 19.
 #[no_mangle]
 pub extern "C" fn gfp_replace_page(
     key: u64,
     fingerprint: &mut u64,
-    length: &mut u64,
+    bits: &mut u64,
     place: u64,
     old_page: &[u8],
+    old_used: u32,
     new_page: &[u8],
+    new_used: u32,
 ) -> u32
     ensures { λ r. ⌜
-        (r ≡ numberOf (replacePage key (markAt (now (fingerprint .entry)) (now (length .entry))) place (now («old_page» .entry)) (now («new_page» .entry))))
-        × (markAt (now (fingerprint .exit)) (now (length .exit)) ≡ stateOf (replacePage key (markAt (now (fingerprint .entry)) (now (length .entry))) place (now («old_page» .entry)) (now («new_page» .entry))))
+        (r ≡ numberOf (replacePage key (markAt (now (fingerprint .entry)) (now (bits .entry))) place (asPart (now («old_page» .entry)) «old_used») (asPart (now («new_page» .entry)) «new_used»)))
+        × (markAt (now (fingerprint .exit)) (now (bits .exit)) ≡ stateOf (replacePage key (markAt (now (fingerprint .entry)) (now (bits .entry))) place (asPart (now («old_page» .entry)) «old_used») (asPart (now («new_page» .entry)) «new_used»)))
         ⌝ }
 {
     let m = Running {
         key: key,
         fingerprint: *fingerprint,
-        length: *length,
+        length: *bits,
     };
     places::store(
-        compose::replace_page(m, place, old_page, new_page),
+        compose::replace_page(m, place, old_page, old_used, new_page, new_used),
         fingerprint,
-        length,
+        bits,
     )
 }
 
@@ -124,37 +129,48 @@ pub extern "C" fn gfp_search(
     }
 }
 
-// The sheet of a file, with pages of the given size, into the lent bytes; further bytes keep their value. Numbers 1, 2, 7, 12, 13.
+// The sheet of a file, with pages of the given size, into the lent bytes; further bytes keep their value. The file comes with the used bits of
+// its final byte. Numbers 1, 2, 7, 12, 13, 19.
 #[no_mangle]
-pub extern "C" fn gfp_write_sheet(key: u64, page_size: u64, file: &[u8], sheet: &mut [u8]) -> u32
+pub extern "C" fn gfp_write_sheet(
+    key: u64,
+    page_size: u64,
+    file: &[u8],
+    used: u32,
+    sheet: &mut [u8],
+) -> u32
     ensures { λ r. ⌜
-        (r ≡ numberOf (writeSheet key «page_size» (now (file .entry)) (now (sheet .entry))))
-        × (now (sheet .exit) ≡ stateOf (writeSheet key «page_size» (now (file .entry)) (now (sheet .entry))))
+        (r ≡ numberOf (writeSheet key «page_size» (asPart (now (file .entry)) used) (now (sheet .entry))))
+        × (now (sheet .exit) ≡ stateOf (writeSheet key «page_size» (asPart (now (file .entry)) used) (now (sheet .entry))))
         ⌝ }
 {
-    refusals::number_of(sheet_writing::write(key, page_size, file, sheet))
+    refusals::number_of(sheet_writing::write(key, page_size, file, used, sheet))
 }
 
-// The numbers of a sheet into five places. Numbers 14 (size, letters, version), 1, 2, 12, 14 (total, fingerprints, joining), in this order.
+// The numbers of a sheet into six places; the file's length in bits. Numbers 14 (size, letters, version, least size, limit of lengths), 1, 2, 12,
+// 14 (total, fingerprints, joining), in this order.
 #[no_mangle]
 pub extern "C" fn gfp_read_sheet(
     sheet: &[u8],
+    version: &mut u32,
     key: &mut u64,
-    length: &mut u64,
+    bits: &mut u64,
     page_size: &mut u64,
     pages: &mut u64,
     fingerprint: &mut u64,
 ) -> u32
     ensures { λ r. ⌜
         (r ≡ numberOf (readSheet (now (sheet .entry))))
-        × (now (key .exit) ∷ now (length .exit) ∷ now («page_size» .exit) ∷ now (pages .exit) ∷ now (fingerprint .exit) ∷ []
-        ≡ heldAfter sheetIn (now (key .entry) ∷ now (length .entry) ∷ now («page_size» .entry) ∷ now (pages .entry) ∷ now (fingerprint .entry) ∷ []) (readSheet (now (sheet .entry))))
+        × (now (version .exit) ∷ now (key .exit) ∷ now (bits .exit) ∷ now («page_size» .exit) ∷ now (pages .exit) ∷ now (fingerprint .exit) ∷ []
+        ≡ heldAfter sheetIn (now (version .entry) ∷ now (key .entry) ∷ now (bits .entry) ∷ now («page_size» .entry) ∷ now (pages .entry) ∷ now (fingerprint .entry) ∷ [])
+        (readSheet (now (sheet .entry))))
         ⌝ }
 {
     match sheet_reading::read(sheet) {
         Reading::Sheet(x) => {
+            *version = x.version as u32;
             *key = x.key;
-            *length = x.length;
+            *bits = x.length;
             *page_size = x.size;
             *pages = x.pages;
             *fingerprint = x.fingerprint;
@@ -176,21 +192,23 @@ pub extern "C" fn gfp_read_pages(sheet: &[u8], fingerprints: &mut [u64]) -> u32
     refusals::number_of(sheet_reading::read_pages(sheet, fingerprints))
 }
 
-// A file checked against a sheet: 0 for same, 1 for a page with its place, 2 for another length. Numbers 14, 1, 2, 12, 14, 7, in this order.
+// A file, with the used bits of its final byte, checked against a sheet: 0 for same, 1 for a page with its place, 2 for another length.
+// Numbers 14, 1, 2, 12, 14, 7, 19, in this order.
 #[no_mangle]
 pub extern "C" fn gfp_check_file(
     sheet: &[u8],
     file: &[u8],
+    used: u32,
     outcome: &mut u32,
     page: &mut u32,
 ) -> u32
     ensures { λ r. ⌜
-        (r ≡ numberOf (checkSheet (now (sheet .entry)) (now (file .entry))))
+        (r ≡ numberOf (checkSheet (now (sheet .entry)) (asPart (now (file .entry)) used)))
         × (now (outcome .exit) ∷ now (page .exit) ∷ []
-        ≡ heldAfter outcomeIn (now (outcome .entry) ∷ now (page .entry) ∷ []) (checkSheet (now (sheet .entry)) (now (file .entry))))
+        ≡ heldAfter outcomeIn (now (outcome .entry) ∷ now (page .entry) ∷ []) (checkSheet (now (sheet .entry)) (asPart (now (file .entry)) used)))
         ⌝ }
 {
-    match sheet_checking::check(sheet, file) {
+    match sheet_checking::check(sheet, file, used) {
         Checked::Same => {
             *outcome = 0;
             *page = 0;
@@ -211,23 +229,24 @@ pub extern "C" fn gfp_check_file(
 }
 
 // The bytes of the first changed page of a file, from the first to before the last: outcome 0 for same, 1 for a page, 2 for another length;
-// from and to are 0 where no page is named. Numbers 14, 1, 2, 12, 14, 7, in this order.
+// from and to are 0 where no page is named. Numbers 14, 1, 2, 12, 14, 7, 19, in this order.
 #[no_mangle]
 pub extern "C" fn gfp_changed_range(
     sheet: &[u8],
     file: &[u8],
+    used: u32,
     outcome: &mut u32,
     from: &mut u64,
     to: &mut u64,
 ) -> u32
     ensures { λ r. ⌜
-        (r ≡ numberOf (checkSheet (now (sheet .entry)) (now (file .entry))))
+        (r ≡ numberOf (checkSheet (now (sheet .entry)) (asPart (now (file .entry)) used)))
         × (now (outcome .exit) ∷ now (from .exit) ∷ now (to .exit) ∷ []
         ≡ heldAfter (rangeIn (contentsIn (now (sheet .entry)))) (now (outcome .entry) ∷ now (from .entry) ∷ now (to .entry) ∷ [])
-        (checkSheet (now (sheet .entry)) (now (file .entry))))
+        (checkSheet (now (sheet .entry)) (asPart (now (file .entry)) used)))
         ⌝ }
 {
-    match sheet_checking::first_changed_range(sheet, file) {
+    match sheet_checking::first_changed_range(sheet, file, used) {
         Changed::Same => {
             *outcome = 0;
             *from = 0;
@@ -250,7 +269,8 @@ pub extern "C" fn gfp_changed_range(
     }
 }
 
-// The bytes that the sheet of a file of the given length has, with pages of the given size. Numbers 7, 12.
+// The bytes that the sheet of a file has, with pages of the given size: the file's length is in bytes, an unfinished one counted.
+// Numbers 7, 12.
 #[no_mangle]
 pub extern "C" fn gfp_sheet_length(file_length: u64, page_size: u64, sheet_length: &mut u64) -> u32
     ensures { λ r. ⌜

@@ -2,7 +2,7 @@
 -- of the input that they make.
 use mathlib.Core.Path.{_≡_, refl, sym, ap, subst, _∙_}
 use mathlib.Core.List.{List, [], _∷_, _++_, flatten, append-assoc, append-nil}
-use Prim.Native.Nat.{ℕ, _+_, _-_, _≤_, _<_}
+use Prim.Native.Nat.{ℕ, _+_, _-_, _*_, _≤_, _<_}
 use native.Mathlib.Decide.{decLe}
 use native.Mathlib.Omega.{arith}
 use lib.ListN.{length, take, drop, length-append, length-drop}
@@ -11,14 +11,16 @@ use borrow.Author.Tests.{lt-ltb, le-ltb, ltb-false}
 use Rattle.io.specs.Counts.{Counts}
 use Rattle.lists.specs.Lists.{listFrom}
 use Rattle.refusals.specs.declared.Refusal.{Refusal}
-use Rattle.refusals.specs.declared.Refusal.the-variants.{TooLong, MarkNotReduced}
+use Rattle.refusals.specs.declared.Refusal.the-variants.{TooLong, MarkNotReduced, FinalByte}
 use Rattle.refusals.specs.Refusals.{Answer, Done, Refused, _⇒_, firstOf, passes, longest}
 use Rattle.refusals.proofs.Laws.{Clear, clear-done, done-clear, more-clear, more-refused, first-true}
 use Rattle.refusals.proofs.Lengths.{sum-passes, sum-fits}
 use Rattle.acceptance.specs.Keys.{keyTests}
 use Rattle.files.specs.declared.Mark.{Mark}
-use Rattle.files.specs.Files.{markOf, unreduced, fedMark}
+use Rattle.files.specs.Files.{bits, markOf, Part, whole, partLength, partBits, misused, unreduced, fedMark}
+use Rattle.files.proofs.Values.{length-bits, bits-append}
 use Rattle.files.proofs.Marks.{true-reduced, fed-true}
+use Rattle.files.proofs.Parts.{whole-long, whole-bits, whole-used}
 use Rattle.lookups.specs.Rule.{word}
 use Rattle.tables.specs.Tables.{makeTable}
 use Rattle.table_tests.specs.TableTests.{tableSizeTest}
@@ -66,7 +68,7 @@ module _ (key : ℕ) (words : List ℕ) where
 
   feeds-append : (a : Answer Mark Mark) (xs ys : List (List ℕ)) → feeds key words a (xs ++ ys) ≡ feeds key words (feeds key words a xs) ys
   feeds-append a [] ys = refl
-  feeds-append (Done m) (x ∷ xs) ys = feeds-append (feedTable key m words x) xs ys
+  feeds-append (Done m) (x ∷ xs) ys = feeds-append (feedTable key m words (whole x)) xs ys
   feeds-append (Refused r m) (x ∷ xs) ys = sym (stopped r m ys)
 
 nonempty-append : (xs ys : List (List ℕ)) → NonEmpty xs → NonEmpty ys → NonEmpty (xs ++ ys)
@@ -83,25 +85,25 @@ at-first start words = (refl, ([], (tt, refl)))
 
 module _ (start : Running) (words : List ℕ) (m : Running) (s : SoFar start words m) where
   -- one part more
-  one-more : (part : List ℕ) → feeds (start .key) words (Done (markIn start)) (s .1 .0 ++ part ∷ []) ≡ feedTable (m .key) (markIn m) words part
+  one-more : (part : List ℕ) → feeds (start .key) words (Done (markIn start)) (s .1 .0 ++ part ∷ []) ≡ feedTable (m .key) (markIn m) words (whole part)
   one-more part =
       feeds-append (start .key) words (Done (markIn start)) (s .1 .0) (part ∷ [])
       ∙ ap (λ (a : Answer Mark Mark). feeds (start .key) words a (part ∷ [])) (s .1 .1 .1)
-      ∙ ap (λ (k : ℕ). feedTable k (markIn m) words part) (sym (s .0))
+      ∙ ap (λ (k : ℕ). feedTable k (markIn m) words (whole part)) (sym (s .0))
 
   pub next-turn : (part : List ℕ) (next : Running) → 0 < length part
-      → Done next ≡ fedUnder (m .key) (feedTable (m .key) (markIn m) words part) → SoFar start words next
+      → Done next ≡ fedUnder (m .key) (feedTable (m .key) (markIn m) words (whole part)) → SoFar start words next
   next-turn part next p e =
-      let h = fed-next (m .key) (feedTable (m .key) (markIn m) words part) next e in
+      let h = fed-next (m .key) (feedTable (m .key) (markIn m) words (whole part)) next e in
       (h .0 ∙ s .0, (s .1 .0 ++ part ∷ [], (nonempty-append (s .1 .0) (part ∷ []) (s .1 .1 .0) (p, tt), one-more part ∙ h .1)))
 
   pub last-turn : (part : List ℕ) (r : Refusal) (kept : Running) → 0 < length part
-      → Refused r kept ≡ fedUnder (m .key) (feedTable (m .key) (markIn m) words part) → FedInParts start words (marked-cases.Refused r)
+      → Refused r kept ≡ fedUnder (m .key) (feedTable (m .key) (markIn m) words (whole part)) → FedInParts start words (marked-cases.Refused r)
   last-turn part r kept p e = (
     s .1 .0 ++ part ∷ [],
     (
       nonempty-append (s .1 .0) (part ∷ []) (s .1 .1 .0) (p, tt),
-      ap (begunUnder (start .key)) (ap stateless (one-more part) ∙ fed-refused (m .key) (feedTable (m .key) (markIn m) words part) r kept e),
+      ap (begunUnder (start .key)) (ap stateless (one-more part) ∙ fed-refused (m .key) (feedTable (m .key) (markIn m) words (whole part)) r kept e),
     ),
   )
 
@@ -118,7 +120,7 @@ module _ (start : Running) (words : List ℕ) (m : Running) (s : SoFar start wor
 -- one turn of the code
 module _ (start : Running) (words : List ℕ) (m : Running) (s : SoFar start words m) (buffer : List ℕ) (step : Step) (n : ℕ) (f : Fed)
     (h : Stepped m words buffer step) (is : step ≡ step-cases.Fed n f) where
-  turned : ((0 < n) × Counts n buffer) × (fed f ≡ fedUnder (m .key) (feedTable (m .key) (markIn m) words (take n buffer)))
+  turned : ((0 < n) × Counts n buffer) × (fed f ≡ fedUnder (m .key) (feedTable (m .key) (markIn m) words (whole (take n buffer))))
   turned = subst (λ (x : Step). Stepped m words buffer x) is h
 
   some-bytes : 0 < length (take n buffer)
@@ -146,65 +148,78 @@ module _ (key : ℕ) (h : Clear (keyTests key)) where
       more-clear (keyTests key) (tableSizeTest blank ∷ []) blank (listFrom (word 8 key) 0 1024) h
       ∙ size-passed blank [] blank (listFrom (word 8 key) 0 1024) e
 
-  tested : (m : Mark) (part : List ℕ) → feedTable key m table part ≡ firstOf (feedTests key m (length part)) m (fedMark key m part)
+  tested : (m : Mark) (part : Part) → feedTable key m table part ≡ firstOf (feedTests key m part) m (fedMark key m part)
   unfolding table feedTable
   tested m part =
       let words = listFrom (word 8 key) 0 1024 in
-      more-clear (keyTests key) (tableTests key words ++ feedTests key m (length part)) m (fedMark key m part) h
-      ∙ more-clear (tableTests key words) (feedTests key m (length part)) m (fedMark key m part) (clear-table words key refl)
+      more-clear (keyTests key) (tableTests key words ++ feedTests key m part) m (fedMark key m part) h
+      ∙ more-clear (tableTests key words) (feedTests key m part) m (fedMark key m part) (clear-table words key refl)
 
-  feed-goes : (file part : List ℕ) → length file + length part ≤ longest → feedTable key (markOf key file) table part ≡ Done (markOf key (file ++ part))
-  unfolding markOf
-  feed-goes file part l =
-      tested (markOf key file) part
-      ∙ clear-done (feedTests key (markOf key file) (length part)) (markOf key file) (fedMark key (markOf key file) part)
-      (sum-fits (length file) (length part) l, (true-reduced key pos file, tt))
-      ∙ ap Done (fed-true key pos file part)
+  -- whole bytes behind whole bytes
+  module _ (file part : List ℕ) where
+    abbrev before : Mark
+    before = markOf key (bits file)
 
-  feed-stops : (file part : List ℕ) → longest < length file + length part → feedTable key (markOf key file) table part ≡ Refused TooLong (markOf key file)
-  unfolding markOf
-  feed-stops file part l =
-      let m = markOf key file in
-      tested m part
-      ∙ first-true _ TooLong (unreduced key m ⇒ MarkNotReduced ∷ []) m (fedMark key m part) (sum-passes (length file) (length part) l)
+    both-long : length (bits file) + partLength (whole part) ≡ 8 * length (file ++ part)
+    both-long = omega (arith, length-bits file, whole-long part, length-append file part)
+
+    both-bits : bits file ++ partBits (whole part) ≡ bits (file ++ part)
+    both-bits = ap (λ (l : List ℕ). bits file ++ l) (whole-bits part) ∙ sym (bits-append file part)
+
+    feed-goes : 8 * length (file ++ part) ≤ longest → feedTable key before table (whole part) ≡ Done (markOf key (bits (file ++ part)))
+    unfolding markOf
+    feed-goes l =
+        tested before (whole part)
+        ∙ clear-done (feedTests key before (whole part)) before (fedMark key before (whole part))
+        (sum-fits (length (bits file)) (partLength (whole part)) (omega (arith, both-long)), (true-reduced key pos (bits file), (whole-used part, tt)))
+        ∙ ap Done (fed-true key pos (bits file) (whole part) ∙ ap (markOf key) both-bits)
+
+    feed-stops : longest < 8 * length (file ++ part) → feedTable key before table (whole part) ≡ Refused TooLong before
+    unfolding markOf
+    feed-stops l =
+        tested before (whole part)
+        ∙ first-true _ TooLong (unreduced key before ⇒ MarkNotReduced ∷ misused (whole part) ⇒ FinalByte ∷ []) before (fedMark key before (whole part))
+        (sum-passes (length (bits file)) (partLength (whole part)) (omega (arith, both-long)))
 
   -- number 7 of a whole file
   abbrev judged : List ℕ → Answer Unit Mark
-  judged file = firstOf (passes (length file ∷ []) ⇒ TooLong ∷ []) tt (markOf key file)
+  judged file = firstOf (passes (8 * length file ∷ []) ⇒ TooLong ∷ []) tt (markOf key (bits file))
 
-  short : (file : List ℕ) → length file ≤ longest → judged file ≡ Done (markOf key file)
-  short file l = rw (le-ltb longest (length file) l)
+  short : (file : List ℕ) → 8 * length file ≤ longest → judged file ≡ Done (markOf key (bits file))
+  short file l = rw (le-ltb longest (8 * length file) l)
 
-  long : (file : List ℕ) → longest < length file → judged file ≡ Refused TooLong tt
-  long file l = rw (lt-ltb longest (length file) l)
+  long : (file : List ℕ) → longest < 8 * length file → judged file ≡ Refused TooLong tt
+  long file l = rw (lt-ltb longest (8 * length file) l)
 
-  feed-one : (file part : List ℕ) (parts : List (List ℕ)) → Dec (length file + length part ≤ longest)
-      → (length (file ++ part) ≤ longest → stateless (feeds key table (Done (markOf key (file ++ part))) parts) ≡ judged (file ++ part ++ flatten parts))
-      → stateless (feeds key table (feedTable key (markOf key file) table part) parts) ≡ judged (file ++ (part ++ flatten parts))
+  feed-one : (file part : List ℕ) (parts : List (List ℕ)) → Dec (8 * length (file ++ part) ≤ longest)
+      → (8 * length (file ++ part) ≤ longest
+      → stateless (feeds key table (Done (markOf key (bits (file ++ part)))) parts) ≡ judged (file ++ part ++ flatten parts))
+      → stateless (feeds key table (feedTable key (markOf key (bits file)) table (whole part)) parts) ≡ judged (file ++ (part ++ flatten parts))
   feed-one file part parts (yes l) ih =
       ap (λ (a : Answer Mark Mark). stateless (feeds key table a parts)) (feed-goes file part l)
-      ∙ ih (omega (arith, length-append file part))
+      ∙ ih l
       ∙ ap judged (append-assoc file part (flatten parts))
   feed-one file part parts (no l) ih =
+      let all = length-append file (part ++ flatten parts) in
       ap (λ (a : Answer Mark Mark). stateless (feeds key table a parts)) (feed-stops file part (omega arith))
-      ∙ ap stateless (stopped key table TooLong (markOf key file) parts)
-      ∙ sym (long (file ++ (part ++ flatten parts)) (omega (arith, length-append file (part ++ flatten parts), length-append part (flatten parts))))
+      ∙ ap stateless (stopped key table TooLong (markOf key (bits file)) parts)
+      ∙ sym (long (file ++ (part ++ flatten parts)) (omega (arith, all, length-append part (flatten parts), length-append file part)))
 
-  feeds-judged : (file : List ℕ) (parts : List (List ℕ)) → length file ≤ longest
-      → stateless (feeds key table (Done (markOf key file)) parts) ≡ judged (file ++ flatten parts)
+  feeds-judged : (file : List ℕ) (parts : List (List ℕ)) → 8 * length file ≤ longest
+      → stateless (feeds key table (Done (markOf key (bits file))) parts) ≡ judged (file ++ flatten parts)
   unfolding flatten
   feeds-judged file [] l = sym (ap judged (append-nil file) ∙ short file l)
   feeds-judged file (part ∷ parts) l =
-      feed-one file part parts (decLe (length file + length part) longest) (λ m. feeds-judged (file ++ part) parts m)
+      feed-one file part parts (decLe (8 * length (file ++ part)) longest) (λ m. feeds-judged (file ++ part) parts m)
 
   feeds-marked : (parts : List (List ℕ))
       → begunUnder key (stateless (feeds key table (Done (markOf key [])) parts)) ≡ markFile key (flatten parts)
-  unfolding markFile
+  unfolding markFile bits
   feeds-marked parts =
       ap (begunUnder key) (feeds-judged [] parts (omega arith))
       ∙ sym
       (ap (begunUnder key)
-      (more-clear (keyTests key) (passes (length (flatten parts) ∷ []) ⇒ TooLong ∷ []) tt (markOf key (flatten parts)) h))
+      (more-clear (keyTests key) (passes (8 * length (flatten parts) ∷ []) ⇒ TooLong ∷ []) tt (markOf key (bits (flatten parts))) h))
 
 -- ---- the calls of `mark_file`, one after another
 
@@ -221,7 +236,8 @@ module _ (key : ℕ) where
         (
           tt,
           ap (begunUnder key)
-              (more-refused (keyTests key) (passes (length file ∷ []) ⇒ TooLong ∷ []) tt tt (markOf key []) (markOf key file) r (go (begin key) refl e)),
+              (more-refused (keyTests key) (passes (8 * length file ∷ []) ⇒ TooLong ∷ []) tt tt (markOf key []) (markOf key (bits file)) r
+              (go (begin key) refl e)),
         ),
       )
     where
@@ -254,27 +270,27 @@ module _ (key : ℕ) where
 
       -- the first bytes and the parts behind them, fed by the table that was made
       fed-marked : (parts : List (List ℕ))
-          → begunUnder key (stateless (feeds key words (feedTable (m .key) (markIn m) words first) parts)) ≡ markFile key (first ++ flatten parts)
+          → begunUnder key (stateless (feeds key words (feedTable (m .key) (markIn m) words (whole first)) parts)) ≡ markFile key (first ++ flatten parts)
       unfolding flatten
       fed-marked parts =
           rw (begun-clear m begun-is .1, table-words) (feeds-marked key clear (first ∷ parts))
 
-      pub first-refused : (r : Refusal) (kept : Running) → Refused r kept ≡ fedUnder (m .key) (feedTable (m .key) (markIn m) words first)
+      pub first-refused : (r : Refusal) (kept : Running) → Refused r kept ≡ fedUnder (m .key) (feedTable (m .key) (markIn m) words (whole first))
           → MarkedInParts key first (marked-cases.Refused r)
       first-refused r kept u = (
         [],
         (
           tt,
-          sym (fed-marked []) ∙ ap (begunUnder key) (fed-refused (m .key) (feedTable (m .key) (markIn m) words first) r kept u),
+          sym (fed-marked []) ∙ ap (begunUnder key) (fed-refused (m .key) (feedTable (m .key) (markIn m) words (whole first)) r kept u),
         ),
       )
 
-      pub rest-marked : (next : Running) (r : Marked) → Done next ≡ fedUnder (m .key) (feedTable (m .key) (markIn m) words first)
+      pub rest-marked : (next : Running) (r : Marked) → Done next ≡ fedUnder (m .key) (feedTable (m .key) (markIn m) words (whole first))
           → FedInParts next words r → MarkedInParts key first r
       rest-marked next r u p = (p .0, (p .1 .0, subst (Gives r) same (p .1 .1)))
         where
-          fed-is : (next .key ≡ m .key) × (feedTable (m .key) (markIn m) words first ≡ Done (markIn next))
-          fed-is = fed-next (m .key) (feedTable (m .key) (markIn m) words first) next u
+          fed-is : (next .key ≡ m .key) × (feedTable (m .key) (markIn m) words (whole first) ≡ Done (markIn next))
+          fed-is = fed-next (m .key) (feedTable (m .key) (markIn m) words (whole first)) next u
 
           same : begunUnder (next .key) (stateless (feeds (next .key) words (Done (markIn next)) (p .0))) ≡ markFile key (first ++ flatten (p .0))
           same =

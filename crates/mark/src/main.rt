@@ -125,7 +125,7 @@ fn feed_some(m: Running, words: &[u64], buffer: &mut [u8]) -> Step
     ensures { λ r. ⌜ Stepped m (now (words .entry)) (now (buffer .exit)) r ⌝ }
 {
     match read_some(buffer) {
-        Got::Bytes(n) => Step::Fed(n, m.feed_table(words, &buffer[..n])),
+        Got::Bytes(n) => Step::Fed(n, m.feed_table(words, &buffer[..n], 8)),
         Got::End => Step::End,
         _ => Step::Failed,
     }
@@ -169,7 +169,7 @@ fn mark_file(key: u64, first: &[u8]) -> Marked
         Begun::Refused(r) => Marked::Refused(r),
         Begun::Started(m) => match tables::make(key, &mut words) {
             Reply::Refused(r) => Marked::Refused(r),
-            Reply::Done => match m.feed_table(&words, first) {
+            Reply::Done => match m.feed_table(&words, first, 8) {
                 Fed::Refused(r, _) => Marked::Refused(r),
                 Fed::Next(next) => feed_rest(next, &words),
             },

@@ -2,58 +2,90 @@
 use mathlib.Core.Path.{_≡_, refl, sym, ap, _∙_}
 use mathlib.Core.Bool.{Bool, true, false}
 use mathlib.Core.List.{List, [], _∷_, _++_, append-assoc}
-use Prim.Native.Nat.{ℕ, _+_, _^_, _≤_, _<_}
-use lib.ListN.{length}
+use Prim.Native.Nat.{ℕ, _+_, _^_, _<_}
+use lib.ListN.{take}
 use Rattle.gf2.specs.Polynomials.{rem}
-use Rattle.gf2.specs.Moduli.{polynomial}
+use Rattle.gf2.specs.Moduli.{polynomial, Proper}
 use Rattle.gf2.specs.declared.Modulus.{Modulus}
-use Rattle.refusals.specs.declared.Refusal.the-variants.{TooLong, MarkNotReduced}
-use Rattle.refusals.specs.Refusals.{Done, Refused, Test, _⇒_, firstOf, longest, passes, judged}
-use Rattle.refusals.proofs.Laws.{Clear, skip, clear-done, more-clear}
-use Rattle.refusals.proofs.Lengths.{sum-within}
+use Rattle.gf2.proofs.Monics.{monic-pos}
+use Rattle.refusals.specs.declared.Refusal.{Refusal}
+use Rattle.refusals.specs.declared.Refusal.the-variants.{TooLong, MarkNotReduced, FinalByte}
+use Rattle.refusals.specs.Refusals.{Answer, Done, Refused, Test, _⇒_, firstOf, passes}
+use Rattle.refusals.proofs.Laws.{Clear, skip, clear-done, done-clear, more-refused, more-clear}
 use Rattle.acceptance.specs.Keys.{accepted}
 use Rattle.acceptance.specs.Opened.{Opened}
 use Rattle.acceptance.proofs.Opened.{open-accepted, opened-first, opened-whole, residue-below}
 use Rattle.files.specs.declared.Mark.{Mark}
-use Rattle.files.specs.Files.{bits, valueFrom, markOf, unreduced, fedMark}
+use Rattle.files.specs.Files.{bits, valueFrom, markOf, unreduced, Part, partLength, partBits, misused, fedMark}
+use Rattle.files.specs.Ends.{wholeBytes, endBits}
 use Rattle.files.proofs.Marks.{mark-eq, true-reduced}
+use Rattle.files.proofs.Computing.{part-behind}
 use Rattle.table_tests.specs.TableTests.{tableTests}
 use Rattle.table_tests.proofs.Laws.{clear-table}
 use Rattle.house.specs.House.{houseKey, houseWords}
 use Rattle.house.proofs.House.{house-accepted}
 use Rattle.marks.specs.Feeding.{begin, feedTests, feedBits, feedTable, feedHouse}
-use Rattle.marks.specs.Answers.{fedUnder}
+use Rattle.marks.specs.declared.Measured.{Measured}
+use Rattle.marks.specs.declared.Measured.the-variants as measured-cases
+use Rattle.marks.specs.Answers.{measured, fedUnder}
 
--- ---- numbers 7 and 8 in turn
+-- ---- numbers 7, 8 and 19 in turn
 
-module _ (key : ℕ) (m : Mark) (n : ℕ) where
-  pub feed-long : passes (m .length ∷ n ∷ (m .length + n) ∷ []) ≡ true → judged (feedTests key m n) ≡ Refused TooLong tt
+module _ (key : ℕ) (m : Mark) (part : Part) (v : ℕ) where
+  abbrev lengths : List ℕ
+  lengths = m .length ∷ partLength part ∷ (m .length + partLength part) ∷ []
+
+  abbrev answer : Answer Unit ℕ
+  answer = firstOf (feedTests key m part) tt v
+
+  pub feed-long : passes lengths ≡ true → answer ≡ Refused TooLong tt
   feed-long e = rw e
 
-  pub feed-unreduced : passes (m .length ∷ n ∷ (m .length + n) ∷ []) ≡ false → unreduced key m ≡ true → judged (feedTests key m n) ≡ Refused MarkNotReduced tt
+  pub feed-unreduced : passes lengths ≡ false → unreduced key m ≡ true → answer ≡ Refused MarkNotReduced tt
   feed-unreduced e f = rw (e, f)
 
-  pub feed-passed : passes (m .length ∷ n ∷ (m .length + n) ∷ []) ≡ false → unreduced key m ≡ false → judged (feedTests key m n) ≡ Done tt
-  feed-passed e f = rw (e, f)
+  pub feed-misused : passes lengths ≡ false → unreduced key m ≡ false → misused part ≡ true → answer ≡ Refused FinalByte tt
+  feed-misused e f g = rw (e, f, g)
 
--- ---- where neither applies
+  pub feed-passed : passes lengths ≡ false → unreduced key m ≡ false → misused part ≡ false → answer ≡ Done v
+  feed-passed e f g = rw (e, f, g)
 
-module _ {key : ℕ} {p : Modulus} (h : Opened key p) (m : Mark) (n : ℕ) (c : Clear (feedTests key m n)) where
-  pub clear-fits : m .length + n ≤ longest
-  clear-fits = sum-within (m .length) n (c .0)
+-- ---- what a caller of `judge` knows in each arm
 
-  pub clear-below : m .fingerprint < 2 ^ p .degree
-  clear-below = residue-below h (m .fingerprint) (c .1 .0)
+module _ {key : ℕ} {p : Modulus} (h : Opened key p) (m : Mark) (part : Part) (r : Measured)
+    (e : measured r ≡ firstOf (feedTests key m part) tt (m .length + partLength part)) where
+  pub feed-refused : (q : Refusal) → r ≡ measured-cases.Refused q → firstOf (feedTests key m part) m (fedMark key m part) ≡ Refused q m
+  feed-refused q a = more-refused (feedTests key m part) [] tt m (m .length + partLength part) (fedMark key m part) q (sym e ∙ ap measured a)
 
--- the residue of the part behind the fingerprint, however it was computed, is the value
-pub fed-next : {key : ℕ} {p : Modulus} (h : Opened key p) (m : Mark) (part : List ℕ) → Clear (feedTests key m (length part))
-    → (x : ℕ) → x ≡ rem (polynomial p) (valueFrom (m .fingerprint) (bits part))
-    → fedUnder key (Done (record { fingerprint = x; length = m .length + length part })) ≡ fedUnder key
-    (firstOf (feedTests key m (length part)) m (fedMark key m part))
-unfolding fedMark
-fed-next {key} {p} h m part c x e =
-    ap (λ (z : Mark). fedUnder key (Done z)) (mark-eq (e ∙ ap (λ (q : ℕ). rem q (valueFrom (m .fingerprint) (bits part))) (opened-whole h)) refl)
-    ∙ sym (ap (fedUnder key) (clear-done (feedTests key m (length part)) m (fedMark key m part) c))
+  module _ (n : ℕ) (a : r ≡ measured-cases.Length n) where
+    clear : Clear (feedTests key m part) × (m .length + partLength part ≡ n)
+    clear = done-clear (feedTests key m part) tt (m .length + partLength part) n (sym e ∙ ap measured a)
+
+    pub clear-below : m .fingerprint < 2 ^ p .degree
+    clear-below = residue-below h (m .fingerprint) (clear .0 .1 .0)
+
+    pub clear-used : misused part ≡ false
+    clear-used = clear .0 .1 .1 .0
+
+    -- the residue of the part behind the fingerprint, however it was computed, is the value
+    pub fed-next : (x : ℕ) → x ≡ rem (polynomial p) (valueFrom (m .fingerprint) (partBits part))
+        → fedUnder key (Done (record { fingerprint = x; length = n })) ≡ fedUnder key (firstOf (feedTests key m part) m (fedMark key m part))
+    unfolding fedMark
+    fed-next x is =
+        ap (λ (z : Mark). fedUnder key (Done z))
+        (mark-eq (is ∙ ap (λ (q : ℕ). rem q (valueFrom (m .fingerprint) (partBits part))) (opened-whole h)) (sym (clear .1)))
+        ∙ sym (ap (fedUnder key) (clear-done (feedTests key m part) m (fedMark key m part) (clear .0)))
+
+-- ---- a part behind a residue
+
+-- its whole bytes x, and the used bits behind them
+pub behind : (p : Modulus) → Proper p → (f : ℕ) (part : Part) (w x : ℕ) → w ≡ wholeBytes part
+    → x ≡ rem (polynomial p) (valueFrom f (bits (take w (part .bytes))))
+    → rem (polynomial p) (valueFrom x (endBits part)) ≡ rem (polynomial p) (valueFrom f (partBits part))
+behind p h f part w x ew ex =
+    ap (λ (y : ℕ). rem (polynomial p) (valueFrom y (endBits part)))
+    (ex ∙ ap (λ (n : ℕ). rem (polynomial p) (valueFrom f (bits (take n (part .bytes))))) ew)
+    ∙ part-behind (monic-pos (p .degree) (p .low) (h .2)) f part
 
 -- ---- marks of files
 
@@ -73,14 +105,14 @@ begins key a = opened-first (open-accepted key a) [] tt (markOf key [])
 -- ---- the house key's constant words
 
 -- under the house key no test of key and words holds
-pub house-first : (m : Mark) (part : List ℕ) → feedHouse houseKey m part ≡ firstOf (feedTests houseKey m (length part)) m (fedMark houseKey m part)
+pub house-first : (m : Mark) (part : Part) → feedHouse houseKey m part ≡ firstOf (feedTests houseKey m part) m (fedMark houseKey m part)
 unfolding feedHouse feedTable
 house-first m part =
-    opened-first (open-accepted houseKey house-accepted) (tableTests houseKey houseWords ++ feedTests houseKey m (length part)) m (fedMark houseKey m part)
-    ∙ more-clear (tableTests houseKey houseWords) (feedTests houseKey m (length part)) m (fedMark houseKey m part) (clear-table houseWords houseKey refl)
+    opened-first (open-accepted houseKey house-accepted) (tableTests houseKey houseWords ++ feedTests houseKey m part) m (fedMark houseKey m part)
+    ∙ more-clear (tableTests houseKey houseWords) (feedTests houseKey m part) m (fedMark houseKey m part) (clear-table houseWords houseKey refl)
 
 -- so feeding by the house key's words, under that key, is feeding by bits
-pub house-bits : (m : Mark) (part : List ℕ) → feedHouse houseKey m part ≡ feedBits houseKey m part
+pub house-bits : (m : Mark) (part : Part) → feedHouse houseKey m part ≡ feedBits houseKey m part
 unfolding feedBits
 house-bits m part =
-    house-first m part ∙ sym (opened-first (open-accepted houseKey house-accepted) (feedTests houseKey m (length part)) m (fedMark houseKey m part))
+    house-first m part ∙ sym (opened-first (open-accepted houseKey house-accepted) (feedTests houseKey m part) m (fedMark houseKey m part))

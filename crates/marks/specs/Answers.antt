@@ -3,6 +3,8 @@ use Prim.Native.Nat.{ℕ}
 use Rattle.refusals.specs.Refusals.{Answer, Done, Refused}
 use Rattle.files.specs.declared.Mark.{Mark}
 use Rattle.marks.specs.declared.Running.{Running}
+use Rattle.marks.specs.declared.Measured.{Measured}
+use Rattle.marks.specs.declared.Measured.the-variants as measured-cases
 use Rattle.marks.specs.declared.Begun.{Begun}
 use Rattle.marks.specs.declared.Begun.the-variants as begun-cases
 use Rattle.marks.specs.declared.Fed.{Fed}
@@ -13,6 +15,11 @@ markIn r = record { fingerprint = r .fingerprint; length = r .length }
 
 abbrev pub running : ℕ → Mark → Running
 running key m = record { key = key; fingerprint = m .fingerprint; length = m .length }
+
+-- the length that feeding gives
+abbrev pub measured : Measured → Answer Unit ℕ
+measured (measured-cases.Length n) = Done n
+measured (measured-cases.Refused r) = Refused r tt
 
 abbrev pub begun : Begun → Answer Unit Running
 begun (begun-cases.Started m) = Done m

@@ -1,24 +1,25 @@
 // Feeding a file to a running mark: with no table, by a lent table, and by the house key's constant words. Under the house key all three fold, and
-// read no table.
+// read no table. A part comes as bytes and the used bits of the final one; feeding after an unfinished byte goes on at the next bit.
 use files::Mark;
 use gf2::Modulus;
 use keys::Tested;
 use refusals::Refusal;
 use refusals::Reply;
 ghost use mathlib.Core.Path.{_≡_};
+ghost use mathlib.Core.Bool.{false};
 ghost use mathlib.Core.List.{_++_};
-ghost use Prim.Native.Nat.{_+_};
-ghost use lib.ListN.{length};
-ghost use Rattle.refusals.specs.Refusals.{firstOf, judged};
-ghost use Rattle.refusals.specs.Answers.{told};
+ghost use Prim.Native.Nat.{_+_, _^_, _<_};
+ghost use Rattle.gf2.specs.Polynomials.{rem};
+ghost use Rattle.gf2.specs.Moduli.{polynomial, Proper};
+ghost use Rattle.refusals.specs.Refusals.{firstOf};
 ghost use Rattle.acceptance.specs.Opened.{Opened};
-ghost use Rattle.files.specs.Files.{fedMark};
-ghost use Rattle.lookups.specs.Groups.{Table};
+ghost use Rattle.files.specs.Files.{valueFrom, asPart, partLength, partBits, misused, fedMark};
+ghost use Rattle.lookups.specs.Groups.{Table, TableOf};
 ghost use Rattle.table_tests.specs.TableTests.{tableTests};
 ghost use Rattle.marks.specs.Feeding.{begin, feedTests, feedBits, feedTable, feedHouse};
-ghost use Rattle.marks.specs.Answers.{markIn, begun, begunUnder, fed, fedUnder};
+ghost use Rattle.marks.specs.Answers.{markIn, measured, begun, begunUnder, fed, fedUnder};
 
-// A running mark (document 01's term): the state of a fingerprint that is taken as the file is read. Numbers only.
+// A running mark (document 01's term): the state of a fingerprint that is taken as the file is read. The length is in bits. Numbers only.
 pub struct Running {
     pub key: u64,
     pub fingerprint: u64,
@@ -37,32 +38,61 @@ pub enum Fed {
     Refused(Refusal, Running),
 }
 
-// Numbers 7 and 8 of a running mark and of n bytes that are to be fed to it, under its opened key.
-fn judge(p: Modulus, m: Running, n: u64) -> Reply
+// The answer to judging a mark and a part: the length in bits that feeding gives, or a refusal.
+pub enum Measured {
+    Length(u64),
+    Refused(Refusal),
+}
+
+// Numbers 7, 8 and 19 of a running mark and of a part that is to be fed to it, under its opened key.
+fn judge(p: Modulus, m: Running, part: &[u8], used: u32) -> Measured
     requires { ⌜ Opened (m .key) p ⌝ }
-    ensures { λ r. ⌜ told r ≡ judged (feedTests (m .key) (markIn m) n) ⌝ }
+    ensures { λ r. ⌜ measured r ≡ firstOf (feedTests (m .key) (markIn m) (asPart (now (part .entry)) used)) tt
+        (m .length + partLength (asPart (now (part .entry)) used)) ⌝ }
 {
+    let n = files::part_length(part, used);
     if !refusals::fits(m.length, n) {
-        return Reply::Refused(Refusal::TooLong);
+        return Measured::Refused(Refusal::TooLong);
     }
     if !gf2::is_residue(p, m.fingerprint) {
-        return Reply::Refused(Refusal::MarkNotReduced);
+        return Measured::Refused(Refusal::MarkNotReduced);
     }
-    Reply::Done
+    if files::is_misused(part, used) {
+        return Measured::Refused(Refusal::FinalByte);
+    }
+    Measured::Length(m.length + n)
+}
+
+// A part behind a residue, with no table: its whole bytes, and the used bits behind them.
+fn behind_alone(p: Modulus, f: u64, part: &[u8], used: u32) -> u64
+    requires { ⌜ Proper p × (f < 2 ^ p .degree) × (misused (asPart (now part) used) ≡ false) ⌝ }
+    ensures { λ r. ⌜ r ≡ rem (polynomial p) (valueFrom f (partBits (asPart (now (part .entry)) used))) ⌝ }
+{
+    let w = files::whole_bytes(part, used);
+    let x = folds::fed_alone(p, f, &part[..w]);
+    files::feed_end(p, x, part, used)
+}
+
+// The same by the key's table.
+fn behind_looked(words: &[u64], p: Modulus, f: u64, part: &[u8], used: u32) -> u64
+    requires { ⌜ TableOf p (now words) × (f < 2 ^ p .degree) × (misused (asPart (now part) used) ≡ false) ⌝ }
+    ensures { λ r. ⌜ r ≡ rem (polynomial p) (valueFrom f (partBits (asPart (now (part .entry)) used))) ⌝ }
+{
+    let whole = files::whole_bytes(part, used);
+    let looked = folds::fed(words, p, f, &part[..whole]);
+    files::feed_end(p, looked, part, used)
 }
 
 // A part fed with no table, after the test of the key.
-fn feed_alone(p: Modulus, m: Running, part: &[u8]) -> Fed
+fn feed_alone(p: Modulus, m: Running, part: &[u8], used: u32) -> Fed
     requires { ⌜ Opened (m .key) p ⌝ }
-    ensures { λ r. ⌜ fed r ≡ fedUnder (m .key) (firstOf (feedTests (m .key) (markIn m) (length (now (part .entry)))) (markIn m)
-        (fedMark (m .key) (markIn m) (now (part .entry)))) ⌝ }
+    ensures { λ r. ⌜ fed r ≡ fedUnder (m .key) (firstOf (feedTests (m .key) (markIn m) (asPart (now (part .entry)) used)) (markIn m)
+        (fedMark (m .key) (markIn m) (asPart (now (part .entry)) used))) ⌝ }
 {
-    let n = part.len() as u64;
-    match judge(p, m, n) {
-        Reply::Refused(r) => Fed::Refused(r, m),
-        Reply::Done => {
-            let next = folds::fed_alone(p, m.fingerprint, part);
-            let total = m.length + n;
+    match judge(p, m, part, used) {
+        Measured::Refused(r) => Fed::Refused(r, m),
+        Measured::Length(total) => {
+            let next = behind_alone(p, m.fingerprint, part, used);
             Fed::Next(Running {
                 key: m.key,
                 fingerprint: next,
@@ -73,17 +103,15 @@ fn feed_alone(p: Modulus, m: Running, part: &[u8]) -> Fed
 }
 
 // A part fed by the table of the key, after the tests of key and words.
-fn feed_looked(p: Modulus, m: Running, words: &[u64], part: &[u8]) -> Fed
+fn feed_looked(p: Modulus, m: Running, words: &[u64], part: &[u8], used: u32) -> Fed
     requires { ⌜ Opened (m .key) p × Table (m .key) (now words) ⌝ }
-    ensures { λ r. ⌜ fed r ≡ fedUnder (m .key) (firstOf (feedTests (m .key) (markIn m) (length (now (part .entry)))) (markIn m)
-        (fedMark (m .key) (markIn m) (now (part .entry)))) ⌝ }
+    ensures { λ r. ⌜ fed r ≡ fedUnder (m .key) (firstOf (feedTests (m .key) (markIn m) (asPart (now (part .entry)) used)) (markIn m)
+        (fedMark (m .key) (markIn m) (asPart (now (part .entry)) used))) ⌝ }
 {
-    let n = part.len() as u64;
-    match judge(p, m, n) {
-        Reply::Refused(r) => Fed::Refused(r, m),
-        Reply::Done => {
-            let looked = folds::fed(words, p, m.fingerprint, part);
-            let total = m.length + n;
+    match judge(p, m, part, used) {
+        Measured::Refused(r) => Fed::Refused(r, m),
+        Measured::Length(total) => {
+            let looked = behind_looked(words, p, m.fingerprint, part, used);
             Fed::Next(Running {
                 key: m.key,
                 fingerprint: looked,
@@ -94,14 +122,14 @@ fn feed_looked(p: Modulus, m: Running, words: &[u64], part: &[u8]) -> Fed
 }
 
 // The same, after the test of the key: all words are tested first.
-fn feed_under(p: Modulus, m: Running, words: &[u64], part: &[u8]) -> Fed
+fn feed_under(p: Modulus, m: Running, words: &[u64], part: &[u8], used: u32) -> Fed
     requires { ⌜ Opened (m .key) p ⌝ }
-    ensures { λ r. ⌜ fed r ≡ fedUnder (m .key) (firstOf (tableTests (m .key) (now (words .entry)) ++ feedTests (m .key) (markIn m) (length (now (part .entry))))
-        (markIn m) (fedMark (m .key) (markIn m) (now (part .entry)))) ⌝ }
+    ensures { λ r. ⌜ fed r ≡ fedUnder (m .key) (firstOf (tableTests (m .key) (now (words .entry))
+        ++ feedTests (m .key) (markIn m) (asPart (now (part .entry)) used)) (markIn m) (fedMark (m .key) (markIn m) (asPart (now (part .entry)) used))) ⌝ }
 {
     match table_tests::judge(p, words) {
         Reply::Refused(r) => Fed::Refused(r, m),
-        Reply::Done => feed_looked(p, m, words, part),
+        Reply::Done => feed_looked(p, m, words, part, used),
     }
 }
 
@@ -130,43 +158,43 @@ impl Running {
         }
     }
 
-    // The mark of what was fed with the part behind it. Numbers 1, 2, 7, 8.
-    pub fn feed(self, part: &[u8]) -> Fed
-        ensures { λ r. ⌜ fed r ≡ fedUnder (self .key) (feedBits (self .key) (markIn self) (now (part .entry))) ⌝ }
+    // The mark of what was fed with the part behind it, of whose final byte `used` bits are used. Numbers 1, 2, 7, 8, 19.
+    pub fn feed(self, part: &[u8], used: u32) -> Fed
+        ensures { λ r. ⌜ fed r ≡ fedUnder (self .key) (feedBits (self .key) (markIn self) (asPart (now (part .entry)) used)) ⌝ }
     {
         match keys::test(self.key) {
             Tested::Refused(r) => Fed::Refused(r, self),
-            Tested::Accepted(p) => feed_alone(p, self, part),
+            Tested::Accepted(p) => feed_alone(p, self, part, used),
         }
     }
 
-    // The same by the lent table, all of whose words are tested first. Numbers 1, 2, 5, 6, 7, 8.
-    pub fn feed_table(self, words: &[u64], part: &[u8]) -> Fed
-        ensures { λ r. ⌜ fed r ≡ fedUnder (self .key) (feedTable (self .key) (markIn self) (now (words .entry)) (now (part .entry))) ⌝ }
+    // The same by the lent table, all of whose words are tested first. Numbers 1, 2, 5, 6, 7, 8, 19.
+    pub fn feed_table(self, words: &[u64], part: &[u8], used: u32) -> Fed
+        ensures { λ r. ⌜ fed r ≡ fedUnder (self .key) (feedTable (self .key) (markIn self) (now (words .entry)) (asPart (now (part .entry)) used)) ⌝ }
     {
         match keys::test(self.key) {
             Tested::Refused(r) => Fed::Refused(r, self),
-            Tested::Accepted(p) => feed_under(p, self, words, part),
+            Tested::Accepted(p) => feed_under(p, self, words, part, used),
         }
     }
 
-    // The same by the house key's constant words. Under that key they are right: they are not read, and nothing is tested but the lengths and the
-    // mark. Under another key they are tested like a lent table. Numbers 1, 2, 6, 7, 8.
-    pub fn feed_house(self, part: &[u8]) -> Fed
-        ensures { λ r. ⌜ fed r ≡ fedUnder (self .key) (feedHouse (self .key) (markIn self) (now (part .entry))) ⌝ }
+    // The same by the house key's constant words. Under that key they are right: they are not read, and nothing is tested but the lengths, the
+    // mark and the final byte. Under another key they are tested like a lent table. Numbers 1, 2, 6, 7, 8, 19.
+    pub fn feed_house(self, part: &[u8], used: u32) -> Fed
+        ensures { λ r. ⌜ fed r ≡ fedUnder (self .key) (feedHouse (self .key) (markIn self) (asPart (now (part .entry)) used)) ⌝ }
     {
         if self.key == house::KEY {
             let p = gf2::modulus_of(self.key);
-            return feed_alone(p, self, part);
+            return feed_alone(p, self, part, used);
         }
-        feed_constant(self, part)
+        feed_constant(self, part, used)
     }
 }
 
 // A part fed by the house key's constant words, which are copied here alone.
-fn feed_constant(m: Running, part: &[u8]) -> Fed
-    ensures { λ r. ⌜ fed r ≡ fedUnder (m .key) (feedHouse (m .key) (markIn m) (now (part .entry))) ⌝ }
+fn feed_constant(m: Running, part: &[u8], used: u32) -> Fed
+    ensures { λ r. ⌜ fed r ≡ fedUnder (m .key) (feedHouse (m .key) (markIn m) (asPart (now (part .entry)) used)) ⌝ }
 {
     let words = house::words();
-    m.feed_table(&words, part)
+    m.feed_table(&words, part, used)
 }

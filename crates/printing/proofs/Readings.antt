@@ -18,6 +18,6 @@ pub example-line : keyLine (ascii "11b\nAB") ≡ Key 0x11B 4
 unfolding ascii keyLine keyBefore allDigits digit hexFrom indexOf indexAfter
 example-line = refl
 
-pub example-report : printed (ascii "11b\nAB") ≡ report (record { key = 0x11B; fingerprint = 0x9D; length = 2 })
+pub example-report : printed (ascii "11b\nAB") ≡ report (record { key = 0x11B; fingerprint = 0x9D; length = 16 })
 unfolding ascii digitsOf numeral report degree halvings
 example-report = example

@@ -18,7 +18,7 @@ use Rattle.refusals.specs.Refusals.{Answer, _⇒_, firstOf, passes}
 use Rattle.acceptance.specs.Keys.{accepted}
 use Rattle.acceptance.proofs.Opened.{open-accepted, opened-first}
 use Rattle.files.specs.declared.Mark.{Mark}
-use Rattle.files.specs.Files.{fingerprint, markOf}
+use Rattle.files.specs.Files.{bits, fingerprint, markOf}
 use Rattle.marks.specs.declared.Running.{Running}
 use Rattle.marks.specs.Answers.{begunUnder}
 use Rattle.printing.specs.declared.KeyLine.{KeyLine}
@@ -71,7 +71,7 @@ module _ (key n f g : ℕ) where
       (before-common (front ++ (ascii "\nmark " ++ numeral 16 f)) (front ++ (ascii "\nmark " ++ numeral 16 g)) (ascii "\n") e)))
     where
       front : List ℕ
-      front = ascii "key " ++ numeral 10 (degree key) ++ (ascii " " ++ numeral 16 key) ++ (ascii "\nbytes " ++ numeral 10 n)
+      front = ascii "key " ++ numeral 10 (degree key) ++ (ascii " " ++ numeral 16 key) ++ (ascii "\nbytes " ++ numeral 10 (n / 8))
 
 -- a report is no refusal
 no-report : (m : Running) → refused TooLong ≡ report m → ⊥
@@ -80,23 +80,23 @@ no-report m e = omega (arith, ap (λ (text : List ℕ). getD text 0 0) e)
 
 -- where a report is printed, its fingerprint is that of the file behind the key's line
 pub printed-fingerprint : (input : List ℕ) (key at f : ℕ) → accepted key ≡ true → keyLine input ≡ Key key at
-    → printed input ≡ report (record { key = key; fingerprint = f; length = length (drop at input) }) → f ≡ fingerprint key (drop at input)
+    → printed input ≡ report (record { key = key; fingerprint = f; length = length (bits (drop at input)) }) → f ≡ fingerprint key (bits (drop at input))
 unfolding printed markFile markOf
-printed-fingerprint input key at f a line e = go (passes (length file ∷ [])) (sym is ∙ e)
+printed-fingerprint input key at f a line e = go (passes (8 * length file ∷ [])) (sym is ∙ e)
   where
     file : List ℕ
     file = drop at input
 
     answer : Bool → Answer Unit Running
-    answer b = begunUnder key (firstOf (b ⇒ TooLong ∷ []) tt (markOf key (drop at input)))
+    answer b = begunUnder key (firstOf (b ⇒ TooLong ∷ []) tt (markOf key (bits (drop at input))))
 
-    is : printed input ≡ answerText (answer (passes (length file ∷ [])))
+    is : printed input ≡ answerText (answer (passes (8 * length file ∷ [])))
     is =
         ap (λ (l : KeyLine). printedAfter l input) line
         ∙ ap (λ (x : Answer Unit Mark). answerText (begunUnder key x))
-        (opened-first (open-accepted key a) (passes (length (drop at input) ∷ []) ⇒ TooLong ∷ []) tt (markOf key (drop at input)))
+        (opened-first (open-accepted key a) (passes (8 * length (drop at input) ∷ []) ⇒ TooLong ∷ []) tt (markOf key (bits (drop at input))))
 
-    go : (b : Bool) → answerText (answer b) ≡ report (record { key = key; fingerprint = f; length = length (drop at input) })
-        → f ≡ fingerprint key (drop at input)
-    go true h = absurd (no-report (record { key = key; fingerprint = f; length = length (drop at input) }) h)
-    go false h = sym (report-fingerprint key (length (drop at input)) (fingerprint key (drop at input)) f h)
+    go : (b : Bool) → answerText (answer b) ≡ report (record { key = key; fingerprint = f; length = length (bits (drop at input)) })
+        → f ≡ fingerprint key (bits (drop at input))
+    go true h = absurd (no-report (record { key = key; fingerprint = f; length = length (bits (drop at input)) }) h)
+    go false h = sym (report-fingerprint key (length (bits (drop at input))) (fingerprint key (bits (drop at input))) f h)

@@ -2,7 +2,7 @@
 use mathlib.Core.Path.{_≡_, refl, sym, ap, _∙_}
 use mathlib.Core.Bool.{Bool, true, false, _||_}
 use mathlib.Core.List.{List, [], _∷_, _++_}
-use Prim.Native.Nat.{ℕ, _≤_}
+use Prim.Native.Nat.{ℕ, _*_, _≤_}
 use native.Mathlib.Omega.{arith}
 use lib.Dec.{ltb}
 use lib.ListN.{length, drop, length-append}
@@ -13,7 +13,7 @@ use Rattle.refusals.specs.declared.Refusal.the-variants.{KeyBelow256, KeyReduci
 use Rattle.refusals.specs.Refusals.{Answer, Done, Refused, _⇒_, firstOf, longest}
 use Rattle.acceptance.specs.Keys.{reducible}
 use Rattle.files.specs.declared.Mark.{Mark}
-use Rattle.files.specs.Files.{markOf}
+use Rattle.files.specs.Files.{bits, markOf}
 use Rattle.marks.specs.declared.Running.{Running}
 use Rattle.marks.specs.Answers.{begunUnder}
 use Rattle.printing.specs.declared.KeyLine.{KeyLine}
@@ -34,18 +34,18 @@ done-refused e = let z : _≡_ {A = ℕ} 0 1 = cc in omega arith
 
 file-settled : (key : ℕ) (file more : List ℕ) (r : Refusal) → markFile key file ≡ Refused r tt → markFile key (file ++ more) ≡ Refused r tt
 unfolding markFile
-file-settled key file more r e = go (ltb key 256) (reducible key) (ltb longest (length file)) refl e
+file-settled key file more r e = go (ltb key 256) (reducible key) (ltb longest (8 * length file)) refl e
   where
     answer : Bool → Bool → Bool → Mark → Answer Unit Running
     answer x y z m = begunUnder key (firstOf (x ⇒ KeyBelow256 ∷ y ⇒ KeyReducible ∷ z ⇒ TooLong ∷ []) tt m)
 
-    go : (x y z : Bool) → ltb longest (length file) ≡ z → answer x y (z || false) (markOf key file) ≡ Refused r tt
-        → answer x y (ltb longest (length (file ++ more)) || false) (markOf key (file ++ more)) ≡ Refused r tt
+    go : (x y z : Bool) → ltb longest (8 * length file) ≡ z → answer x y (z || false) (markOf key (bits file)) ≡ Refused r tt
+        → answer x y (ltb longest (8 * length (file ++ more)) || false) (markOf key (bits (file ++ more))) ≡ Refused r tt
     go true y z t u = u
     go false true z t u = u
     go false false true t u =
-        let l = ltb-true longest (length file) t in
-        rw (lt-ltb longest (length (file ++ more)) (omega (arith, length-append file more))) u
+        let l = ltb-true longest (8 * length file) t in
+        rw (lt-ltb longest (8 * length (file ++ more)) (omega (arith, length-append file more))) u
     go false false false t u = absurd (done-refused u)
 
 pub refused-settled : (input more : List ℕ) (key at : ℕ) (r : Refusal) → keyLine input ≡ Key key at → markFile key (drop at input) ≡ Refused r tt

@@ -137,16 +137,16 @@ fn degree(key: u64) -> u32
     gf2::degree(key)
 }
 
-// The three lines of a mark, at the front of a buffer, and their length.
+// The three lines of a mark, whose length they give in bytes, at the front of a buffer, and their own length.
 pub fn report(m: Running, out: &mut [u8; 96]) -> usize
     ensures { λ n. ⌜ PutInFront (now (out .entry)) (now (out .exit)) n (report m) ⌝ }
 {
     let key = m.key;
     let fingerprint = m.fingerprint;
-    let length = m.length;
+    let bytes = m.length / 8;
     let a = put_decimal(out, 0, b"key ", degree(key) as u64);
     let b = put_hex(out, a, b" ", key);
-    let c = put_decimal(out, b, b"\nbytes ", length);
+    let c = put_decimal(out, b, b"\nbytes ", bytes);
     let d = put_hex(out, c, b"\nmark ", fingerprint);
     put(out, d, b"\n")
 }

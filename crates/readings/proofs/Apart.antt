@@ -24,7 +24,8 @@ after : (i : ℕ) → 16 ≤ i → getD (bits zeroFile) i 0 ≡ getD (bits keyFi
 unfolding bits lowBits
 after i l = List·getD-eq-default (bits zeroFile) 0 l ∙ sym (List·getD-eq-default (bits keyFile) 0 l)
 
-pub nine-bits : Burst 9 zeroFile keyFile
+pub nine-bits : Burst 9 (bits zeroFile) (bits keyFile)
+unfolding bits lowBits
 nine-bits = record { same-length = refl; first = 7; last = 15; near = omega arith; between = places }
   where
     places : (i : ℕ) → getD (bits zeroFile) i 0 ≢ getD (bits keyFile) i 0 → (7 ≤ i) × (i ≤ 15)
@@ -35,6 +36,6 @@ nine-bits = record { same-length = refl; first = 7; last = 15; near = omega arit
         go (no n) (yes l) = absurd (d (after i l))
         go (no n) (no m) = omega arith
 
-pub not-eight : Burst 8 zeroFile keyFile → ⊥
+pub not-eight : Burst 8 (bits zeroFile) (bits keyFile) → ⊥
 unfolding bits lowBits
 not-eight s = omega (arith, s .near, s .between 7 (λ e. omega (arith, e)) .0, s .between 15 (λ e. omega (arith, e)) .1)

@@ -11,7 +11,7 @@ use lib.ListN.{length, getD, set}
 use lib.Seq.{sets}
 use Rattle.lists.specs.Lists.{passing, overlay}
 use Rattle.lists.proofs.Lent.{overlay-sets}
-use Rattle.files.specs.Files.{fingerprint}
+use Rattle.files.specs.Files.{bits, fingerprint}
 use Rattle.search.specs.declared.Counts.{Counts}
 use Rattle.windows.specs.declared.rolling.Setup.{Setup}
 use Rattle.search.specs.Searching.{windows, isPlace, isAlarm, places, alarms, counts}
@@ -24,13 +24,14 @@ use Rattle.search.proofs.Numbers.{passing-same, Tally, tally-skip, tall
 
 -- the window has the pattern's fingerprint
 unfoldable alike : ℕ → List ℕ → List ℕ → ℕ → Bool
-alike key text pattern i = eqb (fingerprint key (window (length pattern) text i)) (fingerprint key pattern)
+alike key text pattern i = eqb (fingerprint key (bits (window (length pattern) text i))) (fingerprint key (bits pattern))
 
 -- a place has it
 place-alike : (p : ℕ) (text pattern : List ℕ) (i : ℕ) → isPlace text pattern i ≡ true → alike p text pattern i ≡ true
 unfolding isPlace alike window
 place-alike p text pattern i e =
-    eq-eqb (fingerprint p (window (length pattern) text i)) (fingerprint p pattern) (ap (fingerprint p) (same-is (window (length pattern) text i) pattern e))
+    eq-eqb (fingerprint p (bits (window (length pattern) text i))) (fingerprint p (bits pattern))
+    (ap (λ (l : List ℕ). fingerprint p (bits l)) (same-is (window (length pattern) text i) pattern e))
 
 and-implied : (a b : Bool) → (b ≡ true → a ≡ true) → (a && b) ≡ b
 and-implied true b h = refl

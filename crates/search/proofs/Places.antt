@@ -13,7 +13,7 @@ use lib.ListN.{length, take, drop}
 use Rattle.lists.specs.Lists.{passing, All}
 use Rattle.lists.proofs.Lists.{Passes, all-passing, passing-above}
 use Rattle.lists.proofs.Truth.{and-both, by-cases}
-use Rattle.files.specs.Files.{fingerprint}
+use Rattle.files.specs.Files.{bits, fingerprint}
 use Rattle.search.specs.Searching.{windows, isPlace, isAlarm, places, alarms}
 use Rattle.search.specs.Claims.{In, Rising, PlacesIff, PlacesRising, AlarmsIff, AlarmsRising}
 use Rattle.search.proofs.Comparing.{same-is, same-refl}
@@ -76,22 +76,26 @@ places-iff text pattern i = (
 
 -- a false alarm: a window with the pattern's fingerprint and other bytes
 module _ (key : ℕ) (text pattern : List ℕ) (i : ℕ) where
+  -- the window's fingerprint
+  abbrev there : ℕ
+  there = fingerprint key (bits (take (length pattern) (drop i text)))
+
   -- what is said of the window's bytes
   abbrev Alarm : Type 0
-  Alarm = (fingerprint key (take (length pattern) (drop i text)) ≡ fingerprint key pattern) × (take (length pattern) (drop i text) ≢ pattern)
+  Alarm = (there ≡ fingerprint key (bits pattern)) × (take (length pattern) (drop i text) ≢ pattern)
 
   alarm-there : isAlarm key text pattern i ≡ true → Alarm
   unfolding isAlarm
   alarm-there e =
-      let h = and-both (eqb (fingerprint key (take (length pattern) (drop i text))) (fingerprint key pattern)) (not (isPlace text pattern i)) e in (
-        eqb-true (fingerprint key (take (length pattern) (drop i text))) (fingerprint key pattern) (h .0),
+      let h = and-both (eqb there (fingerprint key (bits pattern))) (not (isPlace text pattern i)) e in (
+        eqb-true there (fingerprint key (bits pattern)) (h .0),
         (λ q. true≢false (sym (place-back text pattern i q) ∙ not-true (isPlace text pattern i) (h .1))),
       )
 
   alarm-back : Alarm → isAlarm key text pattern i ≡ true
   unfolding isAlarm
   alarm-back (e, n) =
-      rw (eq-eqb (fingerprint key (take (length pattern) (drop i text))) (fingerprint key pattern) e, no-place text pattern i n)
+      rw (eq-eqb there (fingerprint key (bits pattern)) e, no-place text pattern i n)
 
 pub alarms-iff : AlarmsIff
 unfolding alarms windows

@@ -2,7 +2,7 @@
 use super::Counts;
 ghost use mathlib.Core.Path.{_≡_};
 ghost use mathlib.Core.Bool.{false};
-ghost use Prim.Native.Nat.{_+_, _≤_, _<_};
+ghost use Prim.Native.Nat.{_+_, _*_, _≤_, _<_};
 ghost use lib.ListN.{length};
 ghost use lib.Seq.{sets};
 ghost use Rattle.refusals.specs.Refusals.{longest};
@@ -68,7 +68,7 @@ pub fn compare(
     requires { ⌜ (size ≤ 1024)
         × (from + size + length (now pattern) ≤ length (now text) + 1)
         × (0 < length (now pattern))
-        × (length (now text) ≤ longest)
+        × (8 * length (now text) ≤ longest)
         × (found .places ≤ from)
         × (found .alarms ≤ from) ⌝ }
     ensures { λ r. ⌜ (r .places ≡ found .places + length (flaggedPlaces (now (flags .entry)) (now (text .entry)) (now (pattern .entry)) from size))

@@ -9,7 +9,7 @@ use windows::rolling::Setup;
 mod compare; // the bytes of windows against the pattern's
 
 ghost use mathlib.Core.Path.{_≡_};
-ghost use Prim.Native.Nat.{_≤_, _<_};
+ghost use Prim.Native.Nat.{_*_, _≤_, _<_};
 ghost use lib.ListN.{length};
 ghost use Rattle.lists.specs.Lists.{overlay};
 ghost use Rattle.gf2.specs.Moduli.{polynomial, Proper};
@@ -45,7 +45,7 @@ fn search_blocks(
         × (s .wanted ≡ residue (keyOf s) (now pattern))
         × ResidueAt s (now text) 0 first
         × (length (now pattern) ≤ length (now text))
-        × (length (now text) ≤ longest) ⌝ }
+        × (8 * length (now text) ≤ longest) ⌝ }
     ensures { λ r. ⌜ (r ≡ counts (keyOf s) (now (text .entry)) (now (pattern .entry)))
         × (now (places .exit) ≡ overlay (placesOf (now (text .entry)) (now (pattern .entry))) (now (places .entry))) ⌝ }
 {
@@ -68,7 +68,7 @@ fn search_blocks(
 
 // The search proper, under a modulus: its tables, and the residues to begin with.
 fn search_text(p: Modulus, text: &[u8], pattern: &[u8], places: &mut [u32]) -> Counts
-    requires { ⌜ Proper p × (8 ≤ p .degree) × (0 < length (now pattern)) × (length (now pattern) ≤ length (now text)) × (length (now text) ≤ longest) ⌝ }
+    requires { ⌜ Proper p × (8 ≤ p .degree) × (0 < length (now pattern)) × (length (now pattern) ≤ length (now text)) × (8 * length (now text) ≤ longest) ⌝ }
     ensures { λ r. ⌜ (r ≡ counts (polynomial p) (now (text .entry)) (now (pattern .entry)))
         × (now (places .exit) ≡ overlay (placesOf (now (text .entry)) (now (pattern .entry))) (now (places .entry))) ⌝ }
 {
@@ -93,7 +93,8 @@ fn search_under(p: Modulus, text: &[u8], pattern: &[u8], places: &mut [u32]) -> 
         × (now (places .exit) ≡ stateOf (firstOf (textTests (now (text .entry)) (now (pattern .entry))) (now (places .entry))
         (overlay (placesOf (now (text .entry)) (now (pattern .entry))) (now (places .entry))))) ⌝ }
 {
-    if !refusals::within(text.len() as u64, pattern.len() as u64, 0) {
+    let fit = refusals::bytes_fit(text.len() as u64) & refusals::bytes_fit(pattern.len() as u64);
+    if !fit {
         return Searched::Refused(Refusal::TooLong);
     }
     if pattern.len() == 0 {

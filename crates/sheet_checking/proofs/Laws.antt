@@ -9,61 +9,73 @@ use native.Mathlib.Omega.{arith}
 use lib.ListN.{length}
 use borrow.Author.Tests.{eq-eqb, ne-eqb, lt-ltb, le-ltb}
 use Rattle.refusals.specs.declared.Refusal.{Refusal}
-use Rattle.refusals.specs.declared.Refusal.the-variants.{TooLong}
+use Rattle.refusals.specs.declared.Refusal.the-variants.{TooLong, FinalByte}
 use Rattle.refusals.specs.Refusals.{Done, Refused, Test, _⇒_, firstOf, passes, longest}
+use Rattle.files.specs.Files.{Part, partLength, partBits, misused, bytesFor}
+use Rattle.files.proofs.Parts.{part-length, part-bytes}
 use Rattle.sheets.specs.declared.Sheet.{Sheet}
-use Rattle.sheets.specs.Layout.{numbersAt, versionIn, layouts, layoutOf, sheetLength, pageCount, Contents, fieldIn, contentsIn}
+use Rattle.sheets.specs.Layout.{numbersAt, versionIn, layouts, layoutOf, sheetLength, pageCount, pagesFor, Contents, fieldIn, contentsIn}
 use Rattle.sheets.specs.Sheets.{pageFingerprints, contentsOf, readTests, readSheet, Page, OtherLength, firstChange, compared, checkSheet}
 use Rattle.sheets.specs.Answers.{sheetRead}
-use Rattle.sheets.specs.Sheets.{Outcome, checkTests}
+use Rattle.sheets.specs.Sheets.{Outcome, headWrong, checkTests}
 use Rattle.sheets.specs.Answers.{FromTo, rangeOf, changedRange}
 use Rattle.sheets.specs.Parts.{ReadAs, comparison, ranged, fingerprintsPart}
-use Rattle.refusals.proofs.Laws.{Clear, done-clear, more-refused, more-clear}
-use Rattle.sheets.proofs.Sound.{head-right}
+use Rattle.refusals.proofs.Laws.{Clear, done-clear, more-refused, more-clear, first-true, first-false}
+use Rattle.sheets.proofs.Parts.{pages-held}
 use Rattle.sheets.proofs.Known.{pages-in, refused-inv, tests-clear, total}
 use Rattle.sheets.proofs.Changes.{not-other}
 use Rattle.sheets.proofs.Guarantee.{other-length}
 
 -- ---- what reading says
 
+-- numbers 7 and 19
+abbrev fileTests : Part → List Test
+fileTests file = passes (partLength file ∷ []) ⇒ TooLong ∷ misused file ⇒ FinalByte ∷ []
+
 module _ (sheet : List ℕ) where
-  pub check-refused : (q : Refusal) (file : List ℕ) → Refused q tt ≡ sheetRead (readSheet sheet) → checkSheet sheet file ≡ Refused q tt
+  pub check-refused : (q : Refusal) (file : Part) → Refused q tt ≡ sheetRead (readSheet sheet) → checkSheet sheet file ≡ Refused q tt
   unfolding readSheet checkSheet
   check-refused q file e =
-      more-refused (readTests layouts sheet) (passes (length file ∷ []) ⇒ TooLong ∷ []) tt tt (contentsIn sheet)
-      (compared (contentsIn sheet) file) q
+      more-refused (readTests layouts sheet) (fileTests file) tt tt (contentsIn sheet) (compared (contentsIn sheet) (partBits file)) q
       (refused-inv (readSheet sheet) q (sym e))
 
-  pub check-done : {x : Sheet} → ReadAs sheet x → (file : List ℕ) → checkSheet sheet file ≡ comparison sheet file
+  pub check-done : {x : Sheet} → ReadAs sheet x → (file : Part) → checkSheet sheet file ≡ comparison sheet file
   unfolding checkSheet
-  check-done r file =
-      more-clear (readTests layouts sheet) (passes (length file ∷ []) ⇒ TooLong ∷ []) tt (compared (contentsIn sheet) file) (tests-clear sheet r)
+  check-done r file = more-clear (readTests layouts sheet) (fileTests file) tt (compared (contentsIn sheet) (partBits file)) (tests-clear sheet r)
 
 -- ---- the comparison, test by test
 
-module _ (sheet file : List ℕ) where
-  pub compare-long : longest < length file → comparison sheet file ≡ Refused TooLong tt
-  compare-long l = rw (lt-ltb longest (length file) l)
+module _ (sheet : List ℕ) (file : Part) where
+  pub compare-long : longest < partLength file → comparison sheet file ≡ Refused TooLong tt
+  compare-long l = rw (lt-ltb longest (partLength file) l)
 
-  module _ (fits : length file ≤ longest) where
-    after-long : comparison sheet file ≡ Done (compared (contentsIn sheet) file)
-    after-long = rw (le-ltb longest (length file) fits)
+  module _ (fits : partLength file ≤ longest) where
+    after-long : comparison sheet file ≡ firstOf (misused file ⇒ FinalByte ∷ []) tt (compared (contentsIn sheet) (partBits file))
+    after-long = rw (le-ltb longest (partLength file) fits)
 
-    pub compare-other : (length file ≡ contentsIn sheet .length → ⊥) → comparison sheet file ≡ Done OtherLength
-    unfolding compared
-    compare-other n = after-long ∙ rw (ne-eqb (length file) (contentsIn sheet .length) n)
+    pub compare-misused : misused file ≡ true → comparison sheet file ≡ Refused FinalByte tt
+    compare-misused e = after-long ∙ first-true (misused file) FinalByte [] tt _ e
 
-    -- equally long: page by page
-    pub compare-pages : (version key size : ℕ) → version ≡ contentsIn sheet .version → key ≡ contentsIn sheet .key → size ≡ contentsIn sheet .pageSize
-        → length file ≡ contentsIn sheet .length
-        → (part : List ℕ) → part ≡ fingerprintsPart version sheet
-        → comparison sheet file
-        ≡ Done (firstChange 0 (numbersAt 0 8 (pageCount size (length file)) part)
-        (pageFingerprints (layoutOf version) key size (pageCount size (length file)) file))
-    unfolding compared contentsOf contentsIn
-    compare-pages version key size ev ek es en part ep =
-        after-long
-        ∙ rw (eq-eqb (length file) (contentsIn sheet .length) en, pages-in sheet, ← es, ← en, ← ek, ← ev, ep)
+    module _ (used : misused file ≡ false) where
+      after-used : comparison sheet file ≡ Done (compared (contentsIn sheet) (partBits file))
+      after-used = after-long ∙ first-false (misused file) FinalByte [] tt _ used
+
+      pub compare-other : (partLength file ≡ contentsIn sheet .length → ⊥) → comparison sheet file ≡ Done OtherLength
+      compare-other n = after-used ∙ ap Done (other-length (contentsIn sheet) (partBits file) (λ e. n (sym (part-length file) ∙ e)))
+
+      -- equally long: page by page
+      pub compare-pages : (version key size : ℕ) → version ≡ contentsIn sheet .version → key ≡ contentsIn sheet .key → size ≡ contentsIn sheet .pageSize
+          → partLength file ≡ contentsIn sheet .length
+          → (part : List ℕ) → part ≡ fingerprintsPart version sheet
+          → comparison sheet file
+          ≡ Done (firstChange 0 (numbersAt 0 8 (pageCount size (length (file .bytes))) part)
+          (pageFingerprints (layoutOf version) key (8 * size) (pageCount size (length (file .bytes))) (partBits file)))
+      unfolding compared contentsOf contentsIn
+      compare-pages version key size ev ek es en part ep =
+          let bits = partBits file in
+          let same : length bits ≡ contentsIn sheet .length = part-length file ∙ en in
+          after-used
+          ∙ rw (eq-eqb (length bits) (contentsIn sheet .length) same, pages-in sheet, ← es, ← same, ← ek, ← ev, ep, pages-held size file)
 
 -- the numbers that a check goes by
 module _ (sheet : List ℕ) {x : Sheet} (r : ReadAs sheet x) where
@@ -80,13 +92,14 @@ module _ (sheet : List ℕ) {x : Sheet} (r : ReadAs sheet x) where
   length-is = ap (λ (y : Sheet). y .length) (r .numbers)
 
   -- all fields of the pages are there
-  pub pages-there : (file : List ℕ) → length file ≡ x .length → sheetLength (layoutOf (x .version)) (pageCount (x .size) (length file)) ≡ length sheet
+  pub pages-there : (file : Part) → partLength file ≡ x .length
+      → sheetLength (layoutOf (x .version)) (pageCount (x .size) (length (file .bytes))) ≡ length sheet
   unfolding contentsIn
   pages-there file e =
       sym
       (total sheet r
-      ∙ ap₂ (λ (s n : ℕ). sheetLength (layoutOf (versionIn sheet)) (pageCount s n)) (sym size-is) (sym (e ∙ length-is))
-      ∙ ap (λ (v : ℕ). sheetLength (layoutOf v) (pageCount (x .size) (length file))) (sym version-is))
+      ∙ ap₂ (λ (s n : ℕ). sheetLength (layoutOf (versionIn sheet)) (pagesFor s n)) (sym size-is) (sym (e ∙ length-is))
+      ∙ ap₂ (λ (v n : ℕ). sheetLength (layoutOf v) (pageCount (x .size) n)) (sym version-is) (part-bytes file))
 
 -- ---- the range is that of the check's answer
 
@@ -95,35 +108,37 @@ first-ranged x [] o = refl
 first-ranged x (true ⇒ r ∷ ts) o = refl
 first-ranged x (false ⇒ r ∷ ts) o = first-ranged x ts o
 
-pub changed-by-check : (sheet file : List ℕ) → changedRange sheet file ≡ ranged (contentsIn sheet) (checkSheet sheet file)
+pub changed-by-check : (sheet : List ℕ) (file : Part) → changedRange sheet file ≡ ranged (contentsIn sheet) (checkSheet sheet file)
 unfolding changedRange checkSheet
-changed-by-check sheet file = let x = contentsIn sheet in first-ranged x (checkTests sheet file) (compared x file)
+changed-by-check sheet file = let x = contentsIn sheet in first-ranged x (checkTests sheet file) (compared x (partBits file))
 
 -- ---- the page that a check names
 
-module _ (sheet file : List ℕ) (i : ℕ) (e : checkSheet sheet file ≡ Done (Page i)) where
-  named : Clear (readTests layouts sheet ++ passes (length file ∷ []) ⇒ TooLong ∷ []) × (compared (contentsIn sheet) file ≡ Page i)
+module _ (sheet : List ℕ) (file : Part) (i : ℕ) (e : checkSheet sheet file ≡ Done (Page i)) where
+  named : Clear (readTests layouts sheet ++ fileTests file) × (compared (contentsIn sheet) (partBits file) ≡ Page i)
   unfolding checkSheet
-  named =
-      done-clear (readTests layouts sheet ++ passes (length file ∷ []) ⇒ TooLong ∷ []) tt (compared (contentsIn sheet) file) (Page i) e
+  named = done-clear (readTests layouts sheet ++ fileTests file) tt (compared (contentsIn sheet) (partBits file)) (Page i) e
 
-  pub named-long : 27 ≤ length sheet
-  named-long = head-right sheet (named .0 .0) .long
+  pub named-head : headWrong layouts sheet ≡ false
+  named-head = named .0 .0
 
-  pub named-equal : length file ≡ contentsIn sheet .length
-  named-equal = go (ℕ-discrete (length file) (contentsIn sheet .length))
+  named-equal : length (partBits file) ≡ contentsIn sheet .length
+  named-equal = go (ℕ-discrete (length (partBits file)) (contentsIn sheet .length))
     where
-      go : Dec (length file ≡ contentsIn sheet .length) → length file ≡ contentsIn sheet .length
+      go : Dec (length (partBits file) ≡ contentsIn sheet .length) → length (partBits file) ≡ contentsIn sheet .length
       go (yes d) = d
-      go (no d) = absurd (not-other (sym (other-length (contentsIn sheet) file d) ∙ named .1))
+      go (no d) = absurd (not-other (sym (other-length (contentsIn sheet) (partBits file) d) ∙ named .1))
+
+  bytes-equal : length (file .bytes) ≡ bytesFor (contentsIn sheet .length)
+  bytes-equal = sym (part-bytes file) ∙ ap bytesFor (sym (part-length file) ∙ named-equal)
 
   -- its bytes, by the numbers that the code has
-  pub named-range : (from size end : ℕ) → size ≡ fieldIn (layoutOf (versionIn sheet)) 4 sheet → from ≡ i * size → end ≡ min (from + size) (length file)
-      → Done (FromTo from end) ≡ changedRange sheet file
+  pub named-range : (from size end : ℕ) → size ≡ fieldIn (layoutOf (versionIn sheet)) 4 sheet → from ≡ i * size
+      → end ≡ min (from + size) (length (file .bytes)) → Done (FromTo from end) ≡ changedRange sheet file
   unfolding contentsIn
   named-range from size end es ef ee =
       ap₂ (λ (a b : ℕ). Done (FromTo a b)) (ef ∙ ap (λ (s : ℕ). i * s) es) (ee ∙ ap₂ (λ (a b : ℕ). min a b)
-      (ap₂ (λ (a b : ℕ). a + b) (ef ∙ ap (λ (s : ℕ). i * s) es) es) named-equal)
+      (ap₂ (λ (a b : ℕ). a + b) (ef ∙ ap (λ (s : ℕ). i * s) es) es) bytes-equal)
       ∙ ap (ranged (contentsIn sheet)) (sym e)
       ∙ sym (changed-by-check sheet file)
 

@@ -7,43 +7,47 @@ use sheets::Sheet;
 use sheets::fields;
 use sheets::layout;
 ghost use mathlib.Core.Path.{_≡_};
+ghost use Rattle.files.specs.Files.{asPart};
 ghost use Rattle.sheets.specs.Sheets.{checkSheet};
 ghost use Rattle.sheets.specs.Answers.{changedRange};
 ghost use Rattle.sheets.specs.Answers.{checkAnswer, changeAnswer};
 ghost use Rattle.sheets.specs.Parts.{ReadAs, comparison, NoPage, WithoutPage};
 
-// A file against a sheet that was read as x. Number 7.
-fn compare(sheet: &[u8], x: Sheet, file: &[u8]) -> Checked
+// A file against a sheet that was read as x. Numbers 7, 19.
+fn compare(sheet: &[u8], x: Sheet, file: &[u8], used: u32) -> Checked
     requires { ⌜ ReadAs (now sheet) x ⌝ }
-    ensures { λ r. ⌜ checkAnswer r ≡ comparison (now (sheet .entry)) (now (file .entry)) ⌝ }
+    ensures { λ r. ⌜ checkAnswer r ≡ comparison (now (sheet .entry)) (asPart (now (file .entry)) used) ⌝ }
 {
     let n = file.len() as u64;
     let length = x.length;
     let key = x.key;
     let size = x.size as usize;
-    if refusals::LONGEST < n {
+    if refusals::LONGEST_BYTES < n {
         return Checked::Refused(Refusal::TooLong);
     }
-    if n != length {
+    if files::is_misused(file, used) {
+        return Checked::Refused(Refusal::FinalByte);
+    }
+    if files::part_length(file, used) != length {
         return Checked::OtherLength;
     }
     let p = gf2::modulus_of(key);
     let pages = layout::page_fields(sheet, x.version);
     let mut none = [0u8; 0];
-    let same = sheet_pass::over_pages(&mut none, pages, p, size, x.version, file) as u64;
+    let same = sheet_pass::over_pages(&mut none, pages, p, size, x.version, file, used) as u64;
     if same < fields::page_count(x.size, n) {
         return Checked::Page(same as u32);
     }
     Checked::Same
 }
 
-// Checks a file against a sheet. Numbers 14 (size, letters, version), 1, 2, 12, 14 (total, fingerprints, joining), 7.
-pub fn check(sheet: &[u8], file: &[u8]) -> Checked
-    ensures { λ r. ⌜ checkAnswer r ≡ checkSheet (now (sheet .entry)) (now (file .entry)) ⌝ }
+// Checks a file against a sheet. Numbers 14, 1, 2, 12, 14 of reading, then 7, 19.
+pub fn check(sheet: &[u8], file: &[u8], used: u32) -> Checked
+    ensures { λ r. ⌜ checkAnswer r ≡ checkSheet (now (sheet .entry)) (asPart (now (file .entry)) used) ⌝ }
 {
     match sheet_reading::read(sheet) {
         Reading::Refused(r) => Checked::Refused(r),
-        Reading::Sheet(x) => compare(sheet, x, file),
+        Reading::Sheet(x) => compare(sheet, x, file, used),
     }
 }
 
@@ -62,11 +66,11 @@ fn without_page(answer: Checked) -> Changed
 }
 
 // The bytes of the first changed page: from the first to before the last. Goes on only where the check names a page.
-// Numbers 14 (size, letters, version), 1, 2, 12, 14 (total, fingerprints, joining), 7.
-pub fn first_changed_range(sheet: &[u8], file: &[u8]) -> Changed
-    ensures { λ r. ⌜ changeAnswer r ≡ changedRange (now (sheet .entry)) (now (file .entry)) ⌝ }
+// Numbers 14, 1, 2, 12, 14, 7, 19, as above.
+pub fn first_changed_range(sheet: &[u8], file: &[u8], used: u32) -> Changed
+    ensures { λ r. ⌜ changeAnswer r ≡ changedRange (now (sheet .entry)) (asPart (now (file .entry)) used) ⌝ }
 {
-    let answer = check(sheet, file);
+    let answer = check(sheet, file, used);
     let Checked::Page(i) = answer else {
         return without_page(answer);
     };

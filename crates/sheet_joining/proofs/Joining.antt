@@ -309,7 +309,7 @@ few-joined p md s place n l words sh r =
 
 -- ---- a sheet's pages, by its version
 
--- each of c pages counts s bytes, with `left` bytes of the file from the first on
+-- each of c pages counts s bits, with `left` bits of the file from the first on
 abbrev Counts : Layout → ℕ → ℕ → ℕ → Type 0
 Counts v s left c = (i : ℕ) → i < c → pageLength v s (left - i * s) ≡ s
 
@@ -317,7 +317,7 @@ Counts v s left c = (i : ℕ) → i < c → pageLength v s (left - i * s) ≡ s
 pub filled-counts : (v : Layout) → v .filled ≡ true → (s left c : ℕ) → Counts v s left c
 filled-counts v f s left c i l = rw f
 
--- and where so many bytes are left
+-- and where so many bits are left
 pub whole-counts : (v : Layout) (s left c : ℕ) → c * s ≤ left → Counts v s left c
 whole-counts v s left c h i l = go (v .filled)
   where
@@ -326,12 +326,12 @@ whole-counts v s left c h i l = go (v .filled)
     go false = omega (arith, suc-mul i s, mul-le-mul-right s l, h)
 
 joined-chained : (v : Layout) (key s left : ℕ) (m : Mark) (fs : List ℕ) → Counts v s left (length fs)
-    → joinedPages v key s left m fs .fingerprint ≡ chained key (8 * s) (m .fingerprint) fs
+    → joinedPages v key s left m fs .fingerprint ≡ chained key s (m .fingerprint) fs
 unfolding joinedPages joined chained
 joined-chained v key s left m [] h = refl
 joined-chained v key s left m (f ∷ fs) h =
     joined-chained v key s (left - s) (joined key m (record { fingerprint = f; length = pageLength v s left })) fs next
-    ∙ ap (λ (n : ℕ). chained key (8 * s) (rem key (m .fingerprint * 2 ^ (8 * n) ⊕ f ⊕ 2 ^ (8 * n))) fs)
+    ∙ ap (λ (n : ℕ). chained key s (rem key (m .fingerprint * 2 ^ n ⊕ f ⊕ 2 ^ n)) fs)
     (ap (pageLength v s) (sym (rw (zero-mul s) (sub-zero left))) ∙ h 0 (omega arith))
   where
     next : Counts v s (left - s) (length fs)
@@ -350,22 +350,22 @@ module _ (p : Modulus) (md : Proper p) (v : Layout) (s n : ℕ) where
   empty : markOf (polynomial p) [] .fingerprint ≡ 1
   empty = ap (λ (m : Mark). m .fingerprint) (empty-mark (polynomial p) (of-degree-one (p .degree) (p .low) (md .0) (md .2)))
 
-  -- pages that count s bytes each
+  -- pages that count s bits each
   run : (fs : List ℕ) → Counts v s n (length fs)
-      → chained (polynomial p) (8 * s) 1 fs ≡ joinedPages v (polynomial p) s n (markOf (polynomial p) []) fs .fingerprint
-  run fs h = ap (λ (z : ℕ). chained (polynomial p) (8 * s) z fs) (sym empty) ∙ sym (joined-chained v (polynomial p) s n (markOf (polynomial p) []) fs h)
+      → chained (polynomial p) s 1 fs ≡ joinedPages v (polynomial p) s n (markOf (polynomial p) []) fs .fingerprint
+  run fs h = ap (λ (z : ℕ). chained (polynomial p) s z fs) (sym empty) ∙ sym (joined-chained v (polynomial p) s n (markOf (polynomial p) []) fs h)
 
   -- and a last one, shorter than the others
-  last-run : v .filled ≡ false → (fs : List ℕ) (x g y left : ℕ) → length fs * s + left ≡ n → left < s → x ≡ chained (polynomial p) (8 * s) 1 fs
-      → g < 2 ^ p .degree → y ≡ rem (polynomial p) (x % 2 ^ p .degree * 2 ^ (8 * left) ⊕ g % 2 ^ p .degree ⊕ 2 ^ (8 * left))
+  last-run : v .filled ≡ false → (fs : List ℕ) (x g y left : ℕ) → length fs * s + left ≡ n → left < s → x ≡ chained (polynomial p) s 1 fs
+      → g < 2 ^ p .degree → y ≡ rem (polynomial p) (x % 2 ^ p .degree * 2 ^ left ⊕ g % 2 ^ p .degree ⊕ 2 ^ left)
       → y ≡ joinedPages v (polynomial p) s n (markOf (polynomial p) []) (fs ++ g ∷ []) .fingerprint
   unfolding joinedPages joined
   last-run f fs x g y left e short ex lg ey =
       let whole = joinedPages v (polynomial p) s n (markOf (polynomial p) []) fs in
       let counts : pageLength v s (n - length fs * s) ≡ left = rw f (omega arith) in
       ey
-      ∙ rw (mod-eq-of-lt (chain-lt p md (8 * s) x fs ex), mod-eq-of-lt lg)
-      (ap₂ (λ (z m : ℕ). rem (polynomial p) (z * 2 ^ (8 * m) ⊕ g ⊕ 2 ^ (8 * m))) (ex ∙ run fs (whole-counts v s n (length fs) (omega arith))) (sym counts))
+      ∙ rw (mod-eq-of-lt (chain-lt p md s x fs ex), mod-eq-of-lt lg)
+      (ap₂ (λ (z m : ℕ). rem (polynomial p) (z * 2 ^ m ⊕ g ⊕ 2 ^ m)) (ex ∙ run fs (whole-counts v s n (length fs) (omega arith))) (sym counts))
       ∙ ap (λ (m : Mark). m .fingerprint) (sym (joined-append v (polynomial p) s n (markOf (polynomial p) []) fs (g ∷ [])))
 
 -- ---- the same of what the code has

@@ -36,17 +36,17 @@ pub record LanesJoined (words : List ℕ) (place q : ℕ) (l : List ℕ) (r : La
   pub d : r .d ≡ looping words 0 (numbersAt (place + 8 * q + 8 * q + 8 * q) 8 q l)
   pub bits : BitsOf (numbersAt place 8 (4 * q) l) (r .bits)
 
--- marks of pages of s bytes joined under a key of degree k. Where a field is not below 2^k, the mark is left free.
+-- marks of pages of s bits joined under a key of degree k. Where a field is not below 2^k, the mark is left free.
 pub record RunJoined (key k s : ℕ) (fields : List ℕ) (r : Joined) : Type 0 where
-  pub mark : someUnreduced k fields ≡ false → r .mark ≡ chained key (8 * s) 1 fields
+  pub mark : someUnreduced k fields ≡ false → r .mark ≡ chained key s 1 fields
   pub bits : BitsOf fields (r .bits)
 
--- one mark more, of a page of n bytes. The numbers may be unreduced: their low bits count.
+-- one mark more, of a page of n bits. The numbers may be unreduced: their low bits count.
 pub record LastJoined (key k : ℕ) (x : Joined) (last n : ℕ) (r : Joined) : Type 0 where
-  pub mark : r .mark ≡ rem key (x .mark % 2 ^ k * 2 ^ (8 * n) ⊕ last % 2 ^ k ⊕ 2 ^ (8 * n))
+  pub mark : r .mark ≡ rem key (x .mark % 2 ^ k * 2 ^ n ⊕ last % 2 ^ k ⊕ 2 ^ n)
   pub bits : r .bits ≡ bitOr (x .bits) last
 
--- the page marks of a sheet joined, by its version, for a file of n bytes in pages of s
+-- the page marks of a sheet joined, by its version, for a file of n bits in pages of s bits
 pub record PagesJoined (v : Layout) (key k s n : ℕ) (fields : List ℕ) (r : Joined) : Type 0 where
   pub mark : someUnreduced k fields ≡ false → r .mark ≡ joinedPages v key s n (markOf key []) fields .fingerprint
   pub bits : BitsOf fields (r .bits)

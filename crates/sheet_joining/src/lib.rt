@@ -7,7 +7,8 @@ ghost use mathlib.Core.List.{_∷_};
 ghost use Prim.Native.Nat.{_+_, _*_, _≤_, _<_, _^_};
 ghost use lib.ListN.{length};
 ghost use Rattle.gf2.specs.Moduli.{polynomial, Proper};
-ghost use Rattle.sheets.specs.Layout.{numbersAt, layoutOf, pageCount};
+ghost use Rattle.refusals.specs.Refusals.{longest};
+ghost use Rattle.sheets.specs.Layout.{numbersAt, layoutOf, pagesFor};
 ghost use Rattle.sheet_joining.specs.Joining.{looping, BitsOf, LanesJoined, RunJoined, LastJoined, PagesJoined};
 
 // Marks joined, and the bits that stand in any of their fields: all fields are below 2^k exactly where these bits are.
@@ -78,7 +79,7 @@ fn join_lanes(shift: &[u64], fields: &[u8], q: u64) -> Lanes
 // field that is not below 2^k shows in the bits. The mark then means nothing: a lane may reach 2^k too, and the products take its low bits.
 fn join_run(fields: &[u8], p: Modulus, size: u64, n: u64) -> Joined
     requires { ⌜ Proper p × (p .degree < 64) × (size ≤ 4096) × (n < 2 ^ 29) × (8 * n ≤ length (now fields)) ⌝ }
-    ensures { λ r. ⌜ RunJoined (polynomial p) (p .degree) size (numbersAt 0 8 n (now (fields .entry))) r ⌝ }
+    ensures { λ r. ⌜ RunJoined (polynomial p) (p .degree) (8 * size) (numbersAt 0 8 n (now (fields .entry))) r ⌝ }
 {
     let mut shift = [0u64; 2048];
     shifts::fill(&mut shift, p, size);
@@ -96,9 +97,9 @@ fn join_run(fields: &[u8], p: Modulus, size: u64, n: u64) -> Joined
     join_lane(&shift, fields, from, n - 4 * q, abcd, x.bits)
 }
 
-// The mark of a page of n bytes joined behind others. A field that is not below 2^k shows in the bits.
+// The mark of a page of n bits joined behind others. A field that is not below 2^k shows in the bits.
 fn join_last(p: Modulus, x: Joined, last: u64, n: u64) -> Joined
-    requires { ⌜ Proper p × (p .degree < 64) × (n < 2 ^ 32) ⌝ }
+    requires { ⌜ Proper p × (p .degree < 64) ⌝ }
     ensures { λ r. ⌜ LastJoined (polynomial p) (p .degree) x last n r ⌝ }
 {
     let f = gf2::low_bits(x.mark, p.degree);
@@ -109,18 +110,19 @@ fn join_last(p: Modulus, x: Joined, last: u64, n: u64) -> Joined
     }
 }
 
-// The page marks of a sheet joined, for a file of n bytes: the whole pages, then the last page by its own length, or as one page more where the
+// The page marks of a sheet joined, for a file of n bits: the whole pages, then the last page by its own length, or as one page more where the
 // version fills it up.
 pub fn pages_joined(fields: &[u8], p: Modulus, size: u64, n: u64, version: u64) -> Joined
-    requires { ⌜ Proper p × (p .degree < 64) × (16 ≤ size) × (size ≤ 4096) × (n < 2 ^ 32) × (8 * pageCount size n ≤ length (now fields)) ⌝ }
-    ensures { λ r. ⌜ PagesJoined (layoutOf version) (polynomial p) (p .degree) size n (numbersAt 0 8 (pageCount size n) (now (fields .entry))) r ⌝ }
+    requires { ⌜ Proper p × (p .degree < 64) × (16 ≤ size) × (size ≤ 4096) × (n ≤ longest) × (8 * pagesFor size n ≤ length (now fields)) ⌝ }
+    ensures { λ r. ⌜ PagesJoined (layoutOf version) (polynomial p) (p .degree) (8 * size) n (numbersAt 0 8 (pagesFor size n) (now (fields .entry))) r ⌝ }
 {
-    let whole = n / size;
+    let page = 8 * size;
+    let whole = n / page;
     if layout::fills(version) {
-        return join_run(fields, p, size, fields::page_count(size, n));
+        return join_run(fields, p, size, fields::pages_for(size, n));
     }
     let x = join_run(fields, p, size, whole);
-    let left = n - whole * size;
+    let left = n - whole * page;
     if left == 0 {
         return x;
     }

@@ -21,7 +21,7 @@ use Rattle.keys.specs.Answers.{tested}
 use Rattle.keys.proofs.Laws.{refused}
 use Rattle.sheets.specs.declared.Sheet.{Sheet}
 use Rattle.sheets.specs.declared.layout.Head.{Head}
-use Rattle.sheets.specs.Layout.{numberAt, versionIn, Layout, layouts, layoutOf, pagePlace, sheetLength, pageCount, Contents, fieldIn, pagesIn, contentsIn}
+use Rattle.sheets.specs.Layout.{numberAt, versionIn, Layout, layouts, layoutOf, pagePlace, sheetLength, pagesFor, Contents, fieldIn, pagesIn, contentsIn}
 use Rattle.sheets.specs.Sheets.{someUnreduced, pagesJoined, fileFilled, pageSizeTest, headWrong, bodyWrong, readSheet}
 use Rattle.sheets.specs.Answers.{numbersOf}
 use Rattle.sheets.specs.Parts.{HeadOf, readBody}
@@ -33,7 +33,7 @@ use Rattle.sheets.proofs.Sound.{neither}
 -- ---- reading
 
 -- the numbers of a sheet, as the code reads them
-pub numbers-are : (sheet : List ℕ) (head : Head) (c f : ℕ) → HeadOf sheet head → c ≡ pageCount (head .size) (head .length)
+pub numbers-are : (sheet : List ℕ) (head : Head) (c f : ℕ) → HeadOf sheet head → c ≡ pagesFor (head .size) (head .length)
     → f ≡ numberAt (pagePlace (layoutOf (head .version)) c) 8 sheet
     → numbersOf (contentsIn sheet)
     ≡ record { version = head .version; key = head .key; length = head .length; size = head .size; pages = c; fingerprint = f }

@@ -15,12 +15,12 @@ use Rattle.acceptance.specs.Opened.{Opened}
 use Rattle.acceptance.proofs.Opened.{opened-degree, opened-whole}
 use Rattle.files.specs.Files.{markOf}
 use Rattle.sheets.specs.declared.layout.Head.{Head}
-use Rattle.sheets.specs.Layout.{numberAt, numbersAt, Layout, layoutOf, pagePlace, sheetLength, pageCount, contentsIn}
+use Rattle.sheets.specs.Layout.{numberAt, numbersAt, Layout, layoutOf, pagePlace, sheetLength, pageCount, pagesFor, contentsIn}
 use Rattle.sheets.specs.Sheets.{bodyWrong, someUnreduced, joinedPages}
 use Rattle.sheets.specs.Parts.{zerosBehind, HeadOf, fingerprintsPart}
 use Rattle.sheets.proofs.Numbers.{length-numbersAt, numbers-of-part}
 use Rattle.sheets.proofs.Versions.{eight-wide}
-use Rattle.sheets.proofs.Pages.{zeros-are}
+use Rattle.sheets.proofs.Pages.{pages-count, zeros-are}
 use Rattle.sheet_joining.specs.Joining.{BitsOf}
 use Rattle.sheet_joining.proofs.Joining.{bits-last}
 
@@ -29,13 +29,16 @@ module _ (sheet : List ℕ) (head : Head) (h : HeadOf sheet head) (some : 16 ≤
   v = layoutOf (head .version)
 
   abbrev count : ℕ
-  count = pageCount (head .size) (head .length)
+  count = pagesFor (head .size) (head .length)
 
   abbrev pages : List ℕ
   pages = numbersAt 0 8 count (fingerprintsPart (head .version) sheet)
 
   abbrev file : ℕ
   file = numberAt (pagePlace v count) 8 sheet
+
+  as-bits : count ≡ pageCount (8 * head .size) (head .length)
+  as-bits = pages-count (head .size) (head .length) (omega arith)
 
   -- fingerprints w bytes wide
   abbrev wide : ℕ → Type 0
@@ -44,28 +47,28 @@ module _ (sheet : List ℕ) (head : Head) (h : HeadOf sheet head) (some : 16 ≤
       let f = numberAt (pagePlace v count) w sheet in
       bodyWrong (length sheet) (contentsIn sheet)
       ≡ (not (eqb (length sheet) (sheetLength v count)) || someUnreduced (degree (head .key)) (fs ++ f ∷ [])
-      || not (eqb (joinedPages v (head .key) (head .size) (head .length) (markOf (head .key) []) fs .fingerprint)
-      (rem (head .key) (f * 2 ^ (8 * zerosBehind v (head .size) (head .length))))))
+      || not (eqb (joinedPages v (head .key) (8 * head .size) (head .length) (markOf (head .key) []) fs .fingerprint)
+      (rem (head .key) (f * 2 ^ zerosBehind v (8 * head .size) (head .length)))))
 
   by-fields : wide (v .fingerprintWidth)
   unfolding contentsIn
   by-fields =
       let fs = numbersAt (pagePlace v 0) (v .fingerprintWidth) count sheet in
       let many = length-numbersAt (pagePlace v 0) (v .fingerprintWidth) count sheet in
-      rw (← (h .key), ← (h .length), ← (h .size), ← (h .version), zeros-are v (head .key) (head .size) (head .length) fs (omega arith) many, many)
+      rw (← (h .key), ← (h .length), ← (h .size), ← (h .version), zeros-are v (head .key) (8 * head .size) (head .length) fs (omega arith) (many ∙ as-bits), many)
 
   pub body-is : bodyWrong (length sheet) (contentsIn sheet)
-      ≡ (not (eqb (length sheet) (sheetLength (layoutOf (head .version)) (pageCount (head .size) (head .length))))
+      ≡ (not (eqb (length sheet) (sheetLength (layoutOf (head .version)) (pagesFor (head .size) (head .length))))
       || someUnreduced (degree (head .key)) (pages ++ file ∷ [])
-      || not (eqb (joinedPages v (head .key) (head .size) (head .length) (markOf (head .key) []) pages .fingerprint)
-      (rem (head .key) (file * 2 ^ (8 * zerosBehind v (head .size) (head .length))))))
+      || not (eqb (joinedPages v (head .key) (8 * head .size) (head .length) (markOf (head .key) []) pages .fingerprint)
+      (rem (head .key) (file * 2 ^ zerosBehind v (8 * head .size) (head .length)))))
   body-is = rw (numbers-of-part (pagePlace v 0) 8 count sheet) (subst wide (eight-wide (head .version)) by-fields)
 
   -- the total and the fields are right: the joining decides
-  pub body-joined : (m x : ℕ) → length sheet ≡ sheetLength (layoutOf (head .version)) (pageCount (head .size) (head .length))
+  pub body-joined : (m x : ℕ) → length sheet ≡ sheetLength (layoutOf (head .version)) (pagesFor (head .size) (head .length))
       → someUnreduced (degree (head .key)) (pages ++ file ∷ []) ≡ false
-      → m ≡ joinedPages v (head .key) (head .size) (head .length) (markOf (head .key) []) pages .fingerprint
-      → x ≡ rem (head .key) (file * 2 ^ (8 * zerosBehind v (head .size) (head .length)))
+      → m ≡ joinedPages v (head .key) (8 * head .size) (head .length) (markOf (head .key) []) pages .fingerprint
+      → x ≡ rem (head .key) (file * 2 ^ zerosBehind v (8 * head .size) (head .length))
       → eqb m x ≡ not (bodyWrong (length sheet) (contentsIn sheet))
   body-joined m x l t em ex = rw (body-is, eq-eqb (length sheet) (sheetLength v count) l, t, ← em, ← ex) (sym (Bool·not-not (eqb m x)))
 
@@ -73,8 +76,8 @@ module _ (sheet : List ℕ) (head : Head) (h : HeadOf sheet head) (some : 16 ≤
   module _ (p : Modulus) (o : Opened (head .key) p) where
     -- the bits of all fields, the file's among them
     pub bits-are : (bits f : ℕ) (part : List ℕ) → part ≡ fingerprintsPart (head .version) sheet
-        → f ≡ numberAt (pagePlace (layoutOf (head .version)) (pageCount (head .size) (head .length))) 8 sheet
-        → BitsOf (numbersAt 0 8 (pageCount (head .size) (head .length)) part) bits
+        → f ≡ numberAt (pagePlace (layoutOf (head .version)) (pagesFor (head .size) (head .length))) 8 sheet
+        → BitsOf (numbersAt 0 8 (pagesFor (head .size) (head .length)) part) bits
         → leb (2 ^ p .degree) (bitOr bits f) ≡ someUnreduced (degree (head .key)) (pages ++ file ∷ [])
     bits-are bits f part ep ef b =
         bits-last (numbersAt 0 8 count part) bits f b (p .degree)
@@ -82,18 +85,18 @@ module _ (sheet : List ℕ) (head : Head) (h : HeadOf sheet head) (some : 16 ≤
 
     pub joined-are : (mark : ℕ) (part : List ℕ) → part ≡ fingerprintsPart (head .version) sheet
         → mark
-        ≡ joinedPages (layoutOf (head .version)) (polynomial p) (head .size) (head .length) (markOf (polynomial p) [])
-        (numbersAt 0 8 (pageCount (head .size) (head .length)) part)
+        ≡ joinedPages (layoutOf (head .version)) (polynomial p) (8 * head .size) (head .length) (markOf (polynomial p) [])
+        (numbersAt 0 8 (pagesFor (head .size) (head .length)) part)
         .fingerprint
-        → mark ≡ joinedPages v (head .key) (head .size) (head .length) (markOf (head .key) []) pages .fingerprint
+        → mark ≡ joinedPages v (head .key) (8 * head .size) (head .length) (markOf (head .key) []) pages .fingerprint
     joined-are mark part ep e =
         e
-        ∙ ap₂ (λ (m : ℕ) (q : List ℕ). joinedPages v m (head .size) (head .length) (markOf m []) (numbersAt 0 8 count q) .fingerprint) (opened-whole o) ep
+        ∙ ap₂ (λ (m : ℕ) (q : List ℕ). joinedPages v m (8 * head .size) (head .length) (markOf m []) (numbersAt 0 8 count q) .fingerprint) (opened-whole o) ep
 
-    pub filled-is : (f x z : ℕ) → f ≡ numberAt (pagePlace (layoutOf (head .version)) (pageCount (head .size) (head .length))) 8 sheet
-        → z ≡ zerosBehind (layoutOf (head .version)) (head .size) (head .length) → x ≡ rem (polynomial p) (f * 2 ^ (8 * z))
-        → x ≡ rem (head .key) (file * 2 ^ (8 * zerosBehind v (head .size) (head .length)))
+    pub filled-is : (f x z : ℕ) → f ≡ numberAt (pagePlace (layoutOf (head .version)) (pagesFor (head .size) (head .length))) 8 sheet
+        → z ≡ zerosBehind (layoutOf (head .version)) (8 * head .size) (head .length) → x ≡ rem (polynomial p) (f * 2 ^ z)
+        → x ≡ rem (head .key) (file * 2 ^ zerosBehind v (8 * head .size) (head .length))
     filled-is f x z ef ez ex =
         ex
-        ∙ ap₂ (λ (a b : ℕ). rem (polynomial p) (a * 2 ^ (8 * b))) ef ez
-        ∙ ap (λ (m : ℕ). rem m (file * 2 ^ (8 * zerosBehind v (head .size) (head .length)))) (opened-whole o)
+        ∙ ap₂ (λ (a b : ℕ). rem (polynomial p) (a * 2 ^ b)) ef ez
+        ∙ ap (λ (m : ℕ). rem m (file * 2 ^ zerosBehind v (8 * head .size) (head .length))) (opened-whole o)

@@ -33,7 +33,7 @@ fn read_under(p: Modulus, sheet: &[u8], head: Head) -> Reading
     if !wellformed::body_right(sheet, head, p) {
         return Reading::Refused(Refusal::SheetMalformed);
     }
-    let count = fields::page_count(head.size, head.length);
+    let count = fields::pages_for(head.size, head.length);
     Reading::Sheet(Sheet {
         version: head.version,
         key: head.key,
@@ -44,7 +44,7 @@ fn read_under(p: Modulus, sheet: &[u8], head: Head) -> Reading
     })
 }
 
-// Reads a sheet. Numbers 14 (size, letters, version), 1, 2, 12, 14 (total, fingerprints, joining).
+// Reads a sheet. Numbers 14 (size, letters, version, least size, limit of lengths), 1, 2, 12, 14 (total, fingerprints, joining).
 pub fn read(sheet: &[u8]) -> Reading
     ensures { λ r. ⌜ reading r ≡ sheetRead (readSheet (now (sheet .entry))) ⌝ }
 {
@@ -80,7 +80,7 @@ fn copy_fields(lent: &mut [u64], fields: &[u8], n: usize)
 }
 
 // The page fingerprints of a sheet into lent places: the first ones, as far as the places reach.
-// Numbers 14 (size, letters, version), 1, 2, 12, 14 (total, fingerprints, joining).
+// Numbers 14, 1, 2, 12, 14, as above.
 pub fn read_pages(sheet: &[u8], lent: &mut [u64]) -> Reply
     ensures { λ r. ⌜ reply (now (lent .exit)) r ≡ readPages (now (sheet .entry)) (now (lent .entry)) ⌝ }
 {

@@ -1,8 +1,9 @@
 // Whether what stands behind a sheet's head is right: number 14, last. For this crate: what is required, every caller proves.
 ghost use mathlib.Core.Path.{_≡_};
 ghost use mathlib.Core.Bool.{not};
-ghost use Prim.Native.Nat.{_≤_, _<_, _^_};
+ghost use Prim.Native.Nat.{_*_, _≤_};
 ghost use lib.ListN.{length};
+ghost use Rattle.refusals.specs.Refusals.{longest};
 ghost use Rattle.acceptance.specs.Opened.{Opened};
 ghost use Rattle.sheets.specs.Layout.{layoutOf, contentsIn};
 ghost use Rattle.sheets.specs.Sheets.{bodyWrong};
@@ -12,13 +13,13 @@ use sheets::fields;
 use sheets::layout;
 use sheets::layout::Head;
 
-// How many zero bytes the pages of a file of n bytes have behind it.
+// How many zeros the pages of a file of n bits have behind it.
 fn zeros_behind(version: u64, size: u64, n: u64) -> u64
-    requires { ⌜ (16 ≤ size) × (size ≤ 4096) × (n < 2 ^ 32) ⌝ }
-    ensures { λ r. ⌜ (r ≡ zerosBehind (layoutOf version) size n) × (r < size) ⌝ }
+    requires { ⌜ (16 ≤ size) × (size ≤ 4096) × (n ≤ longest) ⌝ }
+    ensures { λ r. ⌜ r ≡ zerosBehind (layoutOf version) (8 * size) n ⌝ }
 {
     if layout::fills(version) {
-        return fields::page_count(size, n) * size - n;
+        return fields::pages_for(size, n) * (8 * size) - n;
     }
     0
 }
@@ -31,7 +32,7 @@ pub fn body_right(sheet: &[u8], head: Head, p: Modulus) -> bool
     let version = head.version;
     let size = head.size;
     let n = head.length;
-    let count = fields::page_count(size, n);
+    let count = fields::pages_for(size, n);
     if sheet.len() as u64 != layout::sheet_length(version, count) {
         return false;
     }

@@ -12,7 +12,7 @@ use Rattle.gf2.specs.Moduli.{polynomial, Proper}
 use Rattle.gf2.specs.declared.Modulus.{Modulus}
 use Rattle.lists.proofs.Lists.{all-map}
 use Rattle.gf2.proofs.Monics.{monic-pos, monic-degree}
-use Rattle.sheets.specs.Layout.{bytesOf, fieldsOf, numbersAt, Layout, layoutOf, fieldWidths, pagePlace, pageCount, sheetLength}
+use Rattle.sheets.specs.Layout.{bytesOf, fieldsOf, numbersAt, Layout, layoutOf, fieldWidths, pagePlace, sheetLength}
 use Rattle.sheets.specs.Layout.{Contents, headOf, bytesIn, sheetBytes}
 use Rattle.sheets.specs.Sheets.{pageFingerprints}
 use Rattle.sheets.proofs.Numbers.{length-bytesOf, length-fieldsOf, sets-front, numbers-stored}
@@ -49,13 +49,11 @@ sheet-stores x c b b' part ec h e ep =
     ∙ ap₂ (λ (u : List ℕ) (n : ℕ). u ++ drop n b) (sym (append-assoc head pages last)) all
     ∙ ap (λ (w : ℕ). (head ++ fieldsOf w (x .pages) ++ bytesOf w (x .fingerprint)) ++ drop (sheetLength v c) b) (sym (eight-wide (x .version)))
 
--- the fields of the pages read back, after they were stored
-pub pages-stored : (p : Modulus) → Proper p → (v : Layout) (s : ℕ) (file b : List ℕ) → 8 * pageCount s (length file) ≤ length b
-    → numbersAt 0 8 (pageCount s (length file)) (sets b 0 (fieldsOf 8 (pageFingerprints v (polynomial p) s (pageCount s (length file)) file)))
-    ≡ pageFingerprints v (polynomial p) s (pageCount s (length file)) file
-pages-stored p m v s file b h =
+-- the fields of c pages of s bits read back, after they were stored
+pub pages-stored : (p : Modulus) → Proper p → (v : Layout) (s n : ℕ) (file b : List ℕ) → 8 * n ≤ length b
+    → numbersAt 0 8 n (sets b 0 (fieldsOf 8 (pageFingerprints v (polynomial p) s n file))) ≡ pageFingerprints v (polynomial p) s n file
+pages-stored p m v s n file b h =
     let key = polynomial p in
-    let n = pageCount s (length file) in
     let us = pageFingerprints v key s n file in
     let word : 2 ^ degree key ≤ 2 ^ 64 = rw (monic-degree (p .degree) (p .low) (m .2)) (pow-mono {i = p .degree} {j = 64} (m .1)) in
     let small = all-map (λ f (l : f < 2 ^ degree key). lt-of-lt-of-le l word) us (fingerprints-lt (monic-pos (p .degree) (p .low) (m .2)) v n s file) in

@@ -8,6 +8,7 @@ use sheets::fields;
 use sheets::layout;
 use sheets::layout::Head;
 ghost use mathlib.Core.Path.{_≡_};
+ghost use mathlib.Core.Bool.{false};
 ghost use mathlib.Core.List.{_++_};
 ghost use Prim.Native.Nat.{_+_, _*_, _≤_, _<_, _^_};
 ghost use lib.ListN.{length, drop};
@@ -15,60 +16,63 @@ ghost use lib.Seq.{sets};
 ghost use Rattle.gf2.specs.Moduli.{polynomial, Proper};
 ghost use Rattle.refusals.specs.Answers.{reply};
 ghost use Rattle.acceptance.specs.Opened.{Opened};
-ghost use Rattle.files.specs.Files.{fingerprint};
+ghost use Rattle.files.specs.Files.{fingerprint, asPart, partBits, misused};
 ghost use Rattle.sheets.specs.Layout.{bytesOf, fieldsOf, numbersAt, newest, layoutOf, sheetLength, pageCount, sheetBytes};
 ghost use Rattle.sheets.specs.Sheets.{pageFingerprints, contentsOf, lengthFor, writeSheet};
 ghost use Rattle.sheets.specs.Answers.{lengthAnswer};
 
 // The file's fingerprint: those of its pages, which stand in the fields, joined, the last with its own length.
-fn file_mark(fields: &[u8], p: Modulus, size: u64, file: &[u8]) -> u64
+fn file_mark(fields: &[u8], p: Modulus, size: u64, file: &[u8], used: u32) -> u64
     requires { ⌜ Proper p × (p .degree < 64) × (16 ≤ size) × (size ≤ 4096) × (length (now file) < 2 ^ 32)
         × (8 * pageCount size (length (now file)) ≤ length (now fields))
         × (numbersAt 0 8 (pageCount size (length (now file))) (now fields)
-        ≡ pageFingerprints (layoutOf (newest .version)) (polynomial p) size (pageCount size (length (now file))) (now file)) ⌝ }
-    ensures { λ r. ⌜ r ≡ fingerprint (polynomial p) (now (file .entry)) ⌝ }
+        ≡ pageFingerprints (layoutOf (newest .version)) (polynomial p) (8 * size) (pageCount size (length (now file))) (partBits (asPart (now file) used))) ⌝ }
+    ensures { λ r. ⌜ r ≡ fingerprint (polynomial p) (partBits (asPart (now (file .entry)) used)) ⌝ }
 {
-    sheet_joining::pages_joined(fields, p, size, file.len() as u64, layout::NEWEST).mark
+    let n = files::part_length(file, used);
+    sheet_joining::pages_joined(fields, p, size, n, layout::NEWEST).mark
 }
 
 // Writes all fingerprints: the pages', and the file's behind them.
-fn put_fingerprints(fields: &mut [u8], p: Modulus, size: u64, file: &[u8])
+fn put_fingerprints(fields: &mut [u8], p: Modulus, size: u64, file: &[u8], used: u32)
     requires { ⌜ Proper p × (8 ≤ p .degree) × (p .degree < 64) × (16 ≤ size) × (size ≤ 4096) × (length (now file) < 2 ^ 32)
-        × (8 * pageCount size (length (now file)) + 8 ≤ length (now fields)) ⌝ }
+        × (8 * pageCount size (length (now file)) + 8 ≤ length (now fields)) × (misused (asPart (now file) used) ≡ false) ⌝ }
     ensures { λ r. ⌜ now (fields .exit) ≡ sets (now (fields .entry)) 0
-        (fieldsOf 8 (pageFingerprints (layoutOf (newest .version)) (polynomial p) size (pageCount size (length (now (file .entry)))) (now (file .entry)))
-        ++ bytesOf 8 (fingerprint (polynomial p) (now (file .entry)))) ⌝ }
+        (fieldsOf 8 (pageFingerprints (layoutOf (newest .version)) (polynomial p) (8 * size) (pageCount size (length (now (file .entry))))
+        (partBits (asPart (now (file .entry)) used)))
+        ++ bytesOf 8 (fingerprint (polynomial p) (partBits (asPart (now (file .entry)) used)))) ⌝ }
 {
     let none = [0u8; 0];
-    sheet_pass::over_pages(fields, &none, p, size as usize, layout::NEWEST, file);
-    let f = file_mark(fields, p, size, file);
+    sheet_pass::over_pages(fields, &none, p, size as usize, layout::NEWEST, file, used);
+    let f = file_mark(fields, p, size, file, used);
     let count = fields::page_count(size, file.len() as u64);
     fields::put(fields, (8 * count) as usize, 8, f);
 }
 
 // Writes the sheet; the buffer's further bytes keep their value.
-fn put_sheet(buffer: &mut [u8], key: u64, p: Modulus, size: u64, file: &[u8])
+fn put_sheet(buffer: &mut [u8], key: u64, p: Modulus, size: u64, file: &[u8], used: u32)
     requires { ⌜ Opened key p × (16 ≤ size) × (size ≤ 4096) × (length (now file) < 2 ^ 32)
-        × (sheetLength (layoutOf (newest .version)) (pageCount size (length (now file))) ≤ length (now buffer)) ⌝ }
-    ensures { λ r. ⌜ now (buffer .exit) ≡ sheetBytes (contentsOf (newest .version) key size (now (file .entry)))
+        × (sheetLength (layoutOf (newest .version)) (pageCount size (length (now file))) ≤ length (now buffer))
+        × (misused (asPart (now file) used) ≡ false) ⌝ }
+    ensures { λ r. ⌜ now (buffer .exit) ≡ sheetBytes (contentsOf (newest .version) key size (partBits (asPart (now (file .entry)) used)))
         ++ drop (sheetLength (layoutOf (newest .version)) (pageCount size (length (now (file .entry))))) (now (buffer .entry)) ⌝ }
 {
     let head = Head {
         version: layout::NEWEST,
         key: key,
-        length: file.len() as u64,
+        length: files::part_length(file, used),
         size: size,
     };
     layout::put_head(buffer, head);
     let from = layout::pages_place(layout::NEWEST);
-    put_fingerprints(&mut buffer[from..], p, size, file);
+    put_fingerprints(&mut buffer[from..], p, size, file, used);
 }
 
-// The bytes of the sheet of a file of n bytes, with pages of the given size. Numbers 7, 12.
+// The bytes of the sheet of a file of n bytes, an unfinished one counted, with pages of the given size. Numbers 7, 12.
 pub fn length(n: u64, size: u64) -> SheetLength
     ensures { λ r. ⌜ lengthAnswer r ≡ lengthFor n size ⌝ }
 {
-    if refusals::LONGEST < n {
+    if !refusals::bytes_fit(n) {
         return SheetLength::Refused(Refusal::TooLong);
     }
     if !fields::size_right(size) {
@@ -77,10 +81,10 @@ pub fn length(n: u64, size: u64) -> SheetLength
     SheetLength::Bytes(layout::sheet_length(layout::NEWEST, fields::page_count(size, n)))
 }
 
-// Writes the sheet of a file under an opened key. Numbers 7, 12, 13.
-fn write_under(key: u64, p: Modulus, size: u64, file: &[u8], buffer: &mut [u8]) -> Reply
+// Writes the sheet of a file under an opened key. Numbers 7, 12, 13, 19.
+fn write_under(key: u64, p: Modulus, size: u64, file: &[u8], used: u32, buffer: &mut [u8]) -> Reply
     requires { ⌜ Opened key p ⌝ }
-    ensures { λ r. ⌜ reply (now (buffer .exit)) r ≡ writeSheet key size (now (file .entry)) (now (buffer .entry)) ⌝ }
+    ensures { λ r. ⌜ reply (now (buffer .exit)) r ≡ writeSheet key size (asPart (now (file .entry)) used) (now (buffer .entry)) ⌝ }
 {
     match length(file.len() as u64, size) {
         SheetLength::Refused(r) => Reply::Refused(r),
@@ -88,18 +92,21 @@ fn write_under(key: u64, p: Modulus, size: u64, file: &[u8], buffer: &mut [u8]) 
             if (buffer.len() as u64) < needed {
                 return Reply::Refused(Refusal::BufferShort);
             }
-            put_sheet(buffer, key, p, size, file);
+            if files::is_misused(file, used) {
+                return Reply::Refused(Refusal::FinalByte);
+            }
+            put_sheet(buffer, key, p, size, file, used);
             Reply::Done
         }
     }
 }
 
-// Writes the sheet of a file. Numbers 1, 2, 7, 12, 13.
-pub fn write(key: u64, size: u64, file: &[u8], buffer: &mut [u8]) -> Reply
-    ensures { λ r. ⌜ reply (now (buffer .exit)) r ≡ writeSheet key size (now (file .entry)) (now (buffer .entry)) ⌝ }
+// Writes the sheet of a file. Numbers 1, 2, 7, 12, 13, 19.
+pub fn write(key: u64, size: u64, file: &[u8], used: u32, buffer: &mut [u8]) -> Reply
+    ensures { λ r. ⌜ reply (now (buffer .exit)) r ≡ writeSheet key size (asPart (now (file .entry)) used) (now (buffer .entry)) ⌝ }
 {
     match keys::test(key) {
         Tested::Refused(r) => Reply::Refused(r),
-        Tested::Accepted(p) => write_under(key, p, size, file, buffer),
+        Tested::Accepted(p) => write_under(key, p, size, file, used, buffer),
     }
 }

@@ -2,6 +2,7 @@ pub mod Numbers
 pub mod Versions
 pub mod Layouts
 pub mod Pages
+pub mod Parts
 pub mod Sound
 pub mod Changes
 pub mod Guarantee

@@ -38,10 +38,11 @@ pages-count s n h =
     let e : (n + 7) / 8 + s - 1 ≡ (n + 8 * s - 1) / 8 = omega arith in
     ap (λ (m : ℕ). m / s) e ∙ div-div-eq-div-mul (n + 8 * s - 1) 8 s
 
+pub count-few : (s n : ℕ) → 16 ≤ s → s ≤ 4096 → n < 2 ^ 32 → pageCount s n < 2 ^ 29
+count-few s n lo hi b = omega (arith, count-tight s n (omega arith), mul-le-mul-left (pageCount s n) lo)
+
 pub count-small : (s n : ℕ) → 16 ≤ s → s ≤ 4096 → n ≤ longest → pagesFor s n < 2 ^ 29
-count-small s n lo hi b =
-    let c = pageCount s ((n + 7) / 8) in
-    omega (arith, count-tight s ((n + 7) / 8) (omega arith), mul-le-mul-left c lo)
+count-small s n lo hi b = count-few s ((n + 7) / 8) lo hi (omega arith)
 
 -- ---- a page filled up
 

@@ -37,8 +37,16 @@ fn test(key: u64, words: &[u64]) {
     show(tables::test(key, words), b"right\n");
 }
 
+// A part of whole bytes.
 fn feed(key: u64, fingerprint: u64, length: u64, words: &[u64], part: &[u8]) {
-    vectors::fed_or_refused(running(key, fingerprint, length).feed_table(words, part));
+    let m = running(key, fingerprint, length);
+    vectors::fed_or_refused(m.feed_table(words, part, 8));
+}
+
+// A part with the used bits of its final byte, under 0x11B.
+fn feed_used(fingerprint: u64, length: u64, words: &[u64], part: &[u8], used: u32) {
+    let m = running(0x11B, fingerprint, length);
+    vectors::fed_or_refused(m.feed_table(words, part, used));
 }
 
 // The words of document 01's readings.
@@ -61,11 +69,26 @@ fn some_tests(words: &[u64]) {
 fn some_feeds(words: &[u64]) {
     feed(0x11B, 1, 0, words, b"AB");
     feed(0x11B, 1, 0, words, b"");
-    feed(0x11B, 0x5A, 4294967295, words, b"");
+    feed(0x11B, 0x5A, refusals::LONGEST, words, b"");
+}
+
+// 41 42, cut behind its third bit.
+fn unfinished(words: &[u64]) {
+    let rest: [u8; 2] = [0x0A, 0x10];
+    feed_used(1, 0, words, b"@", 3);
+    feed_used(0x0A, 3, words, &rest, 5);
+}
+
+// Used bits that are not 1 to 8, or not 8 without bytes, and an unused bit that is 1.
+fn misused(words: &[u64]) {
+    feed_used(1, 0, words, b"@", 0);
+    feed_used(1, 0, words, b"@", 9);
+    feed_used(1, 0, words, b"", 7);
+    feed_used(1, 0, words, b"A", 7);
 }
 
 fn some_refusals(words: &[u64]) {
-    feed(0x11B, 0x5A, 4294967295, words, b"A");
+    feed(0x11B, 0x5A, refusals::LONGEST, words, b"A");
     feed(0x11B, 0x100, 0, words, b"A");
     feed(0x11D, 1, 0, words, b"");
     feed(0xFF, 1, 0, words, b"A");
@@ -76,7 +99,7 @@ fn with_a_wrong_word(words: &mut [u64]) {
     if words.len() == 1024 {
         words[1023] = words[1023] ^ 1;
         test(0x11B, words);
-        feed(0x11B, 0x100, 4294967296, words, b"A");
+        feed(0x11B, 0x100, 34359738368, words, b"A");
     }
 }
 
@@ -85,7 +108,7 @@ fn with_a_wrong_size() {
     make(0x101, &mut words);
     make(0x11B, &mut words);
     test(0x11B, &words);
-    feed(0x11B, 0x100, 4294967296, &words, b"A");
+    feed(0x11B, 0x100, 34359738368, &words, b"A");
 }
 
 fn some_tables() {
@@ -95,6 +118,8 @@ fn some_tables() {
     some_words(&words);
     some_tests(&words);
     some_feeds(&words);
+    unfinished(&words);
+    misused(&words);
     some_refusals(&words);
     with_a_wrong_word(&mut words);
 }
@@ -109,7 +134,7 @@ fn fill(part: &mut [u8]) {
 // A part by bits, and by the table of the key.
 fn both_ways(key: u64, words: &mut [u64], part: &[u8]) {
     make(key, words);
-    vectors::fed_or_refused(running(key, 1, 0).feed(part));
+    vectors::fed_or_refused(running(key, 1, 0).feed(part, 8));
     feed(key, 1, 0, words, part);
 }
 

@@ -24,10 +24,11 @@ pub fn refused(number: u32) {
     decimal(b"refused ", number as u64);
 }
 
+// A mark: its fingerprint, and its length in bits.
 pub fn mark(m: Running) {
     hex(b"", m.fingerprint);
     decimal(b", ", m.length);
-    text(b" bytes\n");
+    text(b" bits\n");
 }
 
 // A mark, or the refusal's number with the mark that went back.

@@ -33,28 +33,28 @@ one-byte s b h = value-byte s b [] ∙ ap (λ (x : ℕ). s * 256 + x) (mod-eq-of
 
 module _ {p : ℕ} (pos : 0 < p) where
   -- the leading 1 adds the same to all bytes of one length
-  fingerprint-residue : (a : List ℕ) → fingerprint p a ≡ rem p (2 ^ (8 * length a)) ⊕ residue p a
+  fingerprint-residue : (a : List ℕ) → fingerprint p (bits a) ≡ rem p (2 ^ (8 * length a)) ⊕ residue p a
   unfolding fingerprint value residue
   fingerprint-residue a =
       ap (rem p) (value-⊕ 1 (bits a) ∙ rw (one-mul, length-bits a))
       ∙ rem-⊕ pos (2 ^ (8 * length a)) (valueFrom 0 (bits a))
 
   -- so among them it plays no part
-  pub without-one : (a b : List ℕ) → length a ≡ length b → eqb (fingerprint p a) (fingerprint p b) ≡ eqb (residue p a) (residue p b)
+  pub without-one : (a b : List ℕ) → length a ≡ length b → eqb (fingerprint p (bits a)) (fingerprint p (bits b)) ≡ eqb (residue p a) (residue p b)
   without-one a b e = go (ℕ-discrete (residue p a) (residue p b))
     where
       u : ℕ
       u = rem p (2 ^ (8 * length b))
 
-      left : fingerprint p a ≡ u ⊕ residue p a
+      left : fingerprint p (bits a) ≡ u ⊕ residue p a
       left = fingerprint-residue a ∙ ap (λ (n : ℕ). rem p (2 ^ (8 * n)) ⊕ residue p a) e
 
-      go : Dec (residue p a ≡ residue p b) → eqb (fingerprint p a) (fingerprint p b) ≡ eqb (residue p a) (residue p b)
+      go : Dec (residue p a ≡ residue p b) → eqb (fingerprint p (bits a)) (fingerprint p (bits b)) ≡ eqb (residue p a) (residue p b)
       go (yes q) =
-          eq-eqb (fingerprint p a) (fingerprint p b) (left ∙ ap (λ (x : ℕ). u ⊕ x) q ∙ sym (fingerprint-residue b))
+          eq-eqb (fingerprint p (bits a)) (fingerprint p (bits b)) (left ∙ ap (λ (x : ℕ). u ⊕ x) q ∙ sym (fingerprint-residue b))
           ∙ sym (eq-eqb (residue p a) (residue p b) q)
       go (no q) =
-          ne-eqb (fingerprint p a) (fingerprint p b) (λ f. q (⊕-cancel u (residue p a) (residue p b) (sym left ∙ f ∙ fingerprint-residue b)))
+          ne-eqb (fingerprint p (bits a)) (fingerprint p (bits b)) (λ f. q (⊕-cancel u (residue p a) (residue p b) (sym left ∙ f ∙ fingerprint-residue b)))
           ∙ sym (ne-eqb (residue p a) (residue p b) q)
 
   -- ---- bytes appended, and the next window

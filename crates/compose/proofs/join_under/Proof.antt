@@ -105,7 +105,6 @@ joined-residue-requires c κs =
       opened-proper (s .pre),
       residue-below (s .pre) (a .first .fingerprint) (first-low (c .before .before)),
       residue-below (s .pre) (a .second .fingerprint) (second-low c),
-      omega (arith, sum-within (a .first .length) (a .second .length) (short (else3→else1 c))),
     )
 
 add-t15 : tie.Need-add-t15
@@ -121,9 +120,9 @@ returns-4 c =
     let key = a .m .key in
     let x = a .first in
     let y = a .second in
-    let value : c .joined-residue .result ≡ rem key (x .fingerprint * 2 ^ (8 * y .length) ⊕ y .fingerprint ⊕ 2 ^ (8 * y .length)) =
+    let value : c .joined-residue .result ≡ rem key (x .fingerprint * 2 ^ y .length ⊕ y .fingerprint ⊕ 2 ^ y .length) =
     c .joined-residue .ensures
-    ∙ ap (λ (q : ℕ). rem q (x .fingerprint * 2 ^ (8 * y .length) ⊕ y .fingerprint ⊕ 2 ^ (8 * y .length))) (opened-whole (s .pre)) in
+    ∙ ap (λ (q : ℕ). rem q (x .fingerprint * 2 ^ y .length ⊕ y .fingerprint ⊕ 2 ^ y .length)) (opened-whole (s .pre)) in
     ap (λ (z : Mark). fedUnder key (Done z)) (mark-eq value refl)
     ∙ sym (ap (fedUnder key) (marks-passed key x y (markIn (a .m)) (joined key x y) (short (joined-residue→else1 c)) (first-low (c .before .before .before))
     (second-low (c .before))))

@@ -7,7 +7,7 @@ use Rattle.refusals.specs.Refusals.{Test}
 use Rattle.acceptance.specs.Opened.{Opened}
 use Rattle.acceptance.proofs.Opened.{opened-first}
 use Rattle.files.specs.declared.Mark.{Mark}
-use Rattle.files.specs.Files.{replaced}
+use Rattle.files.specs.Files.{Part, asPart, replaced}
 use Rattle.keys.proofs.Laws.{opened, refused}
 use Rattle.marks.specs.Answers.{markIn, fedUnder}
 use Rattle.compose.specs.Composing.{pageTests, replacePage}
@@ -22,12 +22,19 @@ test→start c = c .before .before .before
 abbrev p→start : tie.After-p → tie.Start
 p→start c = test→start (c .before .before)
 
+-- the pages
+abbrev old : tie.Start → Part
+old s = asPart (s .args .old .now) (s .args .old-used)
+
+abbrev new : tie.Start → Part
+new s = asPart (s .args .new .now) (s .args .new-used)
+
 -- the tests behind those of the key, and the value
 abbrev tests : tie.Start → List Test
-tests s = pageTests (s .args .m .key) (markIn (s .args .m)) (s .args .place) (s .args .old .now) (s .args .new .now)
+tests s = pageTests (s .args .m .key) (markIn (s .args .m)) (s .args .place) (old s) (new s)
 
 abbrev value : tie.Start → Mark
-value s = replaced (s .args .m .key) (markIn (s .args .m)) (s .args .place) (s .args .old .now) (s .args .new .now)
+value s = replaced (s .args .m .key) (markIn (s .args .m)) (s .args .place) (old s) (new s)
 
 returns : tie.Need-returns
 unfolding replacePage

@@ -28,9 +28,9 @@ returns c =
     let e = sym (c .before .m .given .1) in
     let h = c .before .before .before .begin .ensures in (
       ap (λ (x : Begun). numberOf (begun x)) e ∙ ap numberOf h ∙ begun-number (s .args .key) (begin (s .args .key)),
-      ap (λ (x : Begun). markOr (markAt (s .args .fingerprint .now) (s .args .length .now)) (begun x)) e
-          ∙ ap (markOr (markAt (s .args .fingerprint .now) (s .args .length .now))) h
-          ∙ begun-value (s .args .key) (markAt (s .args .fingerprint .now) (s .args .length .now)) (begin (s .args .key)),
+      ap (λ (x : Begun). markOr (markAt (s .args .fingerprint .now) (s .args .bits .now)) (begun x)) e
+          ∙ ap (markOr (markAt (s .args .fingerprint .now) (s .args .bits .now))) h
+          ∙ begun-value (s .args .key) (markAt (s .args .fingerprint .now) (s .args .bits .now)) (begin (s .args .key)),
     )
 
 returns-2 : tie.Need-returns-2
@@ -39,9 +39,9 @@ returns-2 c =
     let e = sym (c .before .before .r .given .1) in
     let h = number→begin c .begin .ensures in (
       c .number .ensures ∙ ap (λ (x : Begun). numberOf (begun x)) e ∙ ap numberOf h ∙ begun-number (s .args .key) (begin (s .args .key)),
-      ap (λ (x : Begun). markOr (markAt (s .args .fingerprint .now) (s .args .length .now)) (begun x)) e
-          ∙ ap (markOr (markAt (s .args .fingerprint .now) (s .args .length .now))) h
-          ∙ begun-value (s .args .key) (markAt (s .args .fingerprint .now) (s .args .length .now)) (begin (s .args .key)),
+      ap (λ (x : Begun). markOr (markAt (s .args .fingerprint .now) (s .args .bits .now)) (begun x)) e
+          ∙ ap (markOr (markAt (s .args .fingerprint .now) (s .args .bits .now))) h
+          ∙ begun-value (s .args .key) (markAt (s .args .fingerprint .now) (s .args .bits .now)) (begin (s .args .key)),
     )
 
 pub gfp-begin-spec : {M : Type 1} → statement M

@@ -1,14 +1,13 @@
 -- The answer, stored: on refusal nothing is written, and the state is the mark that was handed in.
 use mathlib.Core.Path.{_≡_}
-use mathlib.Core.List.{List, _++_}
+use mathlib.Core.List.{_++_}
 use Prim.Native.Nat.{ℕ}
-use lib.ListN.{length}
 use borrow.Author.Needs.{needs}
 use Rattle.refusals.specs.Refusals.{stateOf, valueOr}
 use Rattle.refusals.proofs.Replies.{first-keeps}
 use Rattle.acceptance.specs.Keys.{keyTests}
 use Rattle.files.specs.declared.Mark.{Mark}
-use Rattle.files.specs.Files.{fedMark}
+use Rattle.files.specs.Files.{Part, asPart, fedMark}
 use Rattle.table_tests.specs.TableTests.{tableTests}
 use Rattle.house.specs.House.{houseWords}
 use Rattle.marks.specs.Feeding.{feedTests, feedTable, feedHouse}
@@ -23,15 +22,16 @@ abbrev feed-house→start : tie.After-feed-house → tie.Start
 feed-house→start c = c .before .before .before .before
 
 -- on refusal the state is the mark that was handed in
-keeps : (key : ℕ) (m : Mark) (part : List ℕ) → valueOr m (feedHouse key m part) ≡ stateOf (feedHouse key m part)
+keeps : (key : ℕ) (m : Mark) (part : Part) → valueOr m (feedHouse key m part) ≡ stateOf (feedHouse key m part)
 unfolding feedHouse feedTable
-keeps key m part = first-keeps (keyTests key ++ tableTests key houseWords ++ feedTests key m (length part)) m (fedMark key m part)
+keeps key m part = first-keeps (keyTests key ++ tableTests key houseWords ++ feedTests key m part) m (fedMark key m part)
 
 returns : tie.Need-returns
 returns c =
     let s = feed-house→start (c .before .before .before) .args in
-    let m = markAt (s .fingerprint .now) (s .length .now) in
-    stored (s .key) m (feedHouse (s .key) m (s .part .now)) _ _ _ (keeps (s .key) m (s .part .now)) (c .before .before .before .feed-house .ensures)
+    let m = markAt (s .fingerprint .now) (s .bits .now) in
+    let part = asPart (s .part .now) (s .used) in
+    stored (s .key) m (feedHouse (s .key) m part) _ _ _ (keeps (s .key) m part) (c .before .before .before .feed-house .ensures)
     (c .store .ensures)
 
 pub gfp-feed-house-spec : {M : Type 1} → statement M

@@ -2,13 +2,12 @@
 use mathlib.Core.Path.{_≡_}
 use mathlib.Core.List.{List, _++_}
 use Prim.Native.Nat.{ℕ}
-use lib.ListN.{length}
 use borrow.Author.Needs.{needs}
 use Rattle.refusals.specs.Refusals.{stateOf, valueOr}
 use Rattle.refusals.proofs.Replies.{first-keeps}
 use Rattle.acceptance.specs.Keys.{keyTests}
 use Rattle.files.specs.declared.Mark.{Mark}
-use Rattle.files.specs.Files.{fedMark}
+use Rattle.files.specs.Files.{Part, asPart, fedMark}
 use Rattle.table_tests.specs.TableTests.{tableTests}
 use Rattle.marks.specs.Feeding.{feedTests, feedTable}
 use Rattle.places.specs.Places.{markAt}
@@ -25,15 +24,16 @@ abbrev feed-table→start : tie.After-feed-table → tie.Start
 feed-table→start c = shared-slice-known2→start (c .before .before .before)
 
 -- on refusal the state is the mark that was handed in
-keeps : (key : ℕ) (m : Mark) (words part : List ℕ) → valueOr m (feedTable key m words part) ≡ stateOf (feedTable key m words part)
+keeps : (key : ℕ) (m : Mark) (words : List ℕ) (part : Part) → valueOr m (feedTable key m words part) ≡ stateOf (feedTable key m words part)
 unfolding feedTable
-keeps key m words part = first-keeps (keyTests key ++ tableTests key words ++ feedTests key m (length part)) m (fedMark key m part)
+keeps key m words part = first-keeps (keyTests key ++ tableTests key words ++ feedTests key m part) m (fedMark key m part)
 
 returns : tie.Need-returns
 returns c =
     let s = feed-table→start (c .before .before .before) .args in
-    let m = markAt (s .fingerprint .now) (s .length .now) in
-    stored (s .key) m (feedTable (s .key) m (s .words .now) (s .part .now)) _ _ _ (keeps (s .key) m (s .words .now) (s .part .now))
+    let m = markAt (s .fingerprint .now) (s .bits .now) in
+    let part = asPart (s .part .now) (s .used) in
+    stored (s .key) m (feedTable (s .key) m (s .words .now) part) _ _ _ (keeps (s .key) m (s .words .now) part)
     (c .before .before .before .feed-table .ensures) (c .store .ensures)
 
 pub gfp-feed-table-spec : {M : Type 1} → statement M

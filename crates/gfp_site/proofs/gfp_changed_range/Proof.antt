@@ -4,6 +4,7 @@ use mathlib.Core.Bool.{true, false}
 use mathlib.Core.List.{List, [], _∷_}
 use Prim.Native.Nat.{ℕ}
 use Rattle.refusals.specs.Refusals.{numberOf, Test, _⇒_, firstOf}
+use Rattle.files.specs.Files.{asPart, partBits}
 use Rattle.sheets.specs.declared.Changed.{Changed}
 use Rattle.sheets.specs.Layout.{Contents, contentsIn}
 use Rattle.sheets.specs.Sheets.{Outcome, Same, Page, OtherLength, compared, checkTests, checkSheet}
@@ -38,16 +39,16 @@ same-told x o before (false ⇒ r ∷ ts) = same-told x o before ts
 
 -- what is told of the answer that the code has
 told : (c : tie.After-first-changed-range) (o : Changed) → c .first-changed-range .result ≡ o
-    → (numberOf (changeAnswer o) ≡ numberOf (checkSheet (start c .args .sheet .now) (start c .args .file .now)))
+    → (numberOf (changeAnswer o) ≡ numberOf (checkSheet (start c .args .sheet .now) (asPart (start c .args .file .now) (start c .args .used))))
     × (heldAfter numbersIn (before c) (changeAnswer o)
-    ≡ heldAfter (rangeIn (contentsIn (start c .args .sheet .now))) (before c) (checkSheet (start c .args .sheet .now) (start c .args .file .now)))
+    ≡ heldAfter (rangeIn (contentsIn (start c .args .sheet .now))) (before c) (checkSheet (start c .args .sheet .now) (asPart (start c .args .file .now) (start c .args .used))))
 unfolding changedRange checkSheet
 told c o e =
     let h = ap changeAnswer (sym e) ∙ c .first-changed-range .ensures in
     let sheet = start c .args .sheet .now in
-    let file = start c .args .file .now in
+    let file = asPart (start c .args .file .now) (start c .args .used) in
     let x = contentsIn sheet in
-    let s = same-told x (compared x file) (before c) (checkTests sheet file) in
+    let s = same-told x (compared x (partBits file)) (before c) (checkTests sheet file) in
     (ap numberOf h ∙ s .0, ap (heldAfter numbersIn (before c)) h ∙ s .1)
 
 returns : tie.Need-returns

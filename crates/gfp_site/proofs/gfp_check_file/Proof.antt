@@ -3,6 +3,7 @@ use mathlib.Core.Path.{_≡_, sym, ap, _∙_}
 use mathlib.Core.List.{List, [], _∷_}
 use Prim.Native.Nat.{ℕ}
 use Rattle.refusals.specs.Refusals.{numberOf}
+use Rattle.files.specs.Files.{asPart}
 use Rattle.sheets.specs.declared.Checked.{Checked}
 use Rattle.sheets.specs.Sheets.{checkSheet}
 use Rattle.sheets.specs.Answers.{checkAnswer}
@@ -25,9 +26,9 @@ before c = let a = check→start c .args in a .outcome .now ∷ a .page .now ∷
 
 -- what is told of the answer that the code has
 told : (c : tie.After-check) (o : Checked) → c .check .result ≡ o
-    → (numberOf (checkAnswer o) ≡ numberOf (checkSheet (check→start c .args .sheet .now) (check→start c .args .file .now)))
+    → (numberOf (checkAnswer o) ≡ numberOf (checkSheet (check→start c .args .sheet .now) (asPart (check→start c .args .file .now) (check→start c .args .used))))
     × (heldAfter outcomeIn (before c) (checkAnswer o)
-    ≡ heldAfter outcomeIn (before c) (checkSheet (check→start c .args .sheet .now) (check→start c .args .file .now)))
+    ≡ heldAfter outcomeIn (before c) (checkSheet (check→start c .args .sheet .now) (asPart (check→start c .args .file .now) (check→start c .args .used))))
 told c o e =
     let h = ap checkAnswer (sym e) ∙ c .check .ensures in
     (ap numberOf h, ap (heldAfter outcomeIn (before c)) h)

@@ -25,8 +25,8 @@ keeps key m other = first-keeps (joinTests key m other) m (joined key other m)
 returns : tie.Need-returns
 returns c =
     let s = join-in-front→start (c .before .before .before) .args in
-    let m = markAt (s .fingerprint .now) (s .length .now) in
-    let other = markAt (s .other-fingerprint) (s .other-length) in
+    let m = markAt (s .fingerprint .now) (s .bits .now) in
+    let other = markAt (s .other-fingerprint) (s .other-bits) in
     stored (s .key) m (joinInFront (s .key) m other) _ _ _ (keeps (s .key) m other) (c .before .before .before .join-in-front .ensures) (c .store .ensures)
 
 pub gfp-join-in-front-spec : {M : Type 1} → statement M

@@ -24,7 +24,7 @@ number→read c = c .before .before .before .before
 
 -- the numbers of the code's sheet, in the order of the places
 abbrev numbersIn : Sheet → List ℕ
-numbersIn x = x .key ∷ x .length ∷ x .size ∷ x .pages ∷ x .fingerprint ∷ []
+numbersIn x = x .version ∷ x .key ∷ x .length ∷ x .size ∷ x .pages ∷ x .fingerprint ∷ []
 
 -- the code's sheet has the numbers of the definition's
 same-number : (a : Answer Unit Contents) → numberOf (sheetRead a) ≡ numberOf a
@@ -36,7 +36,7 @@ same-places before (Done x) = refl
 same-places before (Refused r s) = refl
 
 abbrev before : tie.After-read → List ℕ
-before c = let a = read→start c .args in a .key .now ∷ a .length .now ∷ a .page-size .now ∷ a .pages .now ∷ a .fingerprint .now ∷ []
+before c = let a = read→start c .args in a .version .now ∷ a .key .now ∷ a .bits .now ∷ a .page-size .now ∷ a .pages .now ∷ a .fingerprint .now ∷ []
 
 -- what is told of the answer that the code has
 told : (c : tie.After-read) (o : Reading) → c .read .result ≡ o

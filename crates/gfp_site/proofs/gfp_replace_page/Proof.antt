@@ -1,13 +1,13 @@
 -- The answer, stored: on refusal nothing is written, and the state is the mark that was handed in.
 use mathlib.Core.Path.{_≡_}
-use mathlib.Core.List.{List, _++_}
+use mathlib.Core.List.{_++_}
 use Prim.Native.Nat.{ℕ}
 use borrow.Author.Needs.{needs}
 use Rattle.refusals.specs.Refusals.{stateOf, valueOr}
 use Rattle.refusals.proofs.Replies.{first-keeps}
 use Rattle.acceptance.specs.Keys.{keyTests}
 use Rattle.files.specs.declared.Mark.{Mark}
-use Rattle.files.specs.Files.{replaced}
+use Rattle.files.specs.Files.{Part, asPart, replaced}
 use Rattle.compose.specs.Composing.{pageTests, replacePage}
 use Rattle.places.specs.Places.{markAt}
 use Rattle.places.proofs.Answers.{stored}
@@ -23,16 +23,17 @@ abbrev replace-page→start : tie.After-replace-page → tie.Start
 replace-page→start c = shared-slice-known2→start (c .before .before .before)
 
 -- on refusal the state is the mark that was handed in
-keeps : (key : ℕ) (m : Mark) (place : ℕ) (old new : List ℕ) → valueOr m (replacePage key m place old new) ≡ stateOf (replacePage key m place old new)
+keeps : (key : ℕ) (m : Mark) (place : ℕ) (old new : Part) → valueOr m (replacePage key m place old new) ≡ stateOf (replacePage key m place old new)
 unfolding replacePage
 keeps key m place old new = first-keeps (keyTests key ++ pageTests key m place old new) m (replaced key m place old new)
 
 returns : tie.Need-returns
 returns c =
     let s = replace-page→start (c .before .before .before) .args in
-    let m = markAt (s .fingerprint .now) (s .length .now) in
-    stored (s .key) m (replacePage (s .key) m (s .place) (s .old-page .now) (s .new-page .now)) _ _ _
-    (keeps (s .key) m (s .place) (s .old-page .now) (s .new-page .now)) (c .before .before .before .replace-page .ensures) (c .store .ensures)
+    let m = markAt (s .fingerprint .now) (s .bits .now) in
+    let old = asPart (s .old-page .now) (s .old-used) in
+    let new = asPart (s .new-page .now) (s .new-used) in
+    stored (s .key) m (replacePage (s .key) m (s .place) old new) _ _ _ (keeps (s .key) m (s .place) old new) (c .before .before .before .replace-page .ensures) (c .store .ensures)
 
 pub gfp-replace-page-spec : {M : Type 1} → statement M
 gfp-replace-page-spec = tie.close (tie.spec (λ c κs. search needs) (λ c κs. search needs) returns)

@@ -3,14 +3,13 @@ use mathlib.Core.Path.{_≡_, sym, ap, _∙_}
 use mathlib.Core.List.{List}
 use Prim.Native.Nat.{ℕ}
 use borrow.Author.Needs.{needs}
-use lib.ListN.{length}
 use Rattle.refusals.specs.Refusals.{Test, judged}
 use Rattle.refusals.specs.Answers.{told}
 use Rattle.refusals.proofs.Laws.{Clear, more-clear}
 use Rattle.refusals.proofs.Replies.{judged-refused, judged-clear}
 use Rattle.acceptance.proofs.Opened.{opened-whole, opened-proper}
 use Rattle.files.specs.declared.Mark.{Mark}
-use Rattle.files.specs.Files.{fedMark}
+use Rattle.files.specs.Files.{asPart, fedMark}
 use Rattle.table_tests.specs.TableTests.{tableTests}
 use Rattle.table_tests.proofs.Laws.{table-clear}
 use Rattle.marks.specs.Feeding.{feedTests}
@@ -28,10 +27,10 @@ enum-told→start c = judge→start (c .before .before)
 
 -- the tests behind those of the words, and the value
 abbrev tests : tie.Start → List Test
-tests s = feedTests (s .args .m .key) (markIn (s .args .m)) (length (s .args .part .now))
+tests s = feedTests (s .args .m .key) (markIn (s .args .m)) (asPart (s .args .part .now) (s .args .used))
 
 abbrev value : tie.Start → Mark
-value s = fedMark (s .args .m .key) (markIn (s .args .m)) (s .args .part .now)
+value s = fedMark (s .args .m .key) (markIn (s .args .m)) (asPart (s .args .part .now) (s .args .used))
 
 judge-requires : tie.Need-judge-requires
 judge-requires c κs = opened-proper (c .before .before .pre)

@@ -1,6 +1,6 @@
 -- `printing::report` meets its contract: each text goes behind the one before it.
 use mathlib.Core.List.{List, _++_}
-use Prim.Native.Nat.{ℕ}
+use Prim.Native.Nat.{ℕ, _/_}
 use native.Mathlib.Omega.{arith}
 use borrow.Author.Needs.{needs}
 use Rattle.gf2.specs.Polynomials.{degree}
@@ -24,7 +24,7 @@ abbrev degree-at : tie.After-put-hex → tie.After-put-decimal
 degree-at c = c .before .before .before
 
 abbrev start : tie.After-degree → tie.Start
-start c = c .before .before .before
+start c = c .before .before .before .before
 
 -- the buffer as the call begins, and the mark
 abbrev buffer : tie.After-put-decimal → List ℕ
@@ -41,7 +41,7 @@ abbrev text-key : Running → List ℕ
 text-key m = text-degree m ++ (ascii " " ++ numeral 16 (m .key))
 
 abbrev text-bytes : Running → List ℕ
-text-bytes m = text-key m ++ (ascii "\nbytes " ++ numeral 10 (m .length))
+text-bytes m = text-key m ++ (ascii "\nbytes " ++ numeral 10 (m .length / 8))
 
 abbrev text-mark : Running → List ℕ
 text-mark m = text-bytes m ++ (ascii "\nmark " ++ numeral 16 (m .fingerprint))
@@ -62,7 +62,7 @@ unfolding ascii
 to-bytes c =
     let m = given (degree-at (key-at c)) in
     let p = c .put-decimal2 in
-    put-next (omega arith) (to-key (key-at c)) (ascii "\nbytes " ++ numeral 10 (m .length)) (p .ensures .0) (p .ensures .1 .1)
+    put-next (omega arith) (to-key (key-at c)) (ascii "\nbytes " ++ numeral 10 (m .length / 8)) (p .ensures .0) (p .ensures .1 .1)
 
 to-mark : (c : tie.After-put-hex2)
     → Holds (buffer (degree-at (key-at (bytes-at c)))) 0 (c .put-hex2 .result) (c .put-hex2 .last .0) (text-mark (given (degree-at (key-at (bytes-at c)))))

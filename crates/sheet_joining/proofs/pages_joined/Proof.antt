@@ -1,9 +1,9 @@
 -- `pages_joined` meets its contract.
 use mathlib.Core.Path.{_≡_, sym, _∙_}
-use Prim.Native.Nat.{_+_, _-_, _*_, _/_, _^_, _≤_, _<_}
+use Prim.Native.Nat.{ℕ, _+_, _-_, _*_, _/_, _^_, _≤_, _<_}
 use native.Mathlib.Omega.{arith}
-use Rattle.sheets.specs.Layout.{numberAt, layoutOf, pageCount}
-use Rattle.sheets.proofs.Pages.{count-small, count-whole, count-exact, count-more, whole-fits, last-short}
+use Rattle.sheets.specs.Layout.{numberAt, layoutOf, pageCount, pagesFor}
+use Rattle.sheets.proofs.Pages.{pages-count, count-small, count-whole, count-exact, count-more, whole-fits, last-short}
 use Rattle.sheet_joining.proofs.Joining.{filled-counts, whole-counts, run-joined, last-joined}
 use borrow.Author.Needs.{needs}
 use Rattle.sheet_joining.proofs.pages_joined.Statement.{statement}
@@ -13,7 +13,7 @@ use Rattle.sheet_joining.proofs.pages_joined.Tie as tie
 abbrev start : tie.After-fills → tie.Start
 start c = c .before .before
 
-abbrev filled : tie.After-page-count → tie.Start
+abbrev filled : tie.After-pages-for → tie.Start
 filled c = start (c .before .before)
 
 abbrev own : tie.Else1 → tie.Start
@@ -22,23 +22,29 @@ own c = start (c .before)
 abbrev run : tie.Else2 → tie.After-join-run2
 run c = c .before
 
-abbrev some : (s : tie.Start) → 0 < s .args .size
+abbrev page : tie.Start → ℕ
+page s = 8 * s .args .size
+
+some : (s : tie.Start) → 0 < page s
 some s = omega (arith, s .pre .2)
 
+as-bits : (s : tie.Start) → pagesFor (s .args .size) (s .args .n) ≡ pageCount (page s) (s .args .n)
+as-bits s = pages-count (s .args .size) (s .args .n) (omega (arith, s .pre .2))
+
 -- the number of pages is small, and all fields are there
-few : (s : tie.Start) → pageCount (s .args .size) (s .args .n) < 2 ^ 29
+few : (s : tie.Start) → pagesFor (s .args .size) (s .args .n) < 2 ^ 29
 few s = count-small (s .args .size) (s .args .n) (s .pre .2) (s .pre .3) (s .pre .4)
 
-whole : (s : tie.Start) → s .args .n / s .args .size ≤ pageCount (s .args .size) (s .args .n)
-whole s = count-whole (s .args .size) (s .args .n) (some s)
+whole : (s : tie.Start) → s .args .n / page s ≤ pagesFor (s .args .size) (s .args .n)
+whole s = omega (arith, count-whole (page s) (s .args .n) (some s), as-bits s)
 
-ends : (s : tie.Start) → s .args .n / s .args .size * s .args .size ≤ s .args .n
-ends s = whole-fits (s .args .size) (s .args .n)
+ends : (s : tie.Start) → s .args .n / page s * page s ≤ s .args .n
+ends s = whole-fits (page s) (s .args .n)
 
 join-run-requires : tie.Need-join-run-requires
 join-run-requires c κs =
     let s = filled c in
-    (s .pre .0, s .pre .1, s .pre .3, omega (arith, few s, c .page-count .ensures), omega (arith, s .pre .5, c .page-count .ensures))
+    (s .pre .0, s .pre .1, s .pre .3, omega (arith, few s, c .pages-for .ensures), omega (arith, s .pre .5, c .pages-for .ensures))
 
 returns : tie.Need-returns
 returns c =
@@ -46,9 +52,9 @@ returns c =
     let s = filled p in
     let a = s .args in
     let f = sym (p .before .before .fills .ensures) ∙ p .before .if1 .taken in
-    rw (← (p .page-count .ensures))
-    (run-joined (s .pre .0) (layoutOf (a .version)) (a .size) (a .n) (a .fields .now) (p .page-count .result) _
-    (filled-counts (layoutOf (a .version)) f (a .size) (a .n) (p .page-count .result))
+    rw (← (p .pages-for .ensures))
+    (run-joined (s .pre .0) (layoutOf (a .version)) (page s) (a .n) (a .fields .now) (p .pages-for .result) _
+    (filled-counts (layoutOf (a .version)) f (page s) (a .n) (p .pages-for .result))
     (c .join-run .ensures))
 
 join-run-requires-2 : tie.Need-join-run-requires-2
@@ -67,17 +73,17 @@ returns-2 c =
     let r = c .before in
     let s = own (r .before) in
     let a = s .args in
-    rw (count-exact (a .size) (a .n) (some s) (omega arith))
-    (run-joined (s .pre .0) (layoutOf (a .version)) (a .size) (a .n) (a .fields .now) (a .n / a .size) _
-    (whole-counts (layoutOf (a .version)) (a .size) (a .n) (a .n / a .size) (ends s))
+    rw (as-bits s ∙ count-exact (page s) (a .n) (some s) (omega arith))
+    (run-joined (s .pre .0) (layoutOf (a .version)) (page s) (a .n) (a .fields .now) (a .n / page s) _
+    (whole-counts (layoutOf (a .version)) (page s) (a .n) (a .n / page s) (ends s))
     (r .join-run2 .ensures))
 
 -- something is left: the last page has a field
 abbrev begun : tie.Else2 → tie.Start
 begun c = own (run c .before)
 
-count : (c : tie.Else2) → pageCount (begun c .args .size) (begun c .args .n) ≡ begun c .args .n / begun c .args .size + 1
-count c = let s = begun c in count-more (s .args .size) (s .args .n) (some s) (omega (arith, ends s, c .if2 .left))
+count : (c : tie.Else2) → pagesFor (begun c .args .size) (begun c .args .n) ≡ begun c .args .n / page (begun c) + 1
+count c = let s = begun c in as-bits s ∙ count-more (page s) (s .args .n) (some s) (omega (arith, ends s, c .if2 .left))
 
 mul-eight-at : tie.Need-mul-eight-at
 mul-eight-at c = let s = begun c in omega (arith, few s, whole s)
@@ -92,17 +98,18 @@ returns-3 c =
     let r = run e in
     let s = own (r .before) in
     let a = s .args in
-    let w = a .n / a .size in
+    let w = a .n / page s in
     let f = sym (r .before .before .fills .ensures) ∙ r .before .if1 .left in
-    let short = last-short (a .size) (a .n) (some s) in
+    let short = last-short (page s) (a .n) (some s) in
     rw (count e)
-    (last-joined (s .pre .0) (layoutOf (a .version)) (a .size) (a .n) (a .fields .now) w (a .n - w * a .size) _ _ _ f (omega (arith, ends s))
+    (last-joined (s .pre .0) (layoutOf (a .version)) (page s) (a .n) (a .fields .now) w (a .n - w * page s) _ _ _ f (omega (arith, ends s))
     (omega (arith, short)) (c .before .eight-at .ensures) (r .join-run2 .ensures) (c .join-last .ensures))
 
 pub pages-joined-spec : {M : Type 1} → statement M
 pages-joined-spec =
     tie.close
     (tie.spec
+    (λ c. search needs)
     (λ c. search needs)
     (λ c κs. search needs)
     (λ c κs. search needs)

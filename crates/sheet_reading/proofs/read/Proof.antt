@@ -2,9 +2,8 @@
 use mathlib.Core.Path.{_≡_, sym, ap, _∙_}
 use mathlib.Core.Bool.{false}
 use mathlib.Core.List.{List}
-use Prim.Native.Nat.{ℕ, _≤_}
+use Prim.Native.Nat.{ℕ}
 use native.Mathlib.Omega.{arith}
-use lib.ListN.{length}
 use Rattle.refusals.proofs.Laws.{holds, fails}
 use Rattle.acceptance.specs.Opened.{Opened}
 use Rattle.keys.specs.Testing.{testKey}
@@ -12,7 +11,6 @@ use Rattle.keys.proofs.Laws.{opened}
 use Rattle.sheets.specs.Layout.{layouts}
 use Rattle.sheets.specs.Sheets.{headWrong}
 use Rattle.sheets.specs.Answers.{sheetRead}
-use Rattle.sheets.proofs.Sound.{head-right}
 use Rattle.sheet_reading.proofs.Answers.{read-head, read-refused, read-opened}
 use borrow.Author.Needs.{needs}
 use Rattle.sheet_reading.proofs.read.Statement.{statement}
@@ -24,9 +22,6 @@ sheet c = c .before .before .args .sheet .now
 
 right : (c : tie.Else1) → headWrong layouts (sheet (c .before)) ≡ false
 right c = fails _ _ (c .before .head-right .ensures) (c .if1 .left)
-
-long : (c : tie.Else1) → 27 ≤ length (sheet (c .before))
-long c = head-right (sheet (c .before)) (right c) .long
 
 returns : tie.Need-returns
 returns c = sym (ap sheetRead (read-head (sheet (c .before)) (holds _ _ (c .before .head-right .ensures) (c .if1 .taken))))
@@ -44,7 +39,7 @@ key-opened c =
     opened (t .test .result) (t .before .read-head .result .key) (t .test .ensures) (c .p .given .0 .0) (omega arith) (c .p .given .1)
 
 read-head-requires : tie.Need-read-head-requires
-read-head-requires c κs = long c
+read-head-requires c κs = right c
 
 read-under-requires : tie.Need-read-under-requires
 read-under-requires c κs =

@@ -9,7 +9,7 @@ use lib.ListN.{length}
 use Rattle.refusals.specs.Refusals.{Done}
 use Rattle.refusals.proofs.Laws.{holds, fails}
 use Rattle.sheets.specs.declared.layout.Head.{Head}
-use Rattle.sheets.specs.Layout.{versionIn, Layout, layoutOf, sheetLength, pageCount, fieldIn, pagesIn}
+use Rattle.sheets.specs.Layout.{versionIn, Layout, layoutOf, sheetLength, pagesFor, fieldIn, pagesIn}
 use Rattle.sheets.specs.Answers.{sheetRead}
 use Rattle.sheets.proofs.Sound.{size-bounds}
 use Rattle.sheet_reading.proofs.Answers.{numbers-are, body-total, body-size, body-wrong, body-done}
@@ -42,13 +42,13 @@ size : (c : tie.Else1) → (16 ≤ head (start (c .before)) .size) × (head (sta
 size c = size-bounds (head (start (c .before)) .size) (fails _ _ (c .before .size-right .ensures) (c .if1 .left))
 
 -- the rest is right
-total : (c : tie.After-page-count)
-    → length (sheet (start (sized (c .before .before)))) ≡ sheetLength (layoutOf (head (start (sized (c .before .before))) .version)) (c .page-count .result)
+total : (c : tie.After-pages-for)
+    → length (sheet (start (sized (c .before .before)))) ≡ sheetLength (layoutOf (head (start (sized (c .before .before))) .version)) (c .pages-for .result)
 total c =
     let b = c .before .before in
     let s = start (sized b) in
-    let count : c .page-count .result ≡ pagesIn (layout s) (sheet s) =
-    c .page-count .ensures ∙ ap₂ (λ (m n : ℕ). pageCount m n) (s .pre .0 .size) (s .pre .0 .length) in
+    let count : c .pages-for .result ≡ pagesIn (layout s) (sheet s) =
+    c .pages-for .ensures ∙ ap₂ (λ (m n : ℕ). pagesFor m n) (s .pre .0 .size) (s .pre .0 .length) in
     body-total (sheet s) (fails _ _ (b .body-right .ensures) (c .before .if2 .left))
     ∙ ap₂ (λ (v n : ℕ). sheetLength (layoutOf v) n) (sym (s .pre .0 .version)) (sym count)
 
@@ -65,8 +65,8 @@ returns-2 c =
     let b = c .before in
     sym (ap sheetRead (body-wrong (sheet (start (sized b))) (size-passed (b .before)) (holds _ _ (b .body-right .ensures) (c .if2 .taken))))
 
-page-count-requires : tie.Need-page-count-requires
-page-count-requires c κs =
+pages-for-requires : tie.Need-pages-for-requires
+pages-for-requires c κs =
     let e = c .before .before in
     (omega (arith, size e .0), size e .1, start (e .before) .pre .0 .length-fits)
 
@@ -80,9 +80,9 @@ returns-3 c =
     let s = start (sized b) in
     sym
     (ap sheetRead (body-done (sheet s) (size-passed (b .before)) (fails _ _ (b .body-right .ensures) (p .before .if2 .left)))
-    ∙ ap Done (numbers-are (sheet s) (head s) (p .page-count .result) _ (s .pre .0) (p .page-count .ensures) (c .fingerprint-at .ensures)))
+    ∙ ap Done (numbers-are (sheet s) (head s) (p .pages-for .result) _ (s .pre .0) (p .pages-for .ensures) (c .fingerprint-at .ensures)))
 
 pub read-under-spec : {M : Type 1} → statement M
 read-under-spec =
     tie.close
-    (tie.spec (λ c κs. search needs) returns body-right-requires returns-2 page-count-requires fingerprint-at-requires returns-3)
+    (tie.spec (λ c κs. search needs) returns body-right-requires returns-2 pages-for-requires fingerprint-at-requires returns-3)

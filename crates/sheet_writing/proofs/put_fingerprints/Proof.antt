@@ -7,7 +7,7 @@ use native.Mathlib.Omega.{arith}
 use lib.ListN.{length}
 use lib.Seq.{sets}
 use Rattle.gf2.specs.Moduli.{polynomial}
-use Rattle.files.specs.Files.{fingerprint}
+use Rattle.files.specs.Files.{fingerprint, asPart, partBits}
 use Rattle.sheets.specs.Layout.{bytesOf, fieldsOf, numbersAt, Layout, newest, layoutOf, pageCount}
 use Rattle.sheets.specs.Sheets.{pageFingerprints}
 use Rattle.sheets.proofs.Numbers.{length-fieldsOf, sets-behind}
@@ -38,23 +38,26 @@ abbrev key : tie.Start → ℕ
 key s = polynomial (s .args .p)
 
 abbrev file : tie.Start → List ℕ
-file s = s .args .file .now
+file s = partBits (asPart (s .args .file .now) (s .args .used))
+
+abbrev size : tie.Start → ℕ
+size s = 8 * s .args .size
 
 abbrev count : tie.Start → ℕ
-count s = pageCount (s .args .size) (length (file s))
+count s = pageCount (s .args .size) (length (s .args .file .now))
 
 -- the fields after all pages' fingerprints
 prints : (c : tie.After-over-pages)
     → c .over-pages .last .0
-    ≡ sets (begin c .args .fields .now) 0 (fieldsOf 8 (pageFingerprints v (key (begin c)) (begin c .args .size) (count (begin c)) (file (begin c))))
+    ≡ sets (begin c .args .fields .now) 0 (fieldsOf 8 (pageFingerprints v (key (begin c)) (size (begin c)) (count (begin c)) (file (begin c))))
 prints c =
     let s = begin c in
-    pass-all (pageFingerprints v (key s) (s .args .size) (count s) (file s)) (s .args .fields .now) _ (c .over-pages .result) (c .over-pages .ensures)
+    pass-all (pageFingerprints v (key s) (size s) (count s) (file s)) (s .args .fields .now) _ (c .over-pages .result) (c .over-pages .ensures)
 
 over-pages-requires : tie.Need-over-pages-requires
 over-pages-requires c κs =
     let s = start c in
-    (s .pre .0, s .pre .1, s .pre .3, s .pre .4, s .pre .5, λ lent. omega (arith, s .pre .6), λ lent. absurd (omega (arith, lent)))
+    (s .pre .0, s .pre .1, s .pre .3, s .pre .4, s .pre .5, s .pre .7, λ lent. omega (arith, s .pre .6), λ lent. absurd (omega (arith, lent)))
 
 file-mark-requires : tie.Need-file-mark-requires
 file-mark-requires c κs =
@@ -67,7 +70,7 @@ file-mark-requires c κs =
       s .pre .4,
       s .pre .5,
       omega (arith, p .over-pages .kept .0, s .pre .6),
-      ap (numbersAt 0 8 (count s)) (prints p) ∙ pages-stored (a .p) (s .pre .0) v (a .size) (file s) (a .fields .now) (omega (arith, s .pre .6)),
+      ap (numbersAt 0 8 (count s)) (prints p) ∙ pages-stored (a .p) (s .pre .0) v (size s) (count s) (file s) (a .fields .now) (omega (arith, s .pre .6)),
     )
 
 page-count-requires : tie.Need-page-count-requires
@@ -88,10 +91,10 @@ returns c =
     let p = pages m in
     let s = begin p in
     let a = s .args in
-    let fields = fieldsOf 8 (pageFingerprints v (key s) (a .size) (count s) (file s)) in
+    let fields = fieldsOf 8 (pageFingerprints v (key s) (size s) (count s) (file s)) in
     let long : 8 * count s ≡ 0 + length fields =
-    sym (zero-add (length fields) ∙ length-fieldsOf 8 (pageFingerprints v (key s) (a .size) (count s) (file s))
-    ∙ ap (λ (n : ℕ). 8 * n) (length-pages v (key s) (count s) (a .size) (file s))) in
+    sym (zero-add (length fields) ∙ length-fieldsOf 8 (pageFingerprints v (key s) (size s) (count s) (file s))
+    ∙ ap (λ (n : ℕ). 8 * n) (length-pages v (key s) (count s) (size s) (file s))) in
     q .put .ensures
     ∙ ap₂ (λ (n f : ℕ). sets (p .over-pages .last .0) (8 * n) (bytesOf 8 f)) (q .before .before .page-count .ensures) (m .file-mark .ensures)
     ∙ ap (λ (b : List ℕ). sets b (8 * count s) (bytesOf 8 (fingerprint (key s) (file s)))) (prints p)

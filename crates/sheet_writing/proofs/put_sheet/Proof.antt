@@ -7,11 +7,12 @@ use native.Mathlib.Omega.{arith}
 use lib.ListN.{length, take, drop, length-drop, drop-of-length-le}
 use lib.Seq.{sets}
 use Rattle.acceptance.proofs.Opened.{opened-proper, opened-eight, opened-word, opened-whole}
-use Rattle.files.specs.Files.{fingerprint}
+use Rattle.files.specs.Files.{fingerprint, Part, asPart, partBits}
 use Rattle.sheets.specs.Layout.{bytesOf, fieldsOf, Layout, newest, layoutOf, pageCount}
 use Rattle.sheets.specs.Sheets.{pageFingerprints, contentsOf}
 use Rattle.sheets.proofs.Versions.{length-from}
 use Rattle.sheets.proofs.Pages.{length-pages, all-left}
+use Rattle.sheets.proofs.Parts.{counted-part, pages-held}
 use Rattle.sheet_writing.proofs.Stores.{sheet-stores}
 use borrow.Author.Needs.{needs}
 use Rattle.sheet_writing.proofs.put_sheet.Statement.{statement}
@@ -56,7 +57,11 @@ put-fingerprints-requires c κs =
     let p = start (head q) .pre in
     let n = q .pages-place .result in
     let part = ap length (all-left b n) ∙ length-drop n b in
-    (opened-proper (p .0), opened-eight (p .0), opened-word (p .0), p .1, p .2, p .3, omega (arith, part, fits q))
+    (opened-proper (p .0), opened-eight (p .0), opened-word (p .0), p .1, p .2, p .3, omega (arith, part, fits q), p .5)
+
+-- the head of the sheet, with the file's length
+abbrev part : tie.Start → Part
+part s = asPart (s .args .file .now) (s .args .used)
 
 returns : tie.Need-returns
 unfolding contentsOf
@@ -66,15 +71,17 @@ returns c =
     let h = head q in
     let s = start h in
     let a = s .args in
-    let file = a .file .now in
-    let count = pageCount (a .size) (length file) in
+    let file = partBits (part s) in
+    let size = 8 * a .size in
+    let count = pageCount (a .size) (length (a .file .now)) in
+    let held = pages-held (a .size) (part s) in
     let b = h .put-head .last .0 in
     let n = q .pages-place .result in
     let part = f .put-fingerprints .last .0 in
     let none : drop (length b - n) (drop n b) ≡ [] = drop-of-length-le (drop n b) {i = length b - n} (rw (length-drop n b) (le-refl (length b - n))) in
-    let stored : part ≡ sets (drop n b) 0 (fieldsOf 8 (pageFingerprints v (a .key) (a .size) count file) ++ bytesOf 8 (fingerprint (a .key) file)) =
+    let stored : part ≡ sets (drop n b) 0 (fieldsOf 8 (pageFingerprints v (a .key) size count file) ++ bytesOf 8 (fingerprint (a .key) file)) =
     f .put-fingerprints .ensures
-    ∙ ap₂ (λ (l : List ℕ) (m : ℕ). sets l 0 (fieldsOf 8 (pageFingerprints v m (a .size) count file) ++ bytesOf 8 (fingerprint m file))) (all-left b n)
+    ∙ ap₂ (λ (l : List ℕ) (m : ℕ). sets l 0 (fieldsOf 8 (pageFingerprints v m size count file) ++ bytesOf 8 (fingerprint m file))) (all-left b n)
     (opened-whole (s .pre .0)) in
     let from = q .pages-place .ensures .0 in
     ap (λ (l : List ℕ). take n b ++ (part ++ l)) none
@@ -84,7 +91,7 @@ returns c =
     (length-pages v (a .key) count (a .size) file) (s .pre .4)
     (h .put-head .ensures)
     (stored
-    ∙ ap (λ (m : ℕ). sets (drop m b) 0 (fieldsOf 8 (pageFingerprints v (a .key) (a .size) count file) ++ bytesOf 8 (fingerprint (a .key) file))) from)
+    ∙ ap (λ (m : ℕ). sets (drop m b) 0 (fieldsOf 8 (pageFingerprints v (a .key) size count file) ++ bytesOf 8 (fingerprint (a .key) file))) from)
 
 pub put-sheet-spec : {M : Type 1} → statement M
 put-sheet-spec =

@@ -1,14 +1,12 @@
 -- `Running::feed_house` meets its contract: under the house key no test of key and words holds; under another key it is `feed_constant`.
 use mathlib.Core.Path.{_≡_, sym, ap, _∙_}
-use mathlib.Core.List.{List}
 use Prim.Native.Nat.{ℕ}
 use native.Mathlib.Omega.{arith}
 use borrow.Author.Needs.{needs}
-use lib.ListN.{length}
 use Rattle.refusals.specs.Refusals.{firstOf}
 use Rattle.acceptance.specs.Keys.{accepted}
 use Rattle.files.specs.declared.Mark.{Mark}
-use Rattle.files.specs.Files.{fedMark}
+use Rattle.files.specs.Files.{Part, asPart, fedMark}
 use Rattle.house.specs.House.{houseKey}
 use Rattle.house.proofs.House.{house-accepted}
 use Rattle.marks.specs.Feeding.{feedTests, feedHouse}
@@ -22,7 +20,7 @@ use Rattle.marks.proofs.Running.feed_house.Tie as tie
 abbrev modulus-of→start : tie.After-modulus-of → tie.Start
 modulus-of→start c = c .before .before .before .before
 
-at-house : (key : ℕ) (m : Mark) (part : List ℕ) → key ≡ houseKey → firstOf (feedTests key m (length part)) m (fedMark key m part) ≡ feedHouse key m part
+at-house : (key : ℕ) (m : Mark) (part : Part) → key ≡ houseKey → firstOf (feedTests key m part) m (fedMark key m part) ≡ feedHouse key m part
 at-house key m part e = rw e (sym (house-first m part))
 
 -- the key is the house key, and it is accepted
@@ -35,7 +33,7 @@ returns c =
     let s = modulus-of→start (c .before) in
     let key = s .args .self .key in
     let m = markIn (s .args .self) in
-    let part = s .args .part .now in
+    let part = asPart (s .args .part .now) (s .args .used) in
     let is : key ≡ houseKey = c .before .before .if1 .taken in
     c .feed-alone .ensures ∙ ap (fedUnder key) (at-house key m part is)
 

@@ -4,7 +4,7 @@
 use mathlib.Core.Path.{_≡_, refl, sym, _∙_}
 use mathlib.Core.Logic.{⊎-elim}
 use mathlib.Core.Bool.{true, false}
-use Prim.Native.Nat.{_+_, _-_, _≤_, _<_}
+use Prim.Native.Nat.{_+_, _-_, _*_, _≤_, _<_}
 use native.Mathlib.Omega.{arith}
 use lib.ListN.{length, drop, getD, set}
 use lib.Seq.{set-out}
@@ -179,12 +179,12 @@ returns c = tally-end (c .before .windows .inv .4) (omega arith)
 
 -- what the arithmetic of a window and of a byte rests on
 in-window : (c : tie.In-windows Inv-loop μ-loop Inv-windows μ-windows) → let a = in-windows→start c .args in let i = c .before .windows .i in
-    (i < a .size) × (a .from + a .size + length (a .pattern .now) ≤ length (a .text .now) + 1) × (length (a .text .now) ≤ longest)
+    (i < a .size) × (a .from + a .size + length (a .pattern .now) ≤ length (a .text .now) + 1) × (8 * length (a .text .now) ≤ longest)
 in-window c = let p = in-windows→start c .pre in (c .windows-test .taken, p .1, p .3)
 
 in-byte : (c : tie.In-loop Inv-loop μ-loop Inv-windows μ-windows) → let a = in-loop→start c .args in
     let i = in-loop→at-windows c .windows .i in let j = c .before .loop .j in
-    (j < length (a .pattern .now)) × (a .from + i + length (a .pattern .now) ≤ length (a .text .now)) × (length (a .text .now) ≤ longest)
+    (j < length (a .pattern .now)) × (a .from + i + length (a .pattern .now) ≤ length (a .text .now)) × (8 * length (a .text .now) ≤ longest)
 in-byte c = let w = in-window (in-loop→in-windows c) in (c .loop-test .taken, omega arith, w .2)
 
 pub compare-spec : {M : Type 1} → statement M

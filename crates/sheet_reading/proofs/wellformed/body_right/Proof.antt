@@ -14,7 +14,7 @@ use Rattle.refusals.proofs.Laws.{holds, fails}
 use Rattle.acceptance.proofs.Opened.{opened-proper, opened-word}
 use Rattle.lists.proofs.Truth.{or-neither}
 use Rattle.sheets.specs.declared.layout.Head.{Head}
-use Rattle.sheets.specs.Layout.{numberAt, numbersAt, layoutOf, pagePlace, sheetLength, pageCount}
+use Rattle.sheets.specs.Layout.{numberAt, numbersAt, layoutOf, pagePlace, sheetLength, pagesFor}
 use Rattle.sheets.specs.Sheets.{someUnreduced}
 use Rattle.sheets.specs.Parts.{fingerprintsPart}
 use Rattle.sheets.proofs.Pages.{count-small}
@@ -24,10 +24,10 @@ use Rattle.sheet_reading.proofs.wellformed.body_right.Statement.{statem
 use Rattle.sheet_reading.proofs.wellformed.body_right.Tie as tie
 
 -- the pages are counted, the length is right, the fields are joined and tested
-abbrev start : tie.After-page-count → tie.Start
+abbrev start : tie.After-pages-for → tie.Start
 start c = c .before .before
 
-abbrev counted : tie.Else1 → tie.After-page-count
+abbrev counted : tie.Else1 → tie.After-pages-for
 counted c = c .before .before
 
 abbrev long : tie.After-pages-joined → tie.Else1
@@ -46,7 +46,7 @@ abbrev begun : tie.After-pages-joined → tie.Start
 begun c = start (counted (long c))
 
 abbrev count : tie.Start → ℕ
-count s = pageCount (head s .size) (head s .length)
+count s = pagesFor (head s .size) (head s .length)
 
 abbrev k : tie.After-pages-joined → ℕ
 k c = begun c .args .p .degree
@@ -65,7 +65,7 @@ small s = count-small (head s .size) (head s .length) (s .pre .1) (s .pre .2) (s
 total : (c : tie.Else1) → length (sheet (start (counted c))) ≡ sheetLength (layoutOf (head (start (counted c)) .version)) (count (start (counted c)))
 total c =
     let n = counted c in
-    c .if1 .left ∙ c .before .sheet-length .ensures ∙ ap (sheetLength (layoutOf (head (start n) .version))) (n .page-count .ensures)
+    c .if1 .left ∙ c .before .sheet-length .ensures ∙ ap (sheetLength (layoutOf (head (start n) .version))) (n .pages-for .ensures)
 
 -- the file's field
 file : (c : tie.After-fingerprint-at)
@@ -74,7 +74,7 @@ file : (c : tie.After-fingerprint-at)
 file c =
     let n = counted (long (c .before)) in
     c .fingerprint-at .ensures
-    ∙ ap (λ (m : ℕ). numberAt (pagePlace (layoutOf (head (start n) .version)) m) 8 (sheet (start n))) (n .page-count .ensures)
+    ∙ ap (λ (m : ℕ). numberAt (pagePlace (layoutOf (head (start n) .version)) m) 8 (sheet (start n))) (n .pages-for .ensures)
 
 -- the bits of all fields are tested
 bits : (c : tie.After-is-residue)
@@ -98,11 +98,11 @@ fields c =
     let o = or-neither (leb (2 ^ k) b) (leb (2 ^ k) f) (sym (or-leb k b f) ∙ fails _ _ (c .before .is-residue .ensures) (c .if2 .left)) in
     (sym (j .pages-joined .ensures .bits k) ∙ o .0, leb-false (2 ^ k) f (o .1))
 
-page-count-requires : tie.Need-page-count-requires
-page-count-requires c κs = let s = c .before in (omega (arith, s .pre .1), s .pre .2, s .pre .0 .length-fits)
+pages-for-requires : tie.Need-pages-for-requires
+pages-for-requires c κs = let s = c .before in (omega (arith, s .pre .1), s .pre .2, s .pre .0 .length-fits)
 
 sheet-length-requires : tie.Need-sheet-length-requires
-sheet-length-requires c κs = omega (arith, small (start c), c .page-count .ensures)
+sheet-length-requires c κs = omega (arith, small (start c), c .pages-for .ensures)
 
 returns : tie.Need-returns
 returns c =
@@ -112,7 +112,7 @@ returns c =
     rw (
       body-is (sheet s) (head s) (s .pre .0) (s .pre .1),
       ne-eqb (length (sheet s)) (sheetLength v (count s))
-          (λ e. c .if1 .taken (e ∙ sym (c .before .sheet-length .ensures ∙ ap (sheetLength v) (n .page-count .ensures)))),
+          (λ e. c .if1 .taken (e ∙ sym (c .before .sheet-length .ensures ∙ ap (sheetLength v) (n .pages-for .ensures)))),
     )
 
 page-fields-requires : tie.Need-page-fields-requires
@@ -132,7 +132,7 @@ fingerprint-at-requires : tie.Need-fingerprint-at-requires
 fingerprint-at-requires c κs =
     let n = counted (long c) in
     let v = layoutOf (head (start n) .version) in
-    omega (arith, total (long c), ap (sheetLength v) (n .page-count .ensures))
+    omega (arith, total (long c), ap (sheetLength v) (n .pages-for .ensures))
 
 is-residue-requires : tie.Need-is-residue-requires
 is-residue-requires c κs = opened-proper (begun (c .before .before) .pre .3)
@@ -156,7 +156,7 @@ with-zeros-requires : tie.Need-with-zeros-requires
 with-zeros-requires c κs =
     let e = c .before in
     let s = begun (joined (e .before)) in
-    (opened-proper (s .pre .3), fields e .1, omega (arith, c .zeros-behind .ensures .1, s .pre .2))
+    (opened-proper (s .pre .3), fields e .1)
 
 returns-3 : tie.Need-returns-3
 returns-3 c =
@@ -171,14 +171,14 @@ returns-3 c =
     let mark = joined-are (sheet s) (head s) (s .pre .0) (s .pre .1) (a .p) (s .pre .3) (j .pages-joined .result .mark) (part j)
     (j .before .page-fields .ensures) (j .pages-joined .ensures .mark (fields e .0)) in
     let filled = filled-is (sheet s) (head s) (s .pre .0) (s .pre .1) (a .p) (s .pre .3) _ (w .with-zeros .result) (z .zeros-behind .result)
-    (file (r .before .before)) (z .zeros-behind .ensures .0) (w .with-zeros .ensures) in
+    (file (r .before .before)) (z .zeros-behind .ensures) (w .with-zeros .ensures) in
     body-joined (sheet s) (head s) (s .pre .0) (s .pre .1) (j .pages-joined .result .mark) (w .with-zeros .result) (total (long j)) t mark filled
 
 pub body-right-spec : {M : Type 1} → statement M
 body-right-spec =
     tie.close
     (tie.spec
-    page-count-requires
+    pages-for-requires
     sheet-length-requires
     returns
     page-fields-requires

@@ -1,0 +1,38 @@
+-- `behind_alone` meets its contract: the whole bytes, and the used bits behind them.
+use mathlib.Core.Path.{sym, _∙_}
+use borrow.Author.Needs.{needs}
+use lib.Seq.{length-take-le}
+use Rattle.gf2.proofs.Steps.{residue-lt}
+use Rattle.files.specs.Files.{asPart}
+use Rattle.marks.proofs.Laws.{behind}
+use Rattle.marks.proofs.behind_alone.Statement.{statement}
+use Rattle.marks.proofs.behind_alone.Tie as tie
+
+-- ---- the places: from each one to an earlier one
+
+abbrev arg→start : tie.After-fed-alone-arg → tie.Start
+arg→start c = c .before .before .before
+
+abbrev fed-alone→start : tie.After-fed-alone → tie.Start
+fed-alone→start c = arg→start (c .before)
+
+slice-aggregate-fed-alone : tie.Need-slice-aggregate-fed-alone
+slice-aggregate-fed-alone c = sym (length-take-le _ _ (c .before .whole-bytes .ensures .1))
+
+feed-end-requires : tie.Need-feed-end-requires
+feed-end-requires c κs =
+    let s = fed-alone→start c in
+    let p = s .args .p in
+    (s .pre .0, rw (c .fed-alone .ensures) (residue-lt (p .degree) (p .low) (s .pre .0 .2) _), s .pre .2)
+
+returns : tie.Need-returns
+returns c =
+    let d = c .before in
+    let s = fed-alone→start d in
+    let a = s .args in
+    c .feed-end .ensures
+    ∙ behind (a .p) (s .pre .0) (a .f) (asPart (a .part .now) (a .used)) _ _ (d .before .before .whole-bytes .ensures .0) (d .fed-alone .ensures)
+
+pub behind-alone-spec : {M : Type 1} → statement M
+behind-alone-spec =
+    tie.close (tie.spec (λ c κs. search needs) slice-aggregate-fed-alone (λ c κs. search needs) feed-end-requires returns)
