@@ -57,11 +57,13 @@ module _ (k c : ℕ) (h : c < 2 ^ k) where
 
 -- ---- a part: its whole bytes, and the used bits behind them
 
-pub part-behind : {k : ℕ} (pos : 0 < k) (f : ℕ) (part : Part)
-    → rem k (valueFrom (rem k (valueFrom f (bits (take (wholeBytes part) (part .bytes))))) (endBits part)) ≡ rem k (valueFrom f (partBits part))
-part-behind {k} pos f part =
-    rem-from pos (valueFrom f (bits (take (wholeBytes part) (part .bytes)))) (endBits part)
-    ∙ ap (rem k) (sym (value-append f (bits (take (wholeBytes part) (part .bytes))) (endBits part)) ∙ ap (valueFrom f) (sym (end-split part)))
+pub part-behind : {k : ℕ} (pos : 0 < k) (f : ℕ) (part : Part) (w x : ℕ) → w ≡ wholeBytes part → x ≡ rem k (valueFrom f (bits (take w (part .bytes))))
+    → rem k (valueFrom x (endBits part)) ≡ rem k (valueFrom f (partBits part))
+part-behind {k} pos f part w x ew ex =
+    let front = bits (take (wholeBytes part) (part .bytes)) in
+    ap (λ (y : ℕ). rem k (valueFrom y (endBits part))) (ex ∙ ap (λ (n : ℕ). rem k (valueFrom f (bits (take n (part .bytes))))) ew)
+    ∙ rem-from pos (valueFrom f front) (endBits part)
+    ∙ ap (rem k) (sym (value-append f front (endBits part)) ∙ ap (valueFrom f) (sym (end-split part)))
 
 -- ---- two pages of one length, fed side by side
 

@@ -1,6 +1,6 @@
 -- Two different files with equal fingerprints under irreducible polynomials: how many of one degree k there can be, and that there is none
 -- where all differing bits stand within k places.
-use mathlib.Core.Path.{_≡_, sym, ap, ap₂, _∙_}
+use mathlib.Core.Path.{_≡_, sym, ap₂, _∙_}
 use mathlib.Core.Logic.{_≢_, _⊎_}
 use mathlib.Core.List.{List}
 use Prim.Native.Nat.{ℕ, suc, _+_, _*_, _^_, _≤_, _<_, suc-le-suc}

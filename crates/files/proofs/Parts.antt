@@ -11,11 +11,11 @@ use lib.Dec.{leb, ltb, eqb}
 use lib.ListN.{length, getD, take, drop, take-append-drop, length-drop, drop-of-length-le}
 use lib.Pow.{shr-shr}
 use lib.Seq.{length-take-le, take-add, take-all, take-nil, drop-nil, take-take, take-append-le, take-at, drop-at, drop-cons, drop-drop, getD-drop}
-use borrow.Author.Tests.{ltb-false, eqb-true, eqb-false, not-false, le-leb, lt-leb, lt-ltb, le-ltb, eq-eqb, ne-eqb}
+use borrow.Author.Tests.{ltb-false, eqb-true, not-false, le-leb, lt-leb, lt-ltb, le-ltb, eq-eqb, ne-eqb}
 use Rattle.lists.proofs.Truth.{or-neither}
 use Rattle.files.specs.Files.{lowBits, bits, Bits, Part, asPart, whole, usedBits, partLength, partBits, misused, bytesFor}
 use Rattle.files.specs.Ends.{wholeBytes, endBits, countedLength}
-use Rattle.files.proofs.Values.{length-bits, length-low, bits-append}
+use Rattle.files.proofs.Values.{length-bits, length-low}
 
 -- ---- the bits of bytes cut
 
@@ -252,7 +252,8 @@ pub end-split : (p : Part) → partBits p ≡ bits (take (wholeBytes p) (p .byte
 unfolding partBits
 end-split p =
     sym (take-append-drop (8 * wholeBytes p) (partBits p))
-    ∙ ap (λ (l : List ℕ). l ++ endBits p) (take-take (8 * wholeBytes p) (partLength p) (bits (p .bytes)) (whole-within p) ∙ sym (bits-take (wholeBytes p) (p .bytes)))
+    ∙ ap (λ (l : List ℕ). l ++ endBits p)
+    (take-take (8 * wholeBytes p) (partLength p) (bits (p .bytes)) (whole-within p) ∙ sym (bits-take (wholeBytes p) (p .bytes)))
 
 pub end-none : (p : Part) → p .used ≡ 8 → endBits p ≡ []
 end-none p e =

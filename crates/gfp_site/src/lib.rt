@@ -85,8 +85,10 @@ pub extern "C" fn gfp_replace_page(
     new_used: u32,
 ) -> u32
     ensures { λ r. ⌜
-        (r ≡ numberOf (replacePage key (markAt (now (fingerprint .entry)) (now (bits .entry))) place (asPart (now («old_page» .entry)) «old_used») (asPart (now («new_page» .entry)) «new_used»)))
-        × (markAt (now (fingerprint .exit)) (now (bits .exit)) ≡ stateOf (replacePage key (markAt (now (fingerprint .entry)) (now (bits .entry))) place (asPart (now («old_page» .entry)) «old_used») (asPart (now («new_page» .entry)) «new_used»)))
+        (r ≡ numberOf (replacePage key (markAt (now (fingerprint .entry)) (now (bits .entry))) place
+        (asPart (now («old_page» .entry)) «old_used») (asPart (now («new_page» .entry)) «new_used»)))
+        × (markAt (now (fingerprint .exit)) (now (bits .exit)) ≡ stateOf (replacePage key (markAt (now (fingerprint .entry)) (now (bits .entry))) place
+        (asPart (now («old_page» .entry)) «old_used») (asPart (now («new_page» .entry)) «new_used»)))
         ⌝ }
 {
     let m = Running {
@@ -162,7 +164,8 @@ pub extern "C" fn gfp_read_sheet(
     ensures { λ r. ⌜
         (r ≡ numberOf (readSheet (now (sheet .entry))))
         × (now (version .exit) ∷ now (key .exit) ∷ now (bits .exit) ∷ now («page_size» .exit) ∷ now (pages .exit) ∷ now (fingerprint .exit) ∷ []
-        ≡ heldAfter sheetIn (now (version .entry) ∷ now (key .entry) ∷ now (bits .entry) ∷ now («page_size» .entry) ∷ now (pages .entry) ∷ now (fingerprint .entry) ∷ [])
+        ≡ heldAfter sheetIn
+        (now (version .entry) ∷ now (key .entry) ∷ now (bits .entry) ∷ now («page_size» .entry) ∷ now (pages .entry) ∷ now (fingerprint .entry) ∷ [])
         (readSheet (now (sheet .entry))))
         ⌝ }
 {

@@ -3,11 +3,9 @@ use mathlib.Core.Path.{_≡_, refl, sym, ap, _∙_}
 use mathlib.Core.Bool.{Bool, true, false}
 use mathlib.Core.List.{List, [], _∷_, _++_, append-assoc}
 use Prim.Native.Nat.{ℕ, _+_, _^_, _<_}
-use lib.ListN.{take}
 use Rattle.gf2.specs.Polynomials.{rem}
-use Rattle.gf2.specs.Moduli.{polynomial, Proper}
+use Rattle.gf2.specs.Moduli.{polynomial}
 use Rattle.gf2.specs.declared.Modulus.{Modulus}
-use Rattle.gf2.proofs.Monics.{monic-pos}
 use Rattle.refusals.specs.declared.Refusal.{Refusal}
 use Rattle.refusals.specs.declared.Refusal.the-variants.{TooLong, MarkNotReduced, FinalByte}
 use Rattle.refusals.specs.Refusals.{Answer, Done, Refused, Test, _⇒_, firstOf, passes}
@@ -16,10 +14,8 @@ use Rattle.acceptance.specs.Keys.{accepted}
 use Rattle.acceptance.specs.Opened.{Opened}
 use Rattle.acceptance.proofs.Opened.{open-accepted, opened-first, opened-whole, residue-below}
 use Rattle.files.specs.declared.Mark.{Mark}
-use Rattle.files.specs.Files.{bits, valueFrom, markOf, unreduced, Part, partLength, partBits, misused, fedMark}
-use Rattle.files.specs.Ends.{wholeBytes, endBits}
+use Rattle.files.specs.Files.{valueFrom, markOf, unreduced, Part, partLength, partBits, misused, fedMark}
 use Rattle.files.proofs.Marks.{mark-eq, true-reduced}
-use Rattle.files.proofs.Computing.{part-behind}
 use Rattle.table_tests.specs.TableTests.{tableTests}
 use Rattle.table_tests.proofs.Laws.{clear-table}
 use Rattle.house.specs.House.{houseKey, houseWords}
@@ -75,17 +71,6 @@ module _ {key : ℕ} {p : Modulus} (h : Opened key p) (m : Mark) (part : Part) (
         ap (λ (z : Mark). fedUnder key (Done z))
         (mark-eq (is ∙ ap (λ (q : ℕ). rem q (valueFrom (m .fingerprint) (partBits part))) (opened-whole h)) (sym (clear .1)))
         ∙ sym (ap (fedUnder key) (clear-done (feedTests key m part) m (fedMark key m part) (clear .0)))
-
--- ---- a part behind a residue
-
--- its whole bytes x, and the used bits behind them
-pub behind : (p : Modulus) → Proper p → (f : ℕ) (part : Part) (w x : ℕ) → w ≡ wholeBytes part
-    → x ≡ rem (polynomial p) (valueFrom f (bits (take w (part .bytes))))
-    → rem (polynomial p) (valueFrom x (endBits part)) ≡ rem (polynomial p) (valueFrom f (partBits part))
-behind p h f part w x ew ex =
-    ap (λ (y : ℕ). rem (polynomial p) (valueFrom y (endBits part)))
-    (ex ∙ ap (λ (n : ℕ). rem (polynomial p) (valueFrom f (bits (take n (part .bytes))))) ew)
-    ∙ part-behind (monic-pos (p .degree) (p .low) (h .2)) f part
 
 -- ---- marks of files
 

@@ -7,7 +7,7 @@ use native.Mathlib.Nat.{mul-le-mul-left, le-of-suc-le-suc}
 use native.Mathlib.Decide.{ℕ-discrete}
 use native.Mathlib.Omega.{arith}
 use lib.ListN.{length}
-use borrow.Author.Tests.{eq-eqb, ne-eqb, lt-ltb, le-ltb}
+use borrow.Author.Tests.{eq-eqb, lt-ltb, le-ltb}
 use Rattle.refusals.specs.declared.Refusal.{Refusal}
 use Rattle.refusals.specs.declared.Refusal.the-variants.{TooLong, FinalByte}
 use Rattle.refusals.specs.Refusals.{Done, Refused, Test, _⇒_, firstOf, passes, longest}

@@ -2,7 +2,7 @@
 use mathlib.Core.Path.{_≡_, sym, ap, ap₂, subst, _∙_}
 use mathlib.Core.Bool.{false, _||_, not, Bool·not-not}
 use mathlib.Core.List.{List, [], _∷_, _++_}
-use Prim.Native.Nat.{ℕ, _-_, _*_, _^_, _≤_}
+use Prim.Native.Nat.{ℕ, _*_, _^_, _≤_}
 use native.Mathlib.Omega.{arith}
 use lib.Bits.{bitOr}
 use lib.Dec.{eqb, leb}
@@ -55,7 +55,8 @@ module _ (sheet : List ℕ) (head : Head) (h : HeadOf sheet head) (some : 16 ≤
   by-fields =
       let fs = numbersAt (pagePlace v 0) (v .fingerprintWidth) count sheet in
       let many = length-numbersAt (pagePlace v 0) (v .fingerprintWidth) count sheet in
-      rw (← (h .key), ← (h .length), ← (h .size), ← (h .version), zeros-are v (head .key) (8 * head .size) (head .length) fs (omega arith) (many ∙ as-bits), many)
+      rw (← (h .key), ← (h .length), ← (h .size), ← (h .version),
+      zeros-are v (head .key) (8 * head .size) (head .length) fs (omega arith) (many ∙ as-bits), many)
 
   pub body-is : bodyWrong (length sheet) (contentsIn sheet)
       ≡ (not (eqb (length sheet) (sheetLength (layoutOf (head .version)) (pagesFor (head .size) (head .length))))

@@ -4,8 +4,8 @@ use mathlib.Core.Path.{_≡_, refl, sym, ap, ap₂, _∙_}
 use mathlib.Core.Bool.{Bool, true, false, cond}
 use mathlib.Core.List.{List, [], _∷_, _++_, append-assoc, append-nil}
 use Prim.Native.Nat.{ℕ, zero, suc, _+_, _-_, _*_, _/_, _^_, _≤_, _<_, min}
-use native.Mathlib.Nat.{div-add-mod', le-div-iff-mul-le, mod-lt, mul-add-div-right, mul-le-mul-left, mul-le-mul-right, mul-one, sub-zero, suc-add, suc-mul, div-div-eq-div-mul}
-use native.Mathlib.Nat.{add-mul, zero-add, zero-mul, le-refl}
+use native.Mathlib.Nat.{div-add-mod', le-div-iff-mul-le, mod-lt, mul-add-div-right, mul-le-mul-left, mul-le-mul-right, mul-one, sub-zero, suc-add, suc-mul}
+use native.Mathlib.Nat.{div-div-eq-div-mul, add-mul, zero-add, zero-mul, le-refl}
 use native.Mathlib.Decide.{decLe}
 use native.Mathlib.Omega.{arith}
 use lib.ListN.{length, getD, take, drop, replicate, length-append, length-replicate, length-drop, length-take, drop-of-length-le, take-append-drop}

@@ -17,7 +17,8 @@ use Rattle.files.proofs.difference.Tie as tie
 abbrev Inv-loop : tie.InvT-loop
 Inv-loop p old new x₀ i₀ x i =
     (i ≤ length old) × (x < 2 ^ p .degree)
-    × (rem (polynomial p) (valueFrom x (bits (drop i old)) ⊕ valueFrom 0 (bits (drop i new))) ≡ rem (polynomial p) (valueFrom 0 (bits old) ⊕ valueFrom 0 (bits new)))
+    × (rem (polynomial p) (valueFrom x (bits (drop i old)) ⊕ valueFrom 0 (bits (drop i new)))
+    ≡ rem (polynomial p) (valueFrom 0 (bits old) ⊕ valueFrom 0 (bits new)))
 
 abbrev μ-loop : tie.MeasureT-loop
 μ-loop p old new x₀ i₀ x i = length old - i

@@ -1,6 +1,5 @@
 -- `files::joined_residue` meets its contract: `joined-is`.
 use mathlib.Core.Path.{sym}
-use Prim.Native.Nat.{_*_}
 use borrow.Author.Needs.{needs}
 use Rattle.gf2.specs.Polynomials.{_⊕_}
 use Rattle.gf2.proofs.Steps.{residue-lt}

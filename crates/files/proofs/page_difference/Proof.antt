@@ -63,7 +63,8 @@ slice-aggregate-difference-2 c =
 difference-requires : tie.Need-difference-requires
 difference-requires c κs =
     let s = arg2→start c in
-    (s .pre .0, omega (arith, s .pre .1, length-take (c .before .before .whole-bytes .result) (s .args .old .now), length-take (c .before .before .whole-bytes .result) (s .args .new .now)))
+    let w = c .before .before .whole-bytes .result in
+    (s .pre .0, omega (arith, s .pre .1, length-take w (s .args .old .now), length-take w (s .args .new .now)))
 
 returns : tie.Need-returns
 returns c =

@@ -1,6 +1,7 @@
 -- `files::replaced_residue` meets its contract: `replaced-is`.
 use mathlib.Core.Path.{sym, ap, ap₂, _∙_}
-use Prim.Native.Nat.{ℕ, _*_}
+use mathlib.Core.List.{List}
+use Prim.Native.Nat.{ℕ}
 use borrow.Author.Needs.{needs}
 use Rattle.gf2.specs.Polynomials.{_⊕_, _⊗_, rem}
 use Rattle.gf2.specs.Moduli.{polynomial}
@@ -36,9 +37,10 @@ returns c =
     let s = power-of-t→start (c .before) in
     let a = s .args in
     let p = polynomial (a .p) in
+    let print : List ℕ → ℕ = λ page. fingerprint p (partBits (asPart page (a .used))) in
     ap (λ (x : ℕ). a .f ⊕ x)
     (c .product .ensures ∙ ap₂ (λ (d t : ℕ). rem p (d ⊗ t)) (c .before .before .page-difference .ensures) (c .before .power-of-t .ensures))
-    ∙ sym (replaced-is (a .p .degree) (a .p .low) (s .pre .0 .2) (a .f) (fingerprint p (partBits (asPart (a .old .now) (a .used))) ⊕ fingerprint p (partBits (asPart (a .new .now) (a .used)))) (a .after) (s .pre .1))
+    ∙ sym (replaced-is (a .p .degree) (a .p .low) (s .pre .0 .2) (a .f) (print (a .old .now) ⊕ print (a .new .now)) (a .after) (s .pre .1))
 
 pub replaced-residue-spec : {M : Type 1} → statement M
 replaced-residue-spec = tie.close (tie.spec page-difference-requires (λ c κs. search needs) product-requires returns)

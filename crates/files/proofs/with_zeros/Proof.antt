@@ -1,5 +1,4 @@
 -- `files::with_zeros` meets its contract.
-use Prim.Native.Nat.{_*_}
 use borrow.Author.Needs.{needs}
 use Rattle.gf2.proofs.Monics.{monic-pos}
 use Rattle.gf2.proofs.Powers.{rem-⊗-pow}

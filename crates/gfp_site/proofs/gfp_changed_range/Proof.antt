@@ -41,7 +41,8 @@ same-told x o before (false ⇒ r ∷ ts) = same-told x o before ts
 told : (c : tie.After-first-changed-range) (o : Changed) → c .first-changed-range .result ≡ o
     → (numberOf (changeAnswer o) ≡ numberOf (checkSheet (start c .args .sheet .now) (asPart (start c .args .file .now) (start c .args .used))))
     × (heldAfter numbersIn (before c) (changeAnswer o)
-    ≡ heldAfter (rangeIn (contentsIn (start c .args .sheet .now))) (before c) (checkSheet (start c .args .sheet .now) (asPart (start c .args .file .now) (start c .args .used))))
+    ≡ heldAfter (rangeIn (contentsIn (start c .args .sheet .now))) (before c)
+    (checkSheet (start c .args .sheet .now) (asPart (start c .args .file .now) (start c .args .used))))
 unfolding changedRange checkSheet
 told c o e =
     let h = ap changeAnswer (sym e) ∙ c .first-changed-range .ensures in

@@ -1,7 +1,7 @@
 -- The numbers of the sheet are stored; on refusal nothing is.
 use mathlib.Core.Path.{_≡_, refl, sym, ap, _∙_}
 use mathlib.Core.List.{List, [], _∷_}
-use Prim.Native.Nat.{ℕ, _<_}
+use Prim.Native.Nat.{ℕ}
 use native.Mathlib.Omega.{arith}
 use Rattle.refusals.specs.Refusals.{Answer, Done, Refused, numberOf}
 use Rattle.sheets.specs.declared.Reading.{Reading}

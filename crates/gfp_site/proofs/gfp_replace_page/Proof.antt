@@ -33,7 +33,8 @@ returns c =
     let m = markAt (s .fingerprint .now) (s .bits .now) in
     let old = asPart (s .old-page .now) (s .old-used) in
     let new = asPart (s .new-page .now) (s .new-used) in
-    stored (s .key) m (replacePage (s .key) m (s .place) old new) _ _ _ (keeps (s .key) m (s .place) old new) (c .before .before .before .replace-page .ensures) (c .store .ensures)
+    stored (s .key) m (replacePage (s .key) m (s .place) old new) _ _ _ (keeps (s .key) m (s .place) old new)
+    (c .before .before .before .replace-page .ensures) (c .store .ensures)
 
 pub gfp-replace-page-spec : {M : Type 1} → statement M
 gfp-replace-page-spec = tie.close (tie.spec (λ c κs. search needs) (λ c κs. search needs) returns)

@@ -25,7 +25,8 @@ returns : tie.Need-returns
 returns c =
     let r = c .before .before .before in
     let a = start r .args in
-    sym (check-refused (a .sheet .now) (c .before .r .given .0 .0) (asPart (a .file .now) (a .used)) (ap reading (sym (c .before .r .given .1)) ∙ r .read .ensures))
+    let file = asPart (a .file .now) (a .used) in
+    sym (check-refused (a .sheet .now) (c .before .r .given .0 .0) file (ap reading (sym (c .before .r .given .1)) ∙ r .read .ensures))
 
 returns-2 : tie.Need-returns-2
 returns-2 c =

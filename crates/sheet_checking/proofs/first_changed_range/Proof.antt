@@ -38,7 +38,9 @@ asked c = c .before .before
 abbrev place : tie.After-read-head → tie.After-answer
 place c = c .before .before
 
-page : (c : tie.After-answer) → checkSheet (start (asked c) .args .sheet .now) (asPart (start (asked c) .args .file .now) (start (asked c) .args .used)) ≡ Done (Page (c .answer .given .0 .0))
+page : (c : tie.After-answer)
+    → checkSheet (start (asked c) .args .sheet .now) (asPart (start (asked c) .args .file .now) (start (asked c) .args .used))
+    ≡ Done (Page (c .answer .given .0 .0))
 page c = sym (asked c .check .ensures) ∙ ap checkAnswer (c .answer .given .1)
 
 fits : (c : tie.After-read-head) → place c .answer .given .0 .0 * c .read-head .result .size + c .read-head .result .size < 2 ^ 64

@@ -1,14 +1,11 @@
 -- `fed_last` meets its contract: the whole bytes, and the used bits behind them.
-use mathlib.Core.Path.{_≡_, sym, ap, _∙_}
+use mathlib.Core.Path.{sym, _∙_}
 use Prim.Native.Nat.{ℕ}
-use lib.ListN.{take}
 use lib.Seq.{length-take-le}
-use Rattle.gf2.specs.Polynomials.{rem}
 use Rattle.gf2.specs.Moduli.{polynomial}
 use Rattle.gf2.proofs.Monics.{monic-pos}
 use Rattle.gf2.proofs.Steps.{residue-below}
-use Rattle.files.specs.Files.{bits, valueFrom, value, fingerprint, Part, asPart}
-use Rattle.files.specs.Ends.{wholeBytes, endBits}
+use Rattle.files.specs.Files.{value, fingerprint, Part, asPart}
 use Rattle.files.proofs.Computing.{part-behind}
 use borrow.Author.Needs.{needs}
 use Rattle.sheet_pages.proofs.fed_last.Statement.{statement}
@@ -31,20 +28,14 @@ feed-end-requires c κs =
     let s = start c in
     (s .pre .0 .0, residue-below (s .args .p) (s .pre .0 .0) _ _ (c .fed-front .ensures), s .pre .1)
 
-front : (c : tie.After-fed-front)
-    → c .fed-front .result ≡ rem (key (start c)) (valueFrom 1 (bits (take (wholeBytes (page (start c))) (page (start c) .bytes))))
-front c =
-    let s = start c in
-    c .fed-front .ensures
-    ∙ ap (λ (w : ℕ). rem (key s) (valueFrom 1 (bits (take w (page s .bytes))))) (c .before .before .whole-bytes .ensures .0)
-
 returns : tie.Need-returns
 unfolding fingerprint value
 returns c =
-    let s = start (c .before) in
+    let f = c .before in
+    let s = start f in
     c .feed-end .ensures
-    ∙ ap (λ (x : ℕ). rem (key s) (valueFrom x (endBits (page s)))) (front (c .before))
-    ∙ part-behind (monic-pos (s .args .p .degree) (s .args .p .low) (s .pre .0 .0 .2)) 1 (page s)
+    ∙ part-behind (monic-pos (s .args .p .degree) (s .args .p .low) (s .pre .0 .0 .2)) 1 (page s) _ _ (f .before .before .whole-bytes .ensures .0)
+    (f .fed-front .ensures)
 
 pub fed-last-spec : {M : Type 1} → statement M
 fed-last-spec =

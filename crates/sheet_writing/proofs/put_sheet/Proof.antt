@@ -81,6 +81,7 @@ returns c =
     let size = 8 * a .size in
     let count = pageCount (a .size) (length (a .file .now)) in
     let held = pages-held (a .size) (part s) in
+    let fields : ℕ → List ℕ = λ m. letters ∷ newest .version ∷ a .key ∷ m / v .lengthUnit ∷ a .size ∷ [] in
     let b = h .put-head .last .0 in
     let n = q .pages-place .result in
     let part = f .put-fingerprints .last .0 in
@@ -95,7 +96,7 @@ returns c =
     ∙ ap (λ (m : ℕ). take m b ++ part) from
     ∙ sheet-stores (contentsOf (newest .version) (a .key) (a .size) file) count (a .buffer .now) b part
     (length-pages v (a .key) (pagesFor (a .size) (length file)) size file ∙ held) (s .pre .4)
-    (h .put-head .ensures ∙ ap (λ (n : ℕ). sets (a .buffer .now) 0 (bytesIn (fieldWidths v) (letters ∷ newest .version ∷ a .key ∷ n / v .lengthUnit ∷ a .size ∷ []))) (counted h))
+    (h .put-head .ensures ∙ ap (λ (m : ℕ). sets (a .buffer .now) 0 (bytesIn (fieldWidths v) (fields m))) (counted h))
     (stored
     ∙ ap₂ (λ (m c : ℕ). sets (drop m b) 0 (fieldsOf 8 (pageFingerprints v (a .key) size c file) ++ bytesOf 8 (fingerprint (a .key) file))) from (sym held))
 

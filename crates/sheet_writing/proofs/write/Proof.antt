@@ -28,7 +28,8 @@ returns c =
     let t = c .before .before .before in
     let a = start t .args in
     let r = c .before .r in
-    sym (write-refused (a .key) (a .size) (asPart (a .file .now) (a .used)) (a .buffer .now) (t .test .result) (r .given .0 .0) (t .test .ensures) (r .given .1))
+    let file = asPart (a .file .now) (a .used) in
+    sym (write-refused (a .key) (a .size) file (a .buffer .now) (t .test .result) (r .given .0 .0) (t .test .ensures) (r .given .1))
 
 returns-2 : tie.Need-returns-2
 returns-2 c = c .before .before .write-under .ensures

@@ -3,7 +3,7 @@ use mathlib.Core.Path.{_≡_, sym, ap, subst, _∙_}
 use mathlib.Core.Bool.{Bool, cond}
 use Prim.Native.Nat.{ℕ, _+_, _-_, _*_, _≤_, _<_}
 use native.Mathlib.Omega.{arith}
-use Rattle.sheets.specs.Layout.{pageCount, pagesFor}
+use Rattle.sheets.specs.Layout.{pageCount}
 use Rattle.sheets.proofs.Pages.{pages-count, count-covers, count-tight}
 use borrow.Author.Needs.{needs}
 use Rattle.sheet_reading.proofs.wellformed.zeros_behind.Statement.{statement}

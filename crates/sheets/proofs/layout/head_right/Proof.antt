@@ -65,7 +65,8 @@ returns-4 c =
     let t = c .before in
     let k = total→known t in
     let e = known→else2 k in
-    rw (long e, letters-right e, sym (known-is k) ∙ not-false (k .is-known .result) (t .before .if3 .left), lt-ltb (length (sheet e)) _ (rw (total-is t) at (c .if4 .taken)))
+    let short = lt-ltb (length (sheet e)) _ (rw (total-is t) at (c .if4 .taken)) in
+    rw (long e, letters-right e, sym (known-is k) ∙ not-false (k .is-known .result) (t .before .if3 .left), short)
 
 returns-5 : tie.Need-returns-5
 returns-5 c =
@@ -73,7 +74,8 @@ returns-5 c =
     let k = total→known t in
     let e = known→else2 k in
     let n = lengthIn (layoutOf (versionIn (sheet e))) (sheet e) in
-    rw (long e, letters-right e, sym (known-is k) ∙ not-false (k .is-known .result) (t .before .if3 .left), le-ltb (length (sheet e)) _ (rw (total-is t) at (c .before .if4 .left)))
+    let least = le-ltb (length (sheet e)) _ (rw (total-is t) at (c .before .if4 .left)) in
+    rw (long e, letters-right e, sym (known-is k) ∙ not-false (k .is-known .result) (t .before .if3 .left), least)
     (ap (λ (m : ℕ). leb m longest) (c .length-in .ensures ∙ ap (λ (v : ℕ). lengthIn (layoutOf v) (sheet e)) (version-is k))
     ∙ one-within n
     ∙ ap not (or-false (ltb longest n)))
