@@ -10,7 +10,7 @@ use native.Mathlib.Omega.{arith}
 use lib.Dec.{leb, ltb, eqb}
 use lib.ListN.{length, getD, take, drop, take-append-drop, length-drop, drop-of-length-le}
 use lib.Pow.{shr-shr}
-use lib.Seq.{length-take-le, take-add, take-all, take-nil, drop-nil, take-take, take-append-le, take-at, drop-at, drop-cons, drop-drop}
+use lib.Seq.{length-take-le, take-add, take-all, take-nil, drop-nil, take-take, take-append-le, take-at, drop-at, drop-cons, drop-drop, getD-drop}
 use borrow.Author.Tests.{ltb-false, eqb-true, eqb-false, not-false, le-leb, lt-leb, lt-ltb, le-ltb, eq-eqb, ne-eqb}
 use Rattle.lists.proofs.Truth.{or-neither}
 use Rattle.files.specs.Files.{lowBits, bits, Bits, Part, asPart, whole, usedBits, partLength, partBits, misused, bytesFor}
@@ -291,3 +291,30 @@ end-low p w n =
   where
     all : (u : ℕ) → u ≤ 8 → 8 ≡ u + (8 - u)
     all u h = omega arith
+
+-- at most the final byte is not whole
+pub whole-range : (p : Part) → (wholeBytes p ≤ length (p .bytes)) × (length (p .bytes) ≤ wholeBytes p + 1)
+whole-range p = go (eqb (p .used) 8)
+  where
+    go : (b : Bool) → let w = cond b (length (p .bytes)) (length (p .bytes) - 1) in (w ≤ length (p .bytes)) × (length (p .bytes) ≤ w + 1)
+    go true = (omega arith, omega arith)
+    go false = (omega arith, omega arith)
+
+-- bytes among the whole ones: their bits are a piece of the part's
+pub whole-piece : (p : Part) (at n : ℕ) → at + n ≤ wholeBytes p → take (8 * n) (drop (8 * at) (partBits p)) ≡ bits (take n (drop at (p .bytes)))
+unfolding partBits
+whole-piece p at n h =
+    ap (take (8 * n)) (drop-take (8 * at) (partLength p) (bits (p .bytes)))
+    ∙ take-take (8 * n) (partLength p - 8 * at) (drop (8 * at) (bits (p .bytes))) (omega (arith, whole-within p))
+    ∙ sym (bits-take n (drop at (p .bytes)) ∙ ap (take (8 * n)) (bits-drop at (p .bytes)))
+
+-- ---- number 19 of the part that is left behind n bytes: the final byte is the same
+
+pub rest-misused : (bytes : List ℕ) (u n : ℕ) → n < length bytes → misused (asPart (drop n bytes) u) ≡ misused (asPart bytes u)
+unfolding misused
+rest-misused bytes u n h =
+    let long = length-drop n bytes in
+    let last : n + (length (drop n bytes) - 1) ≡ length bytes - 1 = omega (arith, long) in
+    ap₂ (λ (b : Bool) (x : ℕ). ltb u 1 || ltb 8 u || (b && not (eqb u 8)) || not (eqb (x % 2 ^ (8 - u)) 0))
+    (ne-eqb (length (drop n bytes)) 0 (λ e. omega (arith, long, e)) ∙ sym (ne-eqb (length bytes) 0 (λ e. omega (arith, e))))
+    (getD-drop n bytes (length (drop n bytes) - 1) 0 ∙ ap (λ (i : ℕ). getD bytes i 0) last)

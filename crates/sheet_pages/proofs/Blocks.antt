@@ -1,16 +1,18 @@
--- Laws of a block of whole pages.
+-- Laws of a block of pages: the whole ones lie inside the whole bytes.
 use mathlib.Core.Path.{_≡_, sym, ap, ap₂, _∙_}
 use mathlib.Core.List.{List, [], _∷_, _++_}
 use Prim.Native.Nat.{ℕ, _+_, _-_, _*_, _≤_, _<_}
-use native.Mathlib.Nat.{mul-le-mul-right, suc-mul}
+use native.Mathlib.Nat.{mul-le-mul-right, mul-left-comm, suc-mul}
 use native.Mathlib.Numerals.{add-one}
 use native.Mathlib.Omega.{arith}
 use lib.ListN.{length, getD, set, take, drop, length-drop, length-set}
 use lib.Seq.{drop-drop, length-take-le, take-add, take-suc-set, getD-take, ext-getD}
 use Rattle.gf2.specs.Polynomials.{rem}
 use Rattle.lists.proofs.Lists.{stored}
-use Rattle.files.specs.Files.{bits, valueFrom, value, fingerprint}
-use Rattle.files.proofs.Values.{rem-from}
+use Rattle.files.specs.Files.{bits, valueFrom, value, fingerprint, Part, partBits}
+use Rattle.files.specs.Ends.{wholeBytes}
+use Rattle.files.proofs.Values.{bits-append, length-bits, rem-from}
+use Rattle.files.proofs.Parts.{whole-range, whole-piece}
 use Rattle.files.proofs.Marks.{fed}
 use Rattle.sheets.specs.Layout.{Layout}
 use Rattle.sheets.specs.Sheets.{pageOf, pageFingerprints}
@@ -30,9 +32,9 @@ module _ (key s w : ℕ) (pages marks : List ℕ) (i : ℕ) where
       stored 0 P (set marks i x) j y (simp length-set l) ey m (λ d. stored 0 P marks i x (omega arith) ex m (λ e. f m (omega (arith, d, e))))
 
   -- one page more
-  pub finished-more : (v : ℕ) → i < length marks → Finished key s i pages marks → v ≡ fingerprint key (pageFront s s pages i)
+  pub finished-more : (v : ℕ) → i < length marks → Finished key s i pages marks → v ≡ fingerprint key (bits (pageFront s s pages i))
       → Finished key s (i + 1) pages (set marks i v)
-  finished-more v l f e m b = stored 0 (λ n z. z ≡ fingerprint key (pageFront s s pages n)) marks i v l e m (λ d. f m (omega (arith, d)))
+  finished-more v l f e m b = stored 0 (λ n z. z ≡ fingerprint key (bits (pageFront s s pages n))) marks i v l e m (λ d. f m (omega (arith, d)))
 
 -- ---- the bytes of a page in the block
 
@@ -46,7 +48,7 @@ front-cut a w pages = let e : a + w - a ≡ w = omega arith in rw e
 pub page-finished : {key : ℕ} (pos : 0 < key) (s w i : ℕ) (pages : List ℕ) (x r : ℕ) → w ≤ s
     → rem key x ≡ rem key (valueFrom 1 (bits (pageFront s w pages i)))
     → r ≡ rem key (valueFrom x (bits (take (i * s + s - (i * s + w)) (drop (i * s + w) pages))))
-    → r ≡ fingerprint key (pageFront s s pages i)
+    → r ≡ fingerprint key (bits (pageFront s s pages i))
 unfolding fingerprint value
 page-finished {key} pos s w i pages x r l ex er =
     let e : i * s + s - (i * s + w) ≡ s - w = omega arith in
@@ -56,29 +58,43 @@ page-finished {key} pos s w i pages x r l ex er =
     ∙ ap (λ (n : ℕ). rem key (valueFrom x (bits (take n (drop (i * s + w) pages))))) e
     ∙ sym (rem-from pos x (bits rest))
     ∙ ap (λ (y : ℕ). rem key (valueFrom y (bits rest))) ex
-    ∙ fed pos (pageFront s w pages i) rest
-    ∙ ap (fingerprint key)
+    ∙ fed pos (bits (pageFront s w pages i)) (bits rest)
+    ∙ ap (fingerprint key) (sym (bits-append (pageFront s w pages i) rest))
+    ∙ ap (λ (q : List ℕ). fingerprint key (bits q))
     (ap (λ (q : List ℕ). pageFront s w pages i ++ take (s - w) q) (sym (drop-drop w (i * s) pages))
     ∙ sym (take-add w (s - w) (drop (i * s) pages))
     ∙ ap (λ (n : ℕ). take n (drop (i * s) pages)) d)
 
 -- ---- the fingerprints as a list
 
-pub block-is : (v : Layout) (key s n : ℕ) (pages marks : List ℕ) → n * s ≤ length pages → n ≤ length marks → Finished key s n pages marks
-    → take n marks ≡ pageFingerprints v key s n pages
-block-is v key s n pages marks h l f =
-    ext-getD 0 (take n marks) (pageFingerprints v key s n pages) (long ∙ sym (length-pages v key n s pages)) (λ i b. same i (omega (arith, long, b)))
+-- page i of n that lie inside the whole bytes
+page-bits : (s n i : ℕ) (rest : Part) → n * s ≤ wholeBytes rest → i < n
+    → take (8 * s) (drop (i * (8 * s)) (partBits rest)) ≡ bits (pageFront s s (rest .bytes) i)
+page-bits s n i rest h b =
+    ap (λ (m : ℕ). take (8 * s) (drop m (partBits rest))) (mul-left-comm i 8 s) ∙ whole-piece rest (i * s) s (place-fits s n i (wholeBytes rest) b h)
+
+-- it has all its bits
+front-long : (s n i : ℕ) (rest : Part) → n * s ≤ wholeBytes rest → i < n → length (bits (pageFront s s (rest .bytes) i)) ≡ 8 * s
+front-long s n i rest h b =
+    let fits = place-fits s n i (wholeBytes rest) b h in
+    length-bits (pageFront s s (rest .bytes) i)
+    ∙ ap (λ (m : ℕ). 8 * m) (length-take-le s (drop (i * s) (rest .bytes)) (rw length-drop (omega (arith, fits, whole-range rest .0))))
+
+pub block-is : (v : Layout) (key s n : ℕ) (rest : Part) (marks : List ℕ) → n * s ≤ wholeBytes rest → n ≤ length marks
+    → Finished key s n (rest .bytes) marks → take n marks ≡ pageFingerprints v key (8 * s) n (partBits rest)
+block-is v key s n rest marks h l f =
+    ext-getD 0 (take n marks) (pageFingerprints v key (8 * s) n (partBits rest)) (long ∙ sym (length-pages v key n (8 * s) (partBits rest)))
+    (λ i b. same i (omega (arith, long, b)))
   where
     long : length (take n marks) ≡ n
     long = length-take-le n marks l
 
-    whole : (i : ℕ) → i < n → pageOf v s (take s (drop (i * s) pages)) ≡ take s (drop (i * s) pages)
+    whole : (i : ℕ) → i < n → pageOf v (8 * s) (take (8 * s) (drop (i * (8 * s)) (partBits rest))) ≡ bits (pageFront s s (rest .bytes) i)
     whole i b =
-        page-whole v s (take s (drop (i * s) pages)) (length-take-le s (drop (i * s) pages)
-        (rw length-drop (omega (arith, place-fits s n i (length pages) b h))))
+        ap (pageOf v (8 * s)) (page-bits s n i rest h b) ∙ page-whole v (8 * s) (bits (pageFront s s (rest .bytes) i)) (front-long s n i rest h b)
 
-    same : (i : ℕ) → i < n → getD (take n marks) i 0 ≡ getD (pageFingerprints v key s n pages) i 0
-    same i b = getD-take n marks i 0 b ∙ f i b ∙ ap (fingerprint key) (sym (whole i b)) ∙ sym (page-at v key s n i pages b)
+    same : (i : ℕ) → i < n → getD (take n marks) i 0 ≡ getD (pageFingerprints v key (8 * s) n (partBits rest)) i 0
+    same i b = getD-take n marks i 0 b ∙ f i b ∙ ap (fingerprint key) (sym (whole i b)) ∙ sym (page-at v key (8 * s) n i (partBits rest) b)
 
 -- ---- the last page among them
 

@@ -2,11 +2,11 @@
 use mathlib.Core.Path.{_≡_}
 use mathlib.Core.List.{List}
 use Prim.Native.Nat.{ℕ, _*_, _<_, min}
-use lib.ListN.{length, getD, take, drop}
+use lib.ListN.{getD, take, drop}
 use Rattle.gf2.specs.Polynomials.{rem}
 use Rattle.gf2.specs.Moduli.{polynomial, Proper}
 use Rattle.gf2.specs.declared.Modulus.{Modulus}
-use Rattle.files.specs.Files.{bits, valueFrom, fingerprint}
+use Rattle.files.specs.Files.{bits, valueFrom, fingerprint, Part, partLength, partBits}
 use Rattle.multiples.specs.Rows.{SameFrom}
 use Rattle.lookups.specs.Groups.{TableOf}
 use Rattle.shifts.specs.Shifts.{Shifts}
@@ -33,11 +33,11 @@ BegunBy eights s w n pages marks = (p : Modulus) → Proper p → Shifts (polyno
 
 -- it is the fingerprint of page i
 abbrev pub Finished : ℕ → ℕ → ℕ → List ℕ → List ℕ → Type 0
-Finished key s n pages marks = (i : ℕ) → i < n → getD marks i 0 ≡ fingerprint key (pageFront s s pages i)
+Finished key s n pages marks = (i : ℕ) → i < n → getD marks i 0 ≡ fingerprint key (bits (pageFront s s pages i))
 
--- the next n pages of what is left of a file, as a version takes them: all of them, at most 64. Their fingerprints stand in the first n
--- places, the others stay.
-pub record NextPages (v : Layout) (key s : ℕ) (rest : List ℕ) (n : ℕ) (before marks : List ℕ) : Type 0 where
-  pub count : n ≡ min (pageCount s (length rest)) 64
-  pub prints : take n marks ≡ pageFingerprints v key s n rest
+-- the next n pages, of s bytes, of what is left of a file, as a version takes them: all of them, at most 64. Their fingerprints stand in the
+-- first n places, the others stay.
+pub record NextPages (v : Layout) (key s : ℕ) (rest : Part) (n : ℕ) (before marks : List ℕ) : Type 0 where
+  pub count : n ≡ min (pageCount (8 * s) (partLength rest)) 64
+  pub prints : take n marks ≡ pageFingerprints v key (8 * s) n (partBits rest)
   pub behind : SameFrom n before marks

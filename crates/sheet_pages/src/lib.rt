@@ -3,12 +3,12 @@
 use gf2::Modulus;
 use sheets::layout;
 ghost use mathlib.Core.Path.{_≡_};
-ghost use mathlib.Core.Bool.{true};
+ghost use mathlib.Core.Bool.{true, false};
 ghost use Prim.Native.Nat.{_+_, _-_, _*_, _/_, _%_, _≤_, _<_, min};
 ghost use lib.ListN.{length};
 ghost use Rattle.gf2.specs.Polynomials.{rem};
 ghost use Rattle.gf2.specs.Moduli.{polynomial, Proper};
-ghost use Rattle.files.specs.Files.{bits, valueFrom, fingerprint};
+ghost use Rattle.files.specs.Files.{bits, valueFrom, fingerprint, asPart, partBits, misused};
 ghost use Rattle.multiples.specs.Rows.{SameFrom};
 ghost use Rattle.lookups.specs.Groups.{TableOf};
 ghost use Rattle.house.specs.House.{houseKey};
@@ -143,43 +143,59 @@ fn whole_marks(
     finish_pages(marks, words, p, size, whole, n, pages);
 }
 
-// The residue of a page that is not whole, with the leading 1.
-fn fed_last(words: &[u64], p: Modulus, page: &[u8]) -> u64
+// The residue of the whole bytes of a last page, behind the leading 1.
+fn fed_front(words: &[u64], p: Modulus, front: &[u8]) -> u64
     requires { ⌜ TableOf p (now words) ⌝ }
-    ensures { λ r. ⌜ r ≡ rem (polynomial p) (valueFrom 1 (bits (now (page .entry)))) ⌝ }
+    ensures { λ r. ⌜ r ≡ rem (polynomial p) (valueFrom 1 (bits (now (front .entry)))) ⌝ }
 {
     if folds::is_house(p) {
-        return folds::fed_page(1, page);
+        return folds::fed_page(1, front);
     }
-    lookups::fed(words, p, 1, page)
+    lookups::fed(words, p, 1, front)
 }
 
-// How a file is cut into pages: the opened key, the bytes of a page, and the sheet's version.
+// The fingerprint of a last page at its own length: its whole bytes, and the used bits behind them.
+fn fed_last(words: &[u64], p: Modulus, page: &[u8], used: u32) -> u64
+    requires { ⌜ TableOf p (now words) × (misused (asPart (now page) used) ≡ false) ⌝ }
+    ensures { λ r. ⌜ r ≡ fingerprint (polynomial p) (partBits (asPart (now (page .entry)) used)) ⌝ }
+{
+    let w = files::whole_bytes(page, used);
+    let front = fed_front(words, p, &page[..w]);
+    files::feed_end(p, front, page, used)
+}
+
+// How a file is cut into pages: the opened key, the bytes of a page, the used bits of the file's final byte, and the sheet's version.
 pub struct Paging {
     pub p: Modulus,
     pub size: usize,
+    pub used: u32,
     pub version: u64,
 }
 
-// The fingerprint of a page that is not whole, as the version takes it: zero bytes behind it come in as one power of t.
+// The fingerprint of a last page, as the version takes it: zeros behind it come in as one power of t.
 fn last_page(words: &[u64], x: Paging, page: &[u8]) -> u64
-    requires { ⌜ TableOf (x .p) (now words) × (length (now page) ≤ x .size) × (x .size ≤ 4096) ⌝ }
-    ensures { λ r. ⌜ r ≡ fingerprint (polynomial (x .p)) (pageOf (layoutOf (x .version)) (x .size) (now (page .entry))) ⌝ }
+    requires { ⌜ TableOf (x .p) (now words) × (length (now page) ≤ x .size) × (x .size ≤ 4096) × (misused (asPart (now page) (x .used)) ≡ false) ⌝ }
+    ensures { λ r. ⌜ r ≡ fingerprint (polynomial (x .p))
+        (pageOf (layoutOf (x .version)) (8 * x .size) (partBits (asPart (now (page .entry)) (x .used)))) ⌝ }
 {
-    let own = fed_last(words, x.p, page);
+    let own = fed_last(words, x.p, page, x.used);
     if layout::fills(x.version) {
-        return files::with_zeros(x.p, own, (x.size - page.len()) as u64);
+        let bits = 8 * (x.size as u64);
+        return files::with_zeros(x.p, own, bits - files::part_length(page, x.used));
     }
     own
 }
 
-// The fingerprints of the next pages, at most 64, into the first places: how many.
+// The fingerprints of the next pages, at most 64, into the first places: how many. A page whose final byte is not used whole is no whole page.
 pub fn next_pages(marks: &mut [u64], words: &[u64], eights: &[u64], x: Paging, rest: &[u8]) -> usize
-    requires { ⌜ PageTables (x .p) (now words) (now eights) × (8 ≤ x .size) × (x .size ≤ 4096) × (64 ≤ length (now marks)) ⌝ }
-    ensures { λ r. ⌜ NextPages (layoutOf (x .version)) (polynomial (x .p)) (x .size) (now (rest .entry)) r (now (marks .entry)) (now (marks .exit)) ⌝ }
+    requires { ⌜ PageTables (x .p) (now words) (now eights) × (8 ≤ x .size) × (x .size ≤ 4096) × (64 ≤ length (now marks))
+        × (misused (asPart (now rest) (x .used)) ≡ false) ⌝ }
+    ensures { λ r. ⌜ NextPages (layoutOf (x .version)) (polynomial (x .p)) (x .size) (asPart (now (rest .entry)) (x .used)) r
+        (now (marks .entry)) (now (marks .exit)) ⌝ }
 {
     let size = x.size;
-    let n = block(rest.len(), size);
+    let w = files::whole_bytes(rest, x.used);
+    let n = block(w, size);
     whole_marks(marks, words, eights, x.p, size, n, rest);
     if n == 64 {
         return n;

@@ -17,7 +17,8 @@ use Rattle.gf2.proofs.Products.{shl-suc}
 use Rattle.gf2.proofs.Residues.{rem-lt}
 use Rattle.files.specs.declared.Mark.{Mark}
 use Rattle.refusals.specs.Refusals.{longest}
-use Rattle.files.specs.Files.{valueFrom, value, fingerprint, markOf, joined}
+use Rattle.files.specs.Files.{valueFrom, value, fingerprint, markOf, Part, partLength, joined}
+use Rattle.files.proofs.Parts.{part-bytes}
 use Rattle.files.proofs.Marks.{fed, joined-true}
 use Rattle.sheets.specs.Layout.{Layout, pageCount, pagesFor}
 use Rattle.sheets.specs.Sheets.{filled, pageOf, pageFingerprints, pageLength, joinedPages}
@@ -307,6 +308,15 @@ all-left file at = take-all (length file - at) (drop at file) (rw (length-drop a
 pub count-whole : (s n : ℕ) → 0 < s → n / s ≤ pageCount s n
 count-whole s n h = le-div-iff-mul-le h .1 (omega (arith, div-add-mod' n s))
 
+-- m pages and one more, which has what they leave
+pub count-next : (s n m : ℕ) → 0 < s → m * s < n → n ≤ m * s + s → pageCount s n ≡ m + 1
+count-next s n m h l r =
+    omega (
+      arith,
+      count-le s n (m + 1) h (omega (arith, add-mul m 1 s)),
+      count-reached s n (m + 1) h (omega (arith, add-mul m 1 s)),
+    )
+
 -- ---- how many pages there are beside the whole ones
 
 -- none where these are the file
@@ -315,9 +325,8 @@ count-exact s n h l = omega (arith, count-reached s n (n / s) h l, count-whole s
 
 -- else one
 pub count-more : (s n : ℕ) → 0 < s → n / s * s < n → pageCount s n ≡ n / s + 1
-count-more s n h l =
-    omega (
-      arith,
-      count-le s n (n / s + 1) h (omega (arith, add-mul (n / s) 1 s)),
-      count-reached s n (n / s + 1) h (omega (arith, add-mul (n / s) 1 s, last-short s n h)),
-    )
+count-more s n h l = count-next s n (n / s) h l (omega (arith, last-short s n h))
+
+-- the pages of a part, by its bytes and by its bits
+pub part-pages : (s : ℕ) (p : Part) → 0 < s → pageCount s (length (p .bytes)) ≡ pageCount (8 * s) (partLength p)
+part-pages s p h = ap (pageCount s) (sym (part-bytes p)) ∙ pages-count s (partLength p) h

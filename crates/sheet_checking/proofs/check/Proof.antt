@@ -1,5 +1,6 @@
 -- `check` meets its contract.
 use mathlib.Core.Path.{sym, ap, _∙_}
+use Rattle.files.specs.Files.{asPart}
 use Rattle.sheets.specs.Answers.{reading}
 use Rattle.sheets.specs.Parts.{ReadAs}
 use Rattle.sheets.proofs.Known.{read-as}
@@ -24,13 +25,13 @@ returns : tie.Need-returns
 returns c =
     let r = c .before .before .before in
     let a = start r .args in
-    sym (check-refused (a .sheet .now) (c .before .r .given .0 .0) (a .file .now) (ap reading (sym (c .before .r .given .1)) ∙ r .read .ensures))
+    sym (check-refused (a .sheet .now) (c .before .r .given .0 .0) (asPart (a .file .now) (a .used)) (ap reading (sym (c .before .r .given .1)) ∙ r .read .ensures))
 
 returns-2 : tie.Need-returns-2
 returns-2 c =
     let x = c .before .before in
     let a = start (read x) .args in
-    c .compare .ensures ∙ sym (check-done (a .sheet .now) (known x) (a .file .now))
+    c .compare .ensures ∙ sym (check-done (a .sheet .now) (known x) (asPart (a .file .now) (a .used)))
 
 pub check-spec : {M : Type 1} → statement M
 check-spec =

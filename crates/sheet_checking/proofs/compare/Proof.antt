@@ -1,35 +1,45 @@
 -- `compare` meets its contract.
 use mathlib.Core.Path.{_≡_, sym, ap, _∙_}
+use mathlib.Core.Bool.{false}
 use mathlib.Core.List.{List}
 use Prim.Native.Nat.{ℕ, _*_, _≤_}
 use native.Mathlib.Omega.{arith}
 use lib.ListN.{length, length-drop}
 use Rattle.gf2.specs.Moduli.{polynomial}
 use Rattle.gf2.specs.Opening.{modulusOf}
-use Rattle.refusals.specs.Refusals.{Done}
+use Rattle.refusals.specs.Refusals.{Done, longest}
 use Rattle.acceptance.specs.Opened.{Opened}
 use Rattle.acceptance.proofs.Opened.{open-accepted, opened-from, opened-proper, opened-eight, opened-whole}
+use Rattle.files.specs.Files.{Part, asPart, partLength, partBits, misused}
 use Rattle.sheets.specs.Layout.{numbersAt, Layout, layoutOf, pagePlace, sheetLength, pageCount, contentsIn}
 use Rattle.sheets.specs.Sheets.{pageFingerprints, firstChange}
 use Rattle.sheets.specs.Claims.{SoundContents}
 use Rattle.sheets.specs.Parts.{comparison}
 use Rattle.sheets.proofs.Known.{sound}
 use Rattle.sheets.proofs.Versions.{length-from}
-use Rattle.sheets.proofs.Pages.{length-pages, count-small}
+use Rattle.sheets.proofs.Pages.{length-pages, count-few}
+use Rattle.sheets.proofs.Parts.{part-fits, part-long, counted-part}
 use Rattle.sheet_pass.proofs.Passes.{pass-few, pass-changed, pass-same}
-use Rattle.sheet_checking.proofs.Laws.{compare-long, compare-other, compare-pages, version-is, size-is, key-is, length-is, pages-there}
+use Rattle.sheet_checking.proofs.Laws.{compare-long, compare-misused, compare-other, compare-pages, version-is, size-is, key-is, length-is, pages-there}
 use borrow.Author.Needs.{needs}
 use Rattle.sheet_checking.proofs.compare.Statement.{statement}
 use Rattle.sheet_checking.proofs.compare.Tie as tie
 
--- the lengths are equal, the key is opened, the pages are passed over
-abbrev lengths→start : tie.Else1 → tie.Start
-lengths→start c = c .before .before .before
+-- ---- the places: the length is not too long, the file is not misused, the lengths are equal, the key is opened, the pages are passed over
 
-abbrev start : tie.Else2 → tie.Start
-start c = lengths→start (c .before)
+abbrev else1→start : tie.Else1 → tie.Start
+else1→start c = c .before .before .before
 
-abbrev equal : tie.After-modulus-of → tie.Else2
+abbrev else2→else1 : tie.Else2 → tie.Else1
+else2→else1 c = c .before .before
+
+abbrev else3→else2 : tie.Else3 → tie.Else2
+else3→else2 c = c .before .before
+
+abbrev start : tie.Else3 → tie.Start
+start c = else1→start (else2→else1 (else3→else2 c))
+
+abbrev equal : tie.After-modulus-of → tie.Else3
 equal c = c .before
 
 abbrev opened : tie.After-page-fields → tie.After-modulus-of
@@ -41,20 +51,39 @@ passed c = c .before .before
 abbrev fields-read : tie.After-over-pages → tie.After-page-fields
 fields-read c = c .before .before
 
-abbrev begin : tie.After-over-pages → tie.Else2
+abbrev begin : tie.After-over-pages → tie.Else3
 begin c = equal (opened (fields-read c))
 
 abbrev sheet : tie.Start → List ℕ
 sheet s = s .args .sheet .now
 
-abbrev file : tie.Start → List ℕ
-file s = s .args .file .now
+abbrev bytes : tie.Start → List ℕ
+bytes s = s .args .file .now
+
+abbrev file : tie.Start → Part
+file s = asPart (bytes s) (s .args .used)
 
 abbrev count : tie.Start → ℕ
-count s = pageCount (s .args .x .size) (length (file s))
+count s = pageCount (s .args .x .size) (length (bytes s))
 
 abbrev layout : tie.Start → Layout
 layout s = layoutOf (s .args .x .version)
+
+fits : (c : tie.Else1) → length (bytes (else1→start c)) ≤ 4294967295
+fits c = omega (arith, c .if1 .left)
+
+well : (c : tie.Else2) → misused (file (else1→start (else2→else1 c))) ≡ false
+well c = sym (c .before .is-misused .ensures) ∙ c .if2 .left
+
+-- the file's length in bits
+measured : (c : tie.After-part-length) → c .part-length .result ≡ partLength (file (else1→start (else2→else1 (c .before))))
+measured c = let e = else2→else1 (c .before) in c .part-length .ensures ∙ counted-part (file (else1→start e)) (fits e)
+
+as-long : (c : tie.Else3) → partLength (file (start c)) ≡ start c .args .x .length
+as-long c = sym (measured (c .before)) ∙ c .if3 .left
+
+within : (c : tie.Else3) → partLength (file (start c)) ≤ longest
+within c = part-fits (file (start c)) (fits (else2→else1 (else3→else2 c)))
 
 fields : (s : tie.Start) → SoundContents (contentsIn (sheet s))
 fields s = sound (sheet s) (s .pre)
@@ -63,23 +92,34 @@ size : (s : tie.Start) → (16 ≤ s .args .x .size) × (s .args .x .size ≤ 40
 size s = rw (size-is (sheet s) (s .pre)) (fields s .pageSize)
 
 -- all fingerprints stand in the sheet
-total : (c : tie.Else2) → sheetLength (layout (start c)) (count (start c)) ≡ length (sheet (start c))
-total c = let s = start c in pages-there (sheet s) (s .pre) (file s) (c .if2 .left)
+total : (c : tie.Else3) → sheetLength (layout (start c)) (count (start c)) ≡ length (sheet (start c))
+total c = let s = start c in pages-there (sheet s) (s .pre) (file s) (as-long c)
 
 -- the key of a sheet that was read is accepted
-key-opened : (c : tie.Else2) → Opened (start c .args .x .key) (modulusOf (start c .args .x .key))
+key-opened : (c : tie.Else3) → Opened (start c .args .x .key) (modulusOf (start c .args .x .key))
 key-opened c = let s = start c in open-accepted (s .args .x .key) (rw (key-is (sheet s) (s .pre)) (fields s .key))
 
 key-held : (c : tie.After-modulus-of) → Opened (start (c .before) .args .x .key) (c .modulus-of .result)
 key-held c = rw (c .modulus-of .ensures) (key-opened (c .before))
 
 returns : tie.Need-returns
-returns c = let s = c .before .before .before in sym (compare-long (sheet s) (file s) (omega arith))
+returns c = let s = c .before .before .before in sym (compare-long (sheet s) (file s) (part-long (file s) (omega (arith, c .if1 .taken))))
 
 returns-2 : tie.Need-returns-2
 returns-2 c =
-    let s = lengths→start (c .before) in
-    sym (compare-other (sheet s) (file s) (omega arith) (λ e. c .if2 .taken (e ∙ sym (length-is (sheet s) (s .pre)))))
+    let e = c .before .before in
+    let s = else1→start e in
+    sym (compare-misused (sheet s) (file s) (part-fits (file s) (fits e)) (sym (c .before .is-misused .ensures) ∙ c .if2 .taken))
+
+returns-3 : tie.Need-returns-3
+returns-3 c =
+    let l = c .before in
+    let u = l .before in
+    let e = else2→else1 u in
+    let s = else1→start e in
+    sym
+    (compare-other (sheet s) (file s) (part-fits (file s) (fits e)) (well u)
+    (λ h. c .if3 .taken (measured l ∙ h ∙ sym (length-is (sheet s) (s .pre)))))
 
 modulus-of-requires : tie.Need-modulus-of-requires
 modulus-of-requires c κs = omega (arith, opened-from (key-opened c))
@@ -104,21 +144,33 @@ over-pages-requires c κs =
     let s = start (equal (opened f)) in
     let h = key-held (opened f) in
     let z = size s in
-    (opened-proper h, opened-eight h, z .0, z .1, omega arith, λ lent. absurd (omega (arith, lent)), λ lent. part f)
+    let u = else3→else2 (equal (opened f)) in (
+      opened-proper h,
+      opened-eight h,
+      z .0,
+      z .1,
+      omega (arith, fits (else2→else1 u)),
+      well u,
+      λ lent. absurd (omega (arith, lent)),
+      λ lent. part f,
+    )
 
 page-count-requires : tie.Need-page-count-requires
-page-count-requires c κs = let z = size (start (begin (c .before))) in (omega (arith, z .0), z .1, omega arith)
+page-count-requires c κs =
+    let b = begin (c .before) in
+    let z = size (start b) in
+    (omega (arith, z .0), z .1, omega (arith, fits (else2→else1 (else3→else2 b))))
 
 -- the fingerprints of the file's pages
 abbrev prints : tie.After-over-pages → List ℕ
 prints c =
     let s = start (begin c) in
-    pageFingerprints (layout s) (polynomial (opened (fields-read c) .modulus-of .result)) (s .args .x .size) (count s) (file s)
+    pageFingerprints (layout s) (polynomial (opened (fields-read c) .modulus-of .result)) (8 * s .args .x .size) (count s) (partBits (file s))
 
 long : (c : tie.After-over-pages) → length (prints c) ≡ count (start (begin c))
 long c =
     let s = start (begin c) in
-    length-pages (layout s) (polynomial (opened (fields-read c) .modulus-of .result)) (count s) (s .args .x .size) (file s)
+    length-pages (layout s) (polynomial (opened (fields-read c) .modulus-of .result)) (count s) (8 * s .args .x .size) (partBits (file s))
 
 few : (c : tie.After-over-pages) → c .over-pages .result ≤ count (start (begin c))
 few c =
@@ -134,42 +186,45 @@ answer c =
     let s = start e in
     let x = s .args .x in
     let fields = fields-read c .page-fields in
-    compare-pages (sheet s) (file s) (omega arith) (x .version) (x .key) (x .size) (version-is (sheet s) (s .pre)) (key-is (sheet s) (s .pre))
-    (size-is (sheet s) (s .pre))
-    (e .if2 .left ∙ length-is (sheet s) (s .pre)) (fields .result .now) (fields .ensures)
-    ∙ ap (λ (m : ℕ). Done (firstChange 0 (numbersAt 0 8 (count s) (fields .result .now)) (pageFingerprints (layout s) m (x .size) (count s) (file s))))
+    let given = numbersAt 0 8 (count s) (fields .result .now) in
+    compare-pages (sheet s) (file s) (within e) (well (else3→else2 e)) (x .version) (x .key) (x .size) (version-is (sheet s) (s .pre))
+    (key-is (sheet s) (s .pre)) (size-is (sheet s) (s .pre)) (as-long e ∙ length-is (sheet s) (s .pre)) (fields .result .now) (fields .ensures)
+    ∙ ap (λ (m : ℕ). Done (firstChange 0 given (pageFingerprints (layout s) m (8 * x .size) (count s) (partBits (file s)))))
     (sym (opened-whole (key-held (opened (fields-read c)))))
 
-cast-page : tie.Need-cast-t18
+cast-page : tie.Need-cast-t20
 cast-page c =
     let p = passed (c .before) in
     let s = start (begin p) in
     let z = size s in
-    omega (arith, few p, count-small (s .args .x .size) (length (file s)) (z .0) (z .1) (omega arith))
-
-returns-3 : tie.Need-returns-3
-returns-3 c =
-    let p = passed (c .before) in
-    sym (answer p ∙ ap Done (pass-changed (prints p) (fields-read p .page-fields .result .now) _ _ (p .over-pages .result) (count (start (begin p)))
-    (p .over-pages .ensures) (long p) (part (fields-read p)) (omega (arith, c .if3 .taken, c .before .page-count .ensures))))
+    omega (arith, few p, count-few (s .args .x .size) (length (bytes s)) (z .0) (z .1) (omega (arith, fits (else2→else1 (else3→else2 (begin p))))))
 
 returns-4 : tie.Need-returns-4
 returns-4 c =
     let p = passed (c .before) in
+    sym (answer p ∙ ap Done (pass-changed (prints p) (fields-read p .page-fields .result .now) _ _ (p .over-pages .result) (count (start (begin p)))
+    (p .over-pages .ensures) (long p) (part (fields-read p)) (omega (arith, c .if4 .taken, c .before .page-count .ensures))))
+
+returns-5 : tie.Need-returns-5
+returns-5 c =
+    let p = passed (c .before) in
     sym (answer p ∙ ap Done (pass-same (prints p) (fields-read p .page-fields .result .now) _ _ (p .over-pages .result) (count (start (begin p)))
-    (p .over-pages .ensures) (long p) (part (fields-read p)) (omega (arith, c .if3 .left, c .before .page-count .ensures))))
+    (p .over-pages .ensures) (long p) (part (fields-read p)) (omega (arith, c .if4 .left, c .before .page-count .ensures))))
 
 pub compare-spec : {M : Type 1} → statement M
 compare-spec =
     tie.close
     (tie.spec
     returns
+    (λ c κs. search needs)
     returns-2
+    (λ c κs. search needs)
+    returns-3
     modulus-of-requires
     page-fields-requires
     (λ c. search needs)
     over-pages-requires
     page-count-requires
     cast-page
-    returns-3
-    returns-4)
+    returns-4
+    returns-5)

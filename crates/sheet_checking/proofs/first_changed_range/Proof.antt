@@ -7,6 +7,7 @@ use native.Mathlib.Omega.{arith}
 use types.Run
 use denote.Enum.Declared
 use Rattle.refusals.specs.Refusals.{Done}
+use Rattle.files.specs.Files.{asPart}
 use Rattle.sheets.proofs.Checked as CheckedT
 use Rattle.sheets.specs.declared.Checked.{Checked}
 use Rattle.sheets.specs.declared.Checked.the-variants as cases
@@ -14,7 +15,7 @@ use Rattle.sheets.specs.Layout.{contentsIn}
 use Rattle.sheets.specs.Sheets.{Page, checkSheet}
 use Rattle.sheets.specs.Answers.{checkAnswer}
 use Rattle.sheets.specs.Parts.{NoPage, ranged}
-use Rattle.sheet_checking.proofs.Laws.{changed-by-check, named-long, named-range, range-fits}
+use Rattle.sheet_checking.proofs.Laws.{changed-by-check, named-head, named-range, range-fits}
 use borrow.Author.Needs.{needs}
 use Rattle.sheet_checking.proofs.first_changed_range.Statement.{statement}
 use Rattle.sheet_checking.proofs.first_changed_range.Tie as tie
@@ -37,7 +38,7 @@ asked c = c .before .before
 abbrev place : tie.After-read-head → tie.After-answer
 place c = c .before .before
 
-page : (c : tie.After-answer) → checkSheet (start (asked c) .args .sheet .now) (start (asked c) .args .file .now) ≡ Done (Page (c .answer .given .0 .0))
+page : (c : tie.After-answer) → checkSheet (start (asked c) .args .sheet .now) (asPart (start (asked c) .args .file .now) (start (asked c) .args .used)) ≡ Done (Page (c .answer .given .0 .0))
 page c = sym (asked c .check .ensures) ∙ ap checkAnswer (c .answer .given .1)
 
 fits : (c : tie.After-read-head) → place c .answer .given .0 .0 * c .read-head .result .size + c .read-head .result .size < 2 ^ 64
@@ -51,10 +52,10 @@ returns c =
     let k = c .before .before in
     let a = start k .args in
     let x = contentsIn (a .sheet .now) in
-    c .without-page .ensures x ∙ ap (ranged x) (k .check .ensures) ∙ sym (changed-by-check (a .sheet .now) (a .file .now))
+    c .without-page .ensures x ∙ ap (ranged x) (k .check .ensures) ∙ sym (changed-by-check (a .sheet .now) (asPart (a .file .now) (a .used)))
 
 read-head-requires : tie.Need-read-head-requires
-read-head-requires c κs = named-long _ _ _ (page (c .before))
+read-head-requires c κs = named-head _ _ _ (page (c .before))
 
 mul-from : tie.Need-mul-from
 mul-from c = omega (arith, fits c)

@@ -38,7 +38,7 @@ fits c =
 
 -- its residue behind the leading 1 is its fingerprint
 page-is : (key s i r : ℕ) (pages : List ℕ) → r ≡ rem key (valueFrom 1 (bits (take (i * s + s - i * s) (drop (i * s) pages))))
-    → r ≡ fingerprint key (pageFront s s pages i)
+    → r ≡ fingerprint key (bits (pageFront s s pages i))
 unfolding fingerprint value
 page-is key s i r pages e = e ∙ ap (λ (q : List ℕ). rem key (valueFrom 1 (bits q))) (front-cut (i * s) s pages)
 

@@ -1,15 +1,15 @@
--- `last_page` meets its contract: its own fingerprint, or with zero bytes behind it, as the version says.
+-- `last_page` meets its contract: its own fingerprint, or with zeros behind it, as the version says.
 use mathlib.Core.Path.{_≡_, sym, ap, _∙_}
 use mathlib.Core.Bool.{Bool, cond}
-use mathlib.Core.List.{List}
-use Prim.Native.Nat.{ℕ, _-_, _*_, _^_}
+use Prim.Native.Nat.{ℕ, _-_, _*_, _^_, _≤_, _<_}
 use native.Mathlib.Omega.{arith}
 use lib.ListN.{length}
 use Rattle.gf2.specs.Polynomials.{rem}
 use Rattle.gf2.specs.Moduli.{polynomial}
 use Rattle.gf2.proofs.Monics.{monic-pos}
 use Rattle.gf2.proofs.Steps.{residue-below}
-use Rattle.files.specs.Files.{value, fingerprint}
+use Rattle.files.specs.Files.{value, fingerprint, Part, asPart, partLength, partBits}
+use Rattle.files.proofs.Parts.{part-length, part-range}
 use Rattle.sheets.specs.Sheets.{filled}
 use Rattle.sheets.proofs.Pages.{with-zeros}
 use borrow.Author.Needs.{needs}
@@ -19,43 +19,59 @@ use Rattle.sheet_pages.proofs.last_page.Tie as tie
 abbrev start : tie.After-fed-last → tie.Start
 start c = c .before .before .before
 
+abbrev fed : tie.After-part-length → tie.After-fed-last
+fed c = c .before .before .before
+
 abbrev key : tie.Start → ℕ
 key s = polynomial (s .args .x .p)
 
-abbrev page : tie.Start → List ℕ
-page s = s .args .page .now
+abbrev page : tie.Start → Part
+page s = asPart (s .args .page .now) (s .args .x .used)
 
-own : (c : tie.After-fed-last) → c .fed-last .result ≡ fingerprint (key (start c)) (page (start c))
-unfolding fingerprint value
-own c = c .fed-last .ensures
+-- the page is not longer than a page, and its length is counted in full
+long : (c : tie.After-part-length) → let s = start (fed c) in (c .part-length .result ≡ partLength (page s)) × (partLength (page s) ≤ 8 * s .args .x .size)
+long c =
+    let s = start (fed c) in
+    let r = part-range (page s) .0 in
+    (c .part-length .ensures ∙ omega (arith, r, s .pre .1, s .pre .2), omega (arith, r, s .pre .1))
+
+residue : (c : tie.After-fed-last) → let s = start c in c .fed-last .result < 2 ^ s .args .x .p .degree
+unfolding fingerprint
+residue c = let s = start c in residue-below (s .args .x .p) (s .pre .0 .0) _ (value (partBits (page s))) (c .fed-last .ensures)
+
+sub-with-zeros : tie.Need-sub-with-zeros
+sub-with-zeros c = omega (arith, long c .0, long c .1)
 
 with-zeros-requires : tie.Need-with-zeros-requires
 with-zeros-requires c κs =
-    let f = c .before .before .before in
+    let f = fed c in
     let s = start f in
-    let p = s .args .x .p in
-    (s .pre .0 .0, residue-below p (s .pre .0 .0) _ _ (f .fed-last .ensures), omega (arith, s .pre .2))
+    (s .pre .0 .0, residue f)
 
 returns : tie.Need-returns
 unfolding filled
 returns c =
-    let t = c .before .before in
-    let f = t .before .before in
+    let l = c .before in
+    let t = l .before in
+    let f = fed l in
     let s = start f in
-    let x = s .args .x in
-    let zeros = x .size - length (page s) in
+    let p = s .args .x .p in
+    let bits = partBits (page s) in
+    let zeros = 8 * s .args .x .size - length bits in
     let fills = sym (t .before .fills .ensures) ∙ t .if1 .taken in
     c .with-zeros .ensures
-    ∙ ap (λ (g : ℕ). rem (key s) (g * 2 ^ (8 * zeros))) (own f)
-    ∙ with-zeros (monic-pos (x .p .degree) (x .p .low) (s .pre .0 .0 .2)) zeros (page s)
-    ∙ ap (λ (b : Bool). fingerprint (key s) (cond b (filled (x .size) (page s)) (page s))) (sym fills)
+    ∙ ap (λ (n : ℕ). rem (key s) (f .fed-last .result * 2 ^ (8 * s .args .x .size - n))) (long l .0 ∙ sym (part-length (page s)))
+    ∙ ap (λ (g : ℕ). rem (key s) (g * 2 ^ zeros)) (f .fed-last .ensures)
+    ∙ with-zeros (monic-pos (p .degree) (p .low) (s .pre .0 .0 .2)) zeros bits
+    ∙ ap (λ (b : Bool). fingerprint (key s) (cond b (filled (8 * s .args .x .size) bits) bits)) (sym fills)
 
 returns-2 : tie.Need-returns-2
 returns-2 c =
     let f = c .before .before in
     let s = start f in
     let fills = sym (c .before .fills .ensures) ∙ c .if1 .left in
-    own f ∙ ap (λ (b : Bool). fingerprint (key s) (cond b (filled (s .args .x .size) (page s)) (page s))) (sym fills)
+    f .fed-last .ensures
+    ∙ ap (λ (b : Bool). fingerprint (key s) (cond b (filled (8 * s .args .x .size) (partBits (page s))) (partBits (page s)))) (sym fills)
 
 pub last-page-spec : {M : Type 1} → statement M
 last-page-spec =
@@ -64,6 +80,8 @@ last-page-spec =
     (λ c κs. search needs)
     (λ c κs. search needs)
     (λ c. search needs)
+    (λ c κs. search needs)
+    sub-with-zeros
     with-zeros-requires
     returns
     returns-2)

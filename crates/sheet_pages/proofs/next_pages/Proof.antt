@@ -1,26 +1,25 @@
--- `next_pages` meets its contract.
-use mathlib.Core.Path.{_≡_, ap, _∙_}
+-- `next_pages` meets its contract: the whole pages lie inside the whole bytes, and what is left behind them is one page more.
+use mathlib.Core.Path.{_≡_, sym, ap, _∙_}
 use mathlib.Core.List.{List}
-use Prim.Native.Nat.{ℕ, _+_, _*_, _/_, _≤_, _<_}
-use native.Mathlib.Nat.{mul-le-mul-right}
+use Prim.Native.Nat.{ℕ, _+_, _*_, _/_, _≤_}
+use native.Mathlib.Nat.{mul-le-mul-right, mul-left-comm}
 use native.Mathlib.Omega.{arith}
-use lib.ListN.{length, take, drop, length-drop, length-set}
+use lib.ListN.{length, take, drop, length-drop}
 use lib.Seq.{getD-set-other}
 use Rattle.gf2.specs.Moduli.{polynomial}
-use Rattle.files.specs.Files.{fingerprint}
+use Rattle.files.specs.Files.{fingerprint, Part, asPart, partLength, partBits, misused}
+use Rattle.files.specs.Ends.{wholeBytes}
+use Rattle.files.proofs.Parts.{part-length, part-range, rest-bits, rest-misused, whole-range}
 use Rattle.sheets.specs.Layout.{Layout, layoutOf, pageCount}
 use Rattle.sheets.specs.Sheets.{pageOf, pageFingerprints}
-use Rattle.sheets.proofs.Pages.{count-le, count-reached, count-more, whole-fits, last-short, all-left}
+use Rattle.sheets.proofs.Pages.{count-le, count-reached, count-next, part-pages, whole-fits, last-short, all-left}
 use Rattle.sheet_pages.proofs.Blocks.{block-is, block-last}
 use borrow.Author.Needs.{needs}
 use Rattle.sheet_pages.proofs.next_pages.Statement.{statement}
 use Rattle.sheet_pages.proofs.next_pages.Tie as tie
 
-abbrev slices→start : tie.After-shared-slice-known3 → tie.Start
-slices→start c = c .before .before .before .before
-
 abbrev start : tie.After-block → tie.Start
-start c = slices→start (c .before)
+start c = c .before .before .before .before .before .before
 
 abbrev block : tie.After-slice-known2 → tie.After-block
 block c = c .before .before .before .before
@@ -28,22 +27,29 @@ block c = c .before .before .before .before
 abbrev whole-marks : tie.After-slice-known2 → tie.After-whole-marks
 whole-marks c = c .before .before
 
-abbrev rest : tie.Start → List ℕ
-rest s = s .args .rest .now
+abbrev size : tie.Start → ℕ
+size s = s .args .x .size
 
--- the whole pages of the block are in the file
-fits : (c : tie.After-block) → c .block .result * start c .args .x .size ≤ length (rest (start c))
-fits c =
+abbrev rest : tie.Start → Part
+rest s = asPart (s .args .rest .now) (s .args .x .used)
+
+-- the whole pages of the block are in the whole bytes,
+inside : (c : tie.After-block) → c .block .result * size (start c) ≤ wholeBytes (rest (start c))
+inside c =
     let s = start c in
-    let few : c .block .result ≤ length (rest s) / s .args .x .size = omega arith in
-    omega (arith, mul-le-mul-right (s .args .x .size) few, whole-fits (s .args .x .size) (length (rest s)))
+    let w = c .before .whole-bytes in
+    let few : c .block .result ≤ w .result / size s = omega arith in
+    omega (arith, mul-le-mul-right (size s) few, whole-fits (size s) (w .result), w .ensures .0)
+
+fits : (c : tie.After-block) → c .block .result * size (start c) ≤ length (rest (start c) .bytes)
+fits c = omega (arith, inside c, whole-range (rest (start c)) .0)
 
 -- so many pages begin in the file
-begin : (c : tie.After-block) → c .block .result ≤ pageCount (start c .args .x .size) (length (rest (start c)))
-begin c = let s = start c in count-le (s .args .x .size) (length (rest s)) (c .block .result) (omega arith) (omega (arith, fits c, s .pre .1))
+begin : (c : tie.After-block) → c .block .result ≤ pageCount (size (start c)) (length (rest (start c) .bytes))
+begin c = let s = start c in count-le (size s) (length (rest s .bytes)) (c .block .result) (omega arith) (omega (arith, fits c, s .pre .1))
 
-block-requires : tie.Need-block-requires
-block-requires c κs = omega (arith, slices→start c .pre .1)
+pages : (s : tie.Start) → pageCount (size s) (length (rest s .bytes)) ≡ pageCount (8 * size s) (partLength (rest s))
+pages s = part-pages (size s) (rest s) (omega (arith, s .pre .1))
 
 whole-marks-requires : tie.Need-whole-marks-requires
 whole-marks-requires c κs =
@@ -54,18 +60,18 @@ whole-marks-requires c κs =
 -- the fingerprints of the whole pages, as a version takes them
 prints : (c : tie.After-slice-known2) (v : Layout)
     → take (block c .block .result) (whole-marks c .whole-marks .last .0)
-    ≡ pageFingerprints v (polynomial (start (block c) .args .x .p)) (start (block c) .args .x .size) (block c .block .result) (rest (start (block c)))
+    ≡ pageFingerprints v (polynomial (start (block c) .args .x .p)) (8 * size (start (block c))) (block c .block .result) (partBits (rest (start (block c))))
 prints c v =
     let b = block c in
     let s = start b in
     let w = whole-marks c .whole-marks in
-    block-is v (polynomial (s .args .x .p)) (s .args .x .size) (b .block .result) (rest s) _ (fits b) (omega (arith, s .pre .3, w .kept .0)) (w .ensures .0)
+    block-is v (polynomial (s .args .x .p)) (size s) (b .block .result) (rest s) _ (inside b) (omega (arith, s .pre .3, w .kept .0)) (w .ensures .0)
 
 returns : tie.Need-returns
 returns c =
     let b = block (c .before) in
     let w = whole-marks (c .before) .whole-marks in
-    record { count = omega (arith, begin b, c .if1 .taken); prints = prints (c .before) _; behind = w .ensures .1 }
+    record { count = omega (arith, begin b, pages (start b), c .if1 .taken); prints = prints (c .before) _; behind = w .ensures .1 }
 
 mul-if2 : tie.Need-mul-if2
 mul-if2 c = omega (arith, fits (block (c .before)))
@@ -76,8 +82,8 @@ returns-2 c =
     let b = block d in
     let s = start b in
     let w = whole-marks d .whole-marks in
-    let all = count-reached (s .args .x .size) (length (rest s)) (b .block .result) (omega (arith, s .pre .1)) (c .if2 .taken) in
-    record { count = omega (arith, begin b, all, b .block .ensures); prints = prints d _; behind = w .ensures .1 }
+    let all = count-reached (size s) (length (rest s .bytes)) (b .block .result) (omega (arith, s .pre .1)) (c .if2 .taken) in
+    record { count = omega (arith, begin b, all, pages s, b .block .ensures); prints = prints d _; behind = w .ensures .1 }
 
 -- the page that is not whole, behind the whole pages
 abbrev left : tie.After-last-page-arg → tie.Else2
@@ -89,41 +95,51 @@ whole c = c .before .before
 abbrev last : tie.After-last-page → tie.After-slice-known2
 last c = whole (left (c .before))
 
--- all whole pages are in the block, and less than one is left
-all-whole : (c : tie.Else2) → block (whole c) .block .result ≡ length (rest (start (block (whole c)))) / start (block (whole c)) .args .x .size
-all-whole c = let b = block (whole c) in omega (arith, b .block .ensures, c .before .if1 .left)
-
+-- all whole pages are in the block, and at most the bytes of one are left
 short : (c : tie.Else2)
-    → length (rest (start (block (whole c))))
-    < block (whole c) .block .result * start (block (whole c)) .args .x .size + start (block (whole c)) .args .x .size
+    → length (rest (start (block (whole c))) .bytes) ≤ block (whole c) .block .result * size (start (block (whole c))) + size (start (block (whole c)))
 short c =
-    let s = start (block (whole c)) in
-    let size = s .args .x .size in
-    omega (arith, last-short size (length (rest s)) (omega (arith, s .pre .1)), ap (λ (m : ℕ). m * size) (all-whole c))
-
-mul-last-page : tie.Need-mul-last-page
-mul-last-page c = omega (arith, fits (block (whole c)))
-
-sub-last-page : tie.Need-sub-last-page
-sub-last-page c = fits (block (whole c))
-
-part-last-page-start : tie.Need-part-last-page-start
-part-last-page-start c = omega (arith, fits (block (whole c)))
+    let b = block (whole c) in
+    let s = start b in
+    let w = b .before .whole-bytes in
+    let all : b .block .result ≡ w .result / size s = omega (arith, b .block .ensures, c .before .if1 .left) in
+    omega (
+      arith,
+      last-short (size s) (w .result) (omega (arith, s .pre .1)),
+      ap (λ (m : ℕ). m * size s) all,
+      w .ensures .0,
+      whole-range (rest s) .1,
+    )
 
 last-page-requires : tie.Need-last-page-requires
 last-page-requires c κs =
     let e = left c in
     let b = block (whole e) in
     let s = start b in
-    let from = b .block .result * s .args .x .size in
-    let long = ap length (all-left (rest s) from) ∙ length-drop from (rest s) in
-    (s .pre .0 .table, omega (arith, long, short e), s .pre .2)
+    let from = b .block .result * size s in
+    let same = all-left (rest s .bytes) from in (
+      s .pre .0 .table,
+      omega (arith, ap length same ∙ length-drop from (rest s .bytes), short e),
+      s .pre .2,
+      ap (λ (q : List ℕ). misused (asPart q (rest s .used))) same
+          ∙ rest-misused (rest s .bytes) (rest s .used) from (omega (arith, e .if2 .left))
+          ∙ s .pre .4,
+    )
 
-slice-write-marks : tie.Need-slice-write-marks
-slice-write-marks c = let d = last c in omega (arith, start (block d) .pre .3, whole-marks d .whole-marks .kept .0, left (c .before) .before .if1 .left)
-
-same-length-3 : tie.Need-same-length-3
-same-length-3 c = simp length-set (whole-marks (last c) .whole-marks .kept .0)
+-- its bits are those that are left
+page : (c : tie.After-last-page) → let s = start (block (last c)) in let n = block (last c) .block .result in
+    let key = polynomial (s .args .x .p) in
+    c .last-page .result ≡ fingerprint key (pageOf (layoutOf (s .args .x .version)) (8 * size s) (drop (n * (8 * size s)) (partBits (rest s))))
+page c =
+    let e = left (c .before) in
+    let b = block (last c) in
+    let s = start b in
+    let n = b .block .result in
+    c .last-page .ensures
+    ∙ ap (λ (q : List ℕ). fingerprint (polynomial (s .args .x .p)) (pageOf (layoutOf (s .args .x .version)) (8 * size s) q))
+    (ap (λ (q : List ℕ). partBits (asPart q (rest s .used))) (all-left (rest s .bytes) (n * size s))
+    ∙ rest-bits (rest s .bytes) (rest s .used) (n * size s) (omega (arith, e .if2 .left))
+    ∙ ap (λ (m : ℕ). drop m (partBits (rest s))) (sym (mul-left-comm n 8 (size s))))
 
 returns-3 : tie.Need-returns-3
 returns-3 c =
@@ -132,20 +148,16 @@ returns-3 c =
     let w = whole-marks d .whole-marks in
     let b = block d in
     let s = start b in
-    let a = s .args .x in
     let n = b .block .result in
-    let key = polynomial (a .p) in
-    let v = layoutOf (a .version) in
-    let all = all-whole e in
-    let more =
-    count-more (a .size) (length (rest s)) (omega (arith, s .pre .1)) (omega (arith, e .if2 .left, ap (λ (m : ℕ). m * a .size) all)) in
-    let page : c .last-page .result ≡ fingerprint key (pageOf v (a .size) (drop (n * a .size) (rest s))) =
-    c .last-page .ensures ∙ ap (λ (q : List ℕ). fingerprint key (pageOf v (a .size) q)) (all-left (rest s) (n * a .size)) in
+    let few = b .block .ensures in
+    let more = count-next (size s) (length (rest s .bytes)) n (omega (arith, s .pre .1)) (omega (arith, e .if2 .left)) (short e) in
+    let bits = part-length (rest s) in
     record {
-      count = omega (arith, more, b .block .ensures, all);
+      count = omega (arith, more, pages s, few, e .before .if1 .left);
       prints =
-          block-last v key (a .size) n (c .last-page .result) (rest s) _ (omega (arith, short e))
-          (omega (arith, s .pre .3, w .kept .0, e .before .if1 .left, b .block .ensures)) page
+          block-last _ (polynomial (s .args .x .p)) (8 * size s) n (c .last-page .result) (partBits (rest s)) _
+          (omega (arith, bits, part-range (rest s) .0, short e, mul-left-comm n 8 (size s)))
+          (omega (arith, s .pre .3, w .kept .0, e .before .if1 .left, few)) (page c)
           (prints d _);
       behind = λ j l. getD-set-other (w .last .0) n j (c .last-page .result) 0 (λ e. omega (arith, e, l)) ∙ w .ensures .1 j (omega (arith, l));
     }
@@ -154,20 +166,21 @@ pub next-pages-spec : {M : Type 1} → statement M
 next-pages-spec =
     tie.close
     (tie.spec
-    block-requires
+    (λ c κs. search needs)
+    (λ c κs. search needs)
     whole-marks-requires
     (λ c. search needs)
     returns
     mul-if2
     (λ c. search needs)
     returns-2
-    mul-last-page
-    sub-last-page
-    part-last-page-start
+    (λ c. search needs)
+    (λ c. search needs)
+    (λ c. search needs)
     (λ c. search needs)
     last-page-requires
     (λ c. search needs)
-    slice-write-marks
     (λ c. search needs)
-    same-length-3
+    (λ c. search needs)
+    (λ c. search needs)
     returns-3)

@@ -2,6 +2,7 @@
 use mathlib.Core.Path.{sym}
 use Rattle.acceptance.specs.Opened.{Opened}
 use Rattle.keys.proofs.Laws.{opened}
+use Rattle.files.specs.Files.{asPart}
 use Rattle.sheet_writing.proofs.Answers.{write-refused}
 use borrow.Author.Needs.{needs}
 use Rattle.sheet_writing.proofs.write.Statement.{statement}
@@ -27,7 +28,7 @@ returns c =
     let t = c .before .before .before in
     let a = start t .args in
     let r = c .before .r in
-    sym (write-refused (a .key) (a .size) (a .file .now) (a .buffer .now) (t .test .result) (r .given .0 .0) (t .test .ensures) (r .given .1))
+    sym (write-refused (a .key) (a .size) (asPart (a .file .now) (a .used)) (a .buffer .now) (t .test .result) (r .given .0 .0) (t .test .ensures) (r .given .1))
 
 returns-2 : tie.Need-returns-2
 returns-2 c = c .before .before .write-under .ensures
