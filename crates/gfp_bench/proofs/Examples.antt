@@ -24,7 +24,7 @@ use Rattle.house.specs.House.{houseKey, houseWords}
 use Rattle.house.proofs.House.{house-accepted}
 use Rattle.book.specs.Runs.{bookStep, run, Honest}
 use Rattle.book.specs.Confusions.{Confuses}
-use Rattle.gfp_bench.specs.Book.{Call, ByBits, ByTable, step, bookTests, written, bench, Route, Printed}
+use Rattle.gfp_bench.specs.Book.{Call, ByBits, ByTable, step, bookTests, bench, Route, Printed}
 use Rattle.gfp_bench.specs.Parts.{AllUsable}
 use Rattle.gfp_bench.proofs.Guarantee.{lists, reaches}
 use Rattle.gfp_bench.proofs.Parts.{taken, parts, cut-anywhere}

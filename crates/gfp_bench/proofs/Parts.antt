@@ -52,10 +52,12 @@ module _ (key : ℕ) (a : accepted key ≡ true) where
       → run (bookStep bench key) file cs ≡ (file ++ partsJoined cs, zeros cs)
   in-book file [] u l = unfold run in (ap {B = List ℕ × List ℕ} (λ (f : List ℕ). (f, [])) (sym (append-nil file)))
   in-book file (c ∷ cs) u l =
-      run-next (bookStep bench key) file c cs (Done (file ++ partBits (partOf c))) (taken file c (u .0) (omega (arith, length-append (partBits (partOf c)) (partsJoined cs))))
+      let part = partBits (partOf c) in
+      let long = length-append part (partsJoined cs) in
+      run-next (bookStep bench key) file c cs (Done (file ++ part)) (taken file c (u .0) (omega (arith, long)))
       ∙ ap {B = List ℕ × List ℕ} (λ (r : List ℕ × List ℕ). (r .0, 0 ∷ r .1))
-      (in-book (file ++ partBits (partOf c)) cs (u .1) (omega (arith, length-append (partBits (partOf c)) (partsJoined cs), length-append file (partBits (partOf c)))))
-      ∙ ap {B = List ℕ × List ℕ} (λ (f : List ℕ). (f, 0 ∷ zeros cs)) (append-assoc file (partBits (partOf c)) (partsJoined cs))
+      (in-book (file ++ part) cs (u .1) (omega (arith, long, length-append file part)))
+      ∙ ap {B = List ℕ × List ℕ} (λ (f : List ℕ). (f, 0 ∷ zeros cs)) (append-assoc file part (partsJoined cs))
 
 pub parts : PartsJoined
 parts key file m cs a t u l =

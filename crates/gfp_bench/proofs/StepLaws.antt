@@ -39,7 +39,8 @@ module _ (key : ℕ) (pos : 0 < key) (file : List ℕ) where
   feed-agrees ts part =
       agrees-by key (firstOf (ts ++ feedTests key (markOf key file) part) (markOf key file) (fedMark key (markOf key file) part))
       (ts ++ tests part) file (file ++ partBits part) (fedMark key (markOf key file) part)
-      (leave-out-8 key pos file ts (sumTest (length file) (partLength part) ∷ []) (misused part ⇒ FinalByte ∷ []) (markOf key file) (fedMark key (markOf key file) part))
+      (leave-out-8 key pos file ts (sumTest (length file) (partLength part) ∷ []) (misused part ⇒ FinalByte ∷ []) (markOf key file)
+      (fedMark key (markOf key file) part))
       (λ e. fed-true key pos file part)
 
   bits-agree : (part : Part) → Agrees key (step key (markOf key file) (ByBits part)) (bookStep bench key file (ByBits part))

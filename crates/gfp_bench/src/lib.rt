@@ -1,6 +1,6 @@
 // The Bench level: the functions that it sells, for C. Each answers 0 or the refusal's number; on refusal every lent place and buffer
-// keeps what it held. A mark's length is in bits; `used` is how many bits of a part's final byte are used. The guarantee over lists of these calls stands
-// in specs/ and proofs/.
+// keeps what it held. A mark's length is in bits, and `used` counts the used bits of a part's final byte. The guarantee over lists of
+// these calls stands in specs/ and proofs/.
 ghost use mathlib.Core.Path.{_≡_};
 ghost use Rattle.refusals.specs.Refusals.{numberOf, stateOf, valueOr};
 ghost use Rattle.keys.specs.Testing.{testKey};
@@ -52,10 +52,17 @@ pub extern "C" fn gfp_begin(key: u64, fingerprint: &mut u64, bits: &mut u64) -> 
 
 // The next part of a file, bit by bit. Numbers 1, 2, 7, 8, 19.
 #[no_mangle]
-pub extern "C" fn gfp_feed(key: u64, fingerprint: &mut u64, bits: &mut u64, part: &[u8], used: u32) -> u32
+pub extern "C" fn gfp_feed(
+    key: u64,
+    fingerprint: &mut u64,
+    bits: &mut u64,
+    part: &[u8],
+    used: u32,
+) -> u32
     ensures { λ r. ⌜
         (r ≡ numberOf (feedBits key (markAt (now (fingerprint .entry)) (now (bits .entry))) (asPart (now (part .entry)) used)))
-        × (markAt (now (fingerprint .exit)) (now (bits .exit)) ≡ stateOf (feedBits key (markAt (now (fingerprint .entry)) (now (bits .entry))) (asPart (now (part .entry)) used)))
+        × (markAt (now (fingerprint .exit)) (now (bits .exit))
+            ≡ stateOf (feedBits key (markAt (now (fingerprint .entry)) (now (bits .entry))) (asPart (now (part .entry)) used)))
         ⌝ }
 {
     let m = Running {
@@ -97,7 +104,8 @@ pub extern "C" fn gfp_feed_table(
 ) -> u32
     ensures { λ r. ⌜
         (r ≡ numberOf (feedTable key (markAt (now (fingerprint .entry)) (now (bits .entry))) (now (words .entry)) (asPart (now (part .entry)) used)))
-        × (markAt (now (fingerprint .exit)) (now (bits .exit)) ≡ stateOf (feedTable key (markAt (now (fingerprint .entry)) (now (bits .entry))) (now (words .entry)) (asPart (now (part .entry)) used)))
+        × (markAt (now (fingerprint .exit)) (now (bits .exit))
+            ≡ stateOf (feedTable key (markAt (now (fingerprint .entry)) (now (bits .entry))) (now (words .entry)) (asPart (now (part .entry)) used)))
         ⌝ }
 {
     let m = Running {
@@ -119,7 +127,8 @@ pub extern "C" fn gfp_feed_house(
 ) -> u32
     ensures { λ r. ⌜
         (r ≡ numberOf (feedHouse key (markAt (now (fingerprint .entry)) (now (bits .entry))) (asPart (now (part .entry)) used)))
-        × (markAt (now (fingerprint .exit)) (now (bits .exit)) ≡ stateOf (feedHouse key (markAt (now (fingerprint .entry)) (now (bits .entry))) (asPart (now (part .entry)) used)))
+        × (markAt (now (fingerprint .exit)) (now (bits .exit))
+            ≡ stateOf (feedHouse key (markAt (now (fingerprint .entry)) (now (bits .entry))) (asPart (now (part .entry)) used)))
         ⌝ }
 {
     let m = Running {

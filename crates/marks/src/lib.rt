@@ -78,9 +78,9 @@ fn behind_looked(words: &[u64], p: Modulus, f: u64, part: &[u8], used: u32) -> u
     requires { ⌜ TableOf p (now words) × (f < 2 ^ p .degree) × (misused (asPart (now part) used) ≡ false) ⌝ }
     ensures { λ r. ⌜ r ≡ rem (polynomial p) (valueFrom f (partBits (asPart (now (part .entry)) used))) ⌝ }
 {
-    let w = files::whole_bytes(part, used);
-    let x = folds::fed(words, p, f, &part[..w]);
-    files::feed_end(p, x, part, used)
+    let whole = files::whole_bytes(part, used);
+    let looked = folds::fed(words, p, f, &part[..whole]);
+    files::feed_end(p, looked, part, used)
 }
 
 // A part fed with no table, after the test of the key.
@@ -124,8 +124,8 @@ fn feed_looked(p: Modulus, m: Running, words: &[u64], part: &[u8], used: u32) ->
 // The same, after the test of the key: all words are tested first.
 fn feed_under(p: Modulus, m: Running, words: &[u64], part: &[u8], used: u32) -> Fed
     requires { ⌜ Opened (m .key) p ⌝ }
-    ensures { λ r. ⌜ fed r ≡ fedUnder (m .key) (firstOf (tableTests (m .key) (now (words .entry)) ++ feedTests (m .key) (markIn m) (asPart (now (part .entry)) used))
-        (markIn m) (fedMark (m .key) (markIn m) (asPart (now (part .entry)) used))) ⌝ }
+    ensures { λ r. ⌜ fed r ≡ fedUnder (m .key) (firstOf (tableTests (m .key) (now (words .entry))
+        ++ feedTests (m .key) (markIn m) (asPart (now (part .entry)) used)) (markIn m) (fedMark (m .key) (markIn m) (asPart (now (part .entry)) used))) ⌝ }
 {
     match table_tests::judge(p, words) {
         Reply::Refused(r) => Fed::Refused(r, m),

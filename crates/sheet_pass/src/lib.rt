@@ -4,10 +4,12 @@ use gf2::Modulus;
 use sheet_pages::Paging;
 use sheets::fields;
 ghost use mathlib.Core.Path.{_≡_};
+ghost use mathlib.Core.Bool.{false};
 ghost use Prim.Native.Nat.{_+_, _*_, _≤_, _<_, _^_};
 ghost use lib.ListN.{length};
 ghost use lib.Seq.{sets};
 ghost use Rattle.gf2.specs.Moduli.{polynomial, Proper};
+ghost use Rattle.files.specs.Files.{asPart, partBits, misused};
 ghost use Rattle.sheets.specs.Layout.{fieldsOf, layoutOf, pageCount};
 ghost use Rattle.sheets.specs.Sheets.{pageFingerprints};
 ghost use Rattle.sheets.specs.Parts.{agreeing};
@@ -61,9 +63,11 @@ fn over_blocks(
     file: &[u8],
 ) -> usize
     requires { ⌜ PageTables (x .p) (now words) (now eights) × (16 ≤ x .size) × (x .size ≤ 4096) × (length (now file) < 2 ^ 32)
-        × Room (8 * pageCount (x .size) (length (now file))) (now out) × Room (8 * pageCount (x .size) (length (now file))) (now known) ⌝ }
+        × Room (8 * pageCount (x .size) (length (now file))) (now out) × Room (8 * pageCount (x .size) (length (now file))) (now known)
+        × (misused (asPart (now file) (x .used)) ≡ false) ⌝ }
     ensures { λ r. ⌜ Passed
-        (pageFingerprints (layoutOf (x .version)) (polynomial (x .p)) (x .size) (pageCount (x .size) (length (now (file .entry)))) (now (file .entry)))
+        (pageFingerprints (layoutOf (x .version)) (polynomial (x .p)) (8 * x .size) (pageCount (x .size) (length (now (file .entry))))
+        (partBits (asPart (now (file .entry)) (x .used))))
         (now (known .entry)) (now (out .entry)) (now (out .exit)) r ⌝ }
 {
     let size = x.size;
@@ -83,7 +87,7 @@ fn over_blocks(
 }
 
 // The pass under an opened key, with the pages as a version takes them: how many, from the first on, have the expected fingerprints. An empty
-// `known` means that nothing is known, an empty `out` that nothing is to be written.
+// `known` means that nothing is known, an empty `out` that nothing is to be written. The file comes as bytes and the used bits of the final one.
 pub fn over_pages(
     out: &mut [u8],
     known: &[u8],
@@ -91,11 +95,14 @@ pub fn over_pages(
     size: usize,
     version: u64,
     file: &[u8],
+    used: u32,
 ) -> usize
     requires { ⌜ Proper p × (8 ≤ p .degree) × (16 ≤ size) × (size ≤ 4096) × (length (now file) < 2 ^ 32)
-        × Room (8 * pageCount size (length (now file))) (now out) × Room (8 * pageCount size (length (now file))) (now known) ⌝ }
+        × Room (8 * pageCount size (length (now file))) (now out) × Room (8 * pageCount size (length (now file))) (now known)
+        × (misused (asPart (now file) used) ≡ false) ⌝ }
     ensures { λ r. ⌜ Passed
-        (pageFingerprints (layoutOf version) (polynomial p) size (pageCount size (length (now (file .entry)))) (now (file .entry)))
+        (pageFingerprints (layoutOf version) (polynomial p) (8 * size) (pageCount size (length (now (file .entry))))
+        (partBits (asPart (now (file .entry)) used)))
         (now (known .entry)) (now (out .entry)) (now (out .exit)) r ⌝ }
 {
     let mut words = [0u64; 1024];
@@ -104,6 +111,7 @@ pub fn over_pages(
     let x = Paging {
         p: p,
         size: size,
+        used: used,
         version: version,
     };
     over_blocks(out, known, &words, &eights, x, file)

@@ -14,7 +14,8 @@ unfolding feedHouse
 returns c =
     let a = c .before .before .before .before .args in
     c .feed-table .ensures
-    ∙ ap (λ (ws : List ℕ). fedUnder (a .m .key) (feedTable (a .m .key) (markIn (a .m)) ws (asPart (a .part .now) (a .used)))) (c .before .before .words .ensures)
+    ∙ ap (λ (ws : List ℕ). fedUnder (a .m .key) (feedTable (a .m .key) (markIn (a .m)) ws (asPart (a .part .now) (a .used))))
+    (c .before .before .words .ensures)
 
 pub feed-constant-spec : {M : Type 1} → statement M
 feed-constant-spec = tie.close (tie.spec (λ c κs. search needs) (λ c. search needs) (λ c κs. search needs) returns)

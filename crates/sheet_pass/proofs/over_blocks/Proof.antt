@@ -7,10 +7,12 @@ use native.Mathlib.Omega.{arith}
 use lib.ListN.{length, take, drop, drop-of-length-le}
 use lib.Seq.{sets, length-take-le}
 use Rattle.gf2.specs.Moduli.{polynomial}
+use Rattle.files.specs.Files.{Part, asPart, partLength, partBits, misused}
+use Rattle.files.proofs.Parts.{part-range, part-bytes, rest-misused}
 use Rattle.sheets.specs.Layout.{fieldsOf, Layout, layoutOf, pageCount}
 use Rattle.sheets.specs.Sheets.{pageFingerprints}
 use Rattle.sheets.specs.Parts.{agreeing}
-use Rattle.sheets.proofs.Pages.{length-pages, page-begins, count-small, count-reached}
+use Rattle.sheets.proofs.Pages.{length-pages, page-begins, count-small, count-reached, all-left}
 use Rattle.sheets.proofs.Changes.{agree-le}
 use Rattle.sheet_pass.specs.Passes.{expected}
 use Rattle.sheet_pass.proofs.Passes.{block-long, block-few, block-ends, block-agrees, block-written}
@@ -21,7 +23,7 @@ use Rattle.sheet_pass.proofs.over_blocks.Tie as tie
 abbrev Inv-loop : tie.InvT-loop
 Inv-loop out₀ known words eights x file size marks₀ page₀ out marks page =
     let count = pageCount (x .size) (length file) in
-    let fs = pageFingerprints (layoutOf (x .version)) (polynomial (x .p)) (x .size) count file in
+    let fs = pageFingerprints (layoutOf (x .version)) (polynomial (x .p)) (8 * x .size) count (partBits (asPart file (x .used))) in
     (page ≤ count) × (length marks ≡ 64) × (length out ≡ length out₀) × (out ≡ sets out₀ 0 (fieldsOf 8 (take page fs)))
     × (page + agreeing (expected known (8 * page) (drop page fs)) (drop page fs) ≡ agreeing (expected known 0 fs) fs)
 
@@ -56,25 +58,28 @@ key s = polynomial (s .args .x .p)
 abbrev layout : tie.Start Inv-loop μ-loop → Layout
 layout s = layoutOf (s .args .x .version)
 
-abbrev file : tie.Start Inv-loop μ-loop → List ℕ
-file s = s .args .file .now
+abbrev file : tie.Start Inv-loop μ-loop → Part
+file s = asPart (s .args .file .now) (s .args .x .used)
 
 abbrev count : tie.Start Inv-loop μ-loop → ℕ
-count s = pageCount (s .args .x .size) (length (file s))
+count s = pageCount (s .args .x .size) (length (file s .bytes))
 
 abbrev prints : tie.Start Inv-loop μ-loop → List ℕ
-prints s = pageFingerprints (layout s) (key s) (s .args .x .size) (count s) (file s)
+prints s = pageFingerprints (layout s) (key s) (8 * s .args .x .size) (count s) (partBits (file s))
 
 positive : (s : tie.Start Inv-loop μ-loop) → 0 < s .args .x .size
 positive s = omega (arith, s .pre .1)
 
 small : (s : tie.Start Inv-loop μ-loop) → count s < 2 ^ 29
-small s = count-small (s .args .x .size) (length (file s)) (s .pre .1) (s .pre .2) (s .pre .3)
+small s =
+    let size = s .args .x .size in
+    let few = count-small size (partLength (file s)) (s .pre .1) (s .pre .2) (omega (arith, part-range (file s) .0, s .pre .3)) in
+    omega (arith, few, ap (pageCount size) (part-bytes (file s)))
 
 many : (s : tie.Start Inv-loop μ-loop) → length (prints s) ≡ count s
-many s = length-pages (layout s) (key s) (count s) (s .args .x .size) (file s)
+many s = length-pages (layout s) (key s) (count s) (8 * s .args .x .size) (partBits (file s))
 
-more : (c : tie.After-marks Inv-loop μ-loop) → loop c .loop .page * start (loop c) .args .x .size < length (file (start (loop c)))
+more : (c : tie.After-marks Inv-loop μ-loop) → loop c .loop .page * start (loop c) .args .x .size < length (file (start (loop c)) .bytes)
 more c = c .before .loop-test .taken
 
 -- the pages of the block are pages of the file, at least one
@@ -140,7 +145,7 @@ loop-holds c = (omega arith, refl, refl, refl, zero-add _)
 mul-loop : tie.Need-mul-loop Inv-loop μ-loop
 mul-loop c =
     let s = start c in
-    omega (arith, page-begins (s .args .x .size) (length (file s)) (c .loop .page) (positive s) (c .loop .inv .0), s .pre .2, s .pre .3)
+    omega (arith, page-begins (s .args .x .size) (length (file s .bytes)) (c .loop .page) (positive s) (c .loop .inv .0), s .pre .2, s .pre .3)
 
 slice-aggregate-next-pages : tie.Need-slice-aggregate-next-pages Inv-loop μ-loop
 slice-aggregate-next-pages c = sym (loop c .loop .inv .1)
@@ -149,7 +154,15 @@ next-pages-requires : tie.Need-next-pages-requires Inv-loop μ-loop
 next-pages-requires c κs =
     let l = loop (c .before) in
     let s = start l in
-    (s .pre .0, omega (arith, s .pre .1), s .pre .2, omega (arith, l .loop .inv .1))
+    let from = l .loop .page * s .args .x .size in (
+      s .pre .0,
+      omega (arith, s .pre .1),
+      s .pre .2,
+      omega (arith, l .loop .inv .1),
+      ap (λ (q : List ℕ). misused (asPart q (file s .used))) (all-left (file s .bytes) from)
+          ∙ rest-misused (file s .bytes) (file s .used) from (more (c .before))
+          ∙ s .pre .6,
+    )
 
 mul-agreeing : tie.Need-mul-agreeing Inv-loop μ-loop
 mul-agreeing c = omega (arith, within (c .before), small (start (begun (c .before))))
@@ -226,7 +239,7 @@ returns-2 c =
     let l = c .before .loop in
     let s = start (c .before) in
     let known = s .args .known .now in
-    let reached = count-reached (s .args .x .size) (length (file s)) (l .page) (positive s) (omega arith) in
+    let reached = count-reached (s .args .x .size) (length (file s .bytes)) (l .page) (positive s) (omega arith) in
     let none : drop (l .page) (prints s) ≡ [] = drop-of-length-le (prints s) {i = l .page} (omega (arith, many s)) in
     let least = agree-le (expected known (8 * l .page) (drop (l .page) (prints s))) (drop (l .page) (prints s)) in
     record { same = omega (arith, l .inv .4, least, ap length none); written = l .inv .3 }

@@ -25,7 +25,9 @@ p→start c = test→start (c .before .before)
 
 -- the tests behind those of the key, and the value
 abbrev tests : tie.Start → List Test
-tests s = tableTests (s .args .self .key) (s .args .words .now) ++ feedTests (s .args .self .key) (markIn (s .args .self)) (asPart (s .args .part .now) (s .args .used))
+tests s =
+    tableTests (s .args .self .key) (s .args .words .now)
+    ++ feedTests (s .args .self .key) (markIn (s .args .self)) (asPart (s .args .part .now) (s .args .used))
 
 abbrev value : tie.Start → Mark
 value s = fedMark (s .args .self .key) (markIn (s .args .self)) (asPart (s .args .part .now) (s .args .used))
