@@ -53,12 +53,12 @@ length-zeros n = length-replicate n 0
 abbrev long : Part
 long = whole (zeros 4294967296)
 
--- of the bits 010 0 0001 three are said to be used
+-- of the bits 0100 0001 the first three are said to be used, and the last is not zero
 abbrev dirty : Part
 dirty = asPart (0x41 ∷ []) 3
 
-abbrev 41-bits : List ℕ
-41-bits = bits (0x41 ∷ [])
+abbrev byte-41 : List ℕ
+byte-41 = bits (0x41 ∷ [])
 
 pub calls : List Call
 calls =
@@ -70,31 +70,31 @@ calls =
     ∷ ByTable right (whole (0x42 ∷ []))
     ∷ []
 
-by-bits : bookStep bench 0x11B [] (ByBits (whole (0x41 ∷ []))) ≡ Done 41-bits
+by-bits : bookStep bench 0x11B [] (ByBits (whole (0x41 ∷ []))) ≡ Done byte-41
 unfolding misused partBits partLength usedBits bits lowBits
 by-bits = taken 0x11B accepted-11B [] (ByBits (whole (0x41 ∷ []))) refl (omega arith)
 
-too-long : bookStep bench 0x11B 41-bits (ByBits long) ≡ Refused TooLong 41-bits
+too-long : bookStep bench 0x11B byte-41 (ByBits long) ≡ Refused TooLong byte-41
 unfolding bookStep bookTests
 too-long =
-    opened-first (open-accepted 0x11B accepted-11B) (sumTest (length 41-bits) (partLength long) ∷ misused long ⇒ FinalByte ∷ []) 41-bits _
-    ∙ rw (sum-passes (length 41-bits) (partLength long) (omega (arith, whole-long (zeros 4294967296), length-zeros 4294967296)))
+    opened-first (open-accepted 0x11B accepted-11B) (sumTest (length byte-41) (partLength long) ∷ misused long ⇒ FinalByte ∷ []) byte-41 _
+    ∙ rw (sum-passes (length byte-41) (partLength long) (omega (arith, whole-long (zeros 4294967296), length-zeros 4294967296)))
 
-no-words : bookStep bench 0x11B 41-bits (ByTable [] (whole (0x00 ∷ []))) ≡ Refused TableSize 41-bits
+no-words : bookStep bench 0x11B byte-41 (ByTable [] (whole (0x00 ∷ []))) ≡ Refused TableSize byte-41
 unfolding bookStep bookTests accepted reducible anyBelow rem longDivision reduce degree halvings _⊕_
 no-words = refl
 
-wrong-words : bookStep bench 0x11B 41-bits (ByTable wrong (whole (0x00 ∷ []))) ≡ Refused TableWord 41-bits
+wrong-words : bookStep bench 0x11B byte-41 (ByTable wrong (whole (0x00 ∷ []))) ≡ Refused TableWord byte-41
 unfolding wrong bookStep bookTests accepted reducible anyBelow rem longDivision reduce degree halvings _⊕_ listFrom differs word
 wrong-words = refl
 
-dirty-byte : bookStep bench 0x11B 41-bits (ByBits dirty) ≡ Refused FinalByte 41-bits
+dirty-byte : bookStep bench 0x11B byte-41 (ByBits dirty) ≡ Refused FinalByte byte-41
 unfolding bookStep bookTests accepted reducible anyBelow rem longDivision reduce degree halvings _⊕_ partLength usedBits misused bits lowBits
 dirty-byte = refl
 
-right-words : bookStep bench 0x11B 41-bits (ByTable right (whole (0x42 ∷ []))) ≡ Done (bits (0x41 ∷ 0x42 ∷ []))
+right-words : bookStep bench 0x11B byte-41 (ByTable right (whole (0x42 ∷ []))) ≡ Done (bits (0x41 ∷ 0x42 ∷ []))
 unfolding right misused partBits partLength usedBits bits lowBits
-right-words = taken 0x11B accepted-11B 41-bits (ByTable right (whole (0x42 ∷ []))) (refl, refl) (omega arith)
+right-words = taken 0x11B accepted-11B byte-41 (ByTable right (whole (0x42 ∷ []))) (refl, refl) (omega arith)
 
 -- the book's file, and the numbers
 pub the-book : run (bookStep bench 0x11B) [] calls ≡ (bits (0x41 ∷ 0x42 ∷ []), 0 ∷ 7 ∷ 5 ∷ 6 ∷ 19 ∷ 0 ∷ [])

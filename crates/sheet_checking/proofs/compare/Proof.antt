@@ -150,9 +150,9 @@ over-pages-requires c κs =
       z .0,
       z .1,
       omega (arith, fits (else2→else1 u)),
-      well u,
       λ lent. absurd (omega (arith, lent)),
       λ lent. part f,
+      well u,
     )
 
 page-count-requires : tie.Need-page-count-requires
@@ -192,7 +192,7 @@ answer c =
     ∙ ap (λ (m : ℕ). Done (firstChange 0 given (pageFingerprints (layout s) m (8 * x .size) (count s) (partBits (file s)))))
     (sym (opened-whole (key-held (opened (fields-read c)))))
 
-cast-page : tie.Need-cast-t20
+cast-page : tie.Need-cast-t21
 cast-page c =
     let p = passed (c .before) in
     let s = start (begin p) in

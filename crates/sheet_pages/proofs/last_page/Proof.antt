@@ -1,7 +1,7 @@
 -- `last_page` meets its contract: its own fingerprint, or with zeros behind it, as the version says.
 use mathlib.Core.Path.{_≡_, sym, ap, _∙_}
 use mathlib.Core.Bool.{Bool, cond}
-use Prim.Native.Nat.{ℕ, _-_, _*_, _^_, _≤_, _<_}
+use Prim.Native.Nat.{ℕ, _-_, _*_, _^_, _<_}
 use native.Mathlib.Omega.{arith}
 use lib.ListN.{length}
 use Rattle.gf2.specs.Polynomials.{rem}
@@ -28,19 +28,18 @@ key s = polynomial (s .args .x .p)
 abbrev page : tie.Start → Part
 page s = asPart (s .args .page .now) (s .args .x .used)
 
--- the page is not longer than a page, and its length is counted in full
-long : (c : tie.After-part-length) → let s = start (fed c) in (c .part-length .result ≡ partLength (page s)) × (partLength (page s) ≤ 8 * s .args .x .size)
-long c =
+-- the page's length is counted in full
+counted : (c : tie.After-part-length) → c .part-length .result ≡ partLength (page (start (fed c)))
+counted c =
     let s = start (fed c) in
-    let r = part-range (page s) .0 in
-    (c .part-length .ensures ∙ omega (arith, r, s .pre .1, s .pre .2), omega (arith, r, s .pre .1))
+    c .part-length .ensures ∙ omega (arith, part-range (page s) .0, s .pre .1, s .pre .2)
 
 residue : (c : tie.After-fed-last) → let s = start c in c .fed-last .result < 2 ^ s .args .x .p .degree
 unfolding fingerprint
 residue c = let s = start c in residue-below (s .args .x .p) (s .pre .0 .0) _ (value (partBits (page s))) (c .fed-last .ensures)
 
 sub-with-zeros : tie.Need-sub-with-zeros
-sub-with-zeros c = omega (arith, long c .0, long c .1)
+sub-with-zeros c = let s = start (fed c) in omega (arith, counted c, part-range (page s) .0, s .pre .1)
 
 with-zeros-requires : tie.Need-with-zeros-requires
 with-zeros-requires c κs =
@@ -60,7 +59,7 @@ returns c =
     let zeros = 8 * s .args .x .size - length bits in
     let fills = sym (t .before .fills .ensures) ∙ t .if1 .taken in
     c .with-zeros .ensures
-    ∙ ap (λ (n : ℕ). rem (key s) (f .fed-last .result * 2 ^ (8 * s .args .x .size - n))) (long l .0 ∙ sym (part-length (page s)))
+    ∙ ap (λ (n : ℕ). rem (key s) (f .fed-last .result * 2 ^ (8 * s .args .x .size - n))) (counted l ∙ sym (part-length (page s)))
     ∙ ap (λ (g : ℕ). rem (key s) (g * 2 ^ zeros)) (f .fed-last .ensures)
     ∙ with-zeros (monic-pos (p .degree) (p .low) (s .pre .0 .0 .2)) zeros bits
     ∙ ap (λ (b : Bool). fingerprint (key s) (cond b (filled (8 * s .args .x .size) bits) bits)) (sym fills)

@@ -7,12 +7,12 @@ use native.Mathlib.Omega.{arith}
 use lib.ListN.{length, take, drop, drop-of-length-le}
 use lib.Seq.{sets, length-take-le}
 use Rattle.gf2.specs.Moduli.{polynomial}
-use Rattle.files.specs.Files.{Part, asPart, partLength, partBits, misused}
-use Rattle.files.proofs.Parts.{part-range, part-bytes, rest-misused}
+use Rattle.files.specs.Files.{Part, asPart, partBits, misused}
+use Rattle.files.proofs.Parts.{rest-misused}
 use Rattle.sheets.specs.Layout.{fieldsOf, Layout, layoutOf, pageCount}
 use Rattle.sheets.specs.Sheets.{pageFingerprints}
 use Rattle.sheets.specs.Parts.{agreeing}
-use Rattle.sheets.proofs.Pages.{length-pages, page-begins, count-small, count-reached, all-left}
+use Rattle.sheets.proofs.Pages.{length-pages, page-begins, count-few, count-reached, all-left}
 use Rattle.sheets.proofs.Changes.{agree-le}
 use Rattle.sheet_pass.specs.Passes.{expected}
 use Rattle.sheet_pass.proofs.Passes.{block-long, block-few, block-ends, block-agrees, block-written}
@@ -71,10 +71,7 @@ positive : (s : tie.Start Inv-loop μ-loop) → 0 < s .args .x .size
 positive s = omega (arith, s .pre .1)
 
 small : (s : tie.Start Inv-loop μ-loop) → count s < 2 ^ 29
-small s =
-    let size = s .args .x .size in
-    let few = count-small size (partLength (file s)) (s .pre .1) (s .pre .2) (omega (arith, part-range (file s) .0, s .pre .3)) in
-    omega (arith, few, ap (pageCount size) (part-bytes (file s)))
+small s = count-few (s .args .x .size) (length (file s .bytes)) (s .pre .1) (s .pre .2) (s .pre .3)
 
 many : (s : tie.Start Inv-loop μ-loop) → length (prints s) ≡ count s
 many s = length-pages (layout s) (key s) (count s) (8 * s .args .x .size) (partBits (file s))

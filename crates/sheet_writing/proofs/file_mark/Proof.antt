@@ -36,7 +36,7 @@ abbrev count : tie.Start → ℕ
 count s = pageCount (s .args .size) (length (s .args .file .now))
 
 abbrev start : tie.After-part-length → tie.Start
-start c = c .before .before
+start c = c .before .before .before
 
 bits-counted : (c : tie.After-part-length) → c .part-length .result ≡ partLength (part (start c))
 bits-counted c = let s = start c in c .part-length .ensures ∙ counted-part (part s) (omega (arith, s .pre .4))

@@ -57,7 +57,7 @@ prints c =
 over-pages-requires : tie.Need-over-pages-requires
 over-pages-requires c κs =
     let s = start c in
-    (s .pre .0, s .pre .1, s .pre .3, s .pre .4, s .pre .5, s .pre .7, λ lent. omega (arith, s .pre .6), λ lent. absurd (omega (arith, lent)))
+    (s .pre .0, s .pre .1, s .pre .3, s .pre .4, s .pre .5, λ lent. omega (arith, s .pre .6), λ lent. absurd (omega (arith, lent)), s .pre .7)
 
 file-mark-requires : tie.Need-file-mark-requires
 file-mark-requires c κs =

@@ -1,14 +1,15 @@
 -- `put_sheet` meets its contract.
-use mathlib.Core.Path.{_≡_, ap, ap₂, _∙_}
-use mathlib.Core.List.{List, [], _++_, append-nil}
-use Prim.Native.Nat.{ℕ, _+_, _-_, _*_, _≤_}
+use mathlib.Core.Path.{_≡_, sym, ap, ap₂, _∙_}
+use mathlib.Core.List.{List, [], _∷_, _++_, append-nil}
+use Prim.Native.Nat.{ℕ, _+_, _-_, _*_, _/_, _≤_}
 use native.Mathlib.Nat.{le-refl}
 use native.Mathlib.Omega.{arith}
 use lib.ListN.{length, take, drop, length-drop, drop-of-length-le}
 use lib.Seq.{sets}
 use Rattle.acceptance.proofs.Opened.{opened-proper, opened-eight, opened-word, opened-whole}
 use Rattle.files.specs.Files.{fingerprint, Part, asPart, partBits}
-use Rattle.sheets.specs.Layout.{bytesOf, fieldsOf, Layout, newest, layoutOf, pageCount}
+use Rattle.files.proofs.Parts.{part-length}
+use Rattle.sheets.specs.Layout.{bytesOf, fieldsOf, letters, Layout, newest, layoutOf, fieldWidths, pageCount, pagesFor, bytesIn}
 use Rattle.sheets.specs.Sheets.{pageFingerprints, contentsOf}
 use Rattle.sheets.proofs.Versions.{length-from}
 use Rattle.sheets.proofs.Pages.{length-pages, all-left}
@@ -22,7 +23,7 @@ abbrev v : Layout
 v = layoutOf (newest .version)
 
 abbrev start : tie.After-put-head → tie.Start
-start c = c .before .before .before .before
+start c = c .before .before .before .before .before
 
 abbrev head : tie.After-pages-place → tie.After-put-head
 head c = c .before .before .before
@@ -41,7 +42,7 @@ fits c =
 
 put-head-requires : tie.Need-put-head-requires
 put-head-requires c κs =
-    let s = c .before .before .before in
+    let s = c .before .before .before .before in
     omega (arith, s .pre .4, length-from (newest .version) (pageCount (s .args .size) (length (s .args .file .now))))
 
 sub-put-fingerprints : tie.Need-sub-put-fingerprints
@@ -59,9 +60,14 @@ put-fingerprints-requires c κs =
     let part = ap length (all-left b n) ∙ length-drop n b in
     (opened-proper (p .0), opened-eight (p .0), opened-word (p .0), p .1, p .2, p .3, omega (arith, part, fits q), p .5)
 
--- the head of the sheet, with the file's length
 abbrev part : tie.Start → Part
 part s = asPart (s .args .file .now) (s .args .used)
+
+-- the file's length, as it stands in the head
+counted : (c : tie.After-put-head) → c .before .before .part-length .result ≡ length (partBits (part (start c)))
+counted c =
+    let s = start c in
+    c .before .before .part-length .ensures ∙ counted-part (part s) (omega (arith, s .pre .3)) ∙ sym (part-length (part s))
 
 returns : tie.Need-returns
 unfolding contentsOf
@@ -88,15 +94,16 @@ returns c =
     ∙ ap (λ (l : List ℕ). take n b ++ l) (append-nil part)
     ∙ ap (λ (m : ℕ). take m b ++ part) from
     ∙ sheet-stores (contentsOf (newest .version) (a .key) (a .size) file) count (a .buffer .now) b part
-    (length-pages v (a .key) count (a .size) file) (s .pre .4)
-    (h .put-head .ensures)
+    (length-pages v (a .key) (pagesFor (a .size) (length file)) size file ∙ held) (s .pre .4)
+    (h .put-head .ensures ∙ ap (λ (n : ℕ). sets (a .buffer .now) 0 (bytesIn (fieldWidths v) (letters ∷ newest .version ∷ a .key ∷ n / v .lengthUnit ∷ a .size ∷ []))) (counted h))
     (stored
-    ∙ ap (λ (m : ℕ). sets (drop m b) 0 (fieldsOf 8 (pageFingerprints v (a .key) size count file) ++ bytesOf 8 (fingerprint (a .key) file))) from)
+    ∙ ap₂ (λ (m c : ℕ). sets (drop m b) 0 (fieldsOf 8 (pageFingerprints v (a .key) size c file) ++ bytesOf 8 (fingerprint (a .key) file))) from (sym held))
 
 pub put-sheet-spec : {M : Type 1} → statement M
 put-sheet-spec =
     tie.close
     (tie.spec
+    (λ c κs. search needs)
     put-head-requires
     (λ c κs. search needs)
     sub-put-fingerprints
