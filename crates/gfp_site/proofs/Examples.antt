@@ -1,13 +1,14 @@
 -- Lists of calls under the key 0x11B, from the empty file, with the book beside them: each kind of call refused and not. And a route
 -- of each kind. So the claims of Guarantee.antt are not empty.
-use mathlib.Core.Path.{_≡_, refl, _∙_}
+use mathlib.Core.Path.{_≡_, refl, subst, _∙_}
 use mathlib.Core.List.{List, [], _∷_, _++_, map}
 use Prim.Native.Nat.{ℕ}
 use native.Mathlib.Omega.{arith}
 use lib.Dec.{ltb, ltb→lt}
-use lib.ListN.{replicate}
+use lib.ListN.{length, take, replicate}
 use Rattle.refusals.specs.Refusals.{Done}
-use Rattle.sheets.specs.Layout.{bytesOf, fieldsOf, numberAt, numbersAt, version1, version3, known, layoutAmong, bytesIn, sheetBytes, contentsIn}
+use Rattle.sheets.specs.Layout.{bytesOf, fieldsOf, numberAt, numbersAt, version1, version3, newest, known, layoutAmong, bytesIn, sheetBytes, contentsIn}
+use Rattle.sheets.specs.Layout.{sheetLength, pagesFor}
 use Rattle.sheets.specs.Sheets.{filled, pageFingerprints, contentsOf, writeSheet, joinedPages, someUnreduced, readSheet, readPages}
 use Rattle.sheets.proofs.Guarantee.{written-reads}
 use Rattle.lists.proofs.Lists.{all-map, every, all-by-test}
@@ -34,7 +35,7 @@ mark f n = record { fingerprint = f; length = n }
 
 -- ---- feeding: the Bench level's list, by bits and by tables, refused and not
 
-pub the-feeding-list : run (step 0x11B) (mark 0x01 0) (map Feeding bench-examples.calls) ≡ (mark 0x9D 16, 0 ∷ 7 ∷ 5 ∷ 6 ∷ 0 ∷ [])
+pub the-feeding-list : run (step 0x11B) (mark 0x01 0) (map Feeding bench-examples.calls) ≡ (mark 0x9D 16, 0 ∷ 7 ∷ 5 ∷ 6 ∷ 19 ∷ 0 ∷ [])
 the-feeding-list = bench-lists 0x11B (mark 0x01 0) bench-examples.calls ∙ bench-examples.the-list
 
 -- ---- joining and page change, refused and not, between feeding. Both sides are computed.
@@ -133,12 +134,12 @@ unfolding sheet filled numberAt valueFrom bits lowBits usedBits partLength partB
 page-field = InPageField 16 0 (whole (0x41 ∷ 0x42 ∷ [])) (replicate 39 0) sheet written-sheet (omega arith) refl refl
 
 true-pages : TruePages 0x11B two sheet (contentsOf 3 0x11B 16 two)
-unfolding sheet every contentsOf
+unfolding sheet every contentsOf bits lowBits
 true-pages =
     record {
       bytes = all-map (λ b t. ltb→lt b 256 t) sheet (all-by-test (λ b. ltb b 256) sheet tt);
       read =
-          rw (← the-two)
+          subst (λ (l : List ℕ). readSheet (take (sheetLength newest (pagesFor 16 (length l))) sheet) ≡ Done (contentsOf 3 0x11B 16 l)) the-two
           (written-reads 0x11B 16 (whole (0x41 ∷ 0x42 ∷ [])) (replicate 39 0) sheet (omega arith) written-sheet);
       same-key = refl;
       same-length = refl;

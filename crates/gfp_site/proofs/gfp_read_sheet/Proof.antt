@@ -1,13 +1,16 @@
 -- The numbers of the sheet are stored; on refusal nothing is.
 use mathlib.Core.Path.{_≡_, refl, sym, ap, _∙_}
 use mathlib.Core.List.{List, [], _∷_}
-use Prim.Native.Nat.{ℕ}
+use Prim.Native.Nat.{ℕ, _<_}
+use native.Mathlib.Omega.{arith}
 use Rattle.refusals.specs.Refusals.{Answer, Done, Refused, numberOf}
 use Rattle.sheets.specs.declared.Reading.{Reading}
 use Rattle.sheets.specs.Answers.{reading, sheetRead}
 use Rattle.sheets.specs.declared.Sheet.{Sheet}
-use Rattle.sheets.specs.Layout.{Contents}
+use Rattle.sheets.specs.Layout.{Contents, contentsIn}
 use Rattle.sheets.specs.Sheets.{readSheet}
+use Rattle.sheets.proofs.Versions.{known-small}
+use Rattle.sheets.proofs.Known.{read-as, sound, version-read}
 use Rattle.places.specs.Places.{heldAfter}
 use Rattle.gfp_site.specs.Places.{sheetIn}
 use borrow.Author.Needs.{needs}
@@ -47,12 +50,22 @@ told c o e =
     let a = readSheet (read→start c .args .sheet .now) in
     (ap numberOf h ∙ same-number a, ap (heldAfter numbersIn (before c)) h ∙ same-places (before c) a)
 
+-- the version of a sheet that was read is a small number
+cast-version : tie.Need-cast-version
+unfolding contentsIn
+cast-version c =
+    let k = c .before .before in
+    let r = k .before .before in
+    let sheet = read→start r .args .sheet .now in
+    let was = read-as sheet (k .x .given .0 .0) (ap reading (sym (k .x .given .1)) ∙ r .read .ensures) in
+    omega (arith, known-small (contentsIn sheet .version) (sound sheet was .version), version-read sheet was)
+
 returns : tie.Need-returns
-returns c = told (c .before .before .before) _ (c .before .x .given .1)
+returns c = told (c .before .before .before .before) _ (c .before .before .x .given .1)
 
 returns-2 : tie.Need-returns-2
 returns-2 c = let t = told (number→read c) _ (c .before .before .r .given .1) in (c .number .ensures ∙ t .0, t .1)
 
 pub gfp-read-sheet-spec : {M : Type 1} → statement M
 gfp-read-sheet-spec =
-    tie.close (tie.spec (λ c κs. search needs) (λ c. search needs) (λ c. search needs) (λ c κs. search needs) returns returns-2)
+    tie.close (tie.spec (λ c κs. search needs) (λ c. search needs) cast-version (λ c. search needs) (λ c κs. search needs) returns returns-2)
