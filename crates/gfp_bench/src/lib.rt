@@ -62,7 +62,7 @@ pub extern "C" fn gfp_feed(
     ensures { λ r. ⌜
         (r ≡ numberOf (feedBits key (markAt (now (fingerprint .entry)) (now (bits .entry))) (asPart (now (part .entry)) used)))
         × (markAt (now (fingerprint .exit)) (now (bits .exit))
-            ≡ stateOf (feedBits key (markAt (now (fingerprint .entry)) (now (bits .entry))) (asPart (now (part .entry)) used)))
+        ≡ stateOf (feedBits key (markAt (now (fingerprint .entry)) (now (bits .entry))) (asPart (now (part .entry)) used)))
         ⌝ }
 {
     let m = Running {
@@ -105,7 +105,7 @@ pub extern "C" fn gfp_feed_table(
     ensures { λ r. ⌜
         (r ≡ numberOf (feedTable key (markAt (now (fingerprint .entry)) (now (bits .entry))) (now (words .entry)) (asPart (now (part .entry)) used)))
         × (markAt (now (fingerprint .exit)) (now (bits .exit))
-            ≡ stateOf (feedTable key (markAt (now (fingerprint .entry)) (now (bits .entry))) (now (words .entry)) (asPart (now (part .entry)) used)))
+        ≡ stateOf (feedTable key (markAt (now (fingerprint .entry)) (now (bits .entry))) (now (words .entry)) (asPart (now (part .entry)) used)))
         ⌝ }
 {
     let m = Running {
@@ -128,7 +128,7 @@ pub extern "C" fn gfp_feed_house(
     ensures { λ r. ⌜
         (r ≡ numberOf (feedHouse key (markAt (now (fingerprint .entry)) (now (bits .entry))) (asPart (now (part .entry)) used)))
         × (markAt (now (fingerprint .exit)) (now (bits .exit))
-            ≡ stateOf (feedHouse key (markAt (now (fingerprint .entry)) (now (bits .entry))) (asPart (now (part .entry)) used)))
+        ≡ stateOf (feedHouse key (markAt (now (fingerprint .entry)) (now (bits .entry))) (asPart (now (part .entry)) used)))
         ⌝ }
 {
     let m = Running {

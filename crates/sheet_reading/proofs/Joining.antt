@@ -55,8 +55,14 @@ module _ (sheet : List ℕ) (head : Head) (h : HeadOf sheet head) (some : 16 ≤
   by-fields =
       let fs = numbersAt (pagePlace v 0) (v .fingerprintWidth) count sheet in
       let many = length-numbersAt (pagePlace v 0) (v .fingerprintWidth) count sheet in
-      rw (← (h .key), ← (h .length), ← (h .size), ← (h .version),
-      zeros-are v (head .key) (8 * head .size) (head .length) fs (omega arith) (many ∙ as-bits), many)
+      rw (
+        ← (h .key),
+        ← (h .length),
+        ← (h .size),
+        ← (h .version),
+        zeros-are v (head .key) (8 * head .size) (head .length) fs (omega arith) (many ∙ as-bits),
+        many,
+      )
 
   pub body-is : bodyWrong (length sheet) (contentsIn sheet)
       ≡ (not (eqb (length sheet) (sheetLength (layoutOf (head .version)) (pagesFor (head .size) (head .length))))
