@@ -111,13 +111,13 @@ uint32_t gfp_feed_house(uint64_t key, uint64_t *fingerprint, uint64_t *bits, con
 
 /* Joins marks: the file of the mark (other_fingerprint, other_bits) goes behind the file of the mark in the two
  * places. Both lengths are in bits; up to GFP_INTERFACE 3 they were in bytes.
- * Refusals: 1, 2, 7, 8. Stack: 1,024 bytes. */
+ * Refusals: 1, 2, 7, 8. Stack: 1,536 bytes. */
 uint32_t gfp_join_behind(uint64_t key, uint64_t *fingerprint, uint64_t *bits, uint64_t other_fingerprint,
                          uint64_t other_bits);
 
 /* Joins marks: the file of the mark (other_fingerprint, other_bits) goes in front. Both lengths are in bits; up to
  * GFP_INTERFACE 3 they were in bytes.
- * Refusals: 1, 2, 7, 8. Stack: 1,024 bytes. */
+ * Refusals: 1, 2, 7, 8. Stack: 1,536 bytes. */
 uint32_t gfp_join_in_front(uint64_t key, uint64_t *fingerprint, uint64_t *bits, uint64_t other_fingerprint,
                            uint64_t other_bits);
 
