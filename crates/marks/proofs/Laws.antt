@@ -14,8 +14,9 @@ use Rattle.acceptance.specs.Keys.{accepted}
 use Rattle.acceptance.specs.Opened.{Opened}
 use Rattle.acceptance.proofs.Opened.{open-accepted, opened-first, opened-whole, residue-below}
 use Rattle.files.specs.declared.Mark.{Mark}
-use Rattle.files.specs.Files.{valueFrom, markOf, unreduced, Part, partLength, partBits, misused, fedMark}
+use Rattle.files.specs.Files.{valueFrom, markOf, unreduced, Part, partLength, partBits, misused, fedMark, bits, asPart}
 use Rattle.files.proofs.Marks.{mark-eq, true-reduced}
+use Rattle.files.proofs.Parts.{whole-bits}
 use Rattle.table_tests.specs.TableTests.{tableTests}
 use Rattle.table_tests.proofs.Laws.{clear-table}
 use Rattle.house.specs.House.{houseKey, houseWords}
@@ -71,6 +72,12 @@ module _ {key : ℕ} {p : Modulus} (h : Opened key p) (m : Mark) (part : Part) (
         ap (λ (z : Mark). fedUnder key (Done z))
         (mark-eq (is ∙ ap (λ (q : ℕ). rem q (valueFrom (m .fingerprint) (partBits part))) (opened-whole h)) (sym (clear .1)))
         ∙ sym (ap (fedUnder key) (clear-done (feedTests key m part) m (fedMark key m part) (clear .0)))
+
+-- ---- a part behind a residue: whole bytes
+
+pub whole-behind : (q f : ℕ) (bytes : List ℕ) (u : ℕ) → u ≡ 8 → rem q (valueFrom f (bits bytes)) ≡ rem q (valueFrom f (partBits (asPart bytes u)))
+whole-behind q f bytes u e =
+    ap (λ (l : List ℕ). rem q (valueFrom f l)) (sym (ap (λ (v : ℕ). partBits (asPart bytes v)) e ∙ whole-bits bytes))
 
 -- ---- marks of files
 

@@ -68,6 +68,9 @@ fn behind_alone(p: Modulus, f: u64, part: &[u8], used: u32) -> u64
     requires { ⌜ Proper p × (f < 2 ^ p .degree) × (misused (asPart (now part) used) ≡ false) ⌝ }
     ensures { λ r. ⌜ r ≡ rem (polynomial p) (valueFrom f (partBits (asPart (now (part .entry)) used))) ⌝ }
 {
+    if used == 8 {
+        return folds::fed_alone(p, f, part);
+    }
     let w = files::whole_bytes(part, used);
     let x = folds::fed_alone(p, f, &part[..w]);
     files::feed_end(p, x, part, used)
@@ -78,6 +81,9 @@ fn behind_looked(words: &[u64], p: Modulus, f: u64, part: &[u8], used: u32) -> u
     requires { ⌜ TableOf p (now words) × (f < 2 ^ p .degree) × (misused (asPart (now part) used) ≡ false) ⌝ }
     ensures { λ r. ⌜ r ≡ rem (polynomial p) (valueFrom f (partBits (asPart (now (part .entry)) used))) ⌝ }
 {
+    if used == 8 {
+        return folds::fed(words, p, f, part);
+    }
     let whole = files::whole_bytes(part, used);
     let looked = folds::fed(words, p, f, &part[..whole]);
     files::feed_end(p, looked, part, used)

@@ -2,20 +2,28 @@
 use mathlib.Core.Path.{sym, _∙_}
 use borrow.Author.Needs.{needs}
 use lib.Seq.{length-take-le}
+use Rattle.gf2.specs.Moduli.{polynomial}
 use Rattle.gf2.proofs.Monics.{monic-pos}
 use Rattle.gf2.proofs.Steps.{residue-lt}
 use Rattle.files.specs.Files.{asPart}
 use Rattle.files.proofs.Computing.{part-behind}
+use Rattle.marks.proofs.Laws.{whole-behind}
 use Rattle.marks.proofs.behind_looked.Statement.{statement}
 use Rattle.marks.proofs.behind_looked.Tie as tie
 
 -- ---- the places: from each one to an earlier one
 
 abbrev arg→start : tie.After-fed-arg → tie.Start
-arg→start c = c .before .before .before .before
+arg→start c = c .before .before .before .before .before
 
-abbrev fed→start : tie.After-fed → tie.Start
+abbrev fed→start : tie.After-fed2 → tie.Start
 fed→start c = arg→start (c .before)
+
+-- whole bytes
+returns : tie.Need-returns
+returns c =
+    let a = c .before .before .before .before .args in
+    c .fed .ensures ∙ whole-behind (polynomial (a .p)) (a .f) (a .part .now) (a .used) (c .before .if1 .taken)
 
 slice-aggregate-fed : tie.Need-slice-aggregate-fed
 slice-aggregate-fed c = sym (length-take-le _ _ (c .before .whole-bytes .ensures .1))
@@ -24,17 +32,17 @@ feed-end-requires : tie.Need-feed-end-requires
 feed-end-requires c κs =
     let s = fed→start c in
     let p = s .args .p in
-    (s .pre .0 .0, rw (c .fed .ensures) (residue-lt (p .degree) (p .low) (s .pre .0 .0 .2) _), s .pre .2)
+    (s .pre .0 .0, rw (c .fed2 .ensures) (residue-lt (p .degree) (p .low) (s .pre .0 .0 .2) _), s .pre .2)
 
-returns : tie.Need-returns
-returns c =
+returns-2 : tie.Need-returns-2
+returns-2 c =
     let d = c .before in
     let s = fed→start d in
     let a = s .args in
     let whole = d .before .before .whole-bytes .ensures .0 in
     c .feed-end .ensures
-    ∙ part-behind (monic-pos (a .p .degree) (a .p .low) (s .pre .0 .0 .2)) (a .f) (asPart (a .part .now) (a .used)) _ _ whole (d .fed .ensures)
+    ∙ part-behind (monic-pos (a .p .degree) (a .p .low) (s .pre .0 .0 .2)) (a .f) (asPart (a .part .now) (a .used)) _ _ whole (d .fed2 .ensures)
 
 pub behind-looked-spec : {M : Type 1} → statement M
 behind-looked-spec =
-    tie.close (tie.spec (λ c κs. search needs) slice-aggregate-fed (λ c κs. search needs) feed-end-requires returns)
+    tie.close (tie.spec (λ c κs. search needs) returns (λ c κs. search needs) slice-aggregate-fed (λ c κs. search needs) feed-end-requires returns-2)
