@@ -13,6 +13,7 @@ use lib.Pow.{shr-shr}
 use lib.Seq.{length-take-le, take-add, take-all, take-nil, drop-nil, take-take, take-append-le, take-at, drop-at, drop-cons, drop-drop, getD-drop}
 use borrow.Author.Tests.{ltb-false, eqb-true, not-false, le-leb, lt-leb, lt-ltb, le-ltb, eq-eqb, ne-eqb}
 use Rattle.lists.proofs.Truth.{or-neither}
+use Rattle.lists.proofs.Lists.{all-take, all-append}
 use Rattle.files.specs.Files.{lowBits, bits, Bits, Part, asPart, whole, usedBits, partLength, partBits, misused, bytesFor}
 use Rattle.files.specs.Ends.{wholeBytes, endBits, countedLength}
 use Rattle.files.proofs.Values.{length-bits, length-low}
@@ -145,23 +146,14 @@ unfolding lowBits
 low-bits zero b = tt
 low-bits (suc n) b = (omega arith, low-bits n b)
 
-all-append : (a b : List ℕ) → Bits a → Bits b → Bits (a ++ b)
-all-append [] b ha hb = hb
-all-append (x ∷ a) b ha hb = (ha .0, all-append a b (ha .1) hb)
-
 pub bits-are : (bytes : List ℕ) → Bits (bits bytes)
 unfolding bits
 bits-are [] = tt
-bits-are (b ∷ bytes) = all-append (lowBits 8 b) (bits bytes) (low-bits 8 b) (bits-are bytes)
-
-all-take : (n : ℕ) (l : List ℕ) → Bits l → Bits (take n l)
-all-take zero l h = tt
-all-take (suc n) [] h = tt
-all-take (suc n) (x ∷ l) h = (h .0, all-take n l (h .1))
+bits-are (b ∷ bytes) = all-append (λ x. x < 2) (lowBits 8 b) (bits bytes) (low-bits 8 b) (bits-are bytes)
 
 pub part-bits-are : (p : Part) → Bits (partBits p)
 unfolding partBits
-part-bits-are p = all-take (partLength p) (bits (p .bytes)) (bits-are (p .bytes))
+part-bits-are p = all-take (λ x. x < 2) (partLength p) (bits (p .bytes)) (bits-are (p .bytes))
 
 -- ---- what number 19 leaves
 

@@ -10,7 +10,7 @@ use native.Mathlib.Numerals.{add-one}
 use native.Mathlib.Decide.{ℕ-discrete}
 use native.Mathlib.Omega.{arith}
 use lib.Dec.{T, ltb, ltb→lt, eqb, eqb→eq}
-use lib.ListN.{length, getD, set, drop}
+use lib.ListN.{length, getD, set, take, drop}
 use lib.Seq.{getD-set-same, getD-set-other, drop-cons, set-at, append-snoc}
 use Rattle.lists.specs.Lists.{listFrom, passing, same, All, Distinct}
 use Rattle.lists.proofs.Truth.{and-left, and-right}
@@ -18,6 +18,22 @@ use Rattle.lists.proofs.Truth.{and-left, and-right}
 pub all-map : {P Q : ℕ → Type 0} → ((x : ℕ) → P x → Q x) → (xs : List ℕ) → All P xs → All Q xs
 all-map f [] p = tt
 all-map f (x ∷ xs) p = (f x (p .0), all-map f xs (p .1))
+
+-- of the front of a list, of what is behind it, and of two lists one behind the other
+module _ (P : ℕ → Type 0) where
+  pub all-take : (n : ℕ) (xs : List ℕ) → All P xs → All P (take n xs)
+  all-take zero xs p = tt
+  all-take (suc n) [] p = tt
+  all-take (suc n) (x ∷ xs) p = (p .0, all-take n xs (p .1))
+
+  pub all-drop : (n : ℕ) (xs : List ℕ) → All P xs → All P (drop n xs)
+  all-drop zero xs p = p
+  all-drop (suc n) [] p = tt
+  all-drop (suc n) (x ∷ xs) p = all-drop n xs (p .1)
+
+  pub all-append : (xs ys : List ℕ) → All P xs → All P ys → All P (xs ++ ys)
+  all-append [] ys p q = q
+  all-append (x ∷ xs) ys p q = (p .0, all-append xs ys (p .1) q)
 
 pub all-zip : {P Q R : ℕ → Type 0} → ((x : ℕ) → P x → Q x → R x) → (xs : List ℕ) → All P xs → All Q xs → All R xs
 all-zip f [] p q = tt

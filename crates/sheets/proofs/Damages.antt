@@ -3,13 +3,14 @@
 use mathlib.Core.Path.{_≡_, refl, sym, ap, ap₂, subst, _∙_}
 use mathlib.Core.Logic.{_≢_}
 use mathlib.Core.Bool.{Bool, true, false, cond}
-use mathlib.Core.List.{List, [], _∷_, _++_, List-discrete}
+use mathlib.Core.List.{List, [], _++_, List-discrete}
 use Prim.Native.Nat.{ℕ, zero, suc, _+_, _-_, _*_, _^_, _≤_, _<_}
 use native.Mathlib.Nat.{zero-mul, suc-mul, not-suc-le-zero, le-refl}
 use native.Mathlib.Decide.{ℕ-discrete, decLt}
 use native.Mathlib.Omega.{arith}
 use lib.ListN.{length, take, drop, replicate, length-drop, drop-of-length-le, take-append-drop}
 use lib.Seq.{drop-drop, take-all}
+use Rattle.lists.proofs.Lists.{all-take, all-drop}
 use Rattle.gf2.specs.Polynomials.{rem, degree}
 use Rattle.gf2.proofs.Congruences.{shift-cancels}
 use Rattle.refusals.specs.Refusals.{Done, longest}
@@ -136,16 +137,6 @@ taken-cancels v key s a b acc e = go (v .filled)
         ∙ ap (λ (n : ℕ). fingerprint key (b ++ replicate (s - n) 0)) (sym e)
         ∙ sym (with-zeros pos (s - length a) b))
 
-bits-take : (n : ℕ) (l : List ℕ) → Bits l → Bits (take n l)
-bits-take zero l h = tt
-bits-take (suc n) [] h = tt
-bits-take (suc n) (b ∷ l) h = (h .0, bits-take n l (h .1))
-
-bits-drop : (n : ℕ) (l : List ℕ) → Bits l → Bits (drop n l)
-bits-drop zero l h = h
-bits-drop (suc n) [] h = tt
-bits-drop (suc n) (b ∷ l) h = bits-drop n l (h .1)
-
 -- in pages of s bits
 module _ (v : Layout) (key s : ℕ) (a b : List ℕ) (acc : accepted key ≡ true) (some : 0 < s) (ha : Bits a) (hb : Bits b) (burst : Burst (degree key) a b)
     (i : ℕ) (f : FirstAltered s a b i) where
@@ -166,12 +157,14 @@ module _ (v : Layout) (key s : ℕ) (a b : List ℕ) (acc : accepted key ≡ tru
   below : i < pageCount s (length a)
   below = count-le s (length a) (suc i) some (omega (arith, suc-mul i s, inside))
 
+  page-bits : (l : List ℕ) → Bits l → Bits (page l)
+  page-bits l h = all-take (λ x. x < 2) s (drop (i * s) l) (all-drop (λ x. x < 2) (i * s) l h)
+
   prints-differ : fingerprint key (pageOf v s (page a)) ≢ fingerprint key (pageOf v s (page b))
   prints-differ e =
       let d = accepted-iff key .0 acc in
       let part = part-burst (degree key) s (i * s) a b (omega arith) burst in
-      burst-differs key (page a) (page b) (d .2) (omega arith) (bits-take s _ (bits-drop (i * s) a ha)) (bits-take s _ (bits-drop (i * s) b hb))
-      (f .altered) part
+      burst-differs key (page a) (page b) (d .2) (omega arith) (page-bits a ha) (page-bits b hb) (f .altered) part
       (taken-cancels v key s (page a) (page b) acc (part .same-length) e)
 
   pub first-differs : (c : ℕ) → c ≡ pageCount s (length a) → First (pageFingerprints v key s c a) (pageFingerprints v key s c b) i

@@ -11,6 +11,7 @@ use lib.ListN.{length, getD, set, take, drop, length-append, length-drop}
 use lib.Pow.{pow-pos, mod-pow-add, pow-add}
 use lib.Seq.{sets, sets-eq, drop-cons, take-at, drop-at, take-add, drop-drop, length-take-le}
 use Rattle.lists.specs.Lists.{All}
+use Rattle.lists.proofs.Lists.{all-take, all-drop}
 use Rattle.files.specs.Files.{bits, valueFrom, Bytes}
 use Rattle.files.proofs.Values.{value-byte, value-split, value-lt, length-bits}
 use Rattle.sheets.specs.Layout.{bytesOf, fieldsOf, numberAt, numbersAt, bytesIn}
@@ -80,16 +81,6 @@ numbers-seam (x ∷ xs) p q place w e h =
 
 -- ---- read, then written
 
-pub bytes-take : (n : ℕ) (l : List ℕ) → Bytes l → Bytes (take n l)
-bytes-take zero l h = tt
-bytes-take (suc n) [] h = tt
-bytes-take (suc n) (b ∷ l) h = (h .0, bytes-take n l (h .1))
-
-pub bytes-drop : (n : ℕ) (l : List ℕ) → Bytes l → Bytes (drop n l)
-bytes-drop zero l h = h
-bytes-drop (suc n) [] h = tt
-bytes-drop (suc n) (b ∷ l) h = bytes-drop n l (h .1)
-
 -- the number in bytes is below 2^(8 × their number)
 pub value-bound : (l : List ℕ) → valueFrom 0 (bits l) < 2 ^ (8 * length l)
 value-bound l = rw (← (length-bits l)) (value-lt (bits l))
@@ -133,7 +124,7 @@ module _ (sheet : List ℕ) (h : Bytes sheet) where
   unfolding numberAt
   bytes-number place w l =
       let e : length (take w (drop place sheet)) ≡ w = length-take-le w (drop place sheet) (rw (length-drop place sheet) (omega arith)) in
-      rw e at (bytes-value (take w (drop place sheet)) (bytes-take w (drop place sheet) (bytes-drop place sheet h)))
+      rw e at (bytes-value (take w (drop place sheet)) (all-take (λ b. b < 256) w (drop place sheet) (all-drop (λ b. b < 256) place sheet h)))
 
   pub fields-numbers : (c place w : ℕ) → place + w * c ≤ length sheet → fieldsOf w (numbersAt place w c sheet) ≡ take (w * c) (drop place sheet)
   unfolding fieldsOf numbersAt
