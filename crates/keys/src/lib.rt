@@ -129,7 +129,7 @@ pub fn test(key: u64) -> Tested
     ensures { λ r. ⌜ tested r ≡ testKey key ⌝ }
 {
     if key < 256 {
-        return Tested::Refused(Refusal::KeyBelow256);
+        return Tested::Refused(Refusal::KeyRange);
     }
     let p = gf2::modulus_of(key);
     if is_stock(key, p) {

@@ -9,7 +9,7 @@ use lib.ListN.{length, drop, length-append}
 use lib.Seq.{drop-append-le, take-append-le}
 use borrow.Author.Tests.{lt-ltb, ltb-true}
 use Rattle.refusals.specs.declared.Refusal.{Refusal}
-use Rattle.refusals.specs.declared.Refusal.the-variants.{KeyBelow256, KeyReducible, TooLong}
+use Rattle.refusals.specs.declared.Refusal.the-variants.{KeyRange, KeyReducible, TooLong}
 use Rattle.refusals.specs.Refusals.{Answer, Done, Refused, _⇒_, firstOf, longest}
 use Rattle.acceptance.specs.Keys.{reducible}
 use Rattle.files.specs.declared.Mark.{Mark}
@@ -37,7 +37,7 @@ unfolding markFile
 file-settled key file more r e = go (ltb key 256) (reducible key) (ltb longest (8 * length file)) refl e
   where
     answer : Bool → Bool → Bool → Mark → Answer Unit Running
-    answer x y z m = begunUnder key (firstOf (x ⇒ KeyBelow256 ∷ y ⇒ KeyReducible ∷ z ⇒ TooLong ∷ []) tt m)
+    answer x y z m = begunUnder key (firstOf (x ⇒ KeyRange ∷ y ⇒ KeyReducible ∷ z ⇒ TooLong ∷ []) tt m)
 
     go : (x y z : Bool) → ltb longest (8 * length file) ≡ z → answer x y (z || false) (markOf key (bits file)) ≡ Refused r tt
         → answer x y (ltb longest (8 * length (file ++ more)) || false) (markOf key (bits (file ++ more))) ≡ Refused r tt

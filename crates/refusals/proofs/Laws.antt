@@ -12,7 +12,7 @@ use Rattle.lists.specs.Lists.{All}
 use Rattle.lists.proofs.Truth.{and-left, and-right}
 use Rattle.lists.proofs.Lists.{all-map, rising}
 use Rattle.refusals.specs.declared.Refusal.{Refusal}
-use Rattle.refusals.specs.declared.Refusal.the-variants.{KeyBelow256, KeyReducible, DegreeNotListed, ElementOutOfRange, TableSize}
+use Rattle.refusals.specs.declared.Refusal.the-variants.{KeyRange, KeyReducible, DegreeNotListed, ElementOutOfRange, TableSize}
 use Rattle.refusals.specs.declared.Refusal.the-variants.{TableWord, TooLong, MarkNotReduced, PageLengthsDiffer, PagePastEnd}
 use Rattle.refusals.specs.declared.Refusal.the-variants.{EmptyPattern, PageSize, BufferShort, SheetMalformed, FinalByte}
 use Rattle.refusals.specs.Refusals.{number, Answer, Done, Refused, numberOf, stateOf, Test, _⇒_, firstOf}
@@ -61,7 +61,7 @@ module _ {S A : Type 0} {ns : List ℕ} {ts : List Test} {answer : Answer S A} (
 -- ---- where nothing is refused
 
 no-zero : (r : Refusal) → number r ≡ 0 → ⊥
-no-zero KeyBelow256 e = omega arith
+no-zero KeyRange e = omega arith
 no-zero KeyReducible e = omega arith
 no-zero DegreeNotListed e = omega arith
 no-zero ElementOutOfRange e = omega arith

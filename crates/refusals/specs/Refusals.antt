@@ -4,12 +4,12 @@ use mathlib.Core.List.{List, [], _∷_}
 use Prim.Native.Nat.{ℕ}
 use lib.Dec.{ltb}
 use Rattle.refusals.specs.declared.Refusal.{Refusal}
-use Rattle.refusals.specs.declared.Refusal.the-variants.{KeyBelow256, KeyReducible, DegreeNotListed, ElementOutOfRange, TableSize, TableWord}
+use Rattle.refusals.specs.declared.Refusal.the-variants.{KeyRange, KeyReducible, DegreeNotListed, ElementOutOfRange, TableSize, TableWord}
 use Rattle.refusals.specs.declared.Refusal.the-variants.{TooLong, MarkNotReduced, PageLengthsDiffer, PagePastEnd, EmptyPattern, PageSize}
 use Rattle.refusals.specs.declared.Refusal.the-variants.{BufferShort, SheetMalformed, FinalByte}
 
 abbrev pub number : Refusal → ℕ
-number KeyBelow256 = 1
+number KeyRange = 1
 number KeyReducible = 2
 number DegreeNotListed = 3
 number ElementOutOfRange = 4

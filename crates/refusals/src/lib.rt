@@ -12,7 +12,7 @@ pub const LONGEST: u64 = 34359738360;
 pub const LONGEST_BYTES: u64 = 4294967295;
 
 pub enum Refusal {
-    KeyBelow256,
+    KeyRange,
     KeyReducible,
     DegreeNotListed,
     ElementOutOfRange,
@@ -40,7 +40,7 @@ pub fn number(r: Refusal) -> u32
     ensures { λ n. ⌜ n ≡ number r ⌝ }
 {
     match r {
-        Refusal::KeyBelow256 => 1,
+        Refusal::KeyRange => 1,
         Refusal::KeyReducible => 2,
         Refusal::DegreeNotListed => 3,
         Refusal::ElementOutOfRange => 4,
