@@ -81,7 +81,8 @@ accepted-words p = (there, back)
 pub accepted-pos : (p : ℕ) → accepted p ≡ true → 0 < p
 accepted-pos p e = omega (arith, accepted-iff p .0 e .2 .proper)
 
-monic-word : (k w : ℕ) → w < 2 ^ k → monic k w % 2 ^ k ≡ w
+-- the coefficients below the leading one
+pub monic-word : (k w : ℕ) → w < 2 ^ k → monic k w % 2 ^ k ≡ w
 unfolding monic
 monic-word k w l = rw one-mul at (low 1 k l)
 

@@ -13,7 +13,7 @@ use borrow.Author.Tests.{not-false}
 use Rattle.lists.specs.Lists.{All}
 use Rattle.lists.specs.Searches.{firstFrom}
 use Rattle.gf2.specs.Polynomials.{_⊕_, halvings, degree, reduce, longDivision, rem, Divides, Irreducible}
-use Rattle.gf2.specs.Degrees.{Degree}
+use Rattle.gf2.specs.Degrees.{Degree, monic}
 use Rattle.lists.proofs.Truth.{and-left, and-right}
 use Rattle.lists.proofs.Lists.{every, all-by-test}
 use Rattle.lists.proofs.Searches.{none-before}
@@ -47,7 +47,7 @@ firstLeft ds rs = firstFrom (λ j. not (struck j ds rs)) 0 256
 
 -- the first number of degree k that is a multiple of no divisor: t^k and the coefficients j, whose residues differ
 unfoldable pub unstruck : ℕ → List ℕ → ℕ
-unstruck k ds = 2 ^ k + firstLeft ds (residues (2 ^ k) ds)
+unstruck k ds = monic k (firstLeft ds (residues (2 ^ k) ds))
 
 -- all degrees need the divisors t and t + 1
 abbrev pub withFirst : List ℕ → List ℕ
@@ -62,11 +62,12 @@ unfoldable pub stockedTable : ℕ → List (List ℕ) → Bool
 stockedTable n [] = true
 stockedTable n (ds ∷ dss) = stocked n ds && stockedTable (suc n) dss
 
--- and what they leave, from degree k on (`unfolding left` opens all that this and the test compute with)
+-- and the coefficients below the leading one of what they leave, from degree k on (`unfolding left` opens all that this and the test compute
+-- with)
 unfoldable pub left : ℕ → List (List ℕ) → List ℕ
-unfolding stockedTable stocked good every proper unstruck firstLeft firstFrom struck residues rem longDivision reduce degree halvings _⊕_
+unfolding stockedTable stocked good every proper unstruck monic firstLeft firstFrom struck residues rem longDivision reduce degree halvings _⊕_
 left k [] = []
-left k (ds ∷ dss) = unstruck k (withFirst ds) ∷ left (suc k) dss
+left k (ds ∷ dss) = firstLeft (withFirst ds) (residues (2 ^ k) (withFirst ds)) ∷ left (suc k) dss
 
 -- ---- what a number that is struck out has
 
@@ -110,7 +111,7 @@ module _ (k : ℕ) (ds : List ℕ) (are : T (every (proper k) ds)) where
   struck-before j l = rw (not-false (struck j ds rs) (none-before (λ i. not (struck i ds rs)) 0 256 j zero-le l)) tt
 
   divisor-before : unstruck k ds < 2 ^ suc k → (q : ℕ) → 2 ^ k ≤ q → q < unstruck k ds → ProperDivisor k q
-  unfolding unstruck rs
+  unfolding unstruck monic rs
   divisor-before h q l m = rw whole at (struck-divisor k (q - 2 ^ k) fits ds (all-by-test (proper k) ds are) (struck-before (q - 2 ^ k) (omega arith)))
     where
       whole : 2 ^ k + (q - 2 ^ k) ≡ q
@@ -124,7 +125,7 @@ module _ (k : ℕ) (ds : List ℕ) (are : T (every (proper k) ds)) where
 not-accepted : (k q : ℕ) → degree q ≡ k → ProperDivisor k q → accepted q ≡ true → ⊥
 not-accepted k q e d a = no-divisor q (d .divisor) (accepted-iff q .0 a .2) (d .above) (rw e (d .below)) (d .divides)
 
-module _ (n : ℕ) (ds : List ℕ) (lo : 8 ≤ suc n) (hi : n < 63) (t : T (stocked n ds)) where
+module _ (n : ℕ) (ds : List ℕ) (lo : 8 ≤ suc n) (hi : n < 64) (t : T (stocked n ds)) where
   abbrev p : ℕ
   p = unstruck (suc n) (withFirst ds)
 
@@ -156,9 +157,9 @@ module _ (n : ℕ) (ds : List ℕ) (lo : 8 ≤ suc n) (hi : n < 63) (t : T (stoc
       let d = degree-eq p (suc n) (irreducible .1) in
       record { of-degree = d; is-accepted = accepted-iff p .1 (rw d lo, rw d hi, irreducible .0); least = least }
 
-pub smallest-at : (dss : List (List ℕ)) (n : ℕ) → 8 ≤ suc n → n + length dss ≤ 63 → T (stockedTable n dss)
-    → (i : ℕ) → i < length dss → Smallest (suc n + i) (getD (left (suc n) dss) i 0)
-unfolding stockedTable left
+pub smallest-at : (dss : List (List ℕ)) (n : ℕ) → 8 ≤ suc n → n + length dss ≤ 64 → T (stockedTable n dss)
+    → (i : ℕ) → i < length dss → Smallest (suc n + i) (monic (suc n + i) (getD (left (suc n) dss) i 0))
+unfolding stockedTable left unstruck
 smallest-at [] n lo hi t i l = absurd (not-suc-le-zero l)
 smallest-at (ds ∷ dss) n lo hi t zero l = rw add-zero (smallest n ds lo (omega arith) (and-left (stocked n ds) (stockedTable (suc n) dss) t))
 smallest-at (ds ∷ dss) n lo hi t (suc i) l =

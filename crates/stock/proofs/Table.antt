@@ -6,7 +6,11 @@ use native.Mathlib.Nat.{le-refl}
 use native.Mathlib.Omega.{arith}
 use lib.Dec.{T}
 use lib.ListN.{length, getD}
-use Rattle.stock.specs.Stock.{stockKey, Smallest}
+use Rattle.gf2.specs.Degrees.{monic}
+use Rattle.gf2.proofs.Degrees.{degree-is}
+use Rattle.gf2.proofs.Monics.{monic-of}
+use Rattle.acceptance.proofs.Laws.{accepted-pos}
+use Rattle.stock.specs.Stock.{stockKey, stockWord, Smallest}
 use Rattle.stock.proofs.Sieve.{stockedTable, left, smallest-at}
 use Rattle.stock.proofs.Searches.{stock-is}
 
@@ -70,35 +74,53 @@ divisors =
     (7 ∷ 11 ∷ 13 ∷ 25 ∷ 31 ∷ 10265 ∷ 12287 ∷ []) ∷
     (7 ∷ 11 ∷ 13 ∷ 19 ∷ 25 ∷ 31 ∷ 41 ∷ 47 ∷ 67 ∷ 87 ∷ 91 ∷ 103 ∷ 115 ∷ 445 ∷ 4051 ∷ 49747419 ∷ 61943701 ∷ 2147483657 ∷ 2147483663 ∷ []) ∷
     [] ∷
+    (7 ∷ 11 ∷ 13 ∷ 19 ∷ 361 ∷ []) ∷
     []
 
--- what they leave, which the checker finds: the stock list
-abbrev pub keys : List ℕ
-keys = left 8 divisors
+-- the words of what they leave, which the checker finds: the stock list
+abbrev pub words : List ℕ
+words = left 8 divisors
 
 tested : T (stockedTable 7 divisors)
 unfolding divisors left
 tested = tt
 
-degrees : length divisors ≡ 56
+degrees : length divisors ≡ 57
 unfolding divisors
 degrees = refl
 
-module _ (k : ℕ) (lo : 8 ≤ k) (hi : k < 64) where
-  entry-smallest : Smallest k (getD keys (k - 8) 0)
-  entry-smallest = rw place at (smallest-at divisors 7 (le-refl 8) (rw degrees (le-refl 63)) tested (k - 8) (rw degrees (omega arith)))
+module _ (k : ℕ) (lo : 8 ≤ k) (hi : k ≤ 64) where
+  abbrev word : ℕ
+  word = getD words (k - 8) 0
+
+  entry-smallest : Smallest k (monic k word)
+  entry-smallest = rw place at (smallest-at divisors 7 (le-refl 8) (rw degrees (le-refl 64)) tested (k - 8) (rw degrees (omega arith)))
     where
       place : 8 + (k - 8) ≡ k
       place = omega arith
 
-  pub entry-stock : getD keys (k - 8) 0 ≡ stockKey k
-  entry-stock = sym (stock-is k (getD keys (k - 8) 0) entry-smallest)
+  entry-stock : monic k word ≡ stockKey k
+  entry-stock = sym (stock-is k (monic k word) entry-smallest)
 
-  -- for each degree 8 to 63 the stock key is accepted, has that degree, and is the smallest such number
+  -- for each degree 8 to 64 the stock key is accepted, has that degree, and is the smallest such number
   pub stock-smallest : Smallest k (stockKey k)
   stock-smallest = rw entry-stock at entry-smallest
 
--- the house key
+  -- the stock key is t^k and its word
+  pub stock-whole : monic k (stockWord k) ≡ stockKey k
+  unfolding stockWord
+  stock-whole =
+      monic-of k (stockKey k) (rw (stock-smallest .of-degree) at (degree-is (stockKey k) (accepted-pos (stockKey k) (stock-smallest .is-accepted))))
+
+  pub entry-word : word ≡ stockWord k
+  unfolding monic
+  entry-word = omega (arith, entry-stock, stock-whole)
+
+-- the house key, and the key of degree 64
 pub stock-61 : stockKey 61 ≡ 0x2000000000000027
 unfolding divisors left
 stock-61 = sym (entry-stock 61 (omega arith) (omega arith))
+
+pub stock-64 : stockKey 64 ≡ 0x1000000000000001b
+unfolding divisors left
+stock-64 = sym (entry-stock 64 (omega arith) (omega arith))
