@@ -34,7 +34,7 @@ square-is p i = let e : 2 * i ≡ i + i = omega arith in ap (rem p) (rw e (pow-a
 -- ---- the rows of the squares of t^h, .. t^(h + n - 1), for h half of the degree, rounded up, and any n of the other half
 
 module _ (p : ℕ) (pos : 0 < p) (h n : ℕ) (within : h + n ≤ degree p) (lower : degree p ≤ 2 * h) (upper : 2 * h ≤ suc (degree p)) (some : 0 < h)
-    (word : degree p < 64) where
+    (word : degree p ≤ 64) where
   small-square : (l : ℕ) → l < 2 ^ h → l ⊗ l < 2 ^ degree p
   small-square l m = go (eq-zero-or-pos l)
     where
@@ -179,11 +179,11 @@ module _ (p : ℕ) (pos : 0 < p) (h n : ℕ) (within : h + n ≤ degree p) (lowe
 
 -- ---- the criterion: the key's number 2. Squares up to two thirds of the degree, differences up to the degree
 
-module _ (p k : ℕ) (proper : 1 < p) (is : k ≡ degree p) (low : 0 < k) (high : k < 64) where
+module _ (p k : ℕ) (proper : 1 < p) (is : k ≡ degree p) (low : 0 < k) (high : k ≤ 64) where
   pos : 0 < p
   pos = omega (arith, proper)
 
-  word : degree p < 64
+  word : degree p ≤ 64
   word = omega arith
 
   h : ℕ

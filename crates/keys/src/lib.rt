@@ -8,12 +8,13 @@ ghost use Rattle.gf2.specs.Polynomials.{_⊕_};
 ghost use Rattle.gf2.specs.Moduli.{polynomial, Proper};
 ghost use Rattle.lists.specs.Lists.{listFrom};
 ghost use Rattle.lists.specs.Inner.{Scratch};
-ghost use Rattle.acceptance.specs.Keys.{reducible};
+ghost use Rattle.acceptance.specs.Keys.{reducible, outside};
 ghost use Rattle.basis.specs.Rows.{Independent};
-ghost use Rattle.stock.specs.Stock.{stockKey};
+ghost use Rattle.stock.specs.Stock.{stockWord};
 ghost use Rattle.keys.specs.Squares.{square, evenRoot, oddPart, folded};
 ghost use Rattle.keys.specs.Testing.{testKey};
 ghost use Rattle.keys.specs.Answers.{tested};
+use acceptance::Key;
 use gf2::Modulus;
 use refusals::Refusal;
 
@@ -25,7 +26,7 @@ pub enum Tested {
 
 // The squares of t^h, .. t^(k - 1) modulo the key, with h half of k, rounded up. That of t^(h - 1) needs no division.
 fn square_rows(p: Modulus, rows: &mut [u64])
-    requires { ⌜ Proper p × (p .degree < 64) × (length (now rows) ≡ p .degree / 2) ⌝ }
+    requires { ⌜ Proper p × (length (now rows) ≡ p .degree / 2) ⌝ }
     ensures { λ r. ⌜ now (rows .exit) ≡ listFrom (square (polynomial p)) (p .degree - p .degree / 2) (p .degree / 2) ⌝ }
 {
     let k = p.degree;
@@ -98,7 +99,7 @@ fn independent_differences(rows: &mut [u64], h: usize) -> bool
 // Irreducible, that is: squaring modulo the polynomial takes no residue of at most two thirds of its degree to 0 but 0, and keeps no residue
 // but 0 and 1.
 fn irreducible(p: Modulus) -> bool
-    requires { ⌜ Proper p × (p .degree < 64) ⌝ }
+    requires { ⌜ Proper p ⌝ }
     ensures { λ r. ⌜ r ≡ not (reducible (polynomial p)) ⌝ }
 {
     let k = p.degree as usize;
@@ -114,25 +115,43 @@ fn irreducible(p: Modulus) -> bool
     independent_differences(&mut squares[..n], h)
 }
 
+// Number 1 applies to the key: its degree is outside 8 to 64, or its word has a bit at or above t^k. Modulo t^k a word without one is a residue.
+fn out_of_range(key: Key) -> bool
+    ensures { λ r. ⌜ r ≡ outside key ⌝ }
+{
+    let k = key.degree;
+    if k < 8 {
+        return true;
+    }
+    if 64 < k {
+        return true;
+    }
+    let power = Modulus { degree: k, low: 0 };
+    !gf2::is_residue(power, key.word)
+}
+
 // Is the key the stock key of its degree? The coefficients of a stock key below the leading one are below 256: no other key is looked up.
-fn is_stock(key: u64, p: Modulus) -> bool
-    ensures { λ r. ⌜ (r ≡ true → key ≡ stockKey (p .degree)) ⌝ }
+fn is_stock(p: Modulus) -> bool
+    ensures { λ r. ⌜ (r ≡ true → p .low ≡ stockWord (p .degree)) ⌝ }
 {
     if 256 <= p.low {
         return false;
     }
-    key == stock::stock_key(p.degree as u64)
+    p.low == stock::stock_word(p.degree)
 }
 
 // Is the key accepted, and if not, by which number is it refused? The stock key of its degree is known to be accepted. Numbers 1, 2.
-pub fn test(key: u64) -> Tested
+pub fn test(key: Key) -> Tested
     ensures { λ r. ⌜ tested r ≡ testKey key ⌝ }
 {
-    if key < 256 {
+    if out_of_range(key) {
         return Tested::Refused(Refusal::KeyRange);
     }
-    let p = gf2::modulus_of(key);
-    if is_stock(key, p) {
+    let p = Modulus {
+        degree: key.degree,
+        low: key.word,
+    };
+    if is_stock(p) {
         return Tested::Accepted(p);
     }
     if !irreducible(p) {

@@ -47,7 +47,7 @@ record Known (key k : ℕ) : Type 0 where
   proper : 1 < key
   is : k ≡ degree key
   low : 0 < k
-  high : k < 64
+  high : k ≤ 64
 
 abbrev keyAt : tie.Start → ℕ
 keyAt s = polynomial (s .args .p)
@@ -58,9 +58,9 @@ degreeAt s = s .args .p .degree
 known : (s : tie.Start) → Known (keyAt s) (degreeAt s)
 known s =
     let p = s .args .p in
-    let m = s .pre .0 in
+    let m = s .pre in
     let is = monic-degree (p .degree) (p .low) (m .2) in
-    record { proper = of-degree-one (p .degree) (p .low) (m .0) (m .2); is = sym is; low = m .0; high = s .pre .1 }
+    record { proper = of-degree-one (p .degree) (p .low) (m .0) (m .2); is = sym is; low = m .0; high = m .1 }
 
 abbrev zeros : List ℕ
 zeros = replicate 32 0
@@ -78,7 +78,7 @@ slice-aggregate-square-rows : tie.Need-slice-aggregate-square-rows
 slice-aggregate-square-rows c = sym (part-length (known (c .before .before)))
 
 square-rows-requires : tie.Need-square-rows-requires
-square-rows-requires c κs = let s = c .before .before in (s .pre .0, s .pre .1, part-length (known s))
+square-rows-requires c κs = let s = c .before .before in (s .pre, part-length (known s))
 
 -- the array with the squares in front
 module _ (c : tie.After-square-rows) where

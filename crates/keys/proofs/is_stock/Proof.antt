@@ -10,7 +10,7 @@ returns : tie.Need-returns
 returns c e = absurd (false≢true e)
 
 returns-2 : tie.Need-returns-2
-returns-2 c e = eqb-true _ _ e ∙ c .stock-key .ensures
+returns-2 c e = eqb-true _ _ e ∙ c .before .stock-word .ensures
 
 pub is-stock-spec : {M : Type 1} → statement M
-is-stock-spec = tie.close (tie.spec returns (λ c. search needs) (λ c κs. search needs) returns-2)
+is-stock-spec = tie.close (tie.spec returns (λ c κs. search needs) returns-2)

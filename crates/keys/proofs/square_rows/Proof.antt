@@ -102,7 +102,7 @@ returns c =
     let l = c .before .loop in
     let p = polynomial (a .p) in
     l .inv .2 ∙ fill-whole (square p) (a .p .degree - a .p .degree / 2) (l .i) (a .rows .now) (omega arith)
-    ∙ ap (listFrom (square p) (a .p .degree - a .p .degree / 2)) (loop→start c .pre .2)
+    ∙ ap (listFrom (square p) (a .p .degree - a .p .degree / 2)) (loop→start c .pre .1)
 
 pub square-rows-spec : {M : Type 1} → statement M
 square-rows-spec =

@@ -1,95 +1,88 @@
 -- `test` meets its contract.
 use mathlib.Core.Path.{_≡_, sym, ap, _∙_}
 use mathlib.Core.Bool.{false, not}
-use Prim.Native.Nat.{ℕ, _≤_, _<_}
+use Prim.Native.Nat.{ℕ}
 use native.Mathlib.Omega.{arith}
 use borrow.Author.Needs.{needs}
-use borrow.Author.Tests.{lt-ltb, le-ltb}
-use Rattle.gf2.specs.Moduli.{polynomial, Proper}
-use Rattle.gf2.specs.Opening.{modulusOf}
-use Rattle.gf2.specs.declared.Modulus.{Modulus}
-use Rattle.gf2.proofs.Degrees.{degree-from}
-use Rattle.gf2.proofs.Monics.{word-degree, word-proper, word-whole}
-use lib.Dec.{ltb}
+use Rattle.gf2.specs.Degrees.{monic}
 use Rattle.refusals.specs.Refusals.{Done}
 use Rattle.refusals.proofs.Laws.{holds, fails}
-use Rattle.acceptance.specs.Keys.{reducible, accepted}
-use Rattle.acceptance.proofs.Laws.{key-iff}
-use Rattle.stock.specs.Stock.{stockKey}
-use Rattle.stock.proofs.Table.{stock-smallest}
+use Rattle.acceptance.specs.declared.Key.{Key}
+use Rattle.acceptance.specs.Keys.{reducible, accepted, polynomialOf, asModulus, outside}
+use Rattle.acceptance.proofs.Laws.{in-range, range-key, key-iff}
+use Rattle.stock.specs.Stock.{stockWord}
+use Rattle.stock.proofs.Table.{stock-smallest, stock-whole}
 use Rattle.keys.specs.Testing.{testKey}
 use Rattle.keys.proofs.test.Statement.{statement}
 use Rattle.keys.proofs.test.Tie as tie
 
 -- ---- the places: from each one to an earlier one
 
-abbrev else2→modulus-of : tie.Else2 → tie.After-modulus-of
-else2→modulus-of c = c .before .before
+abbrev out-of-range→start : tie.After-out-of-range → tie.Start
+out-of-range→start c = c .before
+
+abbrev else1→start : tie.Else1 → tie.Start
+else1→start c = out-of-range→start (c .before)
+
+abbrev else2→else1 : tie.Else2 → tie.Else1
+else2→else1 c = c .before .before
+
+abbrev irreducible→else1 : tie.After-irreducible → tie.Else1
+irreducible→else1 c = else2→else1 (c .before)
 
 returns : tie.Need-returns
 unfolding testKey
-returns c = rw (lt-ltb (c .before .args .key) 256 (c .if1 .taken))
+returns c = let x = c .before .before .args .key in sym (rw (sym (c .before .out-of-range .ensures) ∙ c .if1 .taken))
 
--- ---- the key, taken apart
+-- number 1 does not apply
+inside : (c : tie.Else1) → outside (else1→start c .args .key) ≡ false
+inside c = sym (c .before .out-of-range .ensures) ∙ c .if1 .left
 
--- a key of at least 256 has a stock key beside it
-in-range : (c : tie.After-modulus-of) → let k = c .modulus-of .result .degree in (8 ≤ k) × (k < 64)
-in-range c =
-    let key = c .before .before .args .key in
-    let e = ap (λ (p : Modulus). p .degree) (c .modulus-of .ensures) in
-    (rw e (degree-from 8 key (c .before .if1 .left)), rw e (word-degree key (omega arith) (c .before .before .fits .key .fits)))
+-- the stock key of a degree is accepted
+stock-clear : (x : Key) → outside x ≡ false → x .word ≡ stockWord (x .degree) → reducible (polynomialOf x) ≡ false
+stock-clear x e w =
+    let r = in-range x e in
+    let a = stock-smallest (x .degree) (r .0) (r .1) .is-accepted in
+    key-iff x .1 (ap accepted (ap (monic (x .degree)) w ∙ stock-whole (x .degree) (r .0) (r .1)) ∙ a, range-key x e) .1
 
-proper : (c : tie.After-modulus-of) → Proper (c .modulus-of .result)
-proper c =
-    let key = c .before .before .args .key in
-    rw (c .modulus-of .ensures) (word-proper key (omega arith) (c .before .before .fits .key .fits))
-
-whole : (c : tie.After-modulus-of) → polynomial (c .modulus-of .result) ≡ c .before .before .args .key
-whole c =
-    let key = c .before .before .args .key in
-    ap polynomial (c .modulus-of .ensures) ∙ word-whole key (omega arith)
-
--- where no test of the key holds, the answer is the key taken apart
-accepted-is : (key : ℕ) (p : Modulus) → p ≡ modulusOf key → ltb key 256 ≡ false → reducible key ≡ false → Done p ≡ testKey key
+-- where no test of the key holds, the answer is the key opened
+accepted-is : (x : Key) → outside x ≡ false → reducible (polynomialOf x) ≡ false → Done (asModulus x) ≡ testKey x
 unfolding testKey
-accepted-is key p e a b = ap Done e ∙ sym (rw (a, b))
+accepted-is x a b = sym (rw (a, b))
 
 returns-2 : tie.Need-returns-2
 returns-2 c =
-    let m = c .before .before in
-    let s = m .before .before in
-    let k = m .modulus-of .result .degree in
-    let r = in-range m in
-    let is : s .args .key ≡ stockKey k = c .before .is-stock .ensures (c .if2 .taken) in
-    let e = key-iff (s .args .key) (s .fits .key .fits) .0 (ap accepted is ∙ stock-smallest k (r .0) (r .1) .is-accepted) in
-    accepted-is (s .args .key) (m .modulus-of .result) (m .modulus-of .ensures) (e .0) (e .1)
+    let e = c .before .before in
+    let x = else1→start e .args .key in
+    accepted-is x (inside e) (stock-clear x (inside e) (c .before .is-stock .ensures (c .if2 .taken)))
 
 irreducible-requires : tie.Need-irreducible-requires
-irreducible-requires c κs = let m = else2→modulus-of c in (proper m, in-range m .1)
+irreducible-requires c κs =
+    let e = else2→else1 c in
+    let r = in-range (else1→start e .args .key) (inside e) in
+    (omega (arith, r .0), r .1, r .2)
 
 returns-3 : tie.Need-returns-3
 unfolding testKey
 returns-3 c =
-    let m = else2→modulus-of (c .before .before) in
-    let key = m .before .before .args .key in
+    let e = irreducible→else1 (c .before) in
+    let x = else1→start e .args .key in
     let i = c .before .irreducible in
-    let e = holds (i .result) (reducible key) (i .ensures ∙ ap (λ (q : ℕ). not (reducible q)) (whole m)) (c .if3 .taken) in
-    rw (le-ltb key 256 (m .before .if1 .left), e)
+    rw (inside e, holds (i .result) (reducible (polynomialOf x)) (i .ensures) (c .if3 .taken))
 
 returns-4 : tie.Need-returns-4
 returns-4 c =
-    let m = else2→modulus-of (c .before .before) in
-    let key = m .before .before .args .key in
+    let e = irreducible→else1 (c .before) in
+    let x = else1→start e .args .key in
     let i = c .before .irreducible in
-    let e = fails (i .result) (reducible key) (i .ensures ∙ ap (λ (q : ℕ). not (reducible q)) (whole m)) (c .if3 .left) in
-    accepted-is key (m .modulus-of .result) (m .modulus-of .ensures) (le-ltb key 256 (m .before .if1 .left)) e
+    accepted-is x (inside e) (fails (i .result) (reducible (polynomialOf x)) (i .ensures) (c .if3 .left))
 
 pub test-spec : {M : Type 1} → statement M
 test-spec =
     tie.close
     (tie.spec
+    (λ c κs. search needs)
     returns
-    (λ c κs. omega arith)
     (λ c κs. search needs)
     returns-2
     irreducible-requires
