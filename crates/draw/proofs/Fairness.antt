@@ -25,7 +25,7 @@ use Rattle.fields.proofs.Conjugates.{field-four}
 use Rattle.fields.proofs.Pigeonhole.{Found}
 use Rattle.stock.specs.Stock.{stockKey}
 use Rattle.stock.proofs.Table.{stock-smallest}
-use Rattle.draw.specs.Drawing.{degrees, keyOf, elements, Draws}
+use Rattle.draw.specs.Drawing.{degrees, drawnKey, elements, Draws}
 use Rattle.draw.proofs.Draws.{drawn-is, drawn-draws, drawn-irreducible}
 use Rattle.draw.proofs.Drawers.{Drawers, drawers}
 
@@ -59,22 +59,22 @@ module _ (k : ℕ) (listed : among k degrees ≡ true) where
   -- ---- what an element draws is an accepted key of degree k
 
   module _ (e : ℕ) (low : 2 ≤ e) (high : e < 2 ^ k) where
-    pub key-drawn : Draws (stockKey k) k e (keyOf k e)
+    pub key-drawn : Draws (stockKey k) k e (drawnKey k e)
     key-drawn = drawn-draws (stockKey k) k field e low high
 
-    pub key-degree : degree (keyOf k e) ≡ k
-    key-degree = degree-eq (keyOf k e) k (key-drawn .of-degree)
+    pub key-degree : degree (drawnKey k e) ≡ k
+    key-degree = degree-eq (drawnKey k e) k (key-drawn .of-degree)
 
-    pub key-accepted : accepted (keyOf k e) ≡ true
+    pub key-accepted : accepted (drawnKey k e) ≡ true
     key-accepted =
-        accepted-iff (keyOf k e) .1 (
+        accepted-iff (drawnKey k e) .1 (
           omega (arith, key-degree, range .0),
           omega (arith, key-degree, range .1),
-          drawn-irreducible (stockKey k) k field e low high (keyOf k e) key-drawn,
+          drawn-irreducible (stockKey k) k field e low high (drawnKey k e) key-drawn,
         )
 
     -- and nothing else has degree k and the root e
-    pub key-only : (p : ℕ) → Draws (stockKey k) k e p → keyOf k e ≡ p
+    pub key-only : (p : ℕ) → Draws (stockKey k) k e p → drawnKey k e ≡ p
     key-only p a = drawn-is (stockKey k) k field e low high p a
 
   -- ---- each accepted key of degree k is drawn by exactly k elements
@@ -89,8 +89,8 @@ module _ (k : ℕ) (listed : among k degrees ≡ true) where
 
     -- of the k elements one is e where e draws p, and none elsewhere
     one-place : (e : ℕ) → 2 ≤ e → e < 2 + (2 ^ k - 2)
-        → (cond true 1 0) * countFrom (λ j. eqb (element j) e) 0 k ≡ cond (eqb (keyOf k e) p) 1 0
-    one-place e low bound = one-mul (countFrom (λ j. eqb (element j) e) 0 k) ∙ go (ℕ-discrete (keyOf k e) p)
+        → (cond true 1 0) * countFrom (λ j. eqb (element j) e) 0 k ≡ cond (eqb (drawnKey k e) p) 1 0
+    one-place e low bound = one-mul (countFrom (λ j. eqb (element j) e) 0 k) ∙ go (ℕ-discrete (drawnKey k e) p)
       where
         high : e < 2 ^ k
         high = omega (arith, four)
@@ -103,23 +103,23 @@ module _ (k : ℕ) (listed : among k degrees ≡ true) where
             settle (no l) (yes m) = absurd (all-drawers .different j i m a (sym s))
             settle (no l) (no m) = omega arith
 
-        go : Dec (keyOf k e ≡ p) → countFrom (λ j. eqb (element j) e) 0 k ≡ cond (eqb (keyOf k e) p) 1 0
+        go : Dec (drawnKey k e ≡ p) → countFrom (λ j. eqb (element j) e) 0 k ≡ cond (eqb (drawnKey k e) p) 1 0
         go (yes s) =
-            rw (eq-eqb (keyOf k e) p s)
+            rw (eq-eqb (drawnKey k e) p s)
             (count-one (λ j. eqb (element j) e) (found .place) 0 k (omega arith) (omega (arith, found .before)) (eq-eqb (element (found .place)) e (found .is))
             (λ j a b t. no-other (found .place) j (found .before) (omega arith) (found .is ∙ sym (eqb-true (element j) e t))))
           where
             found : Found k e element
             found = all-drawers .all e high (rw s at (key-drawn e low high))
         go (no s) =
-            rw (ne-eqb (keyOf k e) p s)
+            rw (ne-eqb (drawnKey k e) p s)
             (count-none (λ j. eqb (element j) e) 0 k
             (λ j a b t. s (key-only e low high p (rw (eqb-true (element j) e t) at (all-drawers .draw j)))))
 
-    pub drawers-count : elements k (λ e. eqb (keyOf k e) p) ≡ k
+    pub drawers-count : elements k (λ e. eqb (drawnKey k e) p) ≡ k
     drawers-count =
-        count-is-sum (λ e. eqb (keyOf k e) p) 2 (2 ^ k - 2)
-        ∙ sym (sum-same (λ e. (cond true 1 0) * countFrom (λ j. eqb (element j) e) 0 k) (λ e. cond (eqb (keyOf k e) p) 1 0) 2 (2 ^ k - 2) one-place)
+        count-is-sum (λ e. eqb (drawnKey k e) p) 2 (2 ^ k - 2)
+        ∙ sym (sum-same (λ e. (cond true 1 0) * countFrom (λ j. eqb (element j) e) 0 k) (λ e. cond (eqb (drawnKey k e) p) 1 0) 2 (2 ^ k - 2) one-place)
         ∙ sym (count-twice element (λ x. true) 0 k 2 (2 ^ k - 2)
         (λ j a b. (all-drawers .above j, omega (arith, all-drawers .below j, four))))
         ∙ count-all (λ x. true) 0 k (λ j a b. refl)
@@ -128,27 +128,27 @@ module _ (k : ℕ) (listed : among k degrees ≡ true) where
 
   module _ (t : ℕ → Bool) (of-accepted : (p : ℕ) → t p ≡ true → accepted p ≡ true) where
     -- a key that passes is drawn by k elements; what does not pass is not counted
-    fibre : (p : ℕ) → 2 ^ k ≤ p → p < 2 ^ k + 2 ^ k → (cond (t p) 1 0) * elements k (λ e. eqb (keyOf k e) p) ≡ (cond (t p) 1 0) * k
+    fibre : (p : ℕ) → 2 ^ k ≤ p → p < 2 ^ k + 2 ^ k → (cond (t p) 1 0) * elements k (λ e. eqb (drawnKey k e) p) ≡ (cond (t p) 1 0) * k
     fibre p a b = go (t p) refl
       where
-        go : (c : Bool) → t p ≡ c → (cond c 1 0) * elements k (λ e. eqb (keyOf k e) p) ≡ (cond c 1 0) * k
+        go : (c : Bool) → t p ≡ c → (cond c 1 0) * elements k (λ e. eqb (drawnKey k e) p) ≡ (cond c 1 0) * k
         go true q = ap (λ (n : ℕ). 1 * n) (drawers-count p (of-accepted p q) (degree-eq p k (deg-intro p k a (omega (arith, two-pow-succ k)))))
-        go false q = zero-mul (elements k (λ e. eqb (keyOf k e) p)) ∙ sym (zero-mul k)
+        go false q = zero-mul (elements k (λ e. eqb (drawnKey k e) p)) ∙ sym (zero-mul k)
 
-    pub elements-count : elements k (λ e. t (keyOf k e)) ≡ countFrom t (2 ^ k) (2 ^ k) * k
+    pub elements-count : elements k (λ e. t (drawnKey k e)) ≡ countFrom t (2 ^ k) (2 ^ k) * k
     elements-count =
-        count-twice (keyOf k) t 2 (2 ^ k - 2) (2 ^ k) (2 ^ k) into
-        ∙ sum-same (λ p. (cond (t p) 1 0) * elements k (λ e. eqb (keyOf k e) p)) (λ p. (cond (t p) 1 0) * k) (2 ^ k) (2 ^ k) fibre
+        count-twice (drawnKey k) t 2 (2 ^ k - 2) (2 ^ k) (2 ^ k) into
+        ∙ sum-same (λ p. (cond (t p) 1 0) * elements k (λ e. eqb (drawnKey k e) p)) (λ p. (cond (t p) 1 0) * k) (2 ^ k) (2 ^ k) fibre
         ∙ sum-times (λ p. cond (t p) 1 0) k (2 ^ k) (2 ^ k)
         ∙ ap (λ (n : ℕ). n * k) (sym (count-is-sum t (2 ^ k) (2 ^ k)))
       where
-        into : (e : ℕ) → 2 ≤ e → e < 2 + (2 ^ k - 2) → (2 ^ k ≤ keyOf k e) × (keyOf k e < 2 ^ k + 2 ^ k)
+        into : (e : ℕ) → 2 ≤ e → e < 2 + (2 ^ k - 2) → (2 ^ k ≤ drawnKey k e) × (drawnKey k e < 2 ^ k + 2 ^ k)
         into e a b =
             let d = key-drawn e a (omega (arith, four)) .of-degree in
-            (deg-lo (keyOf k e) k d, omega (arith, deg-hi (keyOf k e) k d, two-pow-succ k))
+            (deg-lo (drawnKey k e) k d, omega (arith, deg-hi (drawnKey k e) k d, two-pow-succ k))
 
   -- Rabin's Lemma 1: (the number of accepted keys of degree k) × k = 2^k - 2
   pub keys-count : countFrom accepted (2 ^ k) (2 ^ k) * k ≡ 2 ^ k - 2
   keys-count =
       sym (elements-count accepted (λ p e. e))
-      ∙ count-all (λ e. accepted (keyOf k e)) 2 (2 ^ k - 2) (λ e a b. key-accepted e a (omega (arith, four)))
+      ∙ count-all (λ e. accepted (drawnKey k e)) 2 (2 ^ k - 2) (λ e a b. key-accepted e a (omega (arith, four)))

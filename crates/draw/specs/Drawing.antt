@@ -11,6 +11,8 @@ use Rattle.refusals.specs.Refusals.{Answer, Test, _⇒_, firstOf}
 use Rattle.lists.specs.Searches.{firstFrom}
 use Rattle.lists.specs.Inner.{among}
 use Rattle.lists.specs.Counts.{countFrom}
+use Rattle.acceptance.specs.declared.Key.{Key}
+use Rattle.acceptance.specs.Keys.{keyOf}
 use Rattle.stock.specs.Stock.{stockKey}
 
 -- the degrees that keys are drawn of
@@ -22,8 +24,8 @@ unfoldable pub drawn : ℕ → ℕ → ℕ → ℕ
 drawn f k e = firstFrom (λ p. eqb (at f p e) 0) (2 ^ k) (2 ^ k)
 
 -- the key of degree k that e draws
-abbrev pub keyOf : ℕ → ℕ → ℕ
-keyOf k e = drawn (stockKey k) k e
+abbrev pub drawnKey : ℕ → ℕ → ℕ
+drawnKey k e = drawn (stockKey k) k e
 
 -- how many elements pass a test: the numbers from 2 to 2^k - 1
 abbrev pub elements : ℕ → (ℕ → Bool) → ℕ
@@ -33,8 +35,9 @@ elements k test = countFrom test 2 (2 ^ k - 2)
 abbrev pub drawTests : ℕ → ℕ → List Test
 drawTests k e = not (among k degrees) ⇒ DegreeNotListed ∷ (ltb e 2 || leb (2 ^ k) e) ⇒ ElementOutOfRange ∷ []
 
-unfoldable pub draw : ℕ → ℕ → Answer Unit ℕ
-draw k e = firstOf (drawTests k e) tt (keyOf k e)
+-- the key is answered as its degree and its word
+unfoldable pub draw : ℕ → ℕ → Answer Unit Key
+draw k e = firstOf (drawTests k e) tt (keyOf (drawnKey k e))
 
 -- what it is to be drawn by e, without the search: of degree k, with e for a root modulo f
 pub record Draws (f k e p : ℕ) : Type 0 where

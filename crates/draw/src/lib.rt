@@ -10,17 +10,18 @@ ghost use Rattle.basis.specs.Rows.{Matrix};
 ghost use Rattle.fields.specs.Fields.{at, Field};
 ghost use Rattle.draw.specs.Drawing.{degrees, drawn, draw};
 ghost use Rattle.draw.specs.Answers.{answer};
+use acceptance::Key;
 use gf2::Modulus;
 use refusals::Refusal;
 
 // The answer to drawing: the key, or a refusal.
 pub enum Drawn {
-    Key(u64),
+    Key(Key),
     Refused(Refusal),
 }
 
 // Number 3 does not apply to the degree.
-fn listed(degree: u64) -> bool
+fn listed(degree: u32) -> bool
     ensures { λ r. ⌜ r ≡ among degree degrees ⌝ }
 {
     match degree {
@@ -76,18 +77,18 @@ fn minimal_polynomial(p: Modulus, e: u64) -> u64
 }
 
 // The key of a degree that an element draws. Numbers 3, 4.
-pub fn draw(degree: u64, element: u64) -> Drawn
+pub fn draw(degree: u32, element: u64) -> Drawn
     ensures { λ r. ⌜ answer r ≡ draw degree element ⌝ }
 {
     if !listed(degree) {
         return Drawn::Refused(Refusal::DegreeNotListed);
     }
-    let k = degree as u32;
-    if out_of_range(k, element) {
+    if out_of_range(degree, element) {
         return Drawn::Refused(Refusal::ElementOutOfRange);
     }
-    let stock = stock::stock_key(degree);
-    let p = gf2::modulus_of(stock);
-    let key = minimal_polynomial(p, element);
-    Drawn::Key(key)
+    let low = stock::stock_word(degree);
+    let p = Modulus { degree, low };
+    let polynomial = minimal_polynomial(p, element);
+    let word = gf2::low_bits(polynomial, degree);
+    Drawn::Key(Key { degree, word })
 }

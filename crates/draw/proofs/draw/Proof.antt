@@ -1,26 +1,26 @@
 -- `draw::draw` meets its contract: each return follows from the tests before it, and the last from `minimal_polynomial`.
-use mathlib.Core.Path.{_≡_, sym, ap, ap₂, _∙_}
+use mathlib.Core.Path.{_≡_, sym, ap, _∙_}
 use mathlib.Core.Bool.{true, false, _||_}
-use Prim.Native.Nat.{ℕ, suc, _^_, _<_}
-use native.Mathlib.Nat.{lt-of-lt-of-le}
+use Prim.Native.Nat.{ℕ, _%_, _^_, _<_}
+use native.Mathlib.Nat.{mod-lt}
 use native.Mathlib.Omega.{arith}
 use borrow.Author.Needs.{needs}
 use borrow.Author.Tests.{not-true, not-false, ltb-false, leb-false}
 use lib.Dec.{ltb, leb}
-use lib.Pow.{pow-mono}
-use Rattle.gf2.specs.Moduli.{polynomial, Proper}
-use Rattle.gf2.specs.Opening.{modulusOf}
-use Rattle.gf2.specs.declared.Modulus.{Modulus}
-use Rattle.gf2.proofs.Degrees.{deg-hi}
-use Rattle.gf2.proofs.Monics.{word-proper, word-whole}
+use lib.Pow.{pow-pos}
+use Rattle.gf2.specs.Polynomials.{degree}
+use Rattle.gf2.specs.Degrees.{monic}
+use Rattle.gf2.specs.Moduli.{Proper}
+use Rattle.gf2.proofs.Monics.{monic-of}
 use Rattle.refusals.specs.Refusals.{Done}
+use Rattle.acceptance.specs.declared.Key.{Key}
+use Rattle.acceptance.specs.Keys.{keyOf}
 use Rattle.lists.specs.Inner.{among}
 use Rattle.lists.proofs.Truth.{or-neither}
 use Rattle.fields.specs.Fields.{Field}
-use Rattle.fields.proofs.Conjugates.{field-degree}
-use Rattle.stock.specs.Stock.{stockKey}
-use Rattle.draw.specs.Drawing.{degrees, drawn, draw}
-use Rattle.draw.proofs.Fairness.{range, field}
+use Rattle.stock.specs.Stock.{stockKey, stockWord}
+use Rattle.draw.specs.Drawing.{degrees, drawn, drawnKey, draw}
+use Rattle.draw.proofs.Fairness.{range, field, key-degree}
 use Rattle.draw.proofs.draw.Statement.{statement}
 use Rattle.draw.proofs.draw.Tie as tie
 
@@ -29,37 +29,28 @@ use Rattle.draw.proofs.draw.Tie as tie
 abbrev else2→start : tie.Else2 → tie.Start
 else2→start c = c .before .before .before .before
 
-abbrev stock-key→start : tie.After-stock-key → tie.Start
-stock-key→start c = else2→start (c .before)
+abbrev else2→else1 : tie.Else2 → tie.Else1
+else2→else1 c = c .before .before
 
-abbrev stock-key→else1 : tie.After-stock-key → tie.Else1
-stock-key→else1 c = c .before .before .before
+abbrev stock-word→start : tie.After-stock-word → tie.Start
+stock-word→start c = else2→start (c .before)
 
-abbrev modulus-of→start : tie.After-modulus-of → tie.Start
-modulus-of→start c = stock-key→start (c .before)
+-- the stock key of a listed degree, from its word
+module _ (k : ℕ) (listed : among k degrees ≡ true) (w : ℕ) (is : w ≡ stockWord k) where
+  whole : monic k w ≡ stockKey k
+  unfolding stockWord
+  whole = ap (monic k) is ∙ monic-of k (stockKey k) (field k listed .of-degree)
 
-abbrev modulus-of→else1 : tie.After-modulus-of → tie.Else1
-modulus-of→else1 c = stock-key→else1 (c .before)
+  proper : Proper (record { degree = k; low = w })
+  unfolding stockWord
+  proper = (omega (arith, range k listed .0), omega (arith, range k listed .1), rw is (mod-lt (stockKey k) (pow-pos k)))
 
--- the stock key of a listed degree, opened
-module _ (k : ℕ) (listed : among k degrees ≡ true) (p : Modulus) (is : p ≡ modulusOf (stockKey k)) where
-  above-one : 1 < stockKey k
-  above-one = field k listed .irreducible .proper
+  its-field : Field (monic k w) k
+  its-field = rw whole (field k listed)
 
-  whole : polynomial p ≡ stockKey k
-  whole = ap (λ (q : Modulus). polynomial q) is ∙ word-whole (stockKey k) (omega (arith, above-one))
-
-  of-degree : p .degree ≡ k
-  of-degree = ap (λ (q : Modulus). q .degree) is ∙ field-degree (stockKey k) k (field k listed)
-
-  word : stockKey k < 2 ^ 64
-  word = lt-of-lt-of-le (deg-hi (stockKey k) k (field k listed .of-degree)) (pow-mono {i = suc k} {j = 64} (omega (arith, range k listed)))
-
-  proper : Proper p
-  proper = rw is (word-proper (stockKey k) above-one word)
-
-  its-field : Field (polynomial p) (p .degree)
-  its-field = rw (whole, of-degree) (field k listed)
+-- a polynomial of degree k, as the key that it is handed in as
+as-key : (k p : ℕ) → degree p ≡ k → _≡_ {A = Key} (record { degree = k; word = p % 2 ^ k }) (keyOf p)
+as-key k p e = ap {B = Key} (λ (n : ℕ). record { degree = n; word = p % 2 ^ n }) (sym e)
 
 returns : tie.Need-returns
 unfolding draw
@@ -69,11 +60,8 @@ returns c = rw (sym (c .before .listed .ensures) ∙ not-true (c .before .listed
 listed : (c : tie.Else1) → among (c .before .before .args .degree) degrees ≡ true
 listed c = sym (c .before .listed .ensures) ∙ not-false (c .before .listed .result) (c .if1 .left)
 
-cast-k : tie.Need-cast-k
-cast-k c = omega (arith, range (c .before .before .args .degree) (listed c))
-
 out-of-range-requires : tie.Need-out-of-range-requires
-out-of-range-requires c κs = omega (arith, range (c .before .before .args .degree) (listed c))
+out-of-range-requires c κs = omega (arith, range (c .before .before .args .degree) (listed c) .1)
 
 returns-2 : tie.Need-returns-2
 unfolding draw
@@ -89,36 +77,30 @@ element-in c =
     let r = or-neither (ltb (a .element) 2) (leb (2 ^ a .degree) (a .element)) (in-range c) in
     (ltb-false (a .element) 2 (r .0), leb-false (2 ^ a .degree) (a .element) (r .1))
 
-modulus-of-requires : tie.Need-modulus-of-requires
-modulus-of-requires c κs = rw (c .stock-key .ensures) (field (stock-key→start c .args .degree) (listed (stock-key→else1 c)) .irreducible .proper)
-
--- the stock key is open
-opened : (c : tie.After-modulus-of) → c .modulus-of .result ≡ modulusOf (stockKey (modulus-of→start c .args .degree))
-opened c = c .modulus-of .ensures ∙ ap (λ (x : ℕ). modulusOf x) (c .before .stock-key .ensures)
-
 minimal-polynomial-requires : tie.Need-minimal-polynomial-requires
 minimal-polynomial-requires c κs =
-    let k = modulus-of→start c .args .degree in
-    let l = listed (modulus-of→else1 c) in
-    let p = c .modulus-of .result in
-    let e = element-in (c .before .before) in (
-      proper k l p (opened c),
-      rw (of-degree k l p (opened c)) (omega (arith, range k l)),
-      its-field k l p (opened c),
-      e .0,
-      rw (of-degree k l p (opened c)) (e .1),
-    )
+    let k = stock-word→start c .args .degree in
+    let l = listed (else2→else1 (c .before)) in
+    let w = c .stock-word in
+    let e = element-in (c .before) in
+    (proper k l (w .result) (w .ensures), omega (arith, range k l .1), its-field k l (w .result) (w .ensures), e .0, e .1)
+
+low-bits-requires : tie.Need-low-bits-requires
+low-bits-requires c κs = omega (arith, range (stock-word→start (c .before) .args .degree) (listed (else2→else1 (c .before .before))) .1)
 
 returns-3 : tie.Need-returns-3
 unfolding draw
 returns-3 c =
-    let a = modulus-of→start (c .before) .args in
-    let l = listed (modulus-of→else1 (c .before)) in
-    let p = c .before .modulus-of .result in
-    let o = opened (c .before) in
-    rw (l, in-range (c .before .before .before))
-    (ap Done (c .minimal-polynomial .ensures
-    ∙ ap₂ (λ (f k : ℕ). drawn f k (a .element)) (whole (a .degree) l p o) (of-degree (a .degree) l p o)))
+    let s = c .before .before in
+    let a = stock-word→start s .args in
+    let k = a .degree in
+    let l = listed (else2→else1 (s .before)) in
+    let e = element-in (s .before) in
+    let w = s .stock-word in
+    let drew = c .before .minimal-polynomial .ensures ∙ ap (λ (f : ℕ). drawn f k (a .element)) (whole k l (w .result) (w .ensures)) in
+    rw (l, in-range (s .before))
+    (ap Done (ap {B = Key} (λ (v : ℕ). record { degree = k; word = v }) (c .low-bits .ensures ∙ ap (λ (p : ℕ). p % 2 ^ k) drew)
+    ∙ as-key k (drawnKey k (a .element)) (key-degree k l (a .element) (e .0) (e .1))))
 
 pub draw-spec : {M : Type 1} → statement M
 draw-spec =
@@ -126,10 +108,9 @@ draw-spec =
     (tie.spec
     (λ c κs. search needs)
     returns
-    cast-k
     out-of-range-requires
     returns-2
     (λ c κs. search needs)
-    modulus-of-requires
     minimal-polynomial-requires
+    low-bits-requires
     returns-3)
