@@ -7,7 +7,8 @@ use lib.ListN.{length, take, drop}
 use Rattle.lists.specs.Lists.{passing, same, overlay}
 use Rattle.refusals.specs.declared.Refusal.the-variants.{TooLong, EmptyPattern}
 use Rattle.refusals.specs.Refusals.{Answer, stateOf, Test, _⇒_, firstOf, passes}
-use Rattle.acceptance.specs.Keys.{keyTests}
+use Rattle.acceptance.specs.declared.Key.{Key}
+use Rattle.acceptance.specs.Keys.{polynomialOf, keyTests}
 use Rattle.files.specs.Files.{bits, fingerprint}
 use Rattle.search.specs.declared.Counts.{Counts}
 
@@ -38,16 +39,16 @@ abbrev pub textTests : List ℕ → List ℕ → List Test
 textTests text pattern = passes (8 * length text ∷ 8 * length pattern ∷ []) ⇒ TooLong ∷ eqb (length pattern) 0 ⇒ EmptyPattern ∷ []
 
 -- and those of the key
-abbrev pub searchTests : ℕ → List ℕ → List ℕ → List Test
-searchTests key text pattern = keyTests key ++ textTests text pattern
+abbrev pub searchTests : Key → List ℕ → List ℕ → List Test
+searchTests x text pattern = keyTests x ++ textTests text pattern
 
 -- the number of places, and the number of false alarms
 unfoldable pub counts : ℕ → List ℕ → List ℕ → Counts
 counts key text pattern = record { places = length (places text pattern); alarms = length (alarms key text pattern) }
 
-unfoldable pub search : ℕ → List ℕ → List ℕ → Answer Unit Counts
-search key text pattern = firstOf (searchTests key text pattern) tt (counts key text pattern)
+unfoldable pub search : Key → List ℕ → List ℕ → Answer Unit Counts
+search x text pattern = firstOf (searchTests x text pattern) tt (counts (polynomialOf x) text pattern)
 
 -- the lent words after the call: the first places, as far as they reach
-unfoldable pub placesAfter : ℕ → List ℕ → List ℕ → List ℕ → List ℕ
-placesAfter key text pattern words = stateOf (firstOf (searchTests key text pattern) words (overlay (places text pattern) words))
+unfoldable pub placesAfter : Key → List ℕ → List ℕ → List ℕ → List ℕ
+placesAfter x text pattern words = stateOf (firstOf (searchTests x text pattern) words (overlay (places text pattern) words))

@@ -1,4 +1,5 @@
 // The search for a pattern in a text by a rolling fingerprint.
+use acceptance::Key;
 use gf2::Modulus;
 use keys::Tested;
 use refusals::Refusal;
@@ -111,7 +112,7 @@ fn search_under(p: Modulus, text: &[u8], pattern: &[u8], places: &mut [u32]) -> 
 
 // All places of the pattern in the text, rising, overlaps included: the first ones into the lent places, as far as they reach.
 // Numbers 1, 2, 7, 11.
-pub fn search(key: u64, text: &[u8], pattern: &[u8], places: &mut [u32]) -> Searched
+pub fn search(key: Key, text: &[u8], pattern: &[u8], places: &mut [u32]) -> Searched
     ensures { λ r. ⌜ (searched r ≡ search key (now (text .entry)) (now (pattern .entry)))
         × (now (places .exit) ≡ placesAfter key (now (text .entry)) (now (pattern .entry)) (now (places .entry))) ⌝ }
 {

@@ -1,10 +1,10 @@
 -- `search` meets its contract: the tests of the key, and then those of `search_under`.
 use mathlib.Core.Path.{sym, ap, _∙_}
 use Prim.Native.Nat.{ℕ}
-use native.Mathlib.Omega.{arith}
 use borrow.Author.Needs.{needs}
 use Rattle.lists.specs.Lists.{overlay}
 use Rattle.refusals.specs.Refusals.{stateOf, firstOf}
+use Rattle.acceptance.specs.Keys.{polynomialOf}
 use Rattle.acceptance.specs.Opened.{Opened}
 use Rattle.acceptance.proofs.Opened.{opened-first, opened-whole, opened-proper, opened-eight}
 use Rattle.keys.proofs.Laws.{opened, refused}
@@ -34,7 +34,7 @@ returns c =
     let e = c .before .r .given .1 in
     let tests = textTests (a .text .now) (a .pattern .now) in
     let after = overlay (places (a .text .now) (a .pattern .now)) (a .places .now) in (
-      sym (refused (t .result) (a .key) (t .ensures) tests tt (counts (a .key) (a .text .now) (a .pattern .now)) _ e),
+      sym (refused (t .result) (a .key) (t .ensures) tests tt (counts (polynomialOf (a .key)) (a .text .now) (a .pattern .now)) _ e),
       sym (ap stateOf (refused (t .result) (a .key) (t .ensures) tests (a .places .now) after _ e)),
     )
 
@@ -42,7 +42,7 @@ returns c =
 key-opened : (c : tie.After-p) → Opened (p→start c .args .key) (c .p .given .0 .0)
 key-opened c =
     let t = c .before .before .test in
-    opened (t .result) (p→start c .args .key) (t .ensures) _ (omega arith) (c .p .given .1)
+    opened (t .result) (p→start c .args .key) (t .ensures) _ (c .p .given .1)
 
 search-under-requires : tie.Need-search-under-requires
 search-under-requires c κs = let h = key-opened (c .before .before) in (opened-proper h, opened-eight h)
@@ -57,7 +57,7 @@ returns-2 c =
     let after = overlay (places (a .text .now) (a .pattern .now)) (a .places .now) in (
       e .0
           ∙ ap (λ (q : ℕ). firstOf tests tt (counts q (a .text .now) (a .pattern .now))) (opened-whole h)
-          ∙ sym (opened-first h tests tt (counts (a .key) (a .text .now) (a .pattern .now))),
+          ∙ sym (opened-first h tests tt (counts (polynomialOf (a .key)) (a .text .now) (a .pattern .now))),
       e .1 ∙ sym (ap stateOf (opened-first h tests (a .places .now) after)),
     )
 
