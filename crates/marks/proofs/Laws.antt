@@ -1,5 +1,5 @@
 -- Laws for callers: how the tests of a feed go on, and marks of files.
-use mathlib.Core.Path.{_≡_, refl, sym, ap, _∙_}
+use mathlib.Core.Path.{_≡_, sym, ap, _∙_}
 use mathlib.Core.Bool.{Bool, true, false}
 use mathlib.Core.List.{List, [], _∷_, _++_, append-assoc}
 use Prim.Native.Nat.{ℕ, _+_, _^_, _<_}
@@ -10,13 +10,16 @@ use Rattle.refusals.specs.declared.Refusal.{Refusal}
 use Rattle.refusals.specs.declared.Refusal.the-variants.{TooLong, MarkNotReduced, FinalByte}
 use Rattle.refusals.specs.Refusals.{Answer, Done, Refused, Test, _⇒_, firstOf, passes}
 use Rattle.refusals.proofs.Laws.{Clear, skip, clear-done, done-clear, more-refused, more-clear}
-use Rattle.acceptance.specs.Keys.{accepted}
+use Rattle.acceptance.specs.declared.Key.{Key}
+use Rattle.acceptance.specs.Keys.{accepted, polynomialOf, keyOf}
 use Rattle.acceptance.specs.Opened.{Opened}
+use Rattle.acceptance.proofs.Laws.{accepted-pos, whole-key}
 use Rattle.acceptance.proofs.Opened.{open-accepted, opened-first, opened-whole, residue-below}
 use Rattle.files.specs.declared.Mark.{Mark}
 use Rattle.files.specs.Files.{valueFrom, markOf, unreduced, Part, partLength, partBits, misused, fedMark, bits, asPart}
 use Rattle.files.proofs.Marks.{mark-eq, true-reduced}
 use Rattle.files.proofs.Parts.{whole-bits}
+use Rattle.lookups.specs.Rule.{table}
 use Rattle.table_tests.specs.TableTests.{tableTests}
 use Rattle.table_tests.proofs.Laws.{clear-table}
 use Rattle.house.specs.House.{houseKey, houseWords}
@@ -49,8 +52,11 @@ module _ (key : ℕ) (m : Mark) (part : Part) (v : ℕ) where
 
 -- ---- what a caller of `judge` knows in each arm
 
-module _ {key : ℕ} {p : Modulus} (h : Opened key p) (m : Mark) (part : Part) (r : Measured)
-    (e : measured r ≡ firstOf (feedTests key m part) tt (m .length + partLength part)) where
+module _ {x : Key} {p : Modulus} (h : Opened x p) (m : Mark) (part : Part) (r : Measured)
+    (e : measured r ≡ firstOf (feedTests (polynomialOf x) m part) tt (m .length + partLength part)) where
+  abbrev key : ℕ
+  key = polynomialOf x
+
   pub feed-refused : (q : Refusal) → r ≡ measured-cases.Refused q → firstOf (feedTests key m part) m (fedMark key m part) ≡ Refused q m
   feed-refused q a = more-refused (feedTests key m part) [] tt m (m .length + partLength part) (fedMark key m part) q (sym e ∙ ap measured a)
 
@@ -65,13 +71,13 @@ module _ {key : ℕ} {p : Modulus} (h : Opened key p) (m : Mark) (part : Part) (
     clear-used = clear .0 .1 .1 .0
 
     -- the residue of the part behind the fingerprint, however it was computed, is the value
-    pub fed-next : (x : ℕ) → x ≡ rem (polynomial p) (valueFrom (m .fingerprint) (partBits part))
-        → fedUnder key (Done (record { fingerprint = x; length = n })) ≡ fedUnder key (firstOf (feedTests key m part) m (fedMark key m part))
+    pub fed-next : (y : ℕ) → y ≡ rem (polynomial p) (valueFrom (m .fingerprint) (partBits part))
+        → fedUnder x (Done (record { fingerprint = y; length = n })) ≡ fedUnder x (firstOf (feedTests key m part) m (fedMark key m part))
     unfolding fedMark
-    fed-next x is =
-        ap (λ (z : Mark). fedUnder key (Done z))
+    fed-next y is =
+        ap (λ (z : Mark). fedUnder x (Done z))
         (mark-eq (is ∙ ap (λ (q : ℕ). rem q (valueFrom (m .fingerprint) (partBits part))) (opened-whole h)) (sym (clear .1)))
-        ∙ sym (ap (fedUnder key) (clear-done (feedTests key m part) m (fedMark key m part) (clear .0)))
+        ∙ sym (ap (fedUnder x) (clear-done (feedTests key m part) m (fedMark key m part) (clear .0)))
 
 -- ---- a part behind a residue: whole bytes
 
@@ -90,21 +96,27 @@ leave-out-8 key pos file ts us vs x y =
     ∙ skip (ts ++ us) vs MarkNotReduced x y
     ∙ ap (λ (l : List Test). firstOf l x y) (append-assoc ts us vs)
 
-pub begins : (key : ℕ) → accepted key ≡ true → begin key ≡ Done (markOf key [])
+pub begins : (key : ℕ) → accepted key ≡ true → begin (keyOf key) ≡ Done (markOf key [])
 unfolding begin
-begins key a = opened-first (open-accepted key a) [] tt (markOf key [])
+begins key a =
+    opened-first (open-accepted key a) [] tt (markOf (polynomialOf (keyOf key)) [])
+    ∙ ap (λ (q : ℕ). Done (markOf q [])) (whole-key key (accepted-pos key a))
 
 -- ---- the house key's constant words
 
 -- under the house key no test of key and words holds
-pub house-first : (m : Mark) (part : Part) → feedHouse houseKey m part ≡ firstOf (feedTests houseKey m part) m (fedMark houseKey m part)
+pub house-first : {x : Key} {p : Modulus} → Opened x p → polynomialOf x ≡ houseKey → (m : Mark) (part : Part)
+    → feedHouse x m part ≡ firstOf (feedTests (polynomialOf x) m part) m (fedMark (polynomialOf x) m part)
 unfolding feedHouse feedTable
-house-first m part =
-    opened-first (open-accepted houseKey house-accepted) (tableTests houseKey houseWords ++ feedTests houseKey m part) m (fedMark houseKey m part)
-    ∙ more-clear (tableTests houseKey houseWords) (feedTests houseKey m part) m (fedMark houseKey m part) (clear-table houseWords houseKey refl)
+house-first {x} h e m part =
+    let key = polynomialOf x in
+    opened-first h (tableTests key houseWords ++ feedTests key m part) m (fedMark key m part)
+    ∙ more-clear (tableTests key houseWords) (feedTests key m part) m (fedMark key m part) (clear-table houseWords key (ap table (sym e)))
 
 -- so feeding by the house key's words, under that key, is feeding by bits
-pub house-bits : (m : Mark) (part : Part) → feedHouse houseKey m part ≡ feedBits houseKey m part
+pub house-bits : (m : Mark) (part : Part) → feedHouse (keyOf houseKey) m part ≡ feedBits (keyOf houseKey) m part
 unfolding feedBits
 house-bits m part =
-    house-first m part ∙ sym (opened-first (open-accepted houseKey house-accepted) (feedTests houseKey m part) m (fedMark houseKey m part))
+    let h = open-accepted houseKey house-accepted in
+    let key = polynomialOf (keyOf houseKey) in
+    house-first h (whole-key houseKey (accepted-pos houseKey house-accepted)) m part ∙ sym (opened-first h (feedTests key m part) m (fedMark key m part))

@@ -1,6 +1,7 @@
 -- For callers in Rattle: the answers of the calls in code as an `Answer`, with the running mark.
 use Prim.Native.Nat.{ℕ}
 use Rattle.refusals.specs.Refusals.{Answer, Done, Refused}
+use Rattle.acceptance.specs.declared.Key.{Key}
 use Rattle.files.specs.declared.Mark.{Mark}
 use Rattle.marks.specs.declared.Running.{Running}
 use Rattle.marks.specs.declared.Measured.{Measured}
@@ -13,8 +14,8 @@ use Rattle.marks.specs.declared.Fed.the-variants as fed-cases
 abbrev pub markIn : Running → Mark
 markIn r = record { fingerprint = r .fingerprint; length = r .length }
 
-abbrev pub running : ℕ → Mark → Running
-running key m = record { key = key; fingerprint = m .fingerprint; length = m .length }
+abbrev pub running : Key → Mark → Running
+running x m = record { key = x; fingerprint = m .fingerprint; length = m .length }
 
 -- the length that feeding gives
 abbrev pub measured : Measured → Answer Unit ℕ
@@ -30,10 +31,10 @@ fed (fed-cases.Next m) = Done m
 fed (fed-cases.Refused r m) = Refused r m
 
 -- the same answer about running marks under one key
-abbrev pub begunUnder : ℕ → Answer Unit Mark → Answer Unit Running
-begunUnder key (Done m) = Done (running key m)
-begunUnder key (Refused r s) = Refused r s
+abbrev pub begunUnder : Key → Answer Unit Mark → Answer Unit Running
+begunUnder x (Done m) = Done (running x m)
+begunUnder x (Refused r s) = Refused r s
 
-abbrev pub fedUnder : ℕ → Answer Mark Mark → Answer Running Running
-fedUnder key (Done m) = Done (running key m)
-fedUnder key (Refused r m) = Refused r (running key m)
+abbrev pub fedUnder : Key → Answer Mark Mark → Answer Running Running
+fedUnder x (Done m) = Done (running x m)
+fedUnder x (Refused r m) = Refused r (running x m)

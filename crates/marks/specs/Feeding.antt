@@ -4,7 +4,8 @@ use mathlib.Core.List.{List, [], _∷_, _++_}
 use Prim.Native.Nat.{ℕ, _+_}
 use Rattle.refusals.specs.declared.Refusal.the-variants.{TooLong, MarkNotReduced, FinalByte}
 use Rattle.refusals.specs.Refusals.{Answer, Test, _⇒_, firstOf, passes}
-use Rattle.acceptance.specs.Keys.{keyTests}
+use Rattle.acceptance.specs.declared.Key.{Key}
+use Rattle.acceptance.specs.Keys.{polynomialOf, keyTests}
 use Rattle.table_tests.specs.TableTests.{tableTests}
 use Rattle.house.specs.House.{houseWords}
 use Rattle.files.specs.declared.Mark.{Mark}
@@ -15,20 +16,22 @@ abbrev pub sumTest : ℕ → ℕ → Test
 sumTest a b = passes (a ∷ b ∷ (a + b) ∷ []) ⇒ TooLong
 
 -- the mark of the empty file
-unfoldable pub begin : ℕ → Answer Unit Mark
-begin key = firstOf (keyTests key) tt (markOf key [])
+unfoldable pub begin : Key → Answer Unit Mark
+begin x = firstOf (keyTests x) tt (markOf (polynomialOf x) [])
 
 -- numbers 7, 8 and 19 of a mark to which a part is fed
 abbrev pub feedTests : ℕ → Mark → Part → List Test
 feedTests key m part = sumTest (m .length) (partLength part) ∷ unreduced key m ⇒ MarkNotReduced ∷ misused part ⇒ FinalByte ∷ []
 
-unfoldable pub feedBits : ℕ → Mark → Part → Answer Mark Mark
-feedBits key m part = firstOf (keyTests key ++ feedTests key m part) m (fedMark key m part)
+unfoldable pub feedBits : Key → Mark → Part → Answer Mark Mark
+feedBits x m part = firstOf (keyTests x ++ feedTests (polynomialOf x) m part) m (fedMark (polynomialOf x) m part)
 
 -- All words are tested first, so the value is the one of feeding by bits: a reader need not believe how the words are used.
-unfoldable pub feedTable : ℕ → Mark → List ℕ → Part → Answer Mark Mark
-feedTable key m words part = firstOf (keyTests key ++ tableTests key words ++ feedTests key m part) m (fedMark key m part)
+unfoldable pub feedTable : Key → Mark → List ℕ → Part → Answer Mark Mark
+feedTable x m words part =
+    let key = polynomialOf x in
+    firstOf (keyTests x ++ tableTests key words ++ feedTests key m part) m (fedMark key m part)
 
 -- under the house key's constant words: feeding by them, whatever the key
-unfoldable pub feedHouse : ℕ → Mark → Part → Answer Mark Mark
-feedHouse key m part = feedTable key m houseWords part
+unfoldable pub feedHouse : Key → Mark → Part → Answer Mark Mark
+feedHouse x m part = feedTable x m houseWords part

@@ -1,5 +1,6 @@
 // Feeding a file to a running mark: with no table, by a lent table, and by the house key's constant words. Under the house key all three fold, and
 // read no table. A part comes as bytes and the used bits of the final one; feeding after an unfinished byte goes on at the next bit.
+use acceptance::Key;
 use files::Mark;
 use gf2::Modulus;
 use keys::Tested;
@@ -12,6 +13,7 @@ ghost use Prim.Native.Nat.{_+_, _^_, _<_};
 ghost use Rattle.gf2.specs.Polynomials.{rem};
 ghost use Rattle.gf2.specs.Moduli.{polynomial, Proper};
 ghost use Rattle.refusals.specs.Refusals.{firstOf};
+ghost use Rattle.acceptance.specs.Keys.{polynomialOf};
 ghost use Rattle.acceptance.specs.Opened.{Opened};
 ghost use Rattle.files.specs.Files.{valueFrom, asPart, partLength, partBits, misused, fedMark};
 ghost use Rattle.lookups.specs.Groups.{Table, TableOf};
@@ -21,7 +23,7 @@ ghost use Rattle.marks.specs.Answers.{markIn, measured, begun, begunUnde
 
 // A running mark (document 01's term): the state of a fingerprint that is taken as the file is read. The length is in bits. Numbers only.
 pub struct Running {
-    pub key: u64,
+    pub key: Key,
     pub fingerprint: u64,
     pub length: u64,
 }
@@ -47,7 +49,7 @@ pub enum Measured {
 // Numbers 7, 8 and 19 of a running mark and of a part that is to be fed to it, under its opened key.
 fn judge(p: Modulus, m: Running, part: &[u8], used: u32) -> Measured
     requires { ⌜ Opened (m .key) p ⌝ }
-    ensures { λ r. ⌜ measured r ≡ firstOf (feedTests (m .key) (markIn m) (asPart (now (part .entry)) used)) tt
+    ensures { λ r. ⌜ measured r ≡ firstOf (feedTests (polynomialOf (m .key)) (markIn m) (asPart (now (part .entry)) used)) tt
         (m .length + partLength (asPart (now (part .entry)) used)) ⌝ }
 {
     let n = files::part_length(part, used);
@@ -92,15 +94,16 @@ fn behind_looked(words: &[u64], p: Modulus, f: u64, part: &[u8], used: u32) -> u
 // A part fed with no table, after the test of the key.
 fn feed_alone(p: Modulus, m: Running, part: &[u8], used: u32) -> Fed
     requires { ⌜ Opened (m .key) p ⌝ }
-    ensures { λ r. ⌜ fed r ≡ fedUnder (m .key) (firstOf (feedTests (m .key) (markIn m) (asPart (now (part .entry)) used)) (markIn m)
-        (fedMark (m .key) (markIn m) (asPart (now (part .entry)) used))) ⌝ }
+    ensures { λ r. ⌜ fed r ≡ fedUnder (m .key) (firstOf (feedTests (polynomialOf (m .key)) (markIn m) (asPart (now (part .entry)) used)) (markIn m)
+        (fedMark (polynomialOf (m .key)) (markIn m) (asPart (now (part .entry)) used))) ⌝ }
 {
     match judge(p, m, part, used) {
         Measured::Refused(r) => Fed::Refused(r, m),
         Measured::Length(total) => {
+            let key = m.key;
             let next = behind_alone(p, m.fingerprint, part, used);
             Fed::Next(Running {
-                key: m.key,
+                key: key,
                 fingerprint: next,
                 length: total,
             })
@@ -110,16 +113,17 @@ fn feed_alone(p: Modulus, m: Running, part: &[u8], used: u32) -> Fed
 
 // A part fed by the table of the key, after the tests of key and words.
 fn feed_looked(p: Modulus, m: Running, words: &[u64], part: &[u8], used: u32) -> Fed
-    requires { ⌜ Opened (m .key) p × Table (m .key) (now words) ⌝ }
-    ensures { λ r. ⌜ fed r ≡ fedUnder (m .key) (firstOf (feedTests (m .key) (markIn m) (asPart (now (part .entry)) used)) (markIn m)
-        (fedMark (m .key) (markIn m) (asPart (now (part .entry)) used))) ⌝ }
+    requires { ⌜ Opened (m .key) p × Table (polynomialOf (m .key)) (now words) ⌝ }
+    ensures { λ r. ⌜ fed r ≡ fedUnder (m .key) (firstOf (feedTests (polynomialOf (m .key)) (markIn m) (asPart (now (part .entry)) used)) (markIn m)
+        (fedMark (polynomialOf (m .key)) (markIn m) (asPart (now (part .entry)) used))) ⌝ }
 {
     match judge(p, m, part, used) {
         Measured::Refused(r) => Fed::Refused(r, m),
         Measured::Length(total) => {
+            let key = m.key;
             let looked = behind_looked(words, p, m.fingerprint, part, used);
             Fed::Next(Running {
-                key: m.key,
+                key: key,
                 fingerprint: looked,
                 length: total,
             })
@@ -130,8 +134,9 @@ fn feed_looked(p: Modulus, m: Running, words: &[u64], part: &[u8], used: u32) ->
 // The same, after the test of the key: all words are tested first.
 fn feed_under(p: Modulus, m: Running, words: &[u64], part: &[u8], used: u32) -> Fed
     requires { ⌜ Opened (m .key) p ⌝ }
-    ensures { λ r. ⌜ fed r ≡ fedUnder (m .key) (firstOf (tableTests (m .key) (now (words .entry))
-        ++ feedTests (m .key) (markIn m) (asPart (now (part .entry)) used)) (markIn m) (fedMark (m .key) (markIn m) (asPart (now (part .entry)) used))) ⌝ }
+    ensures { λ r. ⌜ fed r ≡ fedUnder (m .key) (firstOf (tableTests (polynomialOf (m .key)) (now (words .entry))
+        ++ feedTests (polynomialOf (m .key)) (markIn m) (asPart (now (part .entry)) used)) (markIn m)
+        (fedMark (polynomialOf (m .key)) (markIn m) (asPart (now (part .entry)) used))) ⌝ }
 {
     match table_tests::judge(p, words) {
         Reply::Refused(r) => Fed::Refused(r, m),
@@ -151,7 +156,7 @@ impl Running {
     }
 
     // The mark of the empty file under a key. Numbers 1, 2.
-    pub fn begin(key: u64) -> Begun
+    pub fn begin(key: Key) -> Begun
         ensures { λ r. ⌜ begun r ≡ begunUnder key (begin key) ⌝ }
     {
         match keys::test(key) {
@@ -189,8 +194,12 @@ impl Running {
     pub fn feed_house(self, part: &[u8], used: u32) -> Fed
         ensures { λ r. ⌜ fed r ≡ fedUnder (self .key) (feedHouse (self .key) (markIn self) (asPart (now (part .entry)) used)) ⌝ }
     {
-        if self.key == house::KEY {
-            let p = gf2::modulus_of(self.key);
+        let key = self.key;
+        if (key.degree == house::DEGREE) & (key.word == house::WORD) {
+            let p = Modulus {
+                degree: key.degree,
+                low: key.word,
+            };
             return feed_alone(p, self, part, used);
         }
         feed_constant(self, part, used)

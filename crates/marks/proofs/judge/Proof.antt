@@ -8,6 +8,7 @@ use borrow.Author.Needs.{needs}
 use Rattle.refusals.specs.Refusals.{Done, longest, passes}
 use Rattle.refusals.proofs.Laws.{holds, fails}
 use Rattle.refusals.proofs.Lengths.{counted-is, counted-sum, sum-within}
+use Rattle.acceptance.specs.Keys.{polynomialOf}
 use Rattle.acceptance.proofs.Opened.{opened-proper, not-residue, is-residue}
 use Rattle.files.specs.Files.{unreduced, Part, asPart, partLength}
 use Rattle.marks.specs.Answers.{markIn}
@@ -58,7 +59,7 @@ returns : tie.Need-returns
 returns c =
     let l = c .before .before in
     let s = length→start l in
-    sym (feed-long (s .args .m .key) (markIn (s .args .m)) (partAt s) _
+    sym (feed-long (polynomialOf (s .args .m .key)) (markIn (s .args .m)) (partAt s) _
     (sym (counted l) ∙ holds _ (long l) (c .before .fits2 .ensures) (c .if1 .taken)))
 
 is-residue-requires : tie.Need-is-residue-requires
@@ -71,9 +72,9 @@ returns-2 c =
     let m = markIn (s .args .m) in
     let r = c .before .is-residue in
     let high = not-residue (s .pre) (m .fingerprint) (r .result) (r .ensures) (c .if2 .taken) in
-    sym (feed-unreduced (s .args .m .key) m (partAt s) _ (short e) high)
+    sym (feed-unreduced (polynomialOf (s .args .m .key)) m (partAt s) _ (short e) high)
 
-low : (c : tie.Else2) → let s = else1→start (else2→else1 c) in unreduced (s .args .m .key) (markIn (s .args .m)) ≡ false
+low : (c : tie.Else2) → let s = else1→start (else2→else1 c) in unreduced (polynomialOf (s .args .m .key)) (markIn (s .args .m)) ≡ false
 low c =
     let s = else1→start (else2→else1 c) in
     let r = c .before .is-residue in
@@ -83,7 +84,7 @@ returns-3 : tie.Need-returns-3
 returns-3 c =
     let e = c .before .before in
     let s = else1→start (else2→else1 e) in
-    sym (feed-misused (s .args .m .key) (markIn (s .args .m)) (partAt s) _ (short (else2→else1 e)) (low e)
+    sym (feed-misused (polynomialOf (s .args .m .key)) (markIn (s .args .m)) (partAt s) _ (short (else2→else1 e)) (low e)
     (sym (c .before .is-misused .ensures) ∙ c .if3 .taken))
 
 add-t12 : tie.Need-add-t12
@@ -94,7 +95,7 @@ returns-4 c =
     let e = c .before .before .before in
     let s = else1→start (else2→else1 e) in
     ap (λ (n : ℕ). Done (s .args .m .length + n)) (in-full (else2→else1 e))
-    ∙ sym (feed-passed (s .args .m .key) (markIn (s .args .m)) (partAt s) _ (short (else2→else1 e)) (low e)
+    ∙ sym (feed-passed (polynomialOf (s .args .m .key)) (markIn (s .args .m)) (partAt s) _ (short (else2→else1 e)) (low e)
     (sym (c .before .before .is-misused .ensures) ∙ c .before .if3 .left))
 
 pub judge-spec : {M : Type 1} → statement M

@@ -1,12 +1,13 @@
 -- `Running::begin` meets its contract: the empty file's value is 1, which is below every modulus of degree 1 or more.
 use mathlib.Core.Path.{sym, ap, _∙_}
 use mathlib.Core.List.{[]}
-use native.Mathlib.Omega.{arith}
 use borrow.Author.Needs.{needs}
 use Rattle.refusals.specs.Refusals.{Done}
 use Rattle.files.specs.Files.{markOf}
 use Rattle.files.proofs.Marks.{empty-mark}
-use Rattle.acceptance.proofs.Opened.{opened-first, opened-from}
+use Rattle.acceptance.specs.Keys.{polynomialOf}
+use Rattle.acceptance.proofs.Laws.{accepted-iff}
+use Rattle.acceptance.proofs.Opened.{opened-first}
 use Rattle.keys.proofs.Laws.{opened, refused}
 use Rattle.marks.specs.Feeding.{begin}
 use Rattle.marks.specs.Answers.{begunUnder}
@@ -23,15 +24,17 @@ unfolding begin
 returns c =
     let key = test→start (c .before .before .before) .args .key in
     let t = c .before .before .before .test in
-    sym (ap (begunUnder key) (refused (t .result) key (t .ensures) [] tt (markOf key []) _ (c .before .r .given .1)))
+    sym (ap (begunUnder key) (refused (t .result) key (t .ensures) [] tt (markOf (polynomialOf key) []) _ (c .before .r .given .1)))
 
 returns-2 : tie.Need-returns-2
 unfolding begin
 returns-2 c =
-    let key = test→start (c .before .before) .args .key in
+    let x = test→start (c .before .before) .args .key in
     let t = c .before .before .test in
-    let h = opened (t .result) key (t .ensures) _ (omega arith) (c .enum-told .given .1) in
-    sym (ap (begunUnder key) (opened-first h [] tt (markOf key []) ∙ ap Done (empty-mark key (omega (arith, opened-from h)))))
+    let h = opened (t .result) x (t .ensures) _ (c .enum-told .given .1) in
+    let key = polynomialOf x in
+    let proper = accepted-iff key .0 (h .is-accepted) .2 .proper in
+    sym (ap (begunUnder x) (opened-first h [] tt (markOf key []) ∙ ap Done (empty-mark key proper)))
 
 pub begin-spec : {M : Type 1} → statement M
 begin-spec = tie.close (tie.spec (λ c κs. search needs) (λ c. search needs) (λ c. search needs) returns returns-2)

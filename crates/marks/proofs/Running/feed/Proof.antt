@@ -1,9 +1,9 @@
 -- `Running::feed` meets its contract: the tests of the key, and then those of `feed_alone`.
 use mathlib.Core.Path.{sym, ap, _∙_}
 use mathlib.Core.List.{List}
-use native.Mathlib.Omega.{arith}
 use borrow.Author.Needs.{needs}
 use Rattle.refusals.specs.Refusals.{Test}
+use Rattle.acceptance.specs.Keys.{polynomialOf}
 use Rattle.acceptance.specs.Opened.{Opened}
 use Rattle.acceptance.proofs.Opened.{opened-first}
 use Rattle.files.specs.declared.Mark.{Mark}
@@ -24,10 +24,10 @@ p→start c = test→start (c .before .before)
 
 -- the tests behind those of the key, and the value
 abbrev tests : tie.Start → List Test
-tests s = feedTests (s .args .self .key) (markIn (s .args .self)) (asPart (s .args .part .now) (s .args .used))
+tests s = feedTests (polynomialOf (s .args .self .key)) (markIn (s .args .self)) (asPart (s .args .part .now) (s .args .used))
 
 abbrev value : tie.Start → Mark
-value s = fedMark (s .args .self .key) (markIn (s .args .self)) (asPart (s .args .part .now) (s .args .used))
+value s = fedMark (polynomialOf (s .args .self .key)) (markIn (s .args .self)) (asPart (s .args .part .now) (s .args .used))
 
 returns : tie.Need-returns
 unfolding feedBits
@@ -41,7 +41,7 @@ returns c =
 key-opened : (c : tie.After-p) → Opened (p→start c .args .self .key) (c .p .given .0 .0)
 key-opened c =
     let t = c .before .before .test in
-    opened (t .result) (p→start c .args .self .key) (t .ensures) _ (omega arith) (c .p .given .1)
+    opened (t .result) (p→start c .args .self .key) (t .ensures) _ (c .p .given .1)
 
 feed-alone-requires : tie.Need-feed-alone-requires
 feed-alone-requires c κs = key-opened (c .before)

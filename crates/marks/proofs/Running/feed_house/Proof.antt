@@ -1,15 +1,13 @@
 -- `Running::feed_house` meets its contract: under the house key no test of key and words holds; under another key it is `feed_constant`.
 use mathlib.Core.Path.{_≡_, sym, ap, _∙_}
-use Prim.Native.Nat.{ℕ}
-use native.Mathlib.Omega.{arith}
 use borrow.Author.Needs.{needs}
-use Rattle.refusals.specs.Refusals.{firstOf}
-use Rattle.acceptance.specs.Keys.{accepted}
-use Rattle.files.specs.declared.Mark.{Mark}
-use Rattle.files.specs.Files.{Part, asPart, fedMark}
-use Rattle.house.specs.House.{houseKey}
-use Rattle.house.proofs.House.{house-accepted}
-use Rattle.marks.specs.Feeding.{feedTests, feedHouse}
+use borrow.Author.Tests.{eqb-true}
+use lib.Dec.{eqb}
+use Rattle.lists.proofs.Truth.{and-both}
+use Rattle.acceptance.specs.Opened.{Opened}
+use Rattle.acceptance.specs.Keys.{asModulus}
+use Rattle.files.specs.Files.{asPart}
+use Rattle.house.proofs.House.{house-polynomial, house-opened}
 use Rattle.marks.specs.Answers.{markIn, fedUnder}
 use Rattle.marks.proofs.Laws.{house-first}
 use Rattle.marks.proofs.Running.feed_house.Statement.{statement}
@@ -17,25 +15,30 @@ use Rattle.marks.proofs.Running.feed_house.Tie as tie
 
 -- ---- the places: from each one to an earlier one
 
-abbrev modulus-of→start : tie.After-modulus-of → tie.Start
-modulus-of→start c = c .before .before .before .before
+abbrev then1→start : tie.Then1 → tie.Start
+then1→start c = c .before .before .before .before .before
 
-at-house : (key : ℕ) (m : Mark) (part : Part) → key ≡ houseKey → firstOf (feedTests key m part) m (fedMark key m part) ≡ feedHouse key m part
-at-house key m part e = rw e (sym (house-first m part))
+-- the key handed in is the house key
+house : (c : tie.Then1) → let key = then1→start c .args .self .key in (key .degree ≡ 61) × (key .word ≡ 0x27)
+house c =
+    let key = then1→start c .args .self .key in
+    let b = and-both (eqb (key .degree) 61) (eqb (key .word) 0x27) (c .if1 .taken) in
+    (eqb-true (key .degree) 61 (b .0), eqb-true (key .word) 0x27 (b .1))
 
--- the key is the house key, and it is accepted
+opened-house : (c : tie.Then1) → let key = then1→start c .args .self .key in Opened key (asModulus key)
+opened-house c = house-opened (then1→start c .args .self .key) (house c .0) (house c .1)
+
 feed-alone-requires : tie.Need-feed-alone-requires
-feed-alone-requires c κs =
-    record { is-accepted = ap accepted (c .before .if1 .taken) ∙ house-accepted; parts = c .modulus-of .ensures }
+feed-alone-requires c κs = opened-house c
 
 returns : tie.Need-returns
 returns c =
-    let s = modulus-of→start (c .before) in
+    let s = then1→start (c .before) in
     let key = s .args .self .key in
-    let m = markIn (s .args .self) in
-    let part = asPart (s .args .part .now) (s .args .used) in
-    let is : key ≡ houseKey = c .before .before .if1 .taken in
-    c .feed-alone .ensures ∙ ap (fedUnder key) (at-house key m part is)
+    let h = house (c .before) in
+    c .feed-alone .ensures
+    ∙ sym (ap (fedUnder key) (house-first (opened-house (c .before)) (house-polynomial key (h .0) (h .1)) (markIn (s .args .self))
+    (asPart (s .args .part .now) (s .args .used))))
 
 pub feed-house-spec : {M : Type 1} → statement M
-feed-house-spec = tie.close (tie.spec (λ c κs. omega arith) feed-alone-requires returns (λ c κs. search needs) (λ c. search needs))
+feed-house-spec = tie.close (tie.spec feed-alone-requires returns (λ c κs. search needs) (λ c. search needs))

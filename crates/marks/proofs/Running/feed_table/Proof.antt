@@ -1,9 +1,9 @@
 -- `Running::feed_table` meets its contract: the tests of the key, and then those of `feed_under`.
 use mathlib.Core.Path.{sym, ap, _∙_}
 use mathlib.Core.List.{List, _++_}
-use native.Mathlib.Omega.{arith}
 use borrow.Author.Needs.{needs}
 use Rattle.refusals.specs.Refusals.{Test}
+use Rattle.acceptance.specs.Keys.{polynomialOf}
 use Rattle.acceptance.specs.Opened.{Opened}
 use Rattle.acceptance.proofs.Opened.{opened-first}
 use Rattle.files.specs.declared.Mark.{Mark}
@@ -26,11 +26,11 @@ p→start c = test→start (c .before .before)
 -- the tests behind those of the key, and the value
 abbrev tests : tie.Start → List Test
 tests s =
-    tableTests (s .args .self .key) (s .args .words .now)
-    ++ feedTests (s .args .self .key) (markIn (s .args .self)) (asPart (s .args .part .now) (s .args .used))
+    tableTests (polynomialOf (s .args .self .key)) (s .args .words .now)
+    ++ feedTests (polynomialOf (s .args .self .key)) (markIn (s .args .self)) (asPart (s .args .part .now) (s .args .used))
 
 abbrev value : tie.Start → Mark
-value s = fedMark (s .args .self .key) (markIn (s .args .self)) (asPart (s .args .part .now) (s .args .used))
+value s = fedMark (polynomialOf (s .args .self .key)) (markIn (s .args .self)) (asPart (s .args .part .now) (s .args .used))
 
 returns : tie.Need-returns
 unfolding feedTable
@@ -44,7 +44,7 @@ returns c =
 key-opened : (c : tie.After-p) → Opened (p→start c .args .self .key) (c .p .given .0 .0)
 key-opened c =
     let t = c .before .before .test in
-    opened (t .result) (p→start c .args .self .key) (t .ensures) _ (omega arith) (c .p .given .1)
+    opened (t .result) (p→start c .args .self .key) (t .ensures) _ (c .p .given .1)
 
 feed-under-requires : tie.Need-feed-under-requires
 feed-under-requires c κs = key-opened (c .before)
