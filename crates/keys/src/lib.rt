@@ -120,6 +120,7 @@ fn out_of_range(key: Key) -> bool
     ensures { λ r. ⌜ r ≡ outside key ⌝ }
 {
     let k = key.degree;
+    let word = key.word;
     if k < 8 {
         return true;
     }
@@ -127,7 +128,7 @@ fn out_of_range(key: Key) -> bool
         return true;
     }
     let power = Modulus { degree: k, low: 0 };
-    !gf2::is_residue(power, key.word)
+    !gf2::is_residue(power, word)
 }
 
 // Is the key the stock key of its degree? The coefficients of a stock key below the leading one are below 256: no other key is looked up.
