@@ -2,13 +2,14 @@
 use mathlib.Core.List.{List, [], _∷_, _++_}
 use Prim.Native.Nat.{ℕ}
 use Rattle.refusals.specs.Refusals.{Answer, firstOf, judged}
-use Rattle.acceptance.specs.Keys.{keyTests}
+use Rattle.acceptance.specs.declared.Key.{Key}
+use Rattle.acceptance.specs.Keys.{polynomialOf, keyTests}
 use Rattle.lookups.specs.Rule.{table}
 use Rattle.table_tests.specs.TableTests.{tableSizeTest, tableTests}
 
 -- what the lent words are after the call
-unfoldable pub makeTable : ℕ → List ℕ → Answer (List ℕ) (List ℕ)
-makeTable key words = firstOf (keyTests key ++ tableSizeTest words ∷ []) words (table key)
+unfoldable pub makeTable : Key → List ℕ → Answer (List ℕ) (List ℕ)
+makeTable x words = firstOf (keyTests x ++ tableSizeTest words ∷ []) words (table (polynomialOf x))
 
-unfoldable pub testTable : ℕ → List ℕ → Answer Unit Unit
-testTable key words = judged (keyTests key ++ tableTests key words)
+unfoldable pub testTable : Key → List ℕ → Answer Unit Unit
+testTable x words = judged (keyTests x ++ tableTests (polynomialOf x) words)

@@ -1,4 +1,5 @@
 // Tables of residues: making one, and testing one against its key.
+use acceptance::Key;
 use gf2::Modulus;
 use keys::Tested;
 use refusals::Refusal;
@@ -25,7 +26,7 @@ fn make_under(p: Modulus, words: &mut [u64]) -> Reply
 }
 
 // The key's table into the lent words. Numbers 1, 2, 5.
-pub fn make(key: u64, words: &mut [u64]) -> Reply
+pub fn make(key: Key, words: &mut [u64]) -> Reply
     ensures { λ r. ⌜ reply (now (words .exit)) r ≡ makeTable key (now (words .entry)) ⌝ }
 {
     match keys::test(key) {
@@ -35,7 +36,7 @@ pub fn make(key: u64, words: &mut [u64]) -> Reply
 }
 
 // Are the lent words the key's table? Numbers 1, 2, 5, 6.
-pub fn test(key: u64, words: &[u64]) -> Reply
+pub fn test(key: Key, words: &[u64]) -> Reply
     ensures { λ r. ⌜ told r ≡ testTable key (now (words .entry)) ⌝ }
 {
     match keys::test(key) {

@@ -2,10 +2,10 @@
 use mathlib.Core.Path.{sym, ap, _∙_}
 use mathlib.Core.List.{[], _∷_}
 use Prim.Native.Nat.{ℕ}
-use native.Mathlib.Omega.{arith}
 use borrow.Author.Needs.{needs}
 use Rattle.refusals.specs.Refusals.{firstOf}
 use Rattle.lookups.specs.Rule.{table}
+use Rattle.acceptance.specs.Keys.{polynomialOf}
 use Rattle.acceptance.specs.Opened.{Opened}
 use Rattle.acceptance.proofs.Opened.{opened-whole, opened-proper, opened-first}
 use Rattle.keys.proofs.Laws.{opened, refused}
@@ -29,7 +29,7 @@ abbrev make-under-arg→p : tie.After-make-under-arg → tie.After-p
 make-under-arg→p c = c .before .before
 
 key-opened : (c : tie.After-p) → Opened (p→start c .args .key) (c .p .given .0 .0)
-key-opened c = let t = c .before .before .test in opened (t .result) (p→start c .args .key) (t .ensures) _ (omega arith) (c .p .given .1)
+key-opened c = let t = c .before .before .test in opened (t .result) (p→start c .args .key) (t .ensures) _ (c .p .given .1)
 
 make-under-requires : tie.Need-make-under-requires
 make-under-requires c κs = opened-proper (key-opened (c .before .before))
@@ -38,8 +38,9 @@ returns : tie.Need-returns
 unfolding makeTable
 returns c =
     let a = test→start (c .before .before .before) .args in
+    let words = a .words .now in
     let t = c .before .before .before .test in
-    sym (refused (t .result) (a .key) (t .ensures) (tableSizeTest (a .words .now) ∷ []) (a .words .now) (table (a .key)) _ (c .before .r .given .1))
+    sym (refused (t .result) (a .key) (t .ensures) (tableSizeTest words ∷ []) words (table (polynomialOf (a .key))) _ (c .before .r .given .1))
 
 returns-2 : tie.Need-returns-2
 unfolding makeTable
@@ -49,7 +50,7 @@ returns-2 c =
     let h = key-opened (make-under-arg→p (c .before .before .before)) in
     c .before .before .make-under .ensures
     ∙ ap (λ (q : ℕ). firstOf (tableSizeTest words ∷ []) words (table q)) (opened-whole h)
-    ∙ sym (opened-first h (tableSizeTest words ∷ []) words (table (a .key)))
+    ∙ sym (opened-first h (tableSizeTest words ∷ []) words (table (polynomialOf (a .key))))
 
 pub make-spec : {M : Type 1} → statement M
 make-spec = tie.close (tie.spec (λ c κs. search needs) (λ c. search needs) (λ c. search needs) make-under-requires returns (λ c. search needs) returns-2)
