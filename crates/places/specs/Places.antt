@@ -2,7 +2,12 @@
 use mathlib.Core.List.{List}
 use Prim.Native.Nat.{ℕ}
 use Rattle.refusals.specs.Refusals.{Answer, Done, Refused}
+use Rattle.acceptance.specs.declared.Key.{Key}
 use Rattle.files.specs.declared.Mark.{Mark}
+
+-- a key in two places: the degree first
+abbrev pub keyAt : ℕ → ℕ → Key
+keyAt degree word = record { degree = degree; word = word }
 
 -- a mark in two places
 abbrev pub markAt : ℕ → ℕ → Mark
