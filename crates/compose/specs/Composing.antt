@@ -6,7 +6,8 @@ use Prim.Native.Nat.{ℕ, _+_, _*_}
 use lib.Dec.{ltb, eqb}
 use Rattle.refusals.specs.declared.Refusal.the-variants.{TooLong, MarkNotReduced, PageLengthsDiffer, PagePastEnd, FinalByte}
 use Rattle.refusals.specs.Refusals.{Answer, Test, _⇒_, firstOf, passes}
-use Rattle.acceptance.specs.Keys.{keyTests}
+use Rattle.acceptance.specs.declared.Key.{Key}
+use Rattle.acceptance.specs.Keys.{polynomialOf, keyTests}
 use Rattle.files.specs.declared.Mark.{Mark}
 use Rattle.files.specs.Files.{unreduced, Part, partLength, misused, joined, replaced}
 use Rattle.marks.specs.Feeding.{sumTest}
@@ -15,15 +16,15 @@ use Rattle.marks.specs.Feeding.{sumTest}
 abbrev pub marksTests : ℕ → Mark → Mark → List Test
 marksTests key m other = sumTest (m .length) (other .length) ∷ (unreduced key m || unreduced key other) ⇒ MarkNotReduced ∷ []
 
-abbrev pub joinTests : ℕ → Mark → Mark → List Test
-joinTests key m other = keyTests key ++ marksTests key m other
+abbrev pub joinTests : Key → Mark → Mark → List Test
+joinTests x m other = keyTests x ++ marksTests (polynomialOf x) m other
 
 -- the mark m is the state; the other mark's file goes behind it, or in front of it
-unfoldable pub joinBehind : ℕ → Mark → Mark → Answer Mark Mark
-joinBehind key m other = firstOf (joinTests key m other) m (joined key m other)
+unfoldable pub joinBehind : Key → Mark → Mark → Answer Mark Mark
+joinBehind x m other = firstOf (joinTests x m other) m (joined (polynomialOf x) m other)
 
-unfoldable pub joinInFront : ℕ → Mark → Mark → Answer Mark Mark
-joinInFront key m other = firstOf (joinTests key m other) m (joined key other m)
+unfoldable pub joinInFront : Key → Mark → Mark → Answer Mark Mark
+joinInFront x m other = firstOf (joinTests x m other) m (joined (polynomialOf x) other m)
 
 -- numbers 7 to 10 and 19: the place is in bytes, the lengths are in bits
 abbrev pub pageTests : ℕ → Mark → ℕ → Part → Part → List Test
@@ -35,5 +36,7 @@ pageTests key m place old new =
     ∷ (misused old || misused new) ⇒ FinalByte
     ∷ []
 
-unfoldable pub replacePage : ℕ → Mark → ℕ → Part → Part → Answer Mark Mark
-replacePage key m place old new = firstOf (keyTests key ++ pageTests key m place old new) m (replaced key m place old new)
+unfoldable pub replacePage : Key → Mark → ℕ → Part → Part → Answer Mark Mark
+replacePage x m place old new =
+    let key = polynomialOf x in
+    firstOf (keyTests x ++ pageTests key m place old new) m (replaced key m place old new)

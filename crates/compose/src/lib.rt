@@ -10,6 +10,7 @@ ghost use mathlib.Core.Bool.{not};
 ghost use Prim.Native.Nat.{_+_, _*_};
 ghost use lib.Dec.{ltb};
 ghost use Rattle.refusals.specs.Refusals.{firstOf};
+ghost use Rattle.acceptance.specs.Keys.{polynomialOf};
 ghost use Rattle.acceptance.specs.Opened.{Opened};
 ghost use Rattle.files.specs.Files.{asPart, joined, replaced};
 ghost use Rattle.marks.specs.Answers.{markIn, fed, fedUnder};
@@ -18,8 +19,10 @@ ghost use Rattle.compose.specs.Composing.{marksTests, joinTests, joinBeh
 // Two marks joined, after the test of the key. The running mark m goes back where they are refused.
 fn join_under(p: Modulus, m: Running, first: Mark, second: Mark) -> Fed
     requires { ⌜ Opened (m .key) p ⌝ }
-    ensures { λ r. ⌜ fed r ≡ fedUnder (m .key) (firstOf (marksTests (m .key) first second) (markIn m) (joined (m .key) first second)) ⌝ }
+    ensures { λ r. ⌜ fed r ≡ fedUnder (m .key) (firstOf (marksTests (polynomialOf (m .key)) first second) (markIn m)
+        (joined (polynomialOf (m .key)) first second)) ⌝ }
 {
+    let key = m.key;
     let f = first.fingerprint;
     let g = second.fingerprint;
     let a = first.length;
@@ -34,7 +37,7 @@ fn join_under(p: Modulus, m: Running, first: Mark, second: Mark) -> Fed
         return Fed::Refused(Refusal::MarkNotReduced, m);
     }
     Fed::Next(Running {
-        key: m.key,
+        key: key,
         fingerprint: files::joined_residue(p, f, g, b),
         length: a + b,
     })
@@ -42,7 +45,7 @@ fn join_under(p: Modulus, m: Running, first: Mark, second: Mark) -> Fed
 
 // Two marks joined.
 fn join(m: Running, first: Mark, second: Mark) -> Fed
-    ensures { λ r. ⌜ fed r ≡ fedUnder (m .key) (firstOf (joinTests (m .key) first second) (markIn m) (joined (m .key) first second)) ⌝ }
+    ensures { λ r. ⌜ fed r ≡ fedUnder (m .key) (firstOf (joinTests (m .key) first second) (markIn m) (joined (polynomialOf (m .key)) first second)) ⌝ }
 {
     match keys::test(m.key) {
         Tested::Refused(r) => Fed::Refused(r, m),
@@ -73,10 +76,11 @@ fn replace(
     new_used: u32,
 ) -> Fed
     requires { ⌜ Opened (m .key) p ⌝ }
-    ensures { λ r. ⌜ fed r ≡ fedUnder (m .key) (firstOf (pageTests (m .key) (markIn m) place (asPart (now (old .entry)) «old_used»)
+    ensures { λ r. ⌜ fed r ≡ fedUnder (m .key) (firstOf (pageTests (polynomialOf (m .key)) (markIn m) place (asPart (now (old .entry)) «old_used»)
         (asPart (now (new .entry)) «new_used»)) (markIn m)
-        (replaced (m .key) (markIn m) place (asPart (now (old .entry)) «old_used») (asPart (now (new .entry)) «new_used»))) ⌝ }
+        (replaced (polynomialOf (m .key)) (markIn m) place (asPart (now (old .entry)) «old_used») (asPart (now (new .entry)) «new_used»))) ⌝ }
 {
+    let key = m.key;
     let f = m.fingerprint;
     let length = m.length;
     let n = files::part_length(old, old_used);
@@ -97,7 +101,7 @@ fn replace(
         return Fed::Refused(Refusal::FinalByte, m);
     }
     Fed::Next(Running {
-        key: m.key,
+        key: key,
         fingerprint: files::replaced_residue(p, f, old, new, old_used, length - n - 8 * place),
         length: length,
     })

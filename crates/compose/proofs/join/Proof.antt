@@ -1,7 +1,7 @@
 -- `compose::join` meets its contract: the tests of the key, and then those of `join_under`.
 use mathlib.Core.Path.{sym, ap, _∙_}
-use native.Mathlib.Omega.{arith}
 use borrow.Author.Needs.{needs}
+use Rattle.acceptance.specs.Keys.{polynomialOf}
 use Rattle.acceptance.specs.Opened.{Opened}
 use Rattle.acceptance.proofs.Opened.{opened-first}
 use Rattle.files.specs.Files.{joined}
@@ -24,13 +24,13 @@ returns c =
     let a = known-told→start c .args in
     let key = a .m .key in
     let t = c .before .before .before .test in
-    sym (ap (fedUnder key) (refused (t .result) key (t .ensures) (marksTests key (a .first) (a .second)) (markIn (a .m))
-    (joined key (a .first) (a .second)) _ (c .before .r .given .1)))
+    sym (ap (fedUnder key) (refused (t .result) key (t .ensures) (marksTests (polynomialOf key) (a .first) (a .second)) (markIn (a .m))
+    (joined (polynomialOf key) (a .first) (a .second)) _ (c .before .r .given .1)))
 
 key-opened : (c : tie.After-p) → Opened (p→start c .args .m .key) (c .p .given .0 .0)
 key-opened c =
     let t = c .before .before .test in
-    opened (t .result) (p→start c .args .m .key) (t .ensures) _ (omega arith) (c .p .given .1)
+    opened (t .result) (p→start c .args .m .key) (t .ensures) _ (c .p .given .1)
 
 join-under-requires : tie.Need-join-under-requires
 join-under-requires c κs = key-opened (c .before)
@@ -40,8 +40,8 @@ returns-2 c =
     let a = p→start (c .before .before) .args in
     let key = a .m .key in
     c .join-under .ensures
-    ∙ sym (ap (fedUnder key) (opened-first (key-opened (c .before .before)) (marksTests key (a .first) (a .second)) (markIn (a .m))
-    (joined key (a .first) (a .second))))
+    ∙ sym (ap (fedUnder key) (opened-first (key-opened (c .before .before)) (marksTests (polynomialOf key) (a .first) (a .second)) (markIn (a .m))
+    (joined (polynomialOf key) (a .first) (a .second))))
 
 pub join-spec : {M : Type 1} → statement M
 join-spec = tie.close (tie.spec (λ c κs. search needs) (λ c. search needs) (λ c. search needs) join-under-requires returns returns-2)

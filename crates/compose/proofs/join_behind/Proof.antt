@@ -2,6 +2,7 @@
 use mathlib.Core.Path.{ap, _∙_}
 use borrow.Author.Needs.{needs}
 use Rattle.refusals.specs.Refusals.{firstOf}
+use Rattle.acceptance.specs.Keys.{polynomialOf}
 use Rattle.files.specs.declared.Mark.{Mark}
 use Rattle.files.specs.Files.{joined}
 use Rattle.marks.specs.Answers.{markIn, fedUnder}
@@ -14,7 +15,7 @@ unfolding joinBehind
 returns c =
     let a = c .before .before .args in
     let key = a .m .key in
-    c .join .ensures ∙ ap (λ (x : Mark). fedUnder key (firstOf (joinTests key x (a .other)) (markIn (a .m)) (joined key x (a .other))))
+    c .join .ensures ∙ ap (λ (x : Mark). fedUnder key (firstOf (joinTests key x (a .other)) (markIn (a .m)) (joined (polynomialOf key) x (a .other))))
     (c .before .mark .ensures)
 
 pub join-behind-spec : {M : Type 1} → statement M

@@ -3,7 +3,7 @@ use mathlib.Core.Path.{ap, _∙_}
 use mathlib.Core.List.{List, _++_}
 use borrow.Author.Needs.{needs}
 use Rattle.refusals.specs.Refusals.{Test, firstOf}
-use Rattle.acceptance.specs.Keys.{keyTests}
+use Rattle.acceptance.specs.Keys.{polynomialOf, keyTests}
 use Rattle.files.specs.declared.Mark.{Mark}
 use Rattle.files.specs.Files.{joined}
 use Rattle.marks.specs.Answers.{markIn, fedUnder}
@@ -19,8 +19,9 @@ returns c =
     let key = a .m .key in
     let m = markIn (a .m) in
     c .join .ensures
-    ∙ ap (λ (x : Mark). fedUnder key (firstOf (joinTests key (a .other) x) m (joined key (a .other) x))) (c .before .mark .ensures)
-    ∙ ap (λ (ts : List Test). fedUnder key (firstOf (keyTests key ++ ts) m (joined key (a .other) m))) (marks-swap key (a .other) m)
+    ∙ ap (λ (x : Mark). fedUnder key (firstOf (joinTests key (a .other) x) m (joined (polynomialOf key) (a .other) x))) (c .before .mark .ensures)
+    ∙ ap (λ (ts : List Test). fedUnder key (firstOf (keyTests key ++ ts) m (joined (polynomialOf key) (a .other) m)))
+    (marks-swap (polynomialOf key) (a .other) m)
 
 pub join-in-front-spec : {M : Type 1} → statement M
 join-in-front-spec = tie.close (tie.spec (λ c κs. search needs) (λ c κs. search needs) returns)

@@ -10,6 +10,7 @@ use Rattle.refusals.specs.declared.Refusal.the-variants.{MarkNotReduced}
 use Rattle.refusals.specs.Refusals.{Done, Refused, firstOf, passes}
 use Rattle.refusals.proofs.Laws.{holds, fails}
 use Rattle.refusals.proofs.Lengths.{sum-within}
+use Rattle.acceptance.specs.Keys.{polynomialOf}
 use Rattle.acceptance.proofs.Opened.{opened-proper, opened-whole, not-residue, is-residue, residue-below}
 use Rattle.files.specs.declared.Mark.{Mark}
 use Rattle.files.specs.Files.{unreduced, joined}
@@ -23,7 +24,7 @@ use Rattle.compose.proofs.join_under.Tie as tie
 -- ---- the places: from each one to an earlier one
 
 abbrev else1→start : tie.Else1 → tie.Start
-else1→start c = c .before .before
+else1→start c = c .before .before .before
 
 abbrev is-residue→else1 : tie.After-is-residue → tie.Else1
 is-residue→else1 c = c .before
@@ -48,15 +49,15 @@ lengths s = s .args .first .length ∷ s .args .second .length ∷ (s .args .fir
 
 -- ---- what is known after each test that failed
 
-short : (c : tie.Else1) → passes (lengths (c .before .before)) ≡ false
-short c = fails _ (passes (lengths (c .before .before))) (c .before .fits2 .ensures) (c .if1 .left)
+short : (c : tie.Else1) → passes (lengths (else1→start c)) ≡ false
+short c = fails _ (passes (lengths (else1→start c))) (c .before .fits2 .ensures) (c .if1 .left)
 
-first-low : (c : tie.Else2) → let a = else2→start c .args in unreduced (a .m .key) (a .first) ≡ false
+first-low : (c : tie.Else2) → let a = else2→start c .args in unreduced (polynomialOf (a .m .key)) (a .first) ≡ false
 first-low c =
     let r = c .before .is-residue in
     is-residue (else2→start c .pre) _ (r .result) (r .ensures) (c .if2 .left)
 
-second-low : (c : tie.Else3) → let a = else3→start c .args in unreduced (a .m .key) (a .second) ≡ false
+second-low : (c : tie.Else3) → let a = else3→start c .args in unreduced (polynomialOf (a .m .key)) (a .second) ≡ false
 second-low c =
     let r = c .before .is-residue2 in
     is-residue (else3→start c .pre) _ (r .result) (r .ensures) (c .if3 .left)
@@ -65,23 +66,24 @@ second-low c =
 
 returns : tie.Need-returns
 returns c =
-    let s = c .before .before in
+    let s = c .before .before .before in
     let a = s .args in
     let long = holds _ (passes (lengths s)) (c .before .fits2 .ensures) (c .if1 .taken) in
-    sym (ap (fedUnder (a .m .key)) (marks-long (a .m .key) (a .first) (a .second) (markIn (a .m)) (joined (a .m .key) (a .first) (a .second)) long))
+    let key = polynomialOf (a .m .key) in
+    sym (ap (fedUnder (a .m .key)) (marks-long key (a .first) (a .second) (markIn (a .m)) (joined key (a .first) (a .second)) long))
 
 is-residue-requires : tie.Need-is-residue-requires
-is-residue-requires c κs = opened-proper (c .before .before .pre)
+is-residue-requires c κs = opened-proper (else1→start c .pre)
 
 -- number 8 applies to one of the marks
-unreduced-refused : (c : tie.Else1) → let a = c .before .before .args in let key = a .m .key in
+unreduced-refused : (c : tie.Else1) → let a = else1→start c .args in let key = polynomialOf (a .m .key) in
     (unreduced key (a .first) || unreduced key (a .second)) ≡ true
-    → fedUnder key (Refused MarkNotReduced (markIn (a .m))) ≡ fedUnder key
+    → fedUnder (a .m .key) (Refused MarkNotReduced (markIn (a .m))) ≡ fedUnder (a .m .key)
     (firstOf (marksTests key (a .first) (a .second)) (markIn (a .m)) (joined key (a .first) (a .second)))
 unreduced-refused c high =
-    let a = c .before .before .args in
-    let key = a .m .key in
-    sym (ap (fedUnder key) (marks-unreduced key (a .first) (a .second) (markIn (a .m)) (joined key (a .first) (a .second)) (short c) high))
+    let a = else1→start c .args in
+    let key = polynomialOf (a .m .key) in
+    sym (ap (fedUnder (a .m .key)) (marks-unreduced key (a .first) (a .second) (markIn (a .m)) (joined key (a .first) (a .second)) (short c) high))
 
 returns-2 : tie.Need-returns-2
 returns-2 c =
@@ -107,8 +109,8 @@ joined-residue-requires c κs =
       residue-below (s .pre) (a .second .fingerprint) (second-low c),
     )
 
-add-t15 : tie.Need-add-t15
-add-t15 c =
+add-t16 : tie.Need-add-t16
+add-t16 c =
     let a = joined-residue→start c .args in
     record { fits = omega (arith, sum-within (a .first .length) (a .second .length) (short (joined-residue→else1 c))) }
 
@@ -117,15 +119,15 @@ unfolding joined
 returns-4 c =
     let s = joined-residue→start c in
     let a = s .args in
-    let key = a .m .key in
+    let key = polynomialOf (a .m .key) in
     let x = a .first in
     let y = a .second in
     let value : c .joined-residue .result ≡ rem key (x .fingerprint * 2 ^ y .length ⊕ y .fingerprint ⊕ 2 ^ y .length) =
     c .joined-residue .ensures
     ∙ ap (λ (q : ℕ). rem q (x .fingerprint * 2 ^ y .length ⊕ y .fingerprint ⊕ 2 ^ y .length)) (opened-whole (s .pre)) in
-    ap (λ (z : Mark). fedUnder key (Done z)) (mark-eq value refl)
-    ∙ sym (ap (fedUnder key) (marks-passed key x y (markIn (a .m)) (joined key x y) (short (joined-residue→else1 c)) (first-low (c .before .before .before))
-    (second-low (c .before))))
+    ap (λ (z : Mark). fedUnder (a .m .key) (Done z)) (mark-eq value refl)
+    ∙ sym (ap (fedUnder (a .m .key)) (marks-passed key x y (markIn (a .m)) (joined key x y) (short (joined-residue→else1 c))
+    (first-low (c .before .before .before)) (second-low (c .before))))
 
 pub join-under-spec : {M : Type 1} → statement M
 join-under-spec =
@@ -138,5 +140,5 @@ join-under-spec =
     is-residue-requires-2
     returns-3
     joined-residue-requires
-    add-t15
+    add-t16
     returns-4)

@@ -13,6 +13,7 @@ use Rattle.gf2.specs.Polynomials.{_⊕_, rem}
 use Rattle.refusals.specs.Refusals.{Done, longest, passes}
 use Rattle.refusals.proofs.Laws.{holds, fails}
 use Rattle.refusals.proofs.Lengths.{within, counted-is}
+use Rattle.acceptance.specs.Keys.{polynomialOf}
 use Rattle.acceptance.proofs.Opened.{opened-proper, opened-whole, not-residue, is-residue, residue-below}
 use Rattle.files.specs.declared.Mark.{Mark}
 use Rattle.files.specs.Files.{fingerprint, unreduced, Part, asPart, partLength, partBits, misused, replaced}
@@ -26,7 +27,7 @@ use Rattle.compose.proofs.replace.Tie as tie
 -- ---- the places: from each one to an earlier one
 
 abbrev within→start : tie.After-within → tie.Start
-within→start c = c .before .before .before .before .before
+within→start c = c .before .before .before .before .before .before
 
 abbrev else1→start : tie.Else1 → tie.Start
 else1→start c = within→start (c .before)
@@ -73,7 +74,7 @@ lengths s = s .args .m .length ∷ partLength (old s) ∷ partLength (new s) ∷
 
 -- the value that no test refuses
 abbrev value : tie.Start → Mark
-value s = replaced (s .args .m .key) (markIn (s .args .m)) (s .args .place) (old s) (new s)
+value s = replaced (polynomialOf (s .args .m .key)) (markIn (s .args .m)) (s .args .place) (old s) (new s)
 
 -- ---- what the code finds by each test
 
@@ -96,7 +97,7 @@ old-is c = let s = else1→start c in c .before .before .before .part-length .en
 new-is : (c : tie.Else1) → c .before .before .part-length2 .result ≡ partLength (new (else1→start c))
 new-is c = let s = else1→start c in c .before .before .part-length2 .ensures ∙ counted-is _ (within (lengths s) (short c) .1 .1 .0)
 
-low : (c : tie.Else2) → let a = else2→start c .args in unreduced (a .m .key) (markIn (a .m)) ≡ false
+low : (c : tie.Else2) → let a = else2→start c .args in unreduced (polynomialOf (a .m .key)) (markIn (a .m)) ≡ false
 low c =
     let r = c .before .is-residue in
     is-residue (else2→start c .pre) _ (r .result) (r .ensures) (c .if2 .left)
@@ -127,7 +128,7 @@ returns : tie.Need-returns
 returns c =
     let s = within→start (c .before) in
     let a = s .args in
-    sym (ap (fedUnder (a .m .key)) (page-long (a .m .key) (markIn (a .m)) (a .place) (old s) (new s) (markIn (a .m)) (value s)
+    sym (ap (fedUnder (a .m .key)) (page-long (polynomialOf (a .m .key)) (markIn (a .m)) (a .place) (old s) (new s) (markIn (a .m)) (value s)
     (holds _ _ (long (c .before)) (c .if1 .taken))))
 
 is-residue-requires : tie.Need-is-residue-requires
@@ -139,7 +140,7 @@ returns-2 c =
     let a = s .args in
     let r = c .before .is-residue in
     let high = not-residue (s .pre) _ (r .result) (r .ensures) (c .if2 .taken) in
-    sym (ap (fedUnder (a .m .key)) (page-unreduced (a .m .key) (markIn (a .m)) (a .place) (old s) (new s) (markIn (a .m)) (value s)
+    sym (ap (fedUnder (a .m .key)) (page-unreduced (polynomialOf (a .m .key)) (markIn (a .m)) (a .place) (old s) (new s) (markIn (a .m)) (value s)
     (short (c .before .before)) high))
 
 returns-3 : tie.Need-returns-3
@@ -147,7 +148,7 @@ returns-3 c =
     let s = else2→start (c .before) in
     let a = s .args in
     let b = else2→else1 (c .before) in
-    sym (ap (fedUnder (a .m .key)) (page-lengths (a .m .key) (markIn (a .m)) (a .place) (old s) (new s) (markIn (a .m)) (value s)
+    sym (ap (fedUnder (a .m .key)) (page-lengths (polynomialOf (a .m .key)) (markIn (a .m)) (a .place) (old s) (new s) (markIn (a .m)) (value s)
     (short b) (low (c .before)) (λ e. c .if3 .taken (old-is b ∙ e ∙ sym (new-is b)))))
 
 returns-4 : tie.Need-returns-4
@@ -155,7 +156,7 @@ returns-4 c =
     let s = page-within→start (c .before) in
     let a = s .args in
     let b = page-within→else2 (c .before) in
-    sym (ap (fedUnder (a .m .key)) (page-past (a .m .key) (markIn (a .m)) (a .place) (old s) (new s) (markIn (a .m)) (value s)
+    sym (ap (fedUnder (a .m .key)) (page-past (polynomialOf (a .m .key)) (markIn (a .m)) (a .place) (old s) (new s) (markIn (a .m)) (value s)
     (short (else2→else1 b)) (low b) (same (c .before)) (holds _ _ (past (c .before)) (c .if4 .taken))))
 
 returns-5 : tie.Need-returns-5
@@ -164,7 +165,7 @@ returns-5 c =
     let a = s .args in
     let d = is-misused2→else4 (c .before) in
     let b = page-within→else2 (d .before) in
-    sym (ap (fedUnder (a .m .key)) (page-misused (a .m .key) (markIn (a .m)) (a .place) (old s) (new s) (markIn (a .m)) (value s)
+    sym (ap (fedUnder (a .m .key)) (page-misused (polynomialOf (a .m .key)) (markIn (a .m)) (a .place) (old s) (new s) (markIn (a .m)) (value s)
     (short (else2→else1 b)) (low b) (same (d .before)) (inside d) (sym (wrong (c .before)) ∙ c .if5 .taken)))
 
 -- what the arithmetic rests on
@@ -205,7 +206,8 @@ returns-6 c =
     let e = c .before in
     let s = else5→start e in
     let a = s .args in
-    let key = a .m .key in
+    let x = a .m .key in
+    let key = polynomialOf x in
     let m = markIn (a .m) in
     let b = else5→else2 e in
     let d = else5→else4 e in
@@ -216,8 +218,8 @@ returns-6 c =
     ∙ ap (λ (q : ℕ). rem q (m .fingerprint ⊕ change q (a .old-used) * 2 ^ (m .length - page - 8 * a .place))) (opened-whole (s .pre))
     ∙ ap₂ (λ (u n : ℕ). rem key (m .fingerprint ⊕ change key u * 2 ^ n)) (used e .1)
     (ap (λ (n : ℕ). m .length - n - 8 * a .place) (fits e .0) ∙ after-page (m .length) (partLength (old s)) (a .place)) in
-    ap (λ (z : Mark). fedUnder key (Done z)) (mark-eq is refl)
-    ∙ sym (ap (fedUnder key) (page-passed key m (a .place) (old s) (new s) m (value s) (short (else2→else1 b)) (low b) (same (d .before)) (inside d) (right e)))
+    ap (λ (z : Mark). fedUnder x (Done z)) (mark-eq is refl)
+    ∙ sym (ap (fedUnder x) (page-passed key m (a .place) (old s) (new s) m (value s) (short (else2→else1 b)) (low b) (same (d .before)) (inside d) (right e)))
 
 pub replace-spec : {M : Type 1} → statement M
 replace-spec =

@@ -1,9 +1,9 @@
 -- `compose::replace_page` meets its contract: the tests of the key, and then those of `replace`.
 use mathlib.Core.Path.{sym, ap, _∙_}
 use mathlib.Core.List.{List}
-use native.Mathlib.Omega.{arith}
 use borrow.Author.Needs.{needs}
 use Rattle.refusals.specs.Refusals.{Test}
+use Rattle.acceptance.specs.Keys.{polynomialOf}
 use Rattle.acceptance.specs.Opened.{Opened}
 use Rattle.acceptance.proofs.Opened.{opened-first}
 use Rattle.files.specs.declared.Mark.{Mark}
@@ -31,10 +31,10 @@ new s = asPart (s .args .new .now) (s .args .new-used)
 
 -- the tests behind those of the key, and the value
 abbrev tests : tie.Start → List Test
-tests s = pageTests (s .args .m .key) (markIn (s .args .m)) (s .args .place) (old s) (new s)
+tests s = pageTests (polynomialOf (s .args .m .key)) (markIn (s .args .m)) (s .args .place) (old s) (new s)
 
 abbrev value : tie.Start → Mark
-value s = replaced (s .args .m .key) (markIn (s .args .m)) (s .args .place) (old s) (new s)
+value s = replaced (polynomialOf (s .args .m .key)) (markIn (s .args .m)) (s .args .place) (old s) (new s)
 
 returns : tie.Need-returns
 unfolding replacePage
@@ -47,7 +47,7 @@ returns c =
 key-opened : (c : tie.After-p) → Opened (p→start c .args .m .key) (c .p .given .0 .0)
 key-opened c =
     let t = c .before .before .test in
-    opened (t .result) (p→start c .args .m .key) (t .ensures) _ (omega arith) (c .p .given .1)
+    opened (t .result) (p→start c .args .m .key) (t .ensures) _ (c .p .given .1)
 
 replace-requires : tie.Need-replace-requires
 replace-requires c κs = key-opened (c .before)
