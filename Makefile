@@ -43,10 +43,11 @@ conformance: libraries
 # Ours beside the peers, in one run; the picture of feeding goes to target/benchmark/feeding.svg. The peers are Debian packages:
 # libntl-dev libflint-dev libpari-dev golang-go golang-github-restic-chunker-dev zlib1g-dev liblzma-dev libssl-dev
 BENCHMARK = target/benchmark
-# The header and the libraries that are measured. The same program measures those of another tree:
-# make benchmark HEADER=../before/include BUILT=../before/target/staticlib
+# The header, the libraries and the printing program that are measured: this tree's, or those of another one, down to GFP_INTERFACE 4
+# (benchmark/calls.h): make benchmark HEADER=../before/include BUILT=../before/target/staticlib PROGRAM=../before/target/bin/mark
 HEADER = include
 BUILT = target/staticlib
+PROGRAM =
 benchmark: libraries
 	@rt staticlib gf2_measured > /dev/null
 	@mkdir -p $(BENCHMARK)
@@ -57,7 +58,7 @@ benchmark: libraries
 		$(LIBRARIES:%=$(BUILT)/lib%.a) $(BUILT)/libgf2_measured.a $(BENCHMARK)/librestic.a \
 		-lntl -lflint -lpari -lgmp -lz -llzma -lcrypto -lpthread -o $(BENCHMARK)/benchmark
 	@$(BENCHMARK)/benchmark $(BENCHMARK)/feeding.svg
-	@tools/benchmark-program
+	@tools/benchmark-program $(PROGRAM)
 
 # The picture of the latest run of the benchmark into the documents.
 benchmark-figures:

@@ -1,76 +1,41 @@
-// The library's calls with whole bytes, in the shape that gfp.h declares: up to GFP_INTERFACE 3 lengths are in bytes,
-// and there are no used bits. So one program measures the library before and after (HEADER, BUILT in the Makefile).
+// A key as the library that is measured takes it: up to GFP_INTERFACE 4 as one number, since then as a pair. So one program measures the
+// library before and after (HEADER, BUILT in the Makefile).
 #ifndef CALLS_H
 #define CALLS_H
 #include "gfp.h"
 
-namespace whole {
+struct Key {
+    uint32_t degree;
+    uint64_t word;   // the coefficients below t^degree
+    uint64_t number; // those and t^degree; t^64 has no place in it
+    // of the coefficients those below t^degree are taken, so that a number will do too
+    constexpr Key(uint32_t degree, uint64_t coefficients)
+        : degree(degree), word(coefficients & UINT64_MAX >> (64 - degree)), number(word | UINT64_C(2) << (degree - 1)) {}
+};
 
-#if GFP_INTERFACE < 4
+// the first arguments of a call, to the peers and to the library
+#define PAIR(key) (key).degree, (key).word
 
-inline uint64_t length_of(uint64_t bytes) { return bytes; }
+// what gfp_read_sheet writes
+struct Contents {
+    uint32_t version, degree;
+    uint64_t word, bits, page_size, pages, fingerprint;
+};
 
-inline uint32_t feed(uint64_t key, uint64_t *f, uint64_t *length, const uint8_t *part, size_t n) {
-    return gfp_feed(key, f, length, part, n);
-}
+#if GFP_INTERFACE < 5
 
-inline uint32_t feed_table(uint64_t key, uint64_t *f, uint64_t *length, const uint64_t *words, const uint8_t *part,
-                           size_t n) {
-    return gfp_feed_table(key, f, length, words, GFP_TABLE_WORDS, part, n);
-}
-
-inline uint32_t feed_house(uint64_t key, uint64_t *f, uint64_t *length, const uint8_t *part, size_t n) {
-    return gfp_feed_house(key, f, length, part, n);
-}
-
-inline uint32_t write_sheet(uint64_t key, uint64_t size, const uint8_t *file, size_t n, uint8_t *sheet, size_t room) {
-    return gfp_write_sheet(key, size, file, n, sheet, room);
-}
-
-inline uint32_t read_sheet(const uint8_t *sheet, size_t n, uint64_t *key, uint64_t *length, uint64_t *size,
-                           uint64_t *pages, uint64_t *f) {
-    return gfp_read_sheet(sheet, n, key, length, size, pages, f);
-}
-
-inline uint32_t check_file(const uint8_t *sheet, size_t sheet_length, const uint8_t *file, size_t n, uint32_t *outcome,
-                           uint32_t *page) {
-    return gfp_check_file(sheet, sheet_length, file, n, outcome, page);
-}
+#define KEY(key) (key).number
+#define KEY_PLACES(c) &(c).word
+constexpr Key HOUSE(61, GFP_HOUSE_KEY);
+constexpr uint32_t GREATEST_DEGREE = 63;
 
 #else
 
-inline uint64_t length_of(uint64_t bytes) { return 8 * bytes; }
-
-inline uint32_t feed(uint64_t key, uint64_t *f, uint64_t *bits, const uint8_t *part, size_t n) {
-    return gfp_feed(key, f, bits, part, n, 8);
-}
-
-inline uint32_t feed_table(uint64_t key, uint64_t *f, uint64_t *bits, const uint64_t *words, const uint8_t *part,
-                           size_t n) {
-    return gfp_feed_table(key, f, bits, words, GFP_TABLE_WORDS, part, n, 8);
-}
-
-inline uint32_t feed_house(uint64_t key, uint64_t *f, uint64_t *bits, const uint8_t *part, size_t n) {
-    return gfp_feed_house(key, f, bits, part, n, 8);
-}
-
-inline uint32_t write_sheet(uint64_t key, uint64_t size, const uint8_t *file, size_t n, uint8_t *sheet, size_t room) {
-    return gfp_write_sheet(key, size, file, n, 8, sheet, room);
-}
-
-inline uint32_t read_sheet(const uint8_t *sheet, size_t n, uint64_t *key, uint64_t *bits, uint64_t *size,
-                           uint64_t *pages, uint64_t *f) {
-    uint32_t version;
-    return gfp_read_sheet(sheet, n, &version, key, bits, size, pages, f);
-}
-
-inline uint32_t check_file(const uint8_t *sheet, size_t sheet_length, const uint8_t *file, size_t n, uint32_t *outcome,
-                           uint32_t *page) {
-    return gfp_check_file(sheet, sheet_length, file, n, 8, outcome, page);
-}
+#define KEY(key) PAIR(key)
+#define KEY_PLACES(c) &(c).degree, &(c).word
+constexpr Key HOUSE(GFP_HOUSE_DEGREE, GFP_HOUSE_WORD);
+constexpr uint32_t GREATEST_DEGREE = 64;
 
 #endif
-
-} // namespace whole
 
 #endif

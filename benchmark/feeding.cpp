@@ -1,6 +1,5 @@
 #define OPENSSL_SUPPRESS_DEPRECATED
 #include "feeding.h"
-#include "calls.h"
 #include "measure.h"
 #include "peers.h"
 #include <algorithm>
@@ -12,14 +11,15 @@
 
 const std::vector<size_t> SIZES = {64, 256, 1024, 4096, 65536, size_t(1) << 20, size_t(64) << 20};
 
-static const uint64_t HOUSE = GFP_HOUSE_KEY;
 static const char *SLICING = "C slicing by 4";
 
 struct Input {
-    uint64_t key;
+    Key key;
     std::vector<uint64_t> words;
     std::vector<uint8_t> file;
-    Input(uint64_t key, size_t n) : key(key), words(GFP_TABLE_WORDS), file(random_bytes(n)) { gfp_make_table(key, words.data(), words.size()); }
+    Input(const Key &key, size_t n) : key(key), words(GFP_TABLE_WORDS), file(random_bytes(n)) {
+        gfp_make_table(KEY(key), words.data(), words.size());
+    }
 };
 
 struct Way {
@@ -28,29 +28,35 @@ struct Way {
     Call call;
 };
 
-static Way by_house(const Input &in) {
-    return {"gfp_feed_house", true, [&in] {
-                uint64_t f = 1, length = 0;
-                whole::feed_house(in.key, &f, &length, in.file.data(), in.file.size()), sink = f;
-            }};
+using Feed = uint32_t (*)(const Input &in, uint64_t *f, uint64_t *bits, uint32_t used);
+
+static uint32_t fed_by_house(const Input &in, uint64_t *f, uint64_t *bits, uint32_t used) {
+    return gfp_feed_house(KEY(in.key), f, bits, in.file.data(), in.file.size(), used);
 }
 
-static Way by_table(const Input &in) {
-    return {"gfp_feed_table", true, [&in] {
-                uint64_t f = 1, length = 0;
-                whole::feed_table(in.key, &f, &length, in.words.data(), in.file.data(), in.file.size()), sink = f;
-            }};
+static uint32_t fed_by_table(const Input &in, uint64_t *f, uint64_t *bits, uint32_t used) {
+    return gfp_feed_table(KEY(in.key), f, bits, in.words.data(), in.words.size(), in.file.data(), in.file.size(), used);
 }
 
-static Way without_table(const Input &in) {
-    return {"gfp_feed", true, [&in] {
-                uint64_t f = 1, length = 0;
-                whole::feed(in.key, &f, &length, in.file.data(), in.file.size()), sink = f;
-            }};
+static uint32_t fed_without_table(const Input &in, uint64_t *f, uint64_t *bits, uint32_t used) {
+    return gfp_feed(KEY(in.key), f, bits, in.file.data(), in.file.size(), used);
 }
+
+template <Feed feed> static Call with_used(const Input &in, uint32_t used) {
+    return [&in, used] {
+        uint64_t f = 1, bits = 0;
+        feed(in, &f, &bits, used), sink = f;
+    };
+}
+
+static Way by_house(const Input &in) { return {"gfp_feed_house", true, with_used<fed_by_house>(in, 8)}; }
+
+static Way by_table(const Input &in) { return {"gfp_feed_table", true, with_used<fed_by_table>(in, 8)}; }
+
+static Way without_table(const Input &in) { return {"gfp_feed", true, with_used<fed_without_table>(in, 8)}; }
 
 static Way slicing(const Input &in) {
-    return {SLICING, false, [&in] { sink = peer_slicing_by_4(in.key, 1, in.words.data(), in.file.data(), in.file.size()); }};
+    return {SLICING, false, [&in] { sink = peer_slicing_by_4(in.key.degree, 1, in.words.data(), in.file.data(), in.file.size()); }};
 }
 
 static Way carryless(const Input &in) {
@@ -93,25 +99,23 @@ static std::vector<Way> house_ways(const Input &in) {
 static std::vector<Way> drawn_ways(const Input &in) { return {by_table(in), slicing(in)}; }
 
 static void same(const char *what, size_t n, uint64_t value, uint64_t ours) {
-    if (value == ours)
-        return;
-    fprintf(stderr, "%s is not ours at %zu bytes: no figures\n", what, n);
-    exit(1);
+    must(value == ours, std::string(what) + " is not ours at " + std::to_string(n) + " bytes");
 }
 
 // one length, behind a residue that depends on it, from an address that does
 static void check_length(const Input &in, size_t n) {
     const uint8_t *part = in.file.data() + n % 17;
-    uint64_t start = (n + 1) * UINT64_C(0x9e3779b97f4a7c15) >> 3, length = 0, f = start, g = start, h = start;
-    whole::feed_table(in.key, &f, &length, in.words.data(), part, n), length = 0;
-    whole::feed(in.key, &g, &length, part, n), length = 0;
+    const uint64_t start = (n + 1) * UINT64_C(0x9e3779b97f4a7c15) >> (64 - in.key.degree);
+    uint64_t bits = 0, f = start, g = start, h = start;
+    must(gfp_feed_table(KEY(in.key), &f, &bits, in.words.data(), in.words.size(), part, n, 8) == GFP_OK, "gfp_feed_table refuses");
+    bits = 0, gfp_feed(KEY(in.key), &g, &bits, part, n, 8);
     same("gfp_feed", n, g, f);
-    same(SLICING, n, peer_slicing_by_4(in.key, start, in.words.data(), part, n), f);
-    same("C branch-free loop", n, peer_feed_bits(in.key, start, part, n), f);
-    same("C loop with an if", n, peer_feed_bits_by_if(in.key, start, part, n), f);
-    if (in.key != HOUSE)
+    same(SLICING, n, peer_slicing_by_4(in.key.degree, start, in.words.data(), part, n), f);
+    same("C branch-free loop", n, peer_feed_bits(PAIR(in.key), start, part, n), f);
+    same("C loop with an if", n, peer_feed_bits_by_if(PAIR(in.key), start, part, n), f);
+    if (in.key.degree != HOUSE.degree || in.key.word != HOUSE.word)
         return;
-    whole::feed_house(in.key, &h, &length, part, n);
+    bits = 0, gfp_feed_house(KEY(in.key), &h, &bits, part, n, 8);
     same("gfp_feed_house", n, h, f);
     if (peer_carryless_runs())
         same("C carry-less", n, peer_carryless(start, part, n), f);
@@ -119,12 +123,18 @@ static void check_length(const Input &in, size_t n) {
         same("C carry-less 512", n, peer_carryless_wide(start, part, n), f);
 }
 
+static void check_lengths(const Key &key, size_t longest) {
+    Input in(key, longest + 16);
+    for (size_t n = 0; n <= longest; n += n < 3000 ? 1 : 9973)
+        check_length(in, n);
+}
+
 void check_peers() {
-    for (uint64_t key : {HOUSE, drawn_key()}) {
-        Input in(key, (1 << 20) + 16);
-        for (size_t n = 0; n <= 1 << 20; n += n < 3000 ? 1 : 9973)
-            check_length(in, n);
-    }
+    check_lengths(HOUSE, 1 << 20);
+    check_lengths(drawn_key(), 1 << 20);
+    for (auto &keys : {stock_keys(), random_keys()})
+        for (auto &k : keys)
+            check_lengths(k.key, 1 << 16);
     if (!peer_carryless_runs())
         printf("C carry-less: not measured, since this machine has no PCLMULQDQ.\n");
     if (!peer_carryless_wide_runs())
@@ -146,7 +156,7 @@ static void print_lines(const std::string &what, const std::vector<Way> &ways, c
             print("  " + ways[0].name, ns[0], ways[i].name, ns[i]);
 }
 
-static Figures measured(uint64_t key, const std::string &name, std::vector<Way> (*ways_of)(const Input &)) {
+static Figures measured(const Key &key, const std::string &name, std::vector<Way> (*ways_of)(const Input &)) {
     Figures figures;
     for (size_t n : SIZES) {
         Input in(key, n);
@@ -169,22 +179,22 @@ Figures feed_under_house_key() { return measured(HOUSE, "house key", house_ways)
 
 Figures feed_under_drawn_key() { return measured(drawn_key(), "drawn key", drawn_ways); }
 
-static void feed_by_table(uint64_t key, const std::string &name, size_t n) {
+static void feed_by_table(const Key &key, const std::string &name, size_t n) {
     Input in(key, n);
     std::vector<double> ns = measure({by_table(in).call, slicing(in).call}, turns(n));
     print("feed by table, " + name + ", " + std::to_string(n) + " bytes", ns[0], SLICING, ns[1]);
-    printf("%-52s      %11.3f ns a byte\n", "", ns[0] / double(n));
+    printf("%-62s      %11.3f ns a byte\n", "", ns[0] / double(n));
 }
 
 static Peer branch_free_loop(const Input &in) {
-    return {"C branch-free loop", [&in] { sink = peer_feed_bits(in.key, 1, in.file.data(), in.file.size()); }};
+    return {"C branch-free loop", [&in] { sink = peer_feed_bits(PAIR(in.key), 1, in.file.data(), in.file.size()); }};
 }
 
 static Peer loop_with_an_if(const Input &in) {
-    return {"C loop with an if", [&in] { sink = peer_feed_bits_by_if(in.key, 1, in.file.data(), in.file.size()); }};
+    return {"C loop with an if", [&in] { sink = peer_feed_bits_by_if(PAIR(in.key), 1, in.file.data(), in.file.size()); }};
 }
 
-static void feed_alone(uint64_t key, const std::string &name, const std::vector<Peer (*)(const Input &)> &loops) {
+static void feed_alone(const Key &key, const std::string &name, const std::vector<Peer (*)(const Input &)> &loops) {
     Input in(key, 65536);
     std::vector<Peer> peers;
     for (auto &loop : loops)
@@ -193,59 +203,34 @@ static void feed_alone(uint64_t key, const std::string &name, const std::vector<
 }
 
 void feed_in_other_ways() {
-    for (uint64_t degree : {8, 31, 32, 63}) {
-        std::string name = "degree " + std::to_string(degree);
+    for (auto &k : stock_keys()) {
         for (size_t n : {size_t(64), size_t(4096), size_t(65536), size_t(1) << 20, size_t(64) << 20})
-            feed_by_table(gfp_stock_key(degree), name, n);
-        feed_alone(gfp_stock_key(degree), name, {branch_free_loop});
+            feed_by_table(k.key, k.name, n);
+        feed_alone(k.key, k.name, {branch_free_loop});
+    }
+    for (auto &k : random_keys()) {
+        for (size_t n : {size_t(64), size_t(4096), size_t(65536)})
+            feed_by_table(k.key, k.name, n);
+        feed_alone(k.key, k.name, {branch_free_loop});
     }
     feed_alone(HOUSE, "house key", {branch_free_loop});
     feed_alone(drawn_key(), "drawn key", {branch_free_loop, loop_with_an_if});
 }
 
-#if GFP_INTERFACE < 4
-
-void feed_unfinished() {}
-
-#else
-
-using Feed = uint32_t (*)(const Input &in, uint64_t *f, uint64_t *bits, uint32_t used);
-
-static uint32_t fed_by_house(const Input &in, uint64_t *f, uint64_t *bits, uint32_t used) {
-    return gfp_feed_house(in.key, f, bits, in.file.data(), in.file.size(), used);
-}
-
-static uint32_t fed_by_table(const Input &in, uint64_t *f, uint64_t *bits, uint32_t used) {
-    return gfp_feed_table(in.key, f, bits, in.words.data(), in.words.size(), in.file.data(), in.file.size(), used);
-}
-
-static uint32_t fed_without_table(const Input &in, uint64_t *f, uint64_t *bits, uint32_t used) {
-    return gfp_feed(in.key, f, bits, in.file.data(), in.file.size(), used);
-}
-
-static Call with_used(const Input &in, Feed feed, uint32_t used) {
-    return [&in, feed, used] {
-        uint64_t f = 1, bits = 0;
-        feed(in, &f, &bits, used), sink = f;
-    };
-}
-
 // the part with u = 3 beside the same part with u = 8, and how much longer it takes
-static void compare_used(const std::string &what, const Input &in, Feed feed) {
-    std::vector<double> ns = measure({with_used(in, feed, 3), with_used(in, feed, 8)});
+template <Feed feed> static void compare_used(const std::string &what, const Input &in) {
+    std::vector<double> ns = measure({with_used<feed>(in, 3), with_used<feed>(in, 8)});
     print(what + ", " + size_name(in.file.size()) + ", u = 3", ns[0], "the same, u = 8", ns[1]);
-    printf("%-52s      %11.1f ns more\n", "", ns[0] - ns[1]);
+    printf("%-62s      %11.1f ns more\n", "", ns[0] - ns[1]);
 }
 
 void feed_unfinished() {
     for (size_t n : {size_t(64), size_t(4096), size_t(65536)}) {
         Input house(HOUSE, n), drawn(drawn_key(), n);
         house.file.back() &= 0xe0, drawn.file.back() &= 0xe0;
-        compare_used("gfp_feed_house, house key", house, fed_by_house);
-        compare_used("gfp_feed_table, house key", house, fed_by_table);
-        compare_used("gfp_feed, house key", house, fed_without_table);
-        compare_used("gfp_feed_table, drawn key", drawn, fed_by_table);
+        compare_used<fed_by_house>("gfp_feed_house, house key", house);
+        compare_used<fed_by_table>("gfp_feed_table, house key", house);
+        compare_used<fed_without_table>("gfp_feed, house key", house);
+        compare_used<fed_by_table>("gfp_feed_table, drawn key", drawn);
     }
 }
-
-#endif

@@ -25,7 +25,7 @@ Figures feed_under_house_key();
 Figures feed_under_drawn_key();
 void feed_in_other_ways();
 
-// a part of which 3 bits of the final byte are used, beside the same part with all 8; nothing up to GFP_INTERFACE 3
+// a part of which 3 bits of the final byte are used, beside the same part with all 8
 void feed_unfinished();
 
 // "64 B", "4 KiB"

@@ -1,5 +1,4 @@
 // Ours beside the peers, in one run: each line gives both times and how many times as fast ours is. Built and run by `make benchmark`.
-#include "calls.h"
 #include "feeding.h"
 #include "librestic.h"
 #include "measure.h"
@@ -18,13 +17,17 @@ uint64_t measured_product(uint64_t a, uint64_t b);
 uint64_t measured_power_of_t(uint64_t n);
 }
 
-static const uint64_t HOUSE = GFP_HOUSE_KEY;
-
 static NTL::GF2X polynomial(uint64_t p) {
     NTL::GF2X f;
     for (int i = 0; i < 64; i++)
         if (p >> i & 1)
             NTL::SetCoeff(f, i);
+    return f;
+}
+
+static NTL::GF2X polynomial(const Key &key) {
+    NTL::GF2X f = polynomial(key.word);
+    NTL::SetCoeff(f, key.degree);
     return f;
 }
 
@@ -38,49 +41,81 @@ static void arithmetic() {
             {{"NTL PowerXMod", [&] { PowerXMod(z, n, modulus); }}});
 }
 
-static void key_tests() {
-    uint64_t p = drawn_key();
-    NTL::GF2X f = polynomial(p), h = polynomial(HOUSE);
+// the coefficient of t^i
+static unsigned long coefficient(const Key &key, uint32_t i) { return i < key.degree ? key.word >> i & 1 : i == key.degree; }
+
+// a key that is accepted, but for restic's chunker at degree 64: its polynomials have 64 bits
+static void test_accepted(const std::string &what, const Key &key) {
+    NTL::GF2X f = polynomial(key);
     nmod_poly_t g;
     nmod_poly_init(g, 2);
-    for (int i = 0; i < 64; i++)
-        if (p >> i & 1)
-            nmod_poly_set_coeff_ui(g, i, 1);
-    GEN coefficients = cgetg(62 + 2, t_VECSMALL);
+    GEN coefficients = cgetg(key.degree + 1 + 2, t_VECSMALL);
     coefficients[1] = 0;
-    for (int i = 0; i < 62; i++)
-        coefficients[i + 2] = long(p >> i & 1);
+    for (uint32_t i = 0; i <= key.degree; i++) {
+        nmod_poly_set_coeff_ui(g, i, coefficient(key, i));
+        coefficients[i + 2] = long(coefficient(key, i));
+    }
     GEN q = Flx_to_F2x(coefficients);
     pari_sp stack = avma;
-    compare("test of an accepted key of degree 61", [&] { sink = gfp_test_key(p); },
-            {{"NTL IterIrredTest", [&] { sink = IterIrredTest(f); }},
-             {"restic's chunker", [&] { sink = restic_irreducible(p); }},
-             {"FLINT", [&] { sink = nmod_poly_is_irreducible(g); }},
-             {"PARI", [&] { sink = uint64_t(F2x_is_irred(q)), avma = stack; }}});
-    compare("test of the house key", [&] { sink = gfp_test_key(HOUSE); }, {{"NTL IterIrredTest", [&] { sink = IterIrredTest(h); }}});
+    std::vector<Peer> peers = {{"NTL IterIrredTest", [&] { sink = IterIrredTest(f); }},
+                               {"FLINT", [&] { sink = nmod_poly_is_irreducible(g); }},
+                               {"PARI", [&] { sink = uint64_t(F2x_is_irred(q)), avma = stack; }}};
+    if (key.degree < 64)
+        peers.push_back({"restic's chunker", [&] { sink = restic_irreducible(key.number); }});
+    for (auto &peer : peers)
+        peer.call(), must(sink == 1, peer.name + " refuses a key, " + what);
+    compare(what, [&] { sink = gfp_test_key(KEY(key)); }, peers);
     nmod_poly_clear(g);
 }
 
-static void tables() {
+static void test_stock(const std::string &what, const Key &key) {
+    NTL::GF2X f = polynomial(key);
+    compare(what, [&] { sink = gfp_test_key(KEY(key)); }, {{"NTL IterIrredTest", [&] { sink = IterIrredTest(f); }}});
+}
+
+static void key_tests() {
+    test_accepted("test of an accepted key of degree 61", drawn_key());
+    for (auto &k : random_keys())
+        test_accepted("test of an accepted key, " + k.name, k.key);
+    test_stock("test of the house key", HOUSE);
+    for (auto &k : stock_keys())
+        test_stock("test of the stock key, " + k.name, k.key);
+}
+
+static void tables_under(const Key &key, const std::string &whose) {
     static uint64_t words[1024], peer_words[1024];
-    compare("make a table", [&] { sink = gfp_make_table(HOUSE, words, 1024); }, {{"C", [&] { peer_fill(HOUSE, peer_words), sink = peer_words[1023]; }}});
-    compare("test of a table", [&] { sink = gfp_test_table(HOUSE, words, 1024); }, {{"C linear test", [&] { sink = peer_test(HOUSE, words); }}});
+    gfp_make_table(KEY(key), words, 1024), peer_fill(PAIR(key), peer_words);
+    must(memcmp(words, peer_words, sizeof words) == 0 && peer_test(PAIR(key), words) == 0, "C's table is not ours" + whose);
+    compare("make a table" + whose, [&] { sink = gfp_make_table(KEY(key), words, 1024); },
+            {{"C", [&] { peer_fill(PAIR(key), peer_words), sink = peer_words[1023]; }}});
+    compare("test of a table" + whose, [&] { sink = gfp_test_table(KEY(key), words, 1024); },
+            {{"C linear test", [&] { sink = peer_test(PAIR(key), words); }}});
+}
+
+static void tables() {
+    tables_under(HOUSE, "");
+    for (auto &k : stock_keys())
+        tables_under(k.key, ", " + k.name);
+}
+
+static void join_under(const Key &key, const std::string &whose) {
+    uint64_t f, bits;
+    NTL::GF2XModulus modulus(polynomial(key));
+    NTL::GF2X x = polynomial(0x1234567890abcdefu) % modulus, power, product;
+    NTL::ZZ n = NTL::ZZ(4294967295) * 8;
+    compare("join with 2^32 - 1 bytes, " + whose,
+            [&] { f = 5, bits = 0, gfp_join_behind(KEY(key), &f, &bits, 3, UINT64_C(8) * 4294967295), sink = f; },
+            {{"NTL PowerXMod, MulMod", [&] { PowerXMod(power, n, modulus), MulMod(product, x, power, modulus); }}});
 }
 
 static void joining() {
-    for (uint64_t key : {HOUSE, drawn_key()}) {
-        uint64_t f, length;
-        const uint64_t longest = whole::length_of(4294967295);
-        NTL::GF2XModulus modulus(polynomial(key));
-        NTL::GF2X x = polynomial(0x1234567890abcdefu), power, product;
-        NTL::ZZ n = NTL::ZZ(4294967295) * 8;
-        compare(key == HOUSE ? "join with 2^32 - 1 bytes, house key" : "join with 2^32 - 1 bytes, drawn key, with its test",
-                [&] { f = 5, length = 0, gfp_join_behind(key, &f, &length, 3, longest), sink = f; },
-                {{"NTL PowerXMod, MulMod", [&] { PowerXMod(power, n, modulus), MulMod(product, x, power, modulus); }}});
-    }
+    join_under(HOUSE, "house key");
+    join_under(drawn_key(), "drawn key, with its test");
+    for (auto &k : stock_keys())
+        join_under(k.key, k.name);
 }
 
-static void searching() {
+static void search_under(const Key &key, const std::string &whose) {
     size_t n = 1 << 20;
     std::vector<uint8_t> random = random_bytes(n), log(n);
     const char *line = "2026-11-15T04:12:07Z gauge 0417 tilt +0.0125 mrad, pore pressure 183.2 kPa, ok\n";
@@ -90,46 +125,59 @@ static void searching() {
     uint32_t places, alarms;
     for (auto *text : {&random, &log}) {
         std::vector<uint8_t> pattern(text->begin() + 500000, text->begin() + 500016);
-        compare(text == &random ? "search, 1 MiB random, pattern 16, degree 61" : "search, 1 MiB log-like, pattern 16, degree 61",
-                [&] { gfp_search(HOUSE, text->data(), n, pattern.data(), 16, words, 64, &places, &alarms), sink = places; },
+        compare(std::string(text == &random ? "search, 1 MiB random" : "search, 1 MiB log-like") + ", pattern 16, " + whose,
+                [&] { gfp_search(KEY(key), text->data(), n, pattern.data(), 16, words, 64, &places, &alarms), sink = places; },
                 {{"C Rabin-Karp 2^32", [&] { sink = peer_rabin_karp(text->data(), n, pattern.data(), 16, words, 64); }},
                  {"memmem", [&] { sink = peer_memmem(text->data(), n, pattern.data(), 16, words, 64); }}});
     }
 }
 
-static void sheets_under(uint64_t key, const std::string &whose) {
+static void searching() {
+    search_under(HOUSE, "degree 61");
+    for (auto &k : stock_keys())
+        search_under(k.key, k.name);
+}
+
+static void sheets_under(const Key &key, const std::string &whose) {
     size_t n = size_t(16) << 20;
     std::vector<uint8_t> file = random_bytes(n);
     static uint64_t words[1024];
-    gfp_make_table(key, words, 1024);
+    gfp_make_table(KEY(key), words, 1024);
     const uint8_t *part = file.data();
-    uint64_t k, f, length, s, c;
+    uint64_t f, bits;
     uint32_t outcome, page;
+    Contents c;
     std::vector<Peer> peers = {
-        {"our feed by table",
-         [&] { f = 1, length = 0, whole::feed_table(key, &f, &length, words, part, n), sink = f; }},
-        {"C slicing by 4", [&] { sink = peer_slicing_by_4(key, 1, words, part, n); }}};
+        {"our feed by table", [&] { f = 1, bits = 0, gfp_feed_table(KEY(key), &f, &bits, words, 1024, part, n, 8), sink = f; }},
+        {"C slicing by 4", [&] { sink = peer_slicing_by_4(key.degree, 1, words, part, n); }}};
     for (uint64_t size : {16, 4096}) {
         std::vector<uint8_t> sheet(GFP_SHEET_BYTES + 8 * ((n + size - 1) / size));
         std::string pages = whose + "16 MiB, pages of " + std::to_string(size) + " bytes";
         uint8_t *lent = sheet.data();
         size_t m = sheet.size();
-        compare("write a sheet, " + pages, [&] { sink = whole::write_sheet(key, size, part, n, lent, m); }, peers);
-        compare("read a sheet, " + pages, [&] { sink = whole::read_sheet(lent, m, &k, &length, &s, &c, &f); }, peers);
-        compare("check a file, " + pages, [&] { sink = whole::check_file(lent, m, part, n, &outcome, &page); }, peers);
+        Call write = [&] { sink = gfp_write_sheet(KEY(key), size, part, n, 8, lent, m); };
+        Call read = [&] { sink = gfp_read_sheet(lent, m, &c.version, KEY_PLACES(c), &c.bits, &c.page_size, &c.pages, &c.fingerprint); };
+        Call check = [&] { sink = gfp_check_file(lent, m, part, n, 8, &outcome, &page); };
+        for (auto &call : {write, read, check})
+            call(), must(sink == GFP_OK, "a sheet is refused, " + pages);
+        compare("write a sheet, " + pages, write, peers);
+        compare("read a sheet, " + pages, read, peers);
+        compare("check a file, " + pages, check, peers);
     }
 }
 
 static void sheets() {
     sheets_under(HOUSE, "");
     sheets_under(drawn_key(), "drawn key, ");
+    for (auto &k : random_keys())
+        sheets_under(k.key, k.name + ", ");
 }
 
 static void drawing() {
     NTL::GF2XModulus modulus(polynomial(HOUSE));
-    uint64_t e = 0x1234567890abcdefu, key;
+    uint64_t e = 0x1234567890abcdefu, drawn;
     NTL::GF2X x = polynomial(e), z;
-    compare("draw a key of degree 61", [&] { gfp_draw(61, e, &key), sink = key; }, {{"NTL MinPolyMod", [&] { MinPolyMod(z, x, modulus); }}});
+    compare("draw a key of degree 61", [&] { gfp_draw(61, e, &drawn), sink = drawn; }, {{"NTL MinPolyMod", [&] { MinPolyMod(z, x, modulus); }}});
 }
 
 // the table and the picture of what was fed under both keys; the picture shows C slicing by 4 once, since no key changes its time

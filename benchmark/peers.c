@@ -2,25 +2,22 @@
 #include "peers.h"
 #include <string.h>
 
-static int degree(uint64_t p) { return 63 - __builtin_clzll(p); }
+/* The key with t^k, which falls out of the 64 bits where k is 64: a residue moved up by one bit loses it there too. */
+static inline uint64_t number(uint32_t k, uint64_t word) { return word | UINT64_C(2) << (k - 1); }
 
 /* One bit behind a residue. */
-static inline uint64_t step(uint64_t f, unsigned bit, uint64_t key, int k) {
-    uint64_t v = f << 1 | bit;
-    return v ^ (key & -(v >> k));
-}
+static inline uint64_t step(uint64_t f, unsigned bit, uint64_t key, uint32_t k) { return (f << 1 | bit) ^ (key & -(f >> (k - 1))); }
 
-uint64_t peer_feed_bits(uint64_t key, uint64_t f, const uint8_t *p, size_t n) {
-    int k = degree(key);
+uint64_t peer_feed_bits(uint32_t k, uint64_t word, uint64_t f, const uint8_t *p, size_t n) {
+    uint64_t key = number(k, word);
     for (size_t i = 0; i < n; i++)
         for (int j = 7; j >= 0; j--)
             f = step(f, p[i] >> j & 1, key, k);
     return f;
 }
 
-void peer_fill(uint64_t key, uint64_t *words) {
-    int k = degree(key);
-    uint64_t w = key ^ UINT64_C(1) << k;
+void peer_fill(uint32_t k, uint64_t word, uint64_t *words) {
+    uint64_t key = number(k, word), w = word;
     for (int j = 0; j < 4; j++) {
         uint64_t *t = words + 256 * j;
         t[0] = 0;
@@ -32,9 +29,8 @@ void peer_fill(uint64_t key, uint64_t *words) {
     }
 }
 
-uint64_t peer_test(uint64_t key, const uint64_t *words) {
-    int k = degree(key);
-    uint64_t w = key ^ UINT64_C(1) << k, differences = 0;
+uint64_t peer_test(uint32_t k, uint64_t word, const uint64_t *words) {
+    uint64_t key = number(k, word), w = word, differences = 0;
     for (int j = 0; j < 4; j++) {
         const uint64_t *t = words + 256 * j;
         differences |= t[0];
@@ -55,12 +51,11 @@ static inline uint32_t big_endian(const uint8_t *p) {
 
 #define LOOKED_UP(t, h) ((t)[(h) & 255] ^ (t)[256 + ((h) >> 8 & 255)] ^ (t)[512 + ((h) >> 16 & 255)] ^ (t)[768 + ((h) >> 24 & 255)])
 
-uint64_t peer_slicing_by_4(uint64_t key, uint64_t f, const uint64_t *words, const uint8_t *p, size_t n) {
-    int k = degree(key);
-    uint64_t mask = (UINT64_C(1) << k) - 1;
+uint64_t peer_slicing_by_4(uint32_t k, uint64_t f, const uint64_t *words, const uint8_t *p, size_t n) {
+    uint64_t mask = UINT64_MAX >> (64 - k);
     size_t i = 0;
     if (k >= 32) {
-        int s = k - 32;
+        uint32_t s = k - 32;
         for (; i + 4 <= n; i += 4) {
             uint64_t h = f >> s;
             f = ((f << 32 | big_endian(p + i)) & mask) ^ LOOKED_UP(words, h);
@@ -118,16 +113,17 @@ size_t peer_memmem(const uint8_t *text, size_t n, const uint8_t *pattern, size_t
 }
 
 /* One bit behind a residue, by a branch. */
-static inline uint64_t step_by_if(uint64_t f, unsigned bit, uint64_t key, int k) {
+static inline uint64_t step_by_if(uint64_t f, unsigned bit, uint64_t key, uint32_t k) {
     uint64_t v = f << 1 | bit;
-    if (v >> k)
+    if (f >> (k - 1))
         v ^= key;
     return v;
 }
 
 /* gcc would make a conditional move of the branch. */
-__attribute__((optimize("no-if-conversion", "no-if-conversion2"))) uint64_t peer_feed_bits_by_if(uint64_t key, uint64_t f, const uint8_t *p, size_t n) {
-    int k = degree(key);
+__attribute__((optimize("no-if-conversion", "no-if-conversion2"))) uint64_t peer_feed_bits_by_if(uint32_t k, uint64_t word, uint64_t f, const uint8_t *p,
+                                                                                                  size_t n) {
+    uint64_t key = number(k, word);
     for (size_t i = 0; i < n; i++)
         for (int j = 7; j >= 0; j--)
             f = step_by_if(f, p[i] >> j & 1, key, k);

@@ -1,4 +1,5 @@
-/* The C programs that the library is measured against: the same work, written plainly and compiled with -O3. */
+/* The C programs that the library is measured against: the same work, written plainly and compiled with -O3. A key is its degree, 8 to 64,
+ * and the word of its coefficients below. */
 #ifndef PEERS_H
 #define PEERS_H
 #include <stddef.h>
@@ -8,17 +9,17 @@ extern "C" {
 #endif
 
 /* A fingerprint bit by bit, with no branch on the data. */
-uint64_t peer_feed_bits(uint64_t key, uint64_t f, const uint8_t *p, size_t n);
+uint64_t peer_feed_bits(uint32_t degree, uint64_t word, uint64_t f, const uint8_t *p, size_t n);
 
 /* The same loop with the step written by an `if`, and compiled so that it stays a branch. */
-uint64_t peer_feed_bits_by_if(uint64_t key, uint64_t f, const uint8_t *p, size_t n);
+uint64_t peer_feed_bits_by_if(uint32_t degree, uint64_t word, uint64_t f, const uint8_t *p, size_t n);
 
 /* The table of 1,024 words, and its test by linearity: 0 where the words are right. */
-void peer_fill(uint64_t key, uint64_t *words);
-uint64_t peer_test(uint64_t key, const uint64_t *words);
+void peer_fill(uint32_t degree, uint64_t word, uint64_t *words);
+uint64_t peer_test(uint32_t degree, uint64_t word, const uint64_t *words);
 
-/* A fingerprint by slicing by four: four bytes at a time through the table, any degree from 8 to 63. */
-uint64_t peer_slicing_by_4(uint64_t key, uint64_t f, const uint64_t *words, const uint8_t *p, size_t n);
+/* A fingerprint by slicing by four: four bytes at a time through the key's table. */
+uint64_t peer_slicing_by_4(uint32_t degree, uint64_t f, const uint64_t *words, const uint8_t *p, size_t n);
 
 /* A fingerprint under the house key by carry-less multiplication, in registers of 128 bits (PCLMULQDQ) and of 512
  * (VPCLMULQDQ), and whether this machine has the instructions. */
