@@ -42,6 +42,7 @@ conformance: libraries
 
 # Ours beside the peers, in one run; the picture of feeding goes to target/benchmark/feeding.svg. The peers are Debian packages:
 # libntl-dev libflint-dev libpari-dev golang-go golang-github-restic-chunker-dev zlib1g-dev liblzma-dev libssl-dev
+# C's functions begin at multiples of 64: else the time of C's table depends on where the linker puts it.
 BENCHMARK = target/benchmark
 # The header, the libraries and the printing program that are measured: this tree's, or those of another one, down to GFP_INTERFACE 4
 # (benchmark/calls.h): make benchmark HEADER=../before/include BUILT=../before/target/staticlib PROGRAM=../before/target/bin/mark
@@ -52,7 +53,7 @@ benchmark: libraries
 	@rt staticlib gf2_measured > /dev/null
 	@mkdir -p $(BENCHMARK)
 	@cd benchmark && GO111MODULE=off GOPATH=/usr/share/gocode go build -buildmode=c-archive -o ../$(BENCHMARK)/librestic.a restic.go
-	@gcc -O3 -c benchmark/peers.c -o $(BENCHMARK)/peers.o
+	@gcc -O3 -falign-functions=64 -c benchmark/peers.c -o $(BENCHMARK)/peers.o
 	@gcc -O3 -mpclmul -mavx -c benchmark/carryless.c -o $(BENCHMARK)/carryless.o
 	@g++ -O3 -I$(BENCHMARK) -I$(HEADER) benchmark/*.cpp $(BENCHMARK)/peers.o $(BENCHMARK)/carryless.o \
 		$(LIBRARIES:%=$(BUILT)/lib%.a) $(BUILT)/libgf2_measured.a $(BENCHMARK)/librestic.a \
