@@ -7,15 +7,19 @@ use Prim.Native.Nat.{ℕ, _+_, _-_, _*_, _^_, _≤_, _<_}
 use native.Mathlib.Nat.{one-mul, zero-mul, two-pow-succ}
 use native.Mathlib.Decide.{ℕ-discrete, decLt}
 use native.Mathlib.Omega.{arith}
-use lib.Dec.{T, leb, leb→le, eqb}
-use borrow.Author.Tests.{eqb-true, eq-eqb, ne-eqb}
+use lib.Dec.{T, leb, ltb, leb→le, eqb}
+use borrow.Author.Tests.{eqb-true, eq-eqb, ne-eqb, not-false, ltb-false, leb-false}
 use Rattle.gf2.specs.Polynomials.{degree}
 use Rattle.lists.specs.Searches.{firstFrom}
 use Rattle.lists.specs.Inner.{among}
+use Rattle.lists.proofs.Truth.{or-neither}
 use Rattle.lists.proofs.Searches.{all-among}
 use Rattle.lists.proofs.Lists.{every, all-by-test}
 use Rattle.gf2.proofs.Degrees.{degree-is, degree-eq, deg-lo, deg-hi, deg-intro}
-use Rattle.acceptance.specs.Keys.{accepted}
+use Rattle.refusals.specs.Refusals.{Done}
+use Rattle.refusals.proofs.Laws.{done-clear}
+use Rattle.acceptance.specs.declared.Key.{Key}
+use Rattle.acceptance.specs.Keys.{accepted, keyOf}
 use Rattle.acceptance.proofs.Laws.{accepted-iff, accepted-pos}
 use Rattle.lists.specs.Counts.{countFrom}
 use Rattle.lists.proofs.Counts.{count-is-sum, sum-same, sum-times, count-all, count-one, count-none, count-twice}
@@ -25,7 +29,7 @@ use Rattle.fields.proofs.Conjugates.{field-four}
 use Rattle.fields.proofs.Pigeonhole.{Found}
 use Rattle.stock.specs.Stock.{stockKey}
 use Rattle.stock.proofs.Table.{stock-smallest}
-use Rattle.draw.specs.Drawing.{degrees, drawnKey, elements, Draws}
+use Rattle.draw.specs.Drawing.{degrees, drawnKey, elements, drawTests, draw, Draws}
 use Rattle.draw.proofs.Draws.{drawn-is, drawn-draws, drawn-irreducible}
 use Rattle.draw.proofs.Drawers.{Drawers, drawers}
 
@@ -152,3 +156,12 @@ module _ (k : ℕ) (listed : among k degrees ≡ true) where
   keys-count =
       sym (elements-count accepted (λ p e. e))
       ∙ count-all (λ e. accepted (drawnKey k e)) 2 (2 ^ k - 2) (λ e a b. key-accepted e a (omega (arith, four)))
+
+-- the key that the call answers has the degree asked for
+pub answered-degree : (k e : ℕ) (x : Key) → draw k e ≡ Done x → x .degree ≡ k
+unfolding draw
+answered-degree k e x d =
+    let c = done-clear (drawTests k e) tt (keyOf (drawnKey k e)) x d in
+    let r = or-neither (ltb e 2) (leb (2 ^ k) e) (c .0 .1 .0) in
+    ap (λ (y : Key). y .degree) (sym (c .1))
+    ∙ key-degree k (not-false (among k degrees) (c .0 .0)) e (ltb-false e 2 (r .0)) (leb-false (2 ^ k) e (r .1))
