@@ -1,14 +1,24 @@
 // The readings of document 01 about drawing; and of the 2,048 numbers of degree 11, how many are drawn by 11 of the 2,046 elements each, and
-// how many by none.
+// how many by none. Then degree 61, and degrees that are not listed.
 ghost use mathlib.Core.Path.{_≡_};
 ghost use Rattle.refusals.specs.Refusals.{valueOr};
 ghost use Rattle.draw.specs.Drawing.{draw};
+use acceptance::Key;
 use draw::Drawn;
 
-fn show(degree: u64, element: u64) {
+// A drawn key's polynomial: the listed degrees are below 64.
+fn show_key(key: Key) {
+    let k = key.degree;
+    if k < 64 {
+        let power: u64 = 1 << k;
+        vectors::hex(b"", power ^ key.word);
+    }
+}
+
+fn show(degree: u32, element: u64) {
     match draw::draw(degree, element) {
-        Drawn::Key(p) => {
-            vectors::hex(b"", p);
+        Drawn::Key(key) => {
+            show_key(key);
         }
         Drawn::Refused(r) => {
             vectors::refused(refusals::number(r));
@@ -17,13 +27,13 @@ fn show(degree: u64, element: u64) {
     vectors::text(b"\n");
 }
 
-// The key of degree 11 that an element draws, 0 where it is refused.
-fn key_of(element: u64) -> u64
-    ensures { λ r. ⌜ r ≡ valueOr 0 (draw 11 element) ⌝ }
+// The key of degree 11 that an element draws, degree 0 where it is refused.
+fn key_of(element: u64) -> Key
+    ensures { λ r. ⌜ r ≡ valueOr (record { degree = 0; word = 0 }) (draw 11 element) ⌝ }
 {
     match draw::draw(11, element) {
-        Drawn::Key(p) => p,
-        Drawn::Refused(r) => 0,
+        Drawn::Key(key) => key,
+        Drawn::Refused(r) => Key { degree: 0, word: 0 },
     }
 }
 
@@ -34,10 +44,11 @@ fn count_at(counts: &mut [u64], i: usize) {
     }
 }
 
-// Counts each key of degree 11 at the place of its coefficients below t^11.
+// Counts each key of degree 11 at the place of its word.
 fn count_keys(counts: &mut [u64]) {
     for e in 2..2048 {
-        count_at(counts, (key_of(e) % 2048) as usize);
+        let key = key_of(e);
+        count_at(counts, (key.word % 2048) as usize);
     }
 }
 
@@ -67,4 +78,9 @@ fn main() {
     let mut counts: [u64; 2048] = [0; 2048];
     count_keys(&mut counts);
     show_counts(&counts);
+    show(61, 2);
+    show(61, 3);
+    show(7, 2);
+    show(64, 2);
+    show(65, 2);
 }

@@ -1,12 +1,14 @@
 // The readings of document 01 about keys: the number that each key is refused with, 0 where it is accepted, and how many keys of the
-// degrees 8 to 14 are accepted.
+// degrees 8 to 14 are accepted. A key is handed in as its degree and its word: 0x11B is degree 8, word 1B. Then those of wish 8: degree 64,
+// degrees outside 8 to 64, and words with a bit at or above t^k.
 ghost use mathlib.Core.Path.{_≡_};
 ghost use Rattle.refusals.specs.Refusals.{numberOf};
 ghost use Rattle.keys.specs.Testing.{testKey};
+use acceptance::Key;
 use keys::Tested;
 
 // The number of the refusal, 0 where the key is accepted.
-fn number_of(key: u64) -> u32
+fn number_of(key: Key) -> u32
     ensures { λ r. ⌜ r ≡ numberOf (testKey key) ⌝ }
 {
     if let Tested::Refused(r) = keys::test(key) {
@@ -20,39 +22,62 @@ fn print(n: u64) {
     vectors::text(b"\n");
 }
 
-// The accepted keys from `from` up to `to`.
-fn accepted_between(from: u64, to: u64) -> u64 {
+// The accepted keys of a degree with words below `end`.
+fn accepted_below(degree: u32, end: u64) -> u64 {
     let mut count: u64 = 0;
-    for key in from..to {
-        count = vectors::counted(count, number_of(key) == 0);
+    for word in 0..end {
+        count = vectors::counted(count, number_of(Key { degree, word }) == 0);
     }
     count
 }
 
-fn print_number(key: u64) {
-    print(number_of(key) as u64);
+fn print_number(degree: u32, word: u64) {
+    print(number_of(Key { degree, word }) as u64);
 }
 
-fn print_count(from: u64, to: u64) {
-    print(accepted_between(from, to));
+fn print_count(degree: u32, end: u64) {
+    print(accepted_below(degree, end));
+}
+
+fn print_at_64() {
+    print_number(64, 0x1B);
+    print_number(64, 0x1D);
+    print_number(64, 0xB000000000000001);
+    print_number(64, 0xAD93D23594C935A9);
+    print_number(64, 0x00);
+    print_number(64, 0x01);
+    print_number(64, 0x19);
+    print_number(64, 0xFFFFFFFFFFFFFFFF);
+}
+
+fn print_outside() {
+    print_number(7, 0x03);
+    print_number(65, 0x1B);
+    print_number(255, 0x1B);
+    print_number(0xFFFFFFFF, 0x1B);
+    print_number(8, 0x11B);
+    print_number(8, 0x21B);
+    print_number(63, 0x8000000000000003);
 }
 
 fn main() {
-    print_number(0);
-    print_number(0xFF);
-    print_number(0x100);
-    print_number(0x101);
-    print_number(0x405);
-    print_number(0x1071F);
-    print_number(0x11B);
-    print_number(0x11D);
-    print_number(0x203);
-    print_number(0x409);
-    print_count(0x100, 0x200);
-    print_count(0x200, 0x400);
-    print_count(0x400, 0x800);
-    print_count(0x800, 0x1000);
-    print_count(0x1000, 0x2000);
-    print_count(0x2000, 0x4000);
-    print_count(0x4000, 0x8000);
+    print_number(0, 0x00);
+    print_number(7, 0x7F);
+    print_number(8, 0x00);
+    print_number(8, 0x01);
+    print_number(10, 0x05);
+    print_number(16, 0x071F);
+    print_number(8, 0x1B);
+    print_number(8, 0x1D);
+    print_number(9, 0x03);
+    print_number(10, 0x09);
+    print_count(8, 0x100);
+    print_count(9, 0x200);
+    print_count(10, 0x400);
+    print_count(11, 0x800);
+    print_count(12, 0x1000);
+    print_count(13, 0x2000);
+    print_count(14, 0x4000);
+    print_at_64();
+    print_outside();
 }

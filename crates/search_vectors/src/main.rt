@@ -1,5 +1,6 @@
 // Searches, printed and compared with their figures: the numbers of places and false alarms, or the refusal's number, and the lent words,
-// each 9 before the call. Under key 0x11B where nothing else is said.
+// each 9 before the call. Under the key of degree 8, word 1B, where nothing else is said.
+use acceptance::Key;
 use search::Searched;
 
 fn show(answer: Searched) {
@@ -28,7 +29,7 @@ fn word(words: &[u32], i: usize) -> u64 {
 }
 
 // With two words lent.
-fn with_two(what: &[u8], key: u64, text: &[u8], pattern: &[u8]) {
+fn with_two(what: &[u8], key: Key, text: &[u8], pattern: &[u8]) {
     let mut words: [u32; 2] = [9; 2];
     vectors::text(what);
     show(search::search(key, text, pattern, &mut words));
@@ -38,7 +39,7 @@ fn with_two(what: &[u8], key: u64, text: &[u8], pattern: &[u8]) {
 }
 
 // With one word lent.
-fn with_one(what: &[u8], key: u64, text: &[u8], pattern: &[u8]) {
+fn with_one(what: &[u8], key: Key, text: &[u8], pattern: &[u8]) {
     let mut words: [u32; 1] = [9; 1];
     vectors::text(what);
     show(search::search(key, text, pattern, &mut words));
@@ -46,18 +47,91 @@ fn with_one(what: &[u8], key: u64, text: &[u8], pattern: &[u8]) {
     vectors::text(b"\n");
 }
 
+// Under keys of degree 64, where a false alarm has nine bytes.
+fn at_64() {
+    let aaa: [u8; 3] = [0x61, 0x61, 0x61];
+    let aa: [u8; 2] = [0x61, 0x61];
+    let zeros: [u8; 9] = [0x00; 9];
+    let other: [u8; 9] = [0x01, 0x00, 0x00, 0x00, 0x00, 0x00, 0x00, 0x00, 0x1B];
+    let key = Key {
+        degree: 64,
+        word: 0x1B,
+    };
+    with_two(b"degree 64, word 1b, 61 61 in 61 61 61: ", key, &aaa, &aa);
+    with_two(
+        b"degree 64, word 1b, 01, 00 seven times, 1B in 00 nine times: ",
+        key,
+        &zeros,
+        &other,
+    );
+    with_two(
+        b"degree 64, word 1b, 00 nine times in 00 nine times: ",
+        key,
+        &zeros,
+        &zeros,
+    );
+    with_two(
+        b"degree 64, word 1: ",
+        Key {
+            degree: 64,
+            word: 0x01,
+        },
+        &aaa,
+        &aa,
+    );
+}
+
 fn main() {
     let aaa: [u8; 3] = [0x61, 0x61, 0x61];
     let aa: [u8; 2] = [0x61, 0x61];
     let zeros: [u8; 2] = [0x00, 0x00];
     let other: [u8; 2] = [0x01, 0x1B];
-    with_two(b"61 61 in 61 61 61: ", 0x11B, &aaa, &aa);
-    with_one(b"61 61 in 61 61 61: ", 0x11B, &aaa, &aa);
-    with_two(b"01 1B in 00 00: ", 0x11B, &zeros, &other);
-    with_two(b"00 00 in 00 00: ", 0x11B, &zeros, &zeros);
-    with_two(b"61 61 61 in 61 61: ", 0x11B, &aa, &aaa);
-    with_two(b"the empty pattern: ", 0x11B, &aa, b"");
-    with_two(b"61 61 in the empty text: ", 0x11B, b"", &aa);
-    with_two(b"key ff: ", 0xFF, &aaa, &aa);
-    with_two(b"key 101, the empty pattern: ", 0x101, &aaa, b"");
+    let key = Key {
+        degree: 8,
+        word: 0x1B,
+    };
+    with_two(b"61 61 in 61 61 61: ", key, &aaa, &aa);
+    with_one(b"61 61 in 61 61 61: ", key, &aaa, &aa);
+    with_two(b"01 1B in 00 00: ", key, &zeros, &other);
+    with_two(b"00 00 in 00 00: ", key, &zeros, &zeros);
+    with_two(b"61 61 61 in 61 61: ", key, &aa, &aaa);
+    with_two(b"the empty pattern: ", key, &aa, b"");
+    with_two(b"61 61 in the empty text: ", key, b"", &aa);
+    with_two(
+        b"key ff: ",
+        Key {
+            degree: 7,
+            word: 0x7F,
+        },
+        &aaa,
+        &aa,
+    );
+    with_two(
+        b"key 101, the empty pattern: ",
+        Key {
+            degree: 8,
+            word: 0x01,
+        },
+        &aaa,
+        b"",
+    );
+    with_two(
+        b"degree 8, word 11b: ",
+        Key {
+            degree: 8,
+            word: 0x11B,
+        },
+        &aaa,
+        &aa,
+    );
+    with_two(
+        b"degree 65, word 1b: ",
+        Key {
+            degree: 65,
+            word: 0x1B,
+        },
+        &aaa,
+        &aa,
+    );
+    at_64();
 }

@@ -5,15 +5,19 @@ use Rattle.refusals.specs.Refusals.{valueOr}
 use Rattle.draw.specs.declared.Drawn.{Drawn}
 use Rattle.draw.specs.Drawing.{draw}
 use Rattle.draw.specs.Answers.{answer}
+use Rattle.acceptance.specs.declared.Key.{Key}
 use Rattle.draw_vectors.proofs.key_of.Statement.{statement}
 use Rattle.draw_vectors.proofs.key_of.Tie as tie
 
+abbrev none : Key
+none = record { degree = 0; word = 0 }
+
 -- the key of what the call answers
-answered : (c : tie.After-draw) {x : Drawn} → c .draw .result ≡ x → valueOr 0 (answer x) ≡ valueOr 0 (draw 11 (c .before .args .element))
-answered c e = ap (λ (d : Drawn). valueOr 0 (answer d)) (sym e) ∙ ap (valueOr 0) (c .draw .ensures)
+answered : (c : tie.After-draw) {x : Drawn} → c .draw .result ≡ x → valueOr none (answer x) ≡ valueOr none (draw 11 (c .before .args .element))
+answered c e = ap (λ (d : Drawn). valueOr none (answer d)) (sym e) ∙ ap (valueOr none) (c .draw .ensures)
 
 returns : tie.Need-returns
-returns c = answered (c .before .before .before) (c .before .p .given .1)
+returns c = answered (c .before .before .before) (c .before .key .given .1)
 
 returns-2 : tie.Need-returns-2
 returns-2 c = answered (c .before .before .before) (c .before .r .given .1)
