@@ -15,8 +15,8 @@ use Rattle.gf2.specs.Polynomials.{rem, degree}
 use Rattle.gf2.proofs.Congruences.{shift-cancels}
 use Rattle.refusals.specs.Refusals.{Done, longest}
 use Rattle.refusals.proofs.Laws.{done-eq}
-use Rattle.acceptance.specs.Keys.{accepted}
-use Rattle.acceptance.proofs.Laws.{accepted-iff, accepted-pos}
+use Rattle.acceptance.specs.Keys.{accepted, polynomialOf, keyOf}
+use Rattle.acceptance.proofs.Laws.{accepted-iff, accepted-pos, accepted-range, whole-key}
 use Rattle.files.specs.Files.{fingerprint, markOf, Bits, Part, partBits, misused}
 use Rattle.files.specs.Bursts.{Burst}
 use Rattle.files.proofs.Confusions.{burst-differs}
@@ -26,6 +26,7 @@ use Rattle.sheets.specs.Layout.{Layout, layoutOf, pageCount, pagesFor, C
 use Rattle.sheets.specs.Sheets.{filled, pageOf, pageFingerprints, contentsOf, joinedPages, Same, pagesNow, compared, checkSheet}
 use Rattle.sheets.specs.Parts.{zerosBehind}
 use Rattle.sheets.specs.Claims.{SoundContents, WellFormed, First, FirstAltered, SomeAltered, BurstFound, NoBurstSame}
+use Rattle.sheets.proofs.Keys.{key-pos}
 use Rattle.sheets.proofs.Pages.{pages-count, count-le, length-pages, page-at, fingerprint-lt, with-zeros, pages-joined-print, zeros-are}
 use Rattle.sheets.proofs.Sound.{file-sound}
 use Rattle.sheets.proofs.Changes.{not-same, other-not-same}
@@ -50,34 +51,37 @@ module _ (x : Contents) (sound : SoundContents x) (file : List ℕ) (says : comp
   abbrev size : ℕ
   size = 8 * x .pageSize
 
+  abbrev key : ℕ
+  key = polynomialOf (x .key)
+
   abbrev zeros : ℕ → ℕ
   zeros n = zerosBehind v size n
 
   -- the file's fingerprint is the sheet's, though they are not compared: with the same zeros behind them they are the pages joined
-  pub told-fingerprint : fingerprint (x .key) file ≡ x .fingerprint
+  pub told-fingerprint : fingerprint (polynomialOf (x .key)) file ≡ x .fingerprint
   unfolding contentsOf
   told-fingerprint =
-      let i = accepted-iff (x .key) .0 (sound .key) in
-      shift-cancels (x .key) (fingerprint (x .key) file) (x .fingerprint) (zeros (length file)) (i .2) (omega arith) (fingerprint-lt pos file)
+      let i = accepted-iff key .0 (sound .key) in
+      shift-cancels key (fingerprint key file) (x .fingerprint) (zeros (length file)) (i .2) (omega arith) (fingerprint-lt pos file)
       (sound .fingerprint)
       (sym (pages-joined-print pos v size file (omega (arith, some)))
-      ∙ ap (λ (c : ℕ). joinedPages v (x .key) size (length file) (markOf (x .key) []) (pageFingerprints v (x .key) size c file) .fingerprint)
+      ∙ ap (λ (c : ℕ). joinedPages v key size (length file) (markOf key []) (pageFingerprints v key size c file) .fingerprint)
       (sym (pages-count (x .pageSize) (length file) some))
-      ∙ ap₂ (λ (n : ℕ) (fs : List ℕ). joinedPages v (x .key) size n (markOf (x .key) []) fs .fingerprint) told-length (sym told-pages)
+      ∙ ap₂ (λ (n : ℕ) (fs : List ℕ). joinedPages v key size n (markOf key []) fs .fingerprint) told-length (sym told-pages)
       ∙ sound .joined
-      ∙ ap (λ (m : ℕ). rem (x .key) (x .fingerprint * 2 ^ m))
-      (zeros-are v (x .key) size (x .length) (x .pages) (omega (arith, some)) (sound .count ∙ pages-count (x .pageSize) (x .length) some)
+      ∙ ap (λ (m : ℕ). rem key (x .fingerprint * 2 ^ m))
+      (zeros-are v key size (x .length) (x .pages) (omega (arith, some)) (sound .count ∙ pages-count (x .pageSize) (x .length) some)
       ∙ ap zeros (sym told-length)))
     where
-      pos : 0 < x .key
-      pos = accepted-pos (x .key) (sound .key)
+      pos : 0 < key
+      pos = key-pos (x .key)
 
       some : 0 < x .pageSize
       some = omega (arith, sound .pageSize .0)
 
 -- so where a check says same, the file's fingerprint is the sheet's
 pub same-fingerprint : (sheet : List ℕ) (w : WellFormed sheet) (file : Part) → length (partBits file) ≤ longest → misused file ≡ false
-    → checkSheet sheet file ≡ Done Same → fingerprint (w .contents .key) (partBits file) ≡ w .contents .fingerprint
+    → checkSheet sheet file ≡ Done Same → fingerprint (polynomialOf (w .contents .key)) (partBits file) ≡ w .contents .fingerprint
 same-fingerprint sheet w file fits used same =
     told-fingerprint (w .contents) (w .sound) (partBits file)
     (done-eq (compared (w .contents) (partBits file)) Same (sym (checks sheet w file fits used) ∙ same))
@@ -181,21 +185,23 @@ module _ (v : Layout) (key s : ℕ) (a b : List ℕ) (acc : accepted key ≡ tru
 -- it is found on the first page that it alters
 pub burst-found : BurstFound
 unfolding contentsOf
-burst-found version key s a part kn acc n u lo hi ha used burst i f =
+burst-found version key s a part kn acc held n u lo hi ha used burst i f =
     let b = partBits part in
     let v = layoutOf version in
-    let x = contentsOf version key s a in
-    let sound = file-sound version key s a kn acc n u lo hi in
+    let x = contentsOf version (keyOf key) s a in
+    let whole : polynomialOf (keyOf key) ≡ key = whole-key key (accepted-pos key acc) in
+    let sound = file-sound version (keyOf key) s a kn (accepted-range key acc) (ap accepted whole ∙ acc) held n u lo hi in
     let w : WellFormed (sheetBytes x) = record { contents = x; sound = sound; bytes = refl } in
     let c = pagesFor s (length a) in
     let first = first-differs v key (8 * s) a b acc (omega arith) ha (part-bits-are part) burst i f c (pages-count s (length a) (omega arith)) in
     checks (sheetBytes x) w part (omega (arith, burst .same-length)) used
     ∙ ap Done
     (page-iff x sound b (sym (burst .same-length)) i .1
-    (subst (λ (m : ℕ). First (pageFingerprints v key (8 * s) c a) (pageFingerprints v key (8 * s) (pagesFor s m) b) i) (burst .same-length) first))
+    (rw whole
+    (subst (λ (m : ℕ). First (pageFingerprints v key (8 * s) c a) (pageFingerprints v key (8 * s) (pagesFor s m) b) i) (burst .same-length) first)))
 
 -- so no file that differs inside k neighbouring bits is told as the same
 pub no-burst-same : NoBurstSame
-no-burst-same version key s a b kn acc n u lo hi ha used burst ne same =
+no-burst-same version key s a b kn acc held n u lo hi ha used burst ne same =
     let r = some-altered (8 * s) a (partBits b) (omega arith) (burst .same-length) ne in
-    not-same (done-eq _ _ (sym (burst-found version key s a b kn acc n u lo hi ha used burst (r .0) (r .1)) ∙ same))
+    not-same (done-eq _ _ (sym (burst-found version key s a b kn acc held n u lo hi ha used burst (r .0) (r .1)) ∙ same))

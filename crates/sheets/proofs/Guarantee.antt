@@ -19,16 +19,19 @@ use Rattle.refusals.specs.declared.Refusal.the-variants.{TooLong, FinalByte}
 use Rattle.refusals.specs.Refusals.{Done, _⇒_, passes, longest}
 use Rattle.refusals.proofs.Laws.{Clear, clear-done, clear-append, done-clear}
 use Rattle.lists.proofs.Truth.{or-neither}
-use Rattle.acceptance.proofs.Laws.{key-iff}
-use Rattle.sheets.specs.Layout.{numberAt, Layout, newest, layouts, layoutOf, pagePlace, sheetLength, pageCount, pagesFor}
-use Rattle.sheets.specs.Layout.{Contents, sheetBytes, contentsIn}
+use Rattle.acceptance.specs.declared.Key.{Key}
+use Rattle.acceptance.specs.Keys.{accepted, polynomialOf, outside}
+use Rattle.acceptance.proofs.Laws.{in-range, key-iff}
+use Rattle.sheets.specs.Layout.{numberAt, versionIn, Layout, version1, version2, version3, newest, layouts, known, layoutOf, pagePlace, sheetLength, pageCount, pagesFor}
+use Rattle.sheets.specs.Layout.{highest, Contents, sheetBytes, contentsIn}
 use Rattle.sheets.specs.Sheets.{pageFingerprints, contentsOf, joinedPages, writeTests, writeSheet, readTests, readSheet, readPages, Page}
-use Rattle.sheets.specs.Claims.{SoundContents, WellFormed, First, ReadIff, OtherVersion, PagesGiven, WrittenReads, WrittenFingerprint, Checks}
-use Rattle.sheets.specs.Claims.{OtherLengthTold, PagesGiveFile, OwnCompared, FilledCompared, PageIff, SameIff}
+use Rattle.sheets.specs.Claims.{SoundContents, WellFormed, First, ReadIff, OtherVersion, PagesGiven, WrittenReads, WrittenFingerprint, OlderRefuses}
+use Rattle.sheets.specs.Claims.{Checks, OtherLengthTold, PagesGiveFile, OwnCompared, FilledCompared, PageIff, SameIff}
 use Rattle.sheets.specs.Parts.{zerosBehind}
 use Rattle.sheets.specs.Sheets.{firstChange, pagesNow, compared, checkTests, checkSheet}
+use Rattle.sheets.proofs.Keys.{key-pos}
 use Rattle.sheets.proofs.Versions.{newest-is, newest-known}
-use Rattle.sheets.proofs.Layouts.{length-sheet, fingerprint-back}
+use Rattle.sheets.proofs.Layouts.{length-sheet, fingerprint-back, version-back}
 use Rattle.sheets.proofs.Pages.{pages-count, length-pages, own-joined, joined-length, zeros-are}
 use Rattle.sheets.proofs.Sound.{size-bounds, sound-fits, sound-back, sound-clear, clear-sound, file-sound}
 use Rattle.sheets.proofs.Changes.{same-equal, equal-same, page-first, first-page}
@@ -73,40 +76,43 @@ pages-given sheet w words =
 
 pub pages-give-file : PagesGiveFile
 unfolding contentsOf
-pages-give-file key s file pos some =
+pages-give-file x s file some =
+    let key = polynomialOf x in
     let v = layoutOf (newest .version) in
     ap (λ (c : ℕ). joinedPages v key (8 * s) (length file) (markOf key []) (pageFingerprints v key (8 * s) c file)) (pages-count s (length file) some)
-    ∙ own-joined pos v (ap (λ (v : Layout). v .filled) newest-is) (8 * s) file (omega arith)
+    ∙ own-joined (key-pos x) v (ap (λ (v : Layout). v .filled) newest-is) (8 * s) file (omega arith)
 
 pub own-compared : OwnCompared
-own-compared x f pos some count small =
+own-compared x f some count small =
+    let key = polynomialOf (x .key) in
     let n = x .length in
     let v = layoutOf (x .version) in
     let s = 8 * x .pageSize in
     let none : zerosBehind v s n ≡ 0 = ap (λ (b : Bool). cond b (pageCount s n * s - n) 0) f in
-    ap (λ (m : ℕ). rem (x .key) (x .fingerprint * 2 ^ m))
-    (zeros-are v (x .key) s n (x .pages) (omega arith) (count ∙ pages-count (x .pageSize) n some) ∙ none)
-    ∙ ap (rem (x .key)) (mul-one (x .fingerprint))
-    ∙ rem-small pos (x .fingerprint) small
+    ap (λ (m : ℕ). rem key (x .fingerprint * 2 ^ m))
+    (zeros-are v key s n (x .pages) (omega arith) (count ∙ pages-count (x .pageSize) n some) ∙ none)
+    ∙ ap (rem key) (mul-one (x .fingerprint))
+    ∙ rem-small (key-pos (x .key)) (x .fingerprint) small
 
 pub filled-compared : FilledCompared
 unfolding markOf
 filled-compared x f =
+    let key = polynomialOf (x .key) in
     let c = length (x .pages) in
     let s = 8 * x .pageSize in
-    ap (λ (m : ℕ). rem (x .key) (x .fingerprint * 2 ^ (m - x .length)))
-    (joined-length (layoutOf (x .version)) (x .key) s (x .length) (markOf (x .key) []) (x .pages)
+    ap (λ (m : ℕ). rem key (x .fingerprint * 2 ^ (m - x .length)))
+    (joined-length (layoutOf (x .version)) key s (x .length) (markOf key []) (x .pages)
     ∙ ap (λ (b : Bool). 0 + cond b (c * s) (min (c * s) (x .length))) f
     ∙ zero-add (c * s))
 
 -- ---- writing, then reading
 
-module _ (key s : ℕ) (part : Part) (buffer after : List ℕ) (fits : key < 2 ^ 64) (done : writeSheet key s part buffer ≡ Done after) where
+module _ (x : Key) (s : ℕ) (part : Part) (buffer after : List ℕ) (done : writeSheet x s part buffer ≡ Done after) where
   abbrev file : List ℕ
   file = partBits part
 
   abbrev sheet : List ℕ
-  sheet = sheetBytes (contentsOf (newest .version) key s file)
+  sheet = sheetBytes (contentsOf (newest .version) x s file)
 
   abbrev total : ℕ
   total = sheetLength newest (pagesFor s (length file))
@@ -114,22 +120,26 @@ module _ (key s : ℕ) (part : Part) (buffer after : List ℕ) (fits : key < 2 ^
   length-written : length sheet ≡ total
   unfolding contentsOf
   length-written =
-      length-sheet (contentsOf (newest .version) key s file)
+      length-sheet (contentsOf (newest .version) x s file)
       ∙ ap₂ (λ (v : Layout) (c : ℕ). sheetLength v c) newest-is
-      (length-pages (layoutOf (newest .version)) key (pagesFor s (length file)) (8 * s) file)
+      (length-pages (layoutOf (newest .version)) (polynomialOf x) (pagesFor s (length file)) (8 * s) file)
 
-  cleared : Clear (writeTests key s part buffer) × (overlay sheet buffer ≡ after)
+  cleared : Clear (writeTests x s part buffer) × (overlay sheet buffer ≡ after)
   unfolding writeSheet
-  cleared = done-clear (writeTests key s part buffer) buffer _ after done
+  cleared = done-clear (writeTests x s part buffer) buffer _ after done
 
-  sound : SoundContents (contentsOf (newest .version) key s file)
+  sound : SoundContents (contentsOf (newest .version) x s file)
   sound =
       let c = cleared .0 in
       let p = or-neither (ltb longest (partLength part)) false (c .1 .1 .0) in
       let z = size-bounds s (c .1 .1 .1 .0) in
       let n : length file ≤ longest = rw (part-length part) (ltb-false longest (partLength part) (p .0)) in
-      file-sound (newest .version) key s file newest-known (key-iff key fits .1 (c .0, c .1 .0)) n (ones (length file)) (z .0) (z .1)
+      file-sound (newest .version) x s file newest-known (c .0) (key-iff x .0 (c .0, c .1 .0) .0) (held (in-range x (c .0) .1)) n (ones (length file)) (z .0)
+      (z .1)
     where
+      held : x .degree ≤ 64 → x .degree ≤ highest (layoutOf (newest .version))
+      held l = rw newest-is l
+
       ones : (n : ℕ) → n % layoutOf (newest .version) .lengthUnit ≡ 0
       ones n = ap (λ (v : Layout). n % v .lengthUnit) newest-is ∙ mod-one n
 
@@ -139,26 +149,38 @@ module _ (key s : ℕ) (part : Part) (buffer after : List ℕ) (fits : key < 2 ^
       rw (part-length part, part-bytes part)
       (ltb-false (length buffer) (sheetLength newest (pageCount s (length (part .bytes)))) (cleared .0 .1 .1 .1 .1 .0))
 
-  pub written-bytes : take (sheetLength newest (pagesFor s (length (partBits part)))) after ≡ sheetBytes (contentsOf (newest .version) key s (partBits part))
+  pub written-bytes : take (sheetLength newest (pagesFor s (length (partBits part)))) after ≡ sheetBytes (contentsOf (newest .version) x s (partBits part))
   written-bytes =
       ap (take total) (sym (cleared .1) ∙ overlay-fits sheet buffer (rw length-written room))
       ∙ take-at sheet (drop (length sheet) buffer) total length-written
 
 -- what is written into a buffer reads back
 pub written-reads : WrittenReads
-written-reads key s part buffer after fits done =
-    let x = contentsOf (newest .version) key s (partBits part) in
-    rw (written-bytes key s part buffer after fits done)
-    (reads (sheetBytes x) (record { contents = x; sound = sound key s part buffer after fits done; bytes = refl }))
+written-reads x s part buffer after done =
+    let y = contentsOf (newest .version) x s (partBits part) in
+    rw (written-bytes x s part buffer after done)
+    (reads (sheetBytes y) (record { contents = y; sound = sound x s part buffer after done; bytes = refl }))
 
 pub written-fingerprint : WrittenFingerprint
 unfolding contentsOf
-written-fingerprint key s part buffer after fits done =
-    let x = contentsOf (newest .version) key s (partBits part) in
-    rw (written-bytes key s part buffer after fits done)
-    (ap₂ (λ (v : Layout) (c : ℕ). numberAt (pagePlace v c) (v .fingerprintWidth) (sheetBytes x)) (sym newest-is)
-    (sym (length-pages (layoutOf (newest .version)) key (pagesFor s (length (partBits part))) (8 * s) (partBits part)))
-    ∙ fingerprint-back x (sound-fits x (sound key s part buffer after fits done)))
+written-fingerprint x s part buffer after done =
+    let y = contentsOf (newest .version) x s (partBits part) in
+    rw (written-bytes x s part buffer after done)
+    (ap₂ (λ (v : Layout) (c : ℕ). numberAt (pagePlace v c) (v .fingerprintWidth) (sheetBytes y)) (sym newest-is)
+    (sym (length-pages (layoutOf (newest .version)) (polynomialOf x) (pagesFor s (length (partBits part))) (8 * s) (partBits part)))
+    ∙ fingerprint-back y (sound-fits y (sound x s part buffer after done)))
+
+-- the version of what is written is none of an older reader's
+older-knows : known (version3 ∷ version2 ∷ version1 ∷ []) (newest .version) ≡ false
+unfolding known
+older-knows = refl
+
+pub older-refuses : OlderRefuses
+unfolding contentsOf
+older-refuses x s part buffer after y done =
+    let z = contentsOf (newest .version) x s (partBits part) in
+    let version = ap versionIn (written-bytes x s part buffer after done) ∙ version-back z (sound-fits z (sound x s part buffer after done)) in
+    other-version (version3 ∷ version2 ∷ version1 ∷ []) _ y (ap (known (version3 ∷ version2 ∷ version1 ∷ [])) version ∙ older-knows)
 
 -- ---- checking a file against a well-formed sheet
 
@@ -185,7 +207,7 @@ module _ (x : Contents) (sound : SoundContents x) (file : List ℕ) (e : length 
   as-many =
       sound .count
       ∙ ap (pagesFor (x .pageSize)) (sym e)
-      ∙ sym (length-pages (layoutOf (x .version)) (x .key) (pagesFor (x .pageSize) (length file)) (8 * x .pageSize) file)
+      ∙ sym (length-pages (layoutOf (x .version)) (polynomialOf (x .key)) (pagesFor (x .pageSize) (length file)) (8 * x .pageSize) file)
 
 pub page-iff : PageIff
 page-iff x sound file e i = (there, back)

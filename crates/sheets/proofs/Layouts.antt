@@ -7,14 +7,16 @@ use native.Mathlib.Omega.{arith}
 use lib.ListN.{length, getD, take, drop, length-append}
 use lib.Seq.{take-add, take-all, drop-drop}
 use Rattle.lists.specs.Lists.{All}
+use Rattle.acceptance.specs.declared.Key.{Key}
 use Rattle.files.specs.Files.{Bytes}
 use Rattle.sheets.specs.Layout.{bytesOf, fieldsOf, numberAt, numbersAt}
-use Rattle.sheets.specs.Layout.{letters, versionIn, Layout, layoutOf, width, fieldWidths, pagePlace, sheetLength, pagesFor, Contents, headOf, bytesIn}
-use Rattle.sheets.specs.Layout.{sheetBytes, fieldIn, lengthIn, pagesIn, contentsIn}
+use Rattle.sheets.specs.Layout.{letters, versionIn, Layout, layoutOf, width, fieldWidths, pagePlace, sheetLength, pagesFor}
+use Rattle.sheets.specs.Layout.{keyNumber, keyFrom, Contents, headOf, bytesIn}
+use Rattle.sheets.specs.Layout.{sheetBytes, fieldIn, keyIn, lengthIn, pagesIn, contentsIn}
 use Rattle.sheets.proofs.Versions.{place-first}
 use Rattle.sheets.proofs.Numbers.{length-bytesOf, length-fieldsOf, number-seam, number-behind, numbers-seam, bytes-number, fields-numbers}
 
-pub contents-eq : {v v' k k' n n' s s' f f' : ℕ} {g g' : List ℕ} → v ≡ v' → k ≡ k' → n ≡ n' → s ≡ s' → g ≡ g' → f ≡ f'
+pub contents-eq : {v v' n n' s s' f f' : ℕ} {k k' : Key} {g g' : List ℕ} → v ≡ v' → k ≡ k' → n ≡ n' → s ≡ s' → g ≡ g' → f ≡ f'
     → _≡_ {A = Contents} (record { version = v; key = k; length = n; pageSize = s; pages = g; fingerprint = f })
     (record { version = v'; key = k'; length = n'; pageSize = s'; pages = g'; fingerprint = f' })
 contents-eq a b c d e f = cc
@@ -69,9 +71,11 @@ module _ (sheet : List ℕ) (h : Bytes sheet) where
 
 -- ---- the sheet
 
--- every number fits its field, the length is whole in its field's unit, and there are as many pages as it and the page size ask
+-- every number fits its field, the key reads back, the length is whole in its field's unit, and there are as many pages as it and the page
+-- size ask
 pub record Fits (x : Contents) : Type 0 where
   pub fields : Fit (fieldWidths (layoutOf (x .version))) (headOf x)
+  pub key : keyFrom (layoutOf (x .version) .paired) (keyNumber (layoutOf (x .version) .paired) (x .key)) ≡ x .key
   pub pages : All (λ f. f < 2 ^ (8 * layoutOf (x .version) .fingerprintWidth)) (x .pages)
   pub fingerprint : x .fingerprint < 2 ^ (8 * layoutOf (x .version) .fingerprintWidth)
   pub whole : x .length % layoutOf (x .version) .lengthUnit ≡ 0
@@ -132,18 +136,19 @@ module _ (x : Contents) where
     unfolding contentsIn
     read-back three =
         rw version-back
-        (contents-eq refl (field-back 2 (omega arith)) (length-back three) (field-back 4 (omega arith))
+        (contents-eq refl (ap (keyFrom (v .paired)) (field-back 2 (omega arith)) ∙ fits .key) (length-back three) (field-back 4 (omega arith))
         (ap (λ (c : ℕ). numbersAt (pagePlace v 0) (v .fingerprintWidth) c (sheetBytes x)) count ∙ pages-back)
         (ap (λ (c : ℕ). numberAt (pagePlace v c) (v .fingerprintWidth) (sheetBytes x)) count ∙ fingerprint-back))
       where
         count : pagesIn (layoutOf (x .version)) (sheetBytes x) ≡ length (x .pages)
         count = ap₂ (λ (s n : ℕ). pagesFor s n) (field-back 4 (omega arith)) (length-back three) ∙ sym (fits .count)
 
--- bytes with the letters, as many as the length and the page size ask by their version's layout, are those of the numbers in them
+-- bytes with the letters and a key's number, as many as the length and the page size ask by their version's layout, are those of the numbers in them
 module _ (sheet : List ℕ) (h : Bytes sheet) (three : length (layoutOf (versionIn sheet) .widths) ≡ 3)
     (some : 0 < layoutOf (versionIn sheet) .lengthUnit)
     (total : length sheet ≡ sheetLength (layoutOf (versionIn sheet)) (pagesIn (layoutOf (versionIn sheet)) sheet))
-    (right : fieldIn (layoutOf (versionIn sheet)) 0 sheet ≡ letters) where
+    (right : fieldIn (layoutOf (versionIn sheet)) 0 sheet ≡ letters)
+    (key : keyNumber (layoutOf (versionIn sheet) .paired) (keyIn (layoutOf (versionIn sheet)) sheet) ≡ fieldIn (layoutOf (versionIn sheet)) 2 sheet) where
   abbrev w : Layout
   w = layoutOf (versionIn sheet)
 
@@ -151,7 +156,7 @@ module _ (sheet : List ℕ) (h : Bytes sheet) (three : length (layoutOf (version
   unfolding contentsIn
   agree zero l = right
   agree (suc zero) l = refl
-  agree (suc (suc zero)) l = refl
+  agree (suc (suc zero)) l = sym key
   agree (suc (suc (suc zero))) l =
       sym (ap (λ (n : ℕ). n / w .lengthUnit) (mul-comm (w .lengthUnit) (fieldIn w 3 sheet)) ∙ mul-div-cancel (fieldIn w 3 sheet) some)
   agree (suc (suc (suc (suc zero)))) l = refl

@@ -1,4 +1,5 @@
 pub mod Numbers
+pub mod Keys
 pub mod Versions
 pub mod Layouts
 pub mod Pages

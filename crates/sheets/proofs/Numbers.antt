@@ -2,7 +2,7 @@
 use mathlib.Core.Path.{_≡_, refl, sym, ap, ap₂, _∙_}
 use mathlib.Core.List.{List, [], _∷_, _++_, append-assoc}
 use Prim.Native.Nat.{ℕ, zero, suc, _+_, _-_, _*_, _/_, _%_, _^_, _≤_, _<_}
-use native.Mathlib.Nat.{suc-add, add-suc, mul-one, zero-mul, mul-zero, mul-assoc, zero-add, mul-add-div-right, mul-add-mod-self-right, add-zero, mod-one}
+use native.Mathlib.Nat.{suc-add, add-suc, mul-one, zero-mul, mul-zero, mul-assoc, zero-add, mul-add-div-right, mul-add-mod-self-right, add-zero, mod-one, div-one}
 use native.Mathlib.Nat.{mod-mod, mod-eq-of-lt, mul-suc, add-assoc, add-comm, mul-comm}
 use native.Mathlib.Numerals.{add-one}
 use native.Mathlib.Omega.{arith}
@@ -132,6 +132,24 @@ module _ (sheet : List ℕ) (h : Bytes sheet) where
   fields-numbers (suc c) place w l =
       rw (bytes-number place w (omega (arith, mul-suc w c)), fields-numbers c (place + w) w (omega (arith, mul-suc w c)), mul-suc w c, add-comm (w * c) w)
       (sym (take-add w (w * c) (drop place sheet) ∙ ap (λ (l : List ℕ). take w (drop place sheet) ++ take (w * c) l) (drop-drop w place sheet)))
+
+-- ---- one byte, and w behind it
+
+pub bytes-first : (w b x : ℕ) → x < 2 ^ (8 * w) → bytesOf (suc w) (b * 2 ^ (8 * w) + x) ≡ bytesOf 1 b ++ bytesOf w x
+unfolding bytesOf
+bytes-first w b x l = ap₂ {C = List ℕ} (λ (y : ℕ) (ys : List ℕ). y ∷ ys) (ap (λ (y : ℕ). y % 256) (digits-div b l ∙ sym (div-one b))) (bytes-above w b x)
+
+pub number-first : (place w : ℕ) (l : List ℕ) → place + suc w ≤ length l
+    → numberAt place (suc w) l ≡ numberAt place 1 l * 2 ^ (8 * w) + numberAt (place + 1) w l
+unfolding numberAt valueFrom bits
+number-first place w l h =
+    let b = getD l place 0 in
+    let r = take w (drop (suc place) l) in
+    let long : length r ≡ w = length-take-le w (drop (suc place) l) (rw (length-drop (suc place) l) (omega arith)) in
+    rw (drop-cons l place 0 (omega arith), add-one place)
+    (value-byte 0 b r
+    ∙ value-split (0 * 256 + b % 256) (bits r)
+    ∙ ap₂ (λ (x n : ℕ). x * 2 ^ n + valueFrom 0 (bits r)) (sym (value-byte 0 b [])) (length-bits r ∙ ap (λ (n : ℕ). 8 * n) long))
 
 -- ---- as the code goes: one byte a turn
 

@@ -9,6 +9,8 @@ use lib.Seq.{take-take, getD-take}
 use Rattle.lists.specs.Lists.{overlay}
 use Rattle.refusals.specs.Refusals.{Done}
 use Rattle.refusals.proofs.Laws.{done-clear, done-eq}
+use Rattle.acceptance.specs.declared.Key.{Key}
+use Rattle.acceptance.specs.Keys.{polynomialOf}
 use Rattle.files.specs.Files.{Bytes, bits, valueFrom, fingerprint, Part, partBits}
 use Rattle.sheets.specs.Layout.{numberAt, versionIn, Layout, newest, layouts, layoutOf, pagePlace, sheetLength, pagesFor, pagesIn, Contents, contentsIn}
 use Rattle.sheets.specs.Sheets.{pageOf, contentsOf, writeSheet, readTests, readSheet, readPages, pagesNow}
@@ -33,7 +35,10 @@ number-within p w n l h = ap (λ (part : List ℕ). valueFrom 0 (bits part)) (pa
 
 -- ---- a written sheet
 
-module _ (key s : ℕ) (part : Part) (buffer after : List ℕ) (fits : key < 2 ^ 64) (done : writeSheet key s part buffer ≡ Done after) where
+module _ (x : Key) (s : ℕ) (part : Part) (buffer after : List ℕ) (done : writeSheet x s part buffer ≡ Done after) where
+  abbrev key : ℕ
+  key = polynomialOf x
+
   abbrev file : List ℕ
   file = partBits part
 
@@ -43,11 +48,11 @@ module _ (key s : ℕ) (part : Part) (buffer after : List ℕ) (fits : key < 2 ^
   abbrev sheet : List ℕ
   sheet = take (sheetLength newest count) after
 
-  numbers : contentsIn sheet ≡ contentsOf (newest .version) key s file
+  numbers : contentsIn sheet ≡ contentsOf (newest .version) x s file
   unfolding readSheet
   numbers =
-      done-clear (readTests layouts sheet) tt (contentsIn sheet) (contentsOf (newest .version) key s file)
-      (written-reads key s part buffer after fits done) .1
+      done-clear (readTests layouts sheet) tt (contentsIn sheet) (contentsOf (newest .version) x s file)
+      (written-reads x s part buffer after done) .1
 
   version-is : versionIn sheet ≡ newest .version
   unfolding contentsIn contentsOf
@@ -57,11 +62,11 @@ module _ (key s : ℕ) (part : Part) (buffer after : List ℕ) (fits : key < 2 ^
   layout-is = ap layoutOf version-is ∙ newest-is
 
   pub written-page : (i : ℕ) → i < pagesFor s (length (partBits part))
-      → numberAt (pagePlace newest i) 8 after ≡ fingerprint key (pageOf newest (8 * s) (take (8 * s) (drop (i * (8 * s)) (partBits part))))
+      → numberAt (pagePlace newest i) 8 after ≡ fingerprint (polynomialOf x) (pageOf newest (8 * s) (take (8 * s) (drop (i * (8 * s)) (partBits part))))
   unfolding contentsIn contentsOf
   written-page i l =
       let v = layoutOf (versionIn sheet) in
-      let c : pagesIn v sheet ≡ count = ap (λ (x : Contents). pagesFor (x .pageSize) (x .length)) numbers in
+      let c : pagesIn v sheet ≡ count = ap (λ (y : Contents). pagesFor (y .pageSize) (y .length)) numbers in
       sym (number-within (pagePlace newest i) 8 (sheetLength newest count) after (omega arith))
       ∙ ap (λ (w : Layout). numberAt (pagePlace w 0 + w .fingerprintWidth * i) (w .fingerprintWidth) sheet) (sym layout-is)
       ∙ sym (numbers-one (pagesIn v sheet) (pagePlace v 0) (v .fingerprintWidth) i sheet (omega (arith, c)))
@@ -69,33 +74,33 @@ module _ (key s : ℕ) (part : Part) (buffer after : List ℕ) (fits : key < 2 ^
       ∙ page-at (layoutOf (newest .version)) key (8 * s) count i file l
       ∙ ap (λ (w : Layout). fingerprint key (pageOf w (8 * s) (take (8 * s) (drop (i * (8 * s)) file)))) newest-is
 
-  pub written-last : numberAt (pagePlace newest (pagesFor s (length (partBits part)))) 8 after ≡ fingerprint key (partBits part)
+  pub written-last : numberAt (pagePlace newest (pagesFor s (length (partBits part)))) 8 after ≡ fingerprint (polynomialOf x) (partBits part)
   written-last =
       sym (number-within (pagePlace newest count) 8 (sheetLength newest count) after (omega arith))
-      ∙ written-fingerprint key s part buffer after fits done
+      ∙ written-fingerprint x s part buffer after done
 
 -- ---- a sheet that is read, with the page fingerprints of a file
 
 module _ (sheet : List ℕ) (w : WellFormed sheet) (file : List ℕ) (size : w .contents .length ≡ length file)
     (pages : w .contents .pages ≡ pagesNow (w .contents) file) where
-  of-file : w .contents .fingerprint ≡ fingerprint (w .contents .key) file
+  of-file : w .contents .fingerprint ≡ fingerprint (polynomialOf (w .contents .key)) file
   of-file = sym (told-fingerprint (w .contents) (w .sound) file (same-iff (w .contents) (w .sound) file (sym size) .1 pages))
 
   of-page : (words after : List ℕ) (i : ℕ) → readPages sheet words ≡ Done after → i < length (w .contents .pages) → i < length words
       → getD after i 0
-      ≡ fingerprint (w .contents .key)
+      ≡ fingerprint (polynomialOf (w .contents .key))
       (pageOf (layoutOf (w .contents .version)) (8 * w .contents .pageSize)
       (take (8 * w .contents .pageSize) (drop (i * (8 * w .contents .pageSize)) file)))
   unfolding contentsOf overlay
   of-page words after i e l m =
       let x = w .contents in
       let c : length (x .pages) ≡ pagesFor (x .pageSize) (length file) =
-      ap length pages ∙ length-pages (layoutOf (x .version)) (x .key) (pagesFor (x .pageSize) (length file)) (8 * x .pageSize) file in
+      ap length pages ∙ length-pages (layoutOf (x .version)) (polynomialOf (x .key)) (pagesFor (x .pageSize) (length file)) (8 * x .pageSize) file in
       ap (λ (ws : List ℕ). getD ws i 0) (done-eq _ _ (sym e ∙ pages-given sheet w words))
       ∙ List·getD-append (take (length words) (x .pages)) (drop (length (x .pages)) words) 0 i (omega (arith, length-take (length words) (x .pages)))
       ∙ getD-take (length words) (x .pages) i 0 m
       ∙ ap (λ (fs : List ℕ). getD fs i 0) pages
-      ∙ page-at (layoutOf (x .version)) (x .key) (8 * x .pageSize) (pagesFor (x .pageSize) (length file)) i file (omega arith)
+      ∙ page-at (layoutOf (x .version)) (polynomialOf (x .key)) (8 * x .pageSize) (pagesFor (x .pageSize) (length file)) i file (omega arith)
 
 module _ (sheet file : List ℕ) (x : Contents) (bytes : Bytes sheet) (read : readSheet sheet ≡ Done x) (size : x .length ≡ length file)
     (pages : x .pages ≡ pagesNow x file) where
@@ -106,9 +111,9 @@ module _ (sheet file : List ℕ) (x : Contents) (bytes : Bytes sheet) (read : re
   is : well .contents ≡ x
   is = done-eq (well .contents) x (sym (reads sheet well) ∙ read)
 
-  pub read-fingerprint : x .fingerprint ≡ fingerprint (x .key) file
+  pub read-fingerprint : x .fingerprint ≡ fingerprint (polynomialOf (x .key)) file
   read-fingerprint = rw is at (of-file sheet well file (rw is size) (rw is pages))
 
   pub read-page : (words after : List ℕ) (i : ℕ) → readPages sheet words ≡ Done after → i < length (x .pages) → i < length words
-      → getD after i 0 ≡ fingerprint (x .key) (pageOf (layoutOf (x .version)) (8 * x .pageSize) (take (8 * x .pageSize) (drop (i * (8 * x .pageSize)) file)))
+      → getD after i 0 ≡ fingerprint (polynomialOf (x .key)) (pageOf (layoutOf (x .version)) (8 * x .pageSize) (take (8 * x .pageSize) (drop (i * (8 * x .pageSize)) file)))
   read-page words after i e l m = rw is at (of-page sheet well file (rw is size) (rw is pages) words after i e (rw is l) m)

@@ -14,15 +14,17 @@ use Rattle.gf2.specs.Polynomials.{degree, rem}
 use Rattle.lists.proofs.Lists.{all-map}
 use Rattle.refusals.specs.Refusals.{longest}
 use Rattle.refusals.proofs.Laws.{Clear}
-use Rattle.acceptance.specs.Keys.{accepted}
+use Rattle.acceptance.specs.declared.Key.{Key}
+use Rattle.acceptance.specs.Keys.{accepted, polynomialOf, outside}
 use Rattle.lists.proofs.Truth.{or-neither}
-use Rattle.acceptance.proofs.Laws.{accepted-iff, accepted-pos, accepted-small, key-iff}
+use Rattle.acceptance.proofs.Laws.{accepted-iff, range-key, key-iff}
 use Rattle.files.specs.Files.{Bytes, fingerprint, markOf}
-use Rattle.sheets.specs.Layout.{numberAt, letters, lettersWidth, versionIn, layouts, known, layoutOf}
-use Rattle.sheets.specs.Layout.{pagePlace, sheetLength, pagesFor, Contents, sheetBytes, fieldIn, lengthIn, pagesIn, contentsIn}
+use Rattle.sheets.specs.Layout.{numberAt, letters, lettersWidth, versionIn, Layout, layouts, known, layoutOf}
+use Rattle.sheets.specs.Layout.{pagePlace, sheetLength, pagesFor, highest, Contents, sheetBytes, fieldIn, keyIn, lengthIn, pagesIn, contentsIn}
 use Rattle.sheets.specs.Sheets.{pageFingerprints, contentsOf, joinedPages, someUnreduced, pagesJoined, fileFilled, headWrong, readTests}
 use Rattle.sheets.specs.Claims.{SoundContents, WellFormed}
 use Rattle.sheets.proofs.Numbers.{number-lt, length-numbersAt}
+use Rattle.sheets.proofs.Keys.{key-pos, keyWidth, key-narrow, key-fits, key-back, number-back, degree-held}
 use Rattle.sheets.proofs.Versions.{widths-are, three-wide, eight-wide, unit-some, length-fits, length-from, least-needed, known-small}
 use Rattle.sheets.proofs.Layouts.{Fits, length-sheet, field-back, version-back, length-back, read-back, write-back}
 use Rattle.sheets.proofs.Pages.{pages-count, fingerprint-lt, fingerprints-lt, length-pages, pages-joined-print, zeros-are}
@@ -51,23 +53,25 @@ none-unreduced k (g ∷ fs) f e =
 
 pub sound-fits : (x : Contents) → SoundContents x → Fits x
 sound-fits x h =
+    let v = layoutOf (x .version) in
     record {
       fields =
           rw (widths-are (x .version)) (
             lit< tt,
             (
               known-small (x .version) (h .version),
-              (accepted-small (x .key) (h .key), (length-fits (x .version) (x .length) (h .length), (omega (arith, h .pageSize), tt))),
+              (key-fits (x .key) (h .in-range) (v .paired) (h .held), (length-fits (x .version) (x .length) (h .length), (omega (arith, h .pageSize), tt))),
             ),
           );
+      key = key-back (x .key) (h .in-range) (v .paired);
       pages = rw (eight-wide (x .version)) (all-map (λ f l. lt-of-lt-of-le l small) (x .pages) (h .pages));
       fingerprint = rw (eight-wide (x .version)) (lt-of-lt-of-le (h .fingerprint) small);
       whole = h .whole;
       count = h .count;
     }
   where
-    small : 2 ^ degree (x .key) ≤ 2 ^ 64
-    small = let d = accepted-iff (x .key) .0 (h .key) in pow-mono {i = degree (x .key)} {j = 64} (omega arith)
+    small : 2 ^ degree (polynomialOf (x .key)) ≤ 2 ^ 64
+    small = pow-mono (accepted-iff (polynomialOf (x .key)) .0 (h .key) .1)
 
 pub sound-back : (x : Contents) → SoundContents x → contentsIn (sheetBytes x) ≡ x
 sound-back x h = read-back x (sound-fits x h) (three-wide (x .version))
@@ -87,7 +91,7 @@ or-clear x y z = rw (x, y, z)
 pub sound-clear : (x : Contents) → SoundContents x → Clear (readTests layouts (sheetBytes x))
 sound-clear x h =
     let f = sound-fits x h in
-    let k = key-iff (x .key) (accepted-small (x .key) (h .key)) .0 (h .key) in
+    let k = key-iff (x .key) .1 (h .key, range-key (x .key) (h .in-range)) in
     let total = sheetLength (layoutOf (x .version)) (length (x .pages)) in
     let least = sheetLength (layoutOf (x .version)) 0 in
     let long : least ≤ total = omega (arith, length-from (x .version) 0, length-from (x .version) (length (x .pages))) in
@@ -104,7 +108,7 @@ sound-clear x h =
           (
             size-clear (x .pageSize) (h .pageSize .0) (h .pageSize .1),
             (
-              or-clear (ap not (eq-eqb total total refl)) (all-reduced (degree (x .key)) (x .pages) (x .fingerprint) (h .pages) (h .fingerprint))
+              or-clear (ap not (eq-eqb total total refl)) (all-reduced (degree (polynomialOf (x .key))) (x .pages) (x .fingerprint) (h .pages) (h .fingerprint))
                   (ap not (eq-eqb (pagesJoined x .fingerprint) (fileFilled x) (h .joined))),
               tt,
             ),
@@ -153,11 +157,11 @@ module _ (sheet : List ℕ) (c : Clear (readTests layouts sheet)) where
   total = sheetLength (layoutOf (x .version)) (length (x .pages))
 
   body : (not (eqb (length sheet) total) ≡ false)
-      × (someUnreduced (degree (x .key)) (x .pages ++ x .fingerprint ∷ []) ≡ false)
+      × (someUnreduced (degree (polynomialOf (x .key))) (x .pages ++ x .fingerprint ∷ []) ≡ false)
       × (not (eqb (pagesJoined x .fingerprint) (fileFilled x)) ≡ false)
   unfolding x
   body =
-      neither (not (eqb (length sheet) total)) (someUnreduced (degree (x .key)) (x .pages ++ x .fingerprint ∷ []))
+      neither (not (eqb (length sheet) total)) (someUnreduced (degree (polynomialOf (x .key))) (x .pages ++ x .fingerprint ∷ []))
       (not (eqb (pagesJoined x .fingerprint) (fileFilled x))) (c .1 .1 .1 .1 .0)
 
   count : length (x .pages) ≡ pagesIn (layoutOf (versionIn sheet)) sheet
@@ -170,16 +174,25 @@ module _ (sheet : List ℕ) (c : Clear (readTests layouts sheet)) where
   unfolding x contentsIn
   clear-total = eqb-true (length sheet) total (not-false _ (body .0)) ∙ ap (sheetLength (layoutOf (versionIn sheet))) count
 
-  key-small : fieldIn (layoutOf (versionIn sheet)) 2 sheet < 2 ^ 64
-  key-small = rw (widths-are (versionIn sheet)) (number-lt _ 8 sheet (omega (arith, head .long)))
+  abbrev v : Layout
+  v = layoutOf (versionIn sheet)
+
+  key-small : fieldIn v 2 sheet < 2 ^ (8 * keyWidth v)
+  key-small = rw (widths-are (versionIn sheet)) (number-lt _ (keyWidth v) sheet (omega (arith, head .long, key-narrow v)))
+
+  in-range : outside (keyIn v sheet) ≡ false
+  unfolding contentsIn
+  in-range = c .1 .0
 
   pub clear-contents : SoundContents (contentsIn sheet)
   unfolding x contentsIn
   clear-contents =
-      let fs = none-unreduced (degree (x .key)) (x .pages) (x .fingerprint) (body .1) in
+      let fs = none-unreduced (degree (polynomialOf (x .key))) (x .pages) (x .fingerprint) (body .1) in
       record {
         version = head .version;
-        key = key-iff (x .key) key-small .1 (c .1 .0, c .1 .1 .0);
+        in-range = in-range;
+        key = key-iff (x .key) .0 (in-range, c .1 .1 .0) .0;
+        held = degree-held (v .paired) (fieldIn v 2 sheet) in-range key-small;
         length = head .length-fits;
         whole = mul-mod-right (layoutOf (versionIn sheet) .lengthUnit) (fieldIn (layoutOf (versionIn sheet)) 3 sheet);
         pageSize = size-bounds (x .pageSize) (c .1 .1 .1 .0);
@@ -194,24 +207,29 @@ module _ (sheet : List ℕ) (c : Clear (readTests layouts sheet)) where
       record {
         contents = contentsIn sheet;
         sound = clear-contents;
-        bytes = sym (write-back sheet b (three-wide (versionIn sheet)) (unit-some (versionIn sheet)) clear-total (head .letters));
+        bytes = sym (write-back sheet b (three-wide (versionIn sheet)) (unit-some (versionIn sheet)) clear-total (head .letters)
+            (number-back (v .paired) (fieldIn v 2 sheet) in-range));
       }
 
 -- ---- the numbers of a file's sheet are sound
 
-pub file-sound : (version key s : ℕ) (file : List ℕ) → known layouts version ≡ true → accepted key ≡ true
+pub file-sound : (version : ℕ) (x : Key) (s : ℕ) (file : List ℕ) → known layouts version ≡ true
+    → outside x ≡ false → accepted (polynomialOf x) ≡ true → x .degree ≤ highest (layoutOf version)
     → length file ≤ longest → length file % layoutOf version .lengthUnit ≡ 0 → 16 ≤ s → s ≤ 4096
-    → SoundContents (contentsOf version key s file)
+    → SoundContents (contentsOf version x s file)
 unfolding contentsOf
-file-sound version key s file v a n u lo hi =
-    let pos = accepted-pos key a in
+file-sound version x s file v r a d n u lo hi =
+    let key = polynomialOf x in
+    let pos = key-pos x in
     let l = layoutOf version in
     let count = pagesFor s (length file) in
     let c = length-pages l key count (8 * s) file in
     let e = pages-count s (length file) (omega arith) in
     record {
       version = v;
+      in-range = r;
       key = a;
+      held = d;
       length = n;
       whole = u;
       pageSize = (lo, hi);

@@ -3,33 +3,42 @@
 use mathlib.Core.Path.{_≡_}
 use mathlib.Core.Logic.{_≢_, _↔_}
 use mathlib.Core.Bool.{true, false}
-use mathlib.Core.List.{List}
+use mathlib.Core.List.{List, [], _∷_, _++_}
 use Prim.Native.Nat.{ℕ, _-_, _*_, _%_, _^_, _≤_, _<_}
 use lib.ListN.{length, getD, take, drop}
 use Rattle.lists.specs.Lists.{All, overlay}
 use Rattle.gf2.specs.Polynomials.{degree, rem}
 use Rattle.refusals.specs.declared.Refusal.the-variants.{SheetMalformed}
 use Rattle.refusals.specs.Refusals.{Answer, Done, Refused, firstOf, longest}
-use Rattle.acceptance.specs.Keys.{accepted}
+use Rattle.acceptance.specs.declared.Key.{Key}
+use Rattle.acceptance.specs.Keys.{accepted, polynomialOf, keyOf, outside}
 use Rattle.files.specs.Files.{Bits, Bytes, fingerprint, markOf, Part, partBits, misused}
 use Rattle.files.specs.Bursts.{Burst}
-use Rattle.sheets.specs.Layout.{numberAt, versionIn, Layout, newest, layouts, known, layoutOf}
-use Rattle.sheets.specs.Layout.{pagePlace, sheetLength, pagesFor, Contents, sheetBytes, contentsIn}
+use Rattle.sheets.specs.Layout.{bytesOf, numberAt, versionIn, Layout, version1, version2, version3, version4, newest, layouts, known, layoutOf}
+use Rattle.sheets.specs.Layout.{pagePlace, sheetLength, pagesFor, keyNumber, highest, Contents, sheetBytes, contentsIn}
 use Rattle.sheets.specs.Sheets.{contentsOf, pagesJoined, fileFilled, writeSheet, readTests, readSheet, readPages, Same, Page, OtherLength}
 use Rattle.sheets.specs.Sheets.{pagesNow, compared, checkSheet}
+
+-- ---- the key in its field
+
+-- version 4 holds a key as a byte of its degree and its word in 8 bytes
+abbrev pub PairHeld : Type 0
+PairHeld = (x : Key) → x .word < 2 ^ 64 → bytesOf 9 (keyNumber (version4 .paired) x) ≡ bytesOf 1 (x .degree) ++ bytesOf 8 (x .word)
 
 -- ---- which bytes are a sheet
 
 -- numbers of which no test of reading holds
 pub record SoundContents (x : Contents) : Type 0 where
   pub version : known layouts (x .version) ≡ true
-  pub key : accepted (x .key) ≡ true
+  pub in-range : outside (x .key) ≡ false
+  pub key : accepted (polynomialOf (x .key)) ≡ true
+  pub held : x .key .degree ≤ highest (layoutOf (x .version))
   pub length : x .length ≤ longest
   pub whole : x .length % layoutOf (x .version) .lengthUnit ≡ 0
   pub pageSize : (16 ≤ x .pageSize) × (x .pageSize ≤ 4096)
   pub count : lib.ListN.length (x .pages) ≡ pagesFor (x .pageSize) (x .length)
-  pub pages : All (λ f. f < 2 ^ degree (x .key)) (x .pages)
-  pub fingerprint : x .fingerprint < 2 ^ degree (x .key)
+  pub pages : All (λ f. f < 2 ^ degree (polynomialOf (x .key))) (x .pages)
+  pub fingerprint : x .fingerprint < 2 ^ degree (polynomialOf (x .key))
   pub joined : pagesJoined x .fingerprint ≡ fileFilled x
 
 -- the bytes of a sheet with such numbers
@@ -57,34 +66,42 @@ PagesGiven = (sheet : List ℕ) (w : WellFormed sheet) (words : List ℕ) → re
 -- "The page marks of a sheet, each with its own length, joined, must give the file's fingerprint": those of a written sheet do,
 abbrev pub PagesGiveFile : Type 0
 PagesGiveFile =
-    (key s : ℕ) (file : List ℕ) → 0 < key → 0 < s → pagesJoined (contentsOf (newest .version) key s file) ≡ markOf key file
+    (x : Key) (s : ℕ) (file : List ℕ) → 0 < s → pagesJoined (contentsOf (newest .version) x s file) ≡ markOf (polynomialOf x) file
 
 -- "and number 14 reads so": where pages are not filled up, it compares them with the file's fingerprint as it stands,
 abbrev pub OwnCompared : Type 0
 OwnCompared =
-    (x : Contents) → layoutOf (x .version) .filled ≡ false → 0 < x .key → 0 < x .pageSize
-    → lib.ListN.length (x .pages) ≡ pagesFor (x .pageSize) (x .length) → x .fingerprint < 2 ^ degree (x .key) → fileFilled x ≡ x .fingerprint
+    (x : Contents) → layoutOf (x .version) .filled ≡ false → 0 < x .pageSize
+    → lib.ListN.length (x .pages) ≡ pagesFor (x .pageSize) (x .length) → x .fingerprint < 2 ^ degree (polynomialOf (x .key))
+    → fileFilled x ≡ x .fingerprint
 
 -- where they are, with the file's fingerprint times t^(c × 8s − n), n being the length in bits, as document 01 has it
 abbrev pub FilledCompared : Type 0
 FilledCompared =
     (x : Contents) → layoutOf (x .version) .filled ≡ true
-    → fileFilled x ≡ rem (x .key) (x .fingerprint * 2 ^ (lib.ListN.length (x .pages) * (8 * x .pageSize) - x .length))
+    → fileFilled x ≡ rem (polynomialOf (x .key)) (x .fingerprint * 2 ^ (lib.ListN.length (x .pages) * (8 * x .pageSize) - x .length))
 
 -- ---- writing, then reading
 
--- what is written reads back: version 3, key, length, page size, every page fingerprint and the file's
+-- what is written reads back: version 4, key, length, page size, every page fingerprint and the file's
 abbrev pub WrittenReads : Type 0
 WrittenReads =
-    (key s : ℕ) (file : Part) (buffer after : List ℕ) → key < 2 ^ 64 → writeSheet key s file buffer ≡ Done after
-    → readSheet (take (sheetLength newest (pagesFor s (length (partBits file)))) after) ≡ Done (contentsOf (newest .version) key s (partBits file))
+    (x : Key) (s : ℕ) (file : Part) (buffer after : List ℕ) → writeSheet x s file buffer ≡ Done after
+    → readSheet (take (sheetLength newest (pagesFor s (length (partBits file)))) after) ≡ Done (contentsOf (newest .version) x s (partBits file))
 
 -- its last field is the file's fingerprint
 abbrev pub WrittenFingerprint : Type 0
 WrittenFingerprint =
-    (key s : ℕ) (file : Part) (buffer after : List ℕ) → key < 2 ^ 64 → writeSheet key s file buffer ≡ Done after
+    (x : Key) (s : ℕ) (file : Part) (buffer after : List ℕ) → writeSheet x s file buffer ≡ Done after
     → let c = pagesFor s (length (partBits file)) in
-    numberAt (pagePlace newest c) 8 (take (sheetLength newest c) after) ≡ fingerprint key (partBits file)
+    numberAt (pagePlace newest c) 8 (take (sheetLength newest c) after) ≡ fingerprint (polynomialOf x) (partBits file)
+
+-- a reader that stops at version 3 refuses it with 14
+abbrev pub OlderRefuses : Type 0
+OlderRefuses =
+    (x : Key) (s : ℕ) (file : Part) (buffer after : List ℕ) (y : Contents) → writeSheet x s file buffer ≡ Done after
+    → let sheet = take (sheetLength newest (pagesFor s (length (partBits file)))) after in
+    _≡_ {A = Answer Unit Contents} (firstOf (readTests (version3 ∷ version2 ∷ version1 ∷ []) sheet) tt y) (Refused SheetMalformed tt)
 
 -- ---- checking a file against a sheet
 
@@ -127,18 +144,18 @@ abbrev pub SomeAltered : Type 0
 SomeAltered = (s : ℕ) (a b : List ℕ) → 0 < s → length a ≡ length b → a ≢ b → (i : ℕ) × FirstAltered s a b i
 
 -- "A change that keeps the length and lies inside k neighbouring bits is found on the first page that it alters", in a file whose length
--- the version can hold
+-- the version can hold, under a key of which the same is true
 abbrev pub BurstFound : Type 0
 BurstFound =
     (version key s : ℕ) (a : List ℕ) (b : Part) → known layouts version ≡ true → accepted key ≡ true
-    → length a ≤ longest → length a % layoutOf version .lengthUnit ≡ 0 → 16 ≤ s → s ≤ 4096
+    → degree key ≤ highest (layoutOf version) → length a ≤ longest → length a % layoutOf version .lengthUnit ≡ 0 → 16 ≤ s → s ≤ 4096
     → Bits a → misused b ≡ false → Burst (degree key) a (partBits b) → (i : ℕ) → FirstAltered (8 * s) a (partBits b) i
-    → checkSheet (sheetBytes (contentsOf version key s a)) b ≡ Done (Page i)
+    → checkSheet (sheetBytes (contentsOf version (keyOf key) s a)) b ≡ Done (Page i)
 
 -- so a file that differs inside k neighbouring bits is never told as the same
 abbrev pub NoBurstSame : Type 0
 NoBurstSame =
     (version key s : ℕ) (a : List ℕ) (b : Part) → known layouts version ≡ true → accepted key ≡ true
-    → length a ≤ longest → length a % layoutOf version .lengthUnit ≡ 0 → 16 ≤ s → s ≤ 4096
+    → degree key ≤ highest (layoutOf version) → length a ≤ longest → length a % layoutOf version .lengthUnit ≡ 0 → 16 ≤ s → s ≤ 4096
     → Bits a → misused b ≡ false → Burst (degree key) a (partBits b) → a ≢ partBits b
-    → checkSheet (sheetBytes (contentsOf version key s a)) b ≡ Done Same → ⊥
+    → checkSheet (sheetBytes (contentsOf version (keyOf key) s a)) b ≡ Done Same → ⊥

@@ -1,10 +1,13 @@
--- The bytes of a page sheet (document 01, "Page sheets"; version 2: document 02, wish 1; version 3: wish 7). A version of the layout is a
--- list of widths, for writing and reading alike, what its length field counts, and how the last page is taken.
+-- The bytes of a page sheet (document 01, "Page sheets"; version 2: document 02, wish 1; version 3: wish 7; version 4: wish 8). A version of
+-- the layout is a list of widths, for writing and reading alike, how it holds the key, what its length field counts, and how the last page is
+-- taken.
 use mathlib.Core.Bool.{Bool, true, false, cond, _||_}
 use mathlib.Core.List.{List, [], _∷_, _++_}
 use Prim.Native.Nat.{ℕ, zero, suc, _+_, _-_, _*_, _/_, _%_, _^_}
 use lib.Dec.{eqb}
 use lib.ListN.{getD, take, drop}
+use Rattle.acceptance.specs.declared.Key.{Key}
+use Rattle.acceptance.specs.Keys.{polynomialOf, keyOf}
 use Rattle.files.specs.Files.{bits, valueFrom, bytesFor}
 
 -- ---- numbers as bytes, the high byte first
@@ -42,12 +45,14 @@ versionWidth = 2
 abbrev pub versionIn : List ℕ → ℕ
 versionIn sheet = numberAt lettersWidth versionWidth sheet
 
--- ---- a version: its number, the widths of its fields, what its length field counts, and how the last page is taken
+-- ---- a version: its number, the widths of its fields, how it holds the key, what its length field counts, and how the last page is taken
 
 pub record Layout : Type 0 where
   pub version : ℕ
   -- of the key, the length and the page size
   pub widths : List ℕ
+  -- the key is held as a byte of its degree and its word in 8 bytes; else as the number of its polynomial
+  pub paired : Bool
   -- of each page's fingerprint and of the file's
   pub fingerprintWidth : ℕ
   -- the bits that the length field counts as one: 8 where it is in bytes
@@ -56,21 +61,24 @@ pub record Layout : Type 0 where
   pub filled : Bool
 
 abbrev pub version1 : Layout
-version1 = record { version = 1; widths = 8 ∷ 4 ∷ 2 ∷ []; fingerprintWidth = 8; lengthUnit = 8; filled = true }
+version1 = record { version = 1; widths = 8 ∷ 4 ∷ 2 ∷ []; paired = false; fingerprintWidth = 8; lengthUnit = 8; filled = true }
 
 abbrev pub version2 : Layout
-version2 = record { version = 2; widths = 8 ∷ 4 ∷ 2 ∷ []; fingerprintWidth = 8; lengthUnit = 8; filled = false }
+version2 = record { version = 2; widths = 8 ∷ 4 ∷ 2 ∷ []; paired = false; fingerprintWidth = 8; lengthUnit = 8; filled = false }
 
 abbrev pub version3 : Layout
-version3 = record { version = 3; widths = 8 ∷ 8 ∷ 2 ∷ []; fingerprintWidth = 8; lengthUnit = 1; filled = false }
+version3 = record { version = 3; widths = 8 ∷ 8 ∷ 2 ∷ []; paired = false; fingerprintWidth = 8; lengthUnit = 1; filled = false }
+
+abbrev pub version4 : Layout
+version4 = record { version = 4; widths = 9 ∷ 8 ∷ 2 ∷ []; paired = true; fingerprintWidth = 8; lengthUnit = 1; filled = false }
 
 -- sheets are written in this layout,
 abbrev pub newest : Layout
-newest = version3
+newest = version4
 
 -- and read in these
 abbrev pub layouts : List Layout
-layouts = version3 ∷ version2 ∷ version1 ∷ []
+layouts = version4 ∷ version3 ∷ version2 ∷ version1 ∷ []
 
 -- a layout of the list has the version
 unfoldable pub known : List Layout → ℕ → Bool
@@ -96,7 +104,7 @@ fieldWidths v = lettersWidth ∷ versionWidth ∷ v .widths
 abbrev pub pagePlace : Layout → ℕ → ℕ
 pagePlace v i = width (fieldWidths v) + v .fingerprintWidth * i
 
--- of a sheet with c pages: 27 + 8c in versions 1 and 2, 31 + 8c in version 3
+-- of a sheet with c pages: 27 + 8c in versions 1 and 2, 31 + 8c in version 3, 32 + 8c in version 4
 abbrev pub sheetLength : Layout → ℕ → ℕ
 sheetLength v c = pagePlace v c + v .fingerprintWidth
 
@@ -108,12 +116,27 @@ pageCount s n = (n + s - 1) / s
 abbrev pub pagesFor : ℕ → ℕ → ℕ
 pagesFor s n = pageCount s (bytesFor n)
 
+-- ---- the key in its field, as the number there: a pair's is the degree's byte in front of the word's eight
+
+unfoldable pub keyNumber : Bool → Key → ℕ
+keyNumber true x = x .degree * 2 ^ 64 + x .word
+keyNumber false x = polynomialOf x
+
+-- the key in a field that holds the number n
+unfoldable pub keyFrom : Bool → ℕ → Key
+keyFrom true n = record { degree = n / 2 ^ 64; word = n % 2 ^ 64 }
+keyFrom false n = keyOf n
+
+-- the highest degree that the field has room for
+abbrev pub highest : Layout → ℕ
+highest v = cond (v .paired) 64 63
+
 -- ---- the numbers in a sheet, and its bytes
 
 -- the length is in bits, the page size in bytes
 pub record Contents : Type 0 where
   pub version : ℕ
-  pub key : ℕ
+  pub key : Key
   pub length : ℕ
   pub pageSize : ℕ
   pub pages : List ℕ
@@ -121,7 +144,9 @@ pub record Contents : Type 0 where
 
 -- the numbers in front of the fingerprints, in the order of the fields
 abbrev pub headOf : Contents → List ℕ
-headOf x = letters ∷ x .version ∷ x .key ∷ x .length / layoutOf (x .version) .lengthUnit ∷ x .pageSize ∷ []
+headOf x =
+    let v = layoutOf (x .version) in
+    letters ∷ x .version ∷ keyNumber (v .paired) (x .key) ∷ x .length / v .lengthUnit ∷ x .pageSize ∷ []
 
 -- numbers one behind the other, each in its width
 unfoldable pub bytesIn : List ℕ → List ℕ → List ℕ
@@ -139,6 +164,9 @@ sheetBytes x =
 abbrev pub fieldIn : Layout → ℕ → List ℕ → ℕ
 fieldIn v i sheet = numberAt (width (take i (fieldWidths v))) (getD (fieldWidths v) i 0) sheet
 
+abbrev pub keyIn : Layout → List ℕ → Key
+keyIn v sheet = keyFrom (v .paired) (fieldIn v 2 sheet)
+
 -- the file's length in bits
 abbrev pub lengthIn : Layout → List ℕ → ℕ
 lengthIn v sheet = v .lengthUnit * fieldIn v 3 sheet
@@ -151,7 +179,7 @@ contentsIn sheet =
     let v = layoutOf (versionIn sheet) in
     record {
       version = versionIn sheet;
-      key = fieldIn v 2 sheet;
+      key = keyIn v sheet;
       length = lengthIn v sheet;
       pageSize = fieldIn v 4 sheet;
       pages = numbersAt (pagePlace v 0) (v .fingerprintWidth) (pagesIn v sheet) sheet;

@@ -14,7 +14,7 @@ use Rattle.sheets.specs.declared.Checked.the-variants as checked-cases
 use Rattle.sheets.specs.declared.Changed.{Changed}
 use Rattle.sheets.specs.declared.layout.Head.{Head}
 use Rattle.sheets.specs.declared.layout.Fields.{Fields}
-use Rattle.sheets.specs.Layout.{versionIn, Layout, layoutOf, pagePlace, pageCount, Contents, fieldIn, lengthIn, contentsIn}
+use Rattle.sheets.specs.Layout.{versionIn, Layout, layoutOf, pagePlace, pageCount, Contents, fieldIn, keyIn, lengthIn, contentsIn}
 use Rattle.sheets.specs.Sheets.{pageSizeTest, bodyWrong, readSheet, Outcome, compared}
 use Rattle.sheets.specs.Answers.{Range, rangeOf}
 use Rattle.sheets.specs.Answers.{numbersOf}
@@ -66,10 +66,11 @@ WithoutPage o r = (x : Contents) → changeAnswer r ≡ ranged x (checkAnswer o)
 -- a layout, as the code has it
 pub record LaidOut (v : Layout) (r : Fields) : Type 0 where
   pub widths : v .widths ≡ r .key ∷ r .length ∷ r .size ∷ []
+  pub paired : v .paired ≡ r .paired
   pub fingerprints : v .fingerprintWidth ≡ 8
   pub unit : v .lengthUnit ≡ r .unit
   pub filled : v .filled ≡ r .filled
-  pub key-fits : r .key ≤ 8
+  pub key-width : r .key ≡ cond (r .paired) 9 8
   pub length-fits : r .length ≤ 8
   pub size-fits : r .size ≤ 2
   pub unit-some : 0 < r .unit
@@ -78,7 +79,7 @@ pub record LaidOut (v : Layout) (r : Fields) : Type 0 where
 -- the numbers in front of a sheet's fingerprints, as the code reads them
 pub record HeadOf (sheet : List ℕ) (head : Head) : Type 0 where
   pub version : head .version ≡ versionIn sheet
-  pub key : head .key ≡ fieldIn (layoutOf (versionIn sheet)) 2 sheet
+  pub key : head .key ≡ keyIn (layoutOf (versionIn sheet)) sheet
   pub length : head .length ≡ lengthIn (layoutOf (versionIn sheet)) sheet
   pub size : head .size ≡ fieldIn (layoutOf (versionIn sheet)) 4 sheet
   pub length-fits : head .length ≤ longest

@@ -1,4 +1,4 @@
--- Writing, reading and checking a page sheet (document 01, "Page sheets"; document 02, wishes 1 and 7): each call is its tests, in document
+-- Writing, reading and checking a page sheet (document 01, "Page sheets"; document 02, wishes 1, 7 and 8): each call is its tests, in document
 -- 01's order, and its value. A file is its list of bits; it is handed in as a part.
 use mathlib.Core.Bool.{Bool, false, _||_, not, cond}
 use mathlib.Core.List.{List, [], _∷_, _++_}
@@ -9,7 +9,8 @@ use Rattle.lists.specs.Lists.{overlay}
 use Rattle.gf2.specs.Polynomials.{degree, rem}
 use Rattle.refusals.specs.declared.Refusal.the-variants.{TooLong, PageSize, BufferShort, SheetMalformed, FinalByte}
 use Rattle.refusals.specs.Refusals.{Answer, Test, _⇒_, firstOf, longest, passes}
-use Rattle.acceptance.specs.Keys.{keyTests}
+use Rattle.acceptance.specs.declared.Key.{Key}
+use Rattle.acceptance.specs.Keys.{polynomialOf, keyTests}
 use Rattle.files.specs.declared.Mark.{Mark}
 use Rattle.files.specs.Files.{fingerprint, markOf, Part, partLength, partBits, misused, joined}
 use Rattle.sheets.specs.Layout.{numberAt, letters, lettersWidth, versionIn, Layout, newest, layouts, known, layoutOf}
@@ -31,10 +32,11 @@ pageFingerprints v key s zero file = []
 pageFingerprints v key s (suc c) file = fingerprint key (pageOf v s (take s file)) ∷ pageFingerprints v key s c (drop s file)
 
 -- with pages of s bytes
-unfoldable pub contentsOf : ℕ → ℕ → ℕ → List ℕ → Contents
-contentsOf version key s file =
+unfoldable pub contentsOf : ℕ → Key → ℕ → List ℕ → Contents
+contentsOf version x s file =
+    let key = polynomialOf x in
     let pages = pageFingerprints (layoutOf version) key (8 * s) (pagesFor s (length file)) file in
-    record { version = version; key = key; length = length file; pageSize = s; pages = pages; fingerprint = fingerprint key file }
+    record { version = version; key = x; length = length file; pageSize = s; pages = pages; fingerprint = fingerprint key file }
 
 -- ---- writing: numbers 1, 2, 7, 12, 13, 19
 
@@ -49,19 +51,19 @@ lengthTests n s = passes (n ∷ []) ⇒ TooLong ∷ pageSizeTest s ∷ []
 unfoldable pub lengthFor : ℕ → ℕ → Answer Unit ℕ
 lengthFor n s = firstOf (lengthTests (8 * n) s) tt (sheetLength newest (pageCount s n))
 
-abbrev pub writeTests : ℕ → ℕ → Part → List ℕ → List Test
-writeTests key s file buffer =
-    keyTests key
+abbrev pub writeTests : Key → ℕ → Part → List ℕ → List Test
+writeTests x s file buffer =
+    keyTests x
     ++ lengthTests (partLength file) s
     ++ ltb (length buffer) (sheetLength newest (pageCount s (length (file .bytes)))) ⇒ BufferShort
     ∷ misused file ⇒ FinalByte
     ∷ []
 
 -- what the lent buffer holds after the call
-unfoldable pub writeSheet : ℕ → ℕ → Part → List ℕ → Answer (List ℕ) (List ℕ)
-writeSheet key s file buffer =
-    firstOf (writeTests key s file buffer) buffer
-    (overlay (sheetBytes (contentsOf (newest .version) key s (partBits file))) buffer)
+unfoldable pub writeSheet : Key → ℕ → Part → List ℕ → Answer (List ℕ) (List ℕ)
+writeSheet x s file buffer =
+    firstOf (writeTests x s file buffer) buffer
+    (overlay (sheetBytes (contentsOf (newest .version) x s (partBits file))) buffer)
 
 -- ---- reading: number 14 for size, letters, version, the version's least size and the limit of lengths; 1, 2, 12; then the rest of 14
 
@@ -81,11 +83,13 @@ someUnreduced k (f ∷ fs) = leb (2 ^ k) f || someUnreduced k fs
 
 -- the pages joined: no pages give the mark of no bits
 abbrev pub pagesJoined : Contents → Mark
-pagesJoined x = joinedPages (layoutOf (x .version)) (x .key) (8 * x .pageSize) (x .length) (markOf (x .key) []) (x .pages)
+pagesJoined x =
+    let key = polynomialOf (x .key) in
+    joinedPages (layoutOf (x .version)) key (8 * x .pageSize) (x .length) (markOf key []) (x .pages)
 
 -- the file's fingerprint with zeros behind it, as many as the pages are longer than the file: none where they are not filled up
 abbrev pub fileFilled : Contents → ℕ
-fileFilled x = rem (x .key) (x .fingerprint * 2 ^ (pagesJoined x .length - x .length))
+fileFilled x = rem (polynomialOf (x .key)) (x .fingerprint * 2 ^ (pagesJoined x .length - x .length))
 
 -- number 14, first: size, letters, version. The 27 bytes are document 01's, for every version. Then "a sheet shorter than its version's
 -- total without pages, or a length field past the limit".
@@ -102,7 +106,7 @@ headWrong vs sheet =
 abbrev pub bodyWrong : ℕ → Contents → Bool
 bodyWrong size x =
     not (eqb size (sheetLength (layoutOf (x .version)) (length (x .pages))))
-    || someUnreduced (degree (x .key)) (x .pages ++ x .fingerprint ∷ [])
+    || someUnreduced (degree (polynomialOf (x .key))) (x .pages ++ x .fingerprint ∷ [])
     || not (eqb (pagesJoined x .fingerprint) (fileFilled x))
 
 -- of a reader that knows the layouts of a list

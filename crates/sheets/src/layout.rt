@@ -1,12 +1,14 @@
 // The layout of a sheet in code, version by version: the fields in front of the fingerprints, and the part of a sheet that begins with the
 // fingerprints. These functions are for the project's own crates: what they require, every caller proves.
 use super::fields;
+use acceptance::Key;
 ghost use mathlib.Core.Path.{_≡_};
-ghost use mathlib.Core.Bool.{false, not};
+ghost use mathlib.Core.Bool.{true, false, not};
 ghost use Prim.Native.Nat.{_≤_, _<_, _^_};
 ghost use lib.ListN.{length};
 ghost use lib.Seq.{sets};
-ghost use Rattle.sheets.specs.Layout.{numberAt, layouts, known, layoutOf, fieldWidths, pagePlace, sheetLength, headOf, bytesIn, lengthIn};
+ghost use Rattle.acceptance.specs.Keys.{keyOf};
+ghost use Rattle.sheets.specs.Layout.{numberAt, layouts, known, layoutOf, fieldWidths, pagePlace, sheetLength, headOf, bytesIn, keyIn, lengthIn};
 ghost use Rattle.sheets.specs.Sheets.{headWrong};
 ghost use Rattle.sheets.specs.Parts.{LaidOut, HeadOf, fingerprintsPart, headOnly};
 
@@ -19,16 +21,22 @@ const VERSION_WIDTH: usize = 2;
 
 const KEY_PLACE: usize = LETTERS_WIDTH + VERSION_WIDTH;
 
+// Where a key is held as a pair: the width of its degree, and where its word begins.
+const DEGREE_WIDTH: usize = 1;
+
+const WORD_PLACE: usize = KEY_PLACE + DEGREE_WIDTH;
+
 // The bytes that a sheet has at least, whatever its version.
 const LEAST: usize = 27;
 
 // The version that is written.
-pub const NEWEST: u64 = 3;
+pub const NEWEST: u64 = 4;
 
-// A version: the width of each field behind the version's number, the bits that the length counts as one, and whether a last page that is not
-// whole is filled up with zeros.
+// A version: the width of each field behind the version's number, whether the key is a byte of its degree and its word, the bits that the
+// length counts as one, and whether a last page that is not whole is filled up with zeros.
 pub struct Fields {
     pub key: usize,
+    pub paired: bool,
     pub length: usize,
     pub size: usize,
     pub unit: u64,
@@ -42,6 +50,7 @@ fn fields_of(version: u64) -> Fields
     if version == 1 {
         return Fields {
             key: 8,
+            paired: false,
             length: 4,
             size: 2,
             unit: 8,
@@ -51,14 +60,26 @@ fn fields_of(version: u64) -> Fields
     if version == 2 {
         return Fields {
             key: 8,
+            paired: false,
             length: 4,
             size: 2,
             unit: 8,
             filled: false,
         };
     }
+    if version == 3 {
+        return Fields {
+            key: 8,
+            paired: false,
+            length: 8,
+            size: 2,
+            unit: 1,
+            filled: false,
+        };
+    }
     Fields {
-        key: 8,
+        key: 9,
+        paired: true,
         length: 8,
         size: 2,
         unit: 1,
@@ -71,6 +92,9 @@ fn is_known(version: u64) -> bool
     ensures { λ r. ⌜ r ≡ known layouts version ⌝ }
 {
     if version == NEWEST {
+        return true;
+    }
+    if version == 3 {
         return true;
     }
     if version == 2 {
@@ -97,9 +121,37 @@ pub fn pages_place(version: u64) -> usize
 // The numbers in front of the fingerprints: the version's, the key, the file's length in bits and the page size in bytes.
 pub struct Head {
     pub version: u64,
-    pub key: u64,
+    pub key: Key,
     pub length: u64,
     pub size: u64,
+}
+
+// A number as the key that its polynomial is handed in as.
+fn key_of(n: u64) -> Key
+    ensures { λ r. ⌜ r ≡ keyOf n ⌝ }
+{
+    if n < 2 {
+        return Key { degree: 0, word: 0 };
+    }
+    let p = gf2::modulus_of(n);
+    Key {
+        degree: p.degree,
+        word: p.low,
+    }
+}
+
+// The key, by the fields of a version.
+fn key_in(sheet: &[u8], version: u64) -> Key
+    requires { ⌜ pagePlace (layoutOf version) 0 ≤ length (now sheet) ⌝ }
+    ensures { λ r. ⌜ r ≡ keyIn (layoutOf version) (now (sheet .entry)) ⌝ }
+{
+    if fields_of(version).paired {
+        return Key {
+            degree: fields::number_at(sheet, KEY_PLACE, DEGREE_WIDTH) as u32,
+            word: fields::number_at(sheet, WORD_PLACE, 8),
+        };
+    }
+    key_of(fields::number_at(sheet, KEY_PLACE, 8))
 }
 
 // The file's length in bits, by the fields of a version.
@@ -145,15 +197,15 @@ pub fn read_head(sheet: &[u8]) -> Head
     let size_place = length_place + v.length;
     Head {
         version: version,
-        key: fields::number_at(sheet, KEY_PLACE, v.key),
+        key: key_in(sheet, version),
         length: length_in(sheet, version),
         size: fields::number_at(sheet, size_place, v.size),
     }
 }
 
-// Writes what stands in front of the fingerprints, in the fields of the head's version.
+// Writes what stands in front of the fingerprints, in the fields of the head's version, which holds the key as a pair.
 pub fn put_head(buffer: &mut [u8], head: Head)
-    requires { ⌜ pagePlace (layoutOf (head .version)) 0 ≤ length (now buffer) ⌝ }
+    requires { ⌜ (layoutOf (head .version) .paired ≡ true) × (pagePlace (layoutOf (head .version)) 0 ≤ length (now buffer)) ⌝ }
     ensures { λ r. ⌜ now (buffer .exit) ≡ sets (now (buffer .entry)) 0 (bytesIn (fieldWidths (layoutOf (head .version))) (headOf (headOnly head))) ⌝ }
 {
     let v = fields_of(head.version);
@@ -162,7 +214,8 @@ pub fn put_head(buffer: &mut [u8], head: Head)
     let size_place = length_place + v.length;
     fields::put(buffer, 0, LETTERS_WIDTH, LETTERS);
     fields::put(buffer, LETTERS_WIDTH, VERSION_WIDTH, head.version);
-    fields::put(buffer, KEY_PLACE, v.key, head.key);
+    fields::put(buffer, KEY_PLACE, DEGREE_WIDTH, head.key.degree as u64);
+    fields::put(buffer, WORD_PLACE, 8, head.key.word);
     fields::put(buffer, length_place, v.length, n);
     fields::put(buffer, size_place, v.size, head.size);
 }

@@ -1,6 +1,7 @@
 // Page sheets: the layout of their bytes and the answers of the calls. The definitions are in specs/, their laws in proofs/. The calls are in
 // the crates sheet_writing, sheet_reading and sheet_checking. The functions here are for the project's own crates: what they require, every
 // caller proves.
+use acceptance::Key;
 use refusals::Refusal;
 
 pub mod fields;
@@ -10,7 +11,7 @@ pub mod layout;
 // fingerprint.
 pub struct Sheet {
     pub version: u64,
-    pub key: u64,
+    pub key: Key,
     pub length: u64,
     pub size: u64,
     pub pages: u64,
