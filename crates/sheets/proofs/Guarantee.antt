@@ -2,7 +2,7 @@
 use mathlib.Core.Path.{_≡_, refl, sym, ap, ap₂, _∙_}
 use mathlib.Core.Bool.{Bool, false, cond, or-true}
 use mathlib.Core.List.{List, [], _∷_}
-use Prim.Native.Nat.{ℕ, _+_, _-_, _*_, _%_, _^_, _≤_, _<_, min}
+use Prim.Native.Nat.{ℕ, _+_, _-_, _*_, _%_, _^_, _≤_, min}
 use native.Mathlib.Nat.{zero-add, mul-one, mod-one}
 use native.Mathlib.Omega.{arith}
 use lib.Dec.{ltb}
@@ -20,10 +20,10 @@ use Rattle.refusals.specs.Refusals.{Done, _⇒_, passes, longest}
 use Rattle.refusals.proofs.Laws.{Clear, clear-done, clear-append, done-clear}
 use Rattle.lists.proofs.Truth.{or-neither}
 use Rattle.acceptance.specs.declared.Key.{Key}
-use Rattle.acceptance.specs.Keys.{accepted, polynomialOf, outside}
+use Rattle.acceptance.specs.Keys.{polynomialOf}
 use Rattle.acceptance.proofs.Laws.{in-range, key-iff}
-use Rattle.sheets.specs.Layout.{numberAt, versionIn, Layout, version1, version2, version3, newest, layouts, known, layoutOf, pagePlace, sheetLength, pageCount, pagesFor}
-use Rattle.sheets.specs.Layout.{highest, Contents, sheetBytes, contentsIn}
+use Rattle.sheets.specs.Layout.{numberAt, versionIn, Layout, version1, version2, version3, newest, layouts, known, layoutOf}
+use Rattle.sheets.specs.Layout.{pagePlace, sheetLength, pageCount, pagesFor, highest, Contents, sheetBytes, contentsIn}
 use Rattle.sheets.specs.Sheets.{pageFingerprints, contentsOf, joinedPages, writeTests, writeSheet, readTests, readSheet, readPages, Page}
 use Rattle.sheets.specs.Claims.{SoundContents, WellFormed, First, ReadIff, OtherVersion, PagesGiven, WrittenReads, WrittenFingerprint, OlderRefuses}
 use Rattle.sheets.specs.Claims.{Checks, OtherLengthTold, PagesGiveFile, OwnCompared, FilledCompared, PageIff, SameIff}

@@ -10,13 +10,13 @@ use lib.Dec.{lit<}
 use lib.ListN.{length}
 use lib.Pow.{pow-mono, pow-pos}
 use lib.Seq.{sets}
-use Rattle.gf2.specs.Polynomials.{degree}
+use Rattle.gf2.specs.Polynomials.{halvings, degree}
 use Rattle.gf2.specs.Degrees.{monic}
 use Rattle.gf2.proofs.Monics.{word-degree}
 use Rattle.acceptance.specs.declared.Key.{Key}
 use Rattle.acceptance.specs.Keys.{polynomialOf, keyOf, outside}
 use Rattle.acceptance.proofs.Laws.{in-range, range-key, whole-key, word-outside}
-use Rattle.sheets.specs.Layout.{bytesOf, numberAt, Layout, keyNumber, keyFrom, highest}
+use Rattle.sheets.specs.Layout.{bytesOf, numberAt, Layout, keyNumber, keyFrom}
 use Rattle.sheets.specs.Claims.{PairHeld}
 use Rattle.sheets.proofs.Numbers.{length-bytesOf, bytes-first, number-first, number-lt, sets-behind}
 
@@ -72,6 +72,13 @@ unfolding keyFrom
 degree-held true n h l = in-range (record { degree = n / 2 ^ 64; word = n % 2 ^ 64 }) h .1
 degree-held false n h l = omega (arith, word-degree n (some n h) l)
 
+-- the numbers below 2
+pub key-none : (n : ℕ) → n < 2 → keyOf n ≡ record { degree = 0; word = 0 }
+unfolding degree halvings
+key-none zero l = refl
+key-none (suc zero) l = refl
+key-none (suc (suc n)) l = absurd (omega arith)
+
 -- ---- a pair, byte by byte
 
 pub pair-held : PairHeld
@@ -79,16 +86,16 @@ unfolding keyNumber
 pair-held x l = bytes-first 8 (x .degree) (x .word) l
 
 -- as the code stores it
-pub store-pair : (b : Bool) (x : Key) (place : ℕ) (l l' after : List ℕ) → b ≡ true → x .word < 2 ^ 64
+pub store-pair : (b : Bool) (x : Key) (w place : ℕ) (l l' after : List ℕ) → b ≡ true → w ≡ 9 → x .word < 2 ^ 64
     → l' ≡ sets l place (bytesOf 1 (x .degree)) → after ≡ sets l' (place + 1) (bytesOf 8 (x .word))
-    → after ≡ sets l place (bytesOf 9 (keyNumber b x))
-store-pair b x place l l' after p w e d =
+    → after ≡ sets l place (bytesOf w (keyNumber b x))
+store-pair b x w place l l' after p n h e d =
     d
     ∙ ap (λ (m : List ℕ). sets m (place + 1) (bytesOf 8 (x .word))) e
     ∙ sets-behind (bytesOf 1 (x .degree)) (bytesOf 8 (x .word)) l place (place + 1) (ap (λ (n : ℕ). place + n) (sym (length-bytesOf 1 (x .degree))))
-    ∙ ap (sets l place) (sym (pair-held x w) ∙ ap (λ (c : Bool). bytesOf 9 (keyNumber c x)) (sym p))
+    ∙ ap (sets l place) (sym (pair-held x h) ∙ ap₂ (λ (m : ℕ) (c : Bool). bytesOf m (keyNumber c x)) (sym n) (sym p))
 
--- as the code reads it
+-- as the code reads it, and a number
 pub pair-read : (b : Bool) (place : ℕ) (l : List ℕ) → b ≡ true → place + 9 ≤ length l
     → _≡_ {A = Key} (record { degree = numberAt place 1 l; word = numberAt (place + 1) 8 l }) (keyFrom b (numberAt place 9 l))
 unfolding keyFrom
@@ -98,3 +105,7 @@ pair-read b place l p h =
     sym
     (ap (λ (c : Bool). keyFrom c (numberAt place 9 l)) p
     ∙ key-eq (ap (λ (m : ℕ). m / 2 ^ 64) two ∙ digits-div (numberAt place 1 l) low) (ap (λ (m : ℕ). m % 2 ^ 64) two ∙ digits-mod (numberAt place 1 l) low))
+
+pub number-read : (b : Bool) (n : ℕ) → b ≡ false → keyOf n ≡ keyFrom b n
+unfolding keyFrom
+number-read b n p = sym (ap (λ (c : Bool). keyFrom c n) p)

@@ -2,7 +2,7 @@
 -- fingerprints are those of a file's pages.
 use mathlib.Core.Path.{_≡_, refl, sym, ap, _∙_}
 use mathlib.Core.List.{List, [], _∷_}
-use Prim.Native.Nat.{ℕ, zero, suc, _+_, _*_, _^_, _≤_, _<_}
+use Prim.Native.Nat.{ℕ, zero, suc, _+_, _*_, _≤_, _<_}
 use native.Mathlib.Omega.{arith}
 use lib.ListN.{length, getD, take, drop, length-take, List·getD-append}
 use lib.Seq.{take-take, getD-take}
@@ -115,5 +115,7 @@ module _ (sheet file : List ℕ) (x : Contents) (bytes : Bytes sheet) (read : re
   read-fingerprint = rw is at (of-file sheet well file (rw is size) (rw is pages))
 
   pub read-page : (words after : List ℕ) (i : ℕ) → readPages sheet words ≡ Done after → i < length (x .pages) → i < length words
-      → getD after i 0 ≡ fingerprint (polynomialOf (x .key)) (pageOf (layoutOf (x .version)) (8 * x .pageSize) (take (8 * x .pageSize) (drop (i * (8 * x .pageSize)) file)))
+      → getD after i 0
+      ≡ fingerprint (polynomialOf (x .key))
+      (pageOf (layoutOf (x .version)) (8 * x .pageSize) (take (8 * x .pageSize) (drop (i * (8 * x .pageSize)) file)))
   read-page words after i e l m = rw is at (of-page sheet well file (rw is size) (rw is pages) words after i e (rw is l) m)

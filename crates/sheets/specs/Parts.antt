@@ -71,6 +71,7 @@ pub record LaidOut (v : Layout) (r : Fields) : Type 0 where
   pub unit : v .lengthUnit ≡ r .unit
   pub filled : v .filled ≡ r .filled
   pub key-width : r .key ≡ cond (r .paired) 9 8
+  pub key-fits : r .key ≤ 9
   pub length-fits : r .length ≤ 8
   pub size-fits : r .size ≤ 2
   pub unit-some : 0 < r .unit

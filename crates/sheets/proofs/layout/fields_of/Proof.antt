@@ -1,7 +1,7 @@
 -- `fields_of` meets its contract.
 use mathlib.Core.Path.{refl}
 use native.Mathlib.Omega.{arith}
-use Rattle.sheets.proofs.Versions.{first-is, second-is, other-is}
+use Rattle.sheets.proofs.Versions.{first-is, second-is, third-is, other-is}
 use Rattle.sheets.proofs.layout.fields_of.Statement.{statement}
 use Rattle.sheets.proofs.layout.fields_of.Tie as tie
 
@@ -10,9 +10,11 @@ returns c =
     rw (first-is (c .before .args .version) (c .if1 .taken))
     (record {
       widths = refl;
+      paired = refl;
       fingerprints = refl;
       unit = refl;
       filled = refl;
+      key-width = refl;
       key-fits = omega arith;
       length-fits = omega arith;
       size-fits = omega arith;
@@ -25,9 +27,11 @@ returns-2 c =
     rw (second-is (c .before .before .args .version) (c .if2 .taken))
     (record {
       widths = refl;
+      paired = refl;
       fingerprints = refl;
       unit = refl;
       filled = refl;
+      key-width = refl;
       key-fits = omega arith;
       length-fits = omega arith;
       size-fits = omega arith;
@@ -37,12 +41,31 @@ returns-2 c =
 
 returns-3 : tie.Need-returns-3
 returns-3 c =
-    rw (other-is (c .before .before .args .version) (c .before .if1 .left) (c .if2 .left))
+    rw (third-is (c .before .before .before .args .version) (c .if3 .taken))
     (record {
       widths = refl;
+      paired = refl;
       fingerprints = refl;
       unit = refl;
       filled = refl;
+      key-width = refl;
+      key-fits = omega arith;
+      length-fits = omega arith;
+      size-fits = omega arith;
+      unit-some = omega arith;
+      counts = omega arith;
+    })
+
+returns-4 : tie.Need-returns-4
+returns-4 c =
+    rw (other-is (c .before .before .before .args .version) (c .before .before .if1 .left) (c .before .if2 .left) (c .if3 .left))
+    (record {
+      widths = refl;
+      paired = refl;
+      fingerprints = refl;
+      unit = refl;
+      filled = refl;
+      key-width = refl;
       key-fits = omega arith;
       length-fits = omega arith;
       size-fits = omega arith;
@@ -51,4 +74,4 @@ returns-3 c =
     })
 
 pub fields-of-spec : {M : Type 1} → statement M
-fields-of-spec = tie.close (tie.spec returns returns-2 returns-3)
+fields-of-spec = tie.close (tie.spec returns returns-2 returns-3 returns-4)

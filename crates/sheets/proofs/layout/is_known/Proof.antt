@@ -26,9 +26,18 @@ returns-2 c = rw (c .if2 .taken)
 
 returns-3 : tie.Need-returns-3
 unfolding known
-returns-3 c =
-    let n = c .before .before .args .version in
-    rw (ne-eqb 3 n (λ e. c .before .if1 .left (sym e)), ne-eqb 2 n (λ e. c .if2 .left (sym e))) (exchanged n)
+returns-3 c = rw (c .if3 .taken)
+
+returns-4 : tie.Need-returns-4
+unfolding known
+returns-4 c =
+    let n = c .before .before .before .args .version in
+    rw (
+      ne-eqb 4 n (λ e. c .before .before .if1 .left (sym e)),
+      ne-eqb 3 n (λ e. c .before .if2 .left (sym e)),
+      ne-eqb 2 n (λ e. c .if3 .left (sym e)),
+    )
+    (exchanged n)
 
 pub is-known-spec : {M : Type 1} → statement M
-is-known-spec = tie.close (tie.spec returns returns-2 returns-3)
+is-known-spec = tie.close (tie.spec returns returns-2 returns-3 returns-4)

@@ -7,9 +7,9 @@ use native.Mathlib.Omega.{arith}
 use lib.ListN.{length}
 use lib.Pow.{pow-mono}
 use Rattle.refusals.specs.Refusals.{longest}
-use Rattle.sheets.specs.Layout.{versionIn, layoutOf, pagePlace, lengthIn}
+use Rattle.sheets.specs.Layout.{versionIn, layoutOf, pagePlace, keyIn, lengthIn}
 use Rattle.sheets.specs.Parts.{LaidOut}
-use Rattle.sheets.proofs.Versions.{place-laid, key-laid, size-laid, length-from}
+use Rattle.sheets.proofs.Versions.{place-laid, size-laid, length-from}
 use Rattle.sheets.proofs.Sound.{HeadRight, head-right}
 use borrow.Author.Needs.{needs}
 use Rattle.sheets.proofs.layout.read_head.Statement.{statement}
@@ -45,16 +45,18 @@ below {x} {w} {n} l h = lt-of-lt-of-le l (pow-mono {i = 8 * w} {j = 8 * n} (omeg
 number-at-requires : tie.Need-number-at-requires
 number-at-requires c κs = (omega arith, omega (arith, right (c .before) .long))
 
-number-at-requires-2 : tie.Need-number-at-requires-2
-number-at-requires-2 c κs = let f = c .before .before in (laid f .key-fits, omega (arith, room f))
+-- by the version that was read
+inside-read : (c : tie.After-number-at) → pagePlace (layoutOf (c .number-at .result)) 0 ≤ length (sheet c)
+inside-read c = subst (λ (n : ℕ). pagePlace (layoutOf n) 0 ≤ length (sheet c)) (sym (c .number-at .ensures .0)) (inside c)
+
+key-in-requires : tie.Need-key-in-requires
+key-in-requires c κs = inside-read (version (c .before .before))
 
 length-in-requires : tie.Need-length-in-requires
-length-in-requires c κs =
-    let v = c .before .before .before .before in
-    subst (λ (n : ℕ). pagePlace (layoutOf n) 0 ≤ length (sheet v)) (sym (v .number-at .ensures .0)) (inside v)
+length-in-requires c κs = inside-read (version (c .before .before .before))
 
-number-at-requires-3 : tie.Need-number-at-requires-3
-number-at-requires-3 c κs = let f = c .before .before .before .before in (omega (arith, laid f .size-fits), omega (arith, room f))
+number-at-requires-2 : tie.Need-number-at-requires-2
+number-at-requires-2 c κs = let f = c .before .before .before .before in (omega (arith, laid f .size-fits), omega (arith, room f))
 
 returns : tie.Need-returns
 returns c =
@@ -65,11 +67,11 @@ returns c =
     let n = c .before .length-in .ensures ∙ ap (λ (m : ℕ). lengthIn (layoutOf m) l) (v .number-at .ensures .0) in
     record {
       version = v .number-at .ensures .0;
-      key = c .before .before .number-at2 .ensures .0 ∙ sym (key-laid h l);
+      key = c .before .before .key-in .ensures ∙ ap (λ (m : ℕ). keyIn (layoutOf m) l) (v .number-at .ensures .0);
       length = n;
-      size = c .number-at3 .ensures .0 ∙ sym (size-laid h l);
+      size = c .number-at2 .ensures .0 ∙ sym (size-laid h l);
       length-fits = subst (λ (m : ℕ). m ≤ longest) (sym n) (right (start v) .length-fits);
-      size-fits = below (c .number-at3 .ensures .1) (h .size-fits);
+      size-fits = below (c .number-at2 .ensures .1) (h .size-fits);
     }
 
 pub read-head-spec : {M : Type 1} → statement M
@@ -80,7 +82,7 @@ read-head-spec =
     (λ c κs. search needs)
     (λ c. search needs)
     (λ c. search needs)
-    number-at-requires-2
+    key-in-requires
     length-in-requires
-    number-at-requires-3
+    number-at-requires-2
     returns)
