@@ -1,7 +1,14 @@
 // Joining and page changes, printed and compared with their figures: the fingerprint and the length in bits, or the refusal's number with the
 // mark that went back. Under key 0x11B where nothing else is said.
+use acceptance::Key;
 use files::Mark;
 use marks::Running;
+
+// The key 0x11B.
+const KEY: Key = Key {
+    degree: 8,
+    word: 0x1B,
+};
 
 // 2^63: twice that is past 64 bits.
 const HALF: u64 = 9223372036854775808;
@@ -9,10 +16,10 @@ const HALF: u64 = 9223372036854775808;
 // 2^61: eight times that is past 64 bits.
 const EIGHTH: u64 = 2305843009213693952;
 
-// The last place of 64 bits.
+// The last place of 64 bits, and 64 ones.
 const LAST: u64 = 18446744073709551615;
 
-fn running(key: u64, f: u64, a: u64) -> Running {
+fn running(key: Key, f: u64, a: u64) -> Running {
     Running {
         key: key,
         fingerprint: f,
@@ -21,7 +28,7 @@ fn running(key: u64, f: u64, a: u64) -> Running {
 }
 
 // The mark of fingerprint f and length a with the one of fingerprint g and length b behind it, and in front of it.
-fn join(what: &[u8], key: u64, f: u64, a: u64, g: u64, b: u64) {
+fn join(what: &[u8], key: Key, f: u64, a: u64, g: u64, b: u64) {
     let m = running(key, f, a);
     let other = Mark {
         fingerprint: g,
@@ -36,35 +43,49 @@ fn join(what: &[u8], key: u64, f: u64, a: u64, g: u64, b: u64) {
 
 // A page of whole bytes changed in the mark of fingerprint f and length a.
 fn change(what: &[u8], f: u64, a: u64, place: u64, old: &[u8], new: &[u8]) {
-    let m = running(0x11B, f, a);
+    let m = running(KEY, f, a);
     vectors::text(what);
     vectors::fed_or_refused(compose::replace_page(m, place, old, 8, new, 8));
 }
 
 // In the mark of 41 42, a page with u used bits in its final byte by one with v.
 fn change_bits(what: &[u8], place: u64, old: &[u8], u: u32, new: &[u8], v: u32) {
-    let m = running(0x11B, 0x9D, 16);
+    let m = running(KEY, 0x9D, 16);
     vectors::text(what);
     vectors::fed_or_refused(compose::replace_page(m, place, old, u, new, v));
 }
 
 fn joins() {
-    join(b"41 and 42", 0x11B, 0x5A, 8, 0x59, 8);
-    join(b"3 bits of 41 and the 13 behind", 0x11B, 0x0A, 3, 0x14, 13);
-    join(b"41 and the empty file", 0x11B, 0x5A, 8, 1, 0);
+    join(b"41 and 42", KEY, 0x5A, 8, 0x59, 8);
+    join(b"3 bits of 41 and the 13 behind", KEY, 0x0A, 3, 0x14, 13);
+    join(b"41 and the empty file", KEY, 0x5A, 8, 1, 0);
 }
 
 fn joins_at_the_limit() {
     let limit = refusals::LONGEST;
-    join(b"34359738360 bits and none", 0x11B, 0x5A, limit, 1, 0);
-    join(b"34359738360 bits and one", 0x11B, 0x5A, limit, 3, 1);
+    join(b"34359738360 bits and none", KEY, 0x5A, limit, 1, 0);
+    join(b"34359738360 bits and one", KEY, 0x5A, limit, 3, 1);
 }
 
 fn joins_refused() {
-    join(b"2^63 bits and 2^63", 0x11B, 0x5A, HALF, 0x59, HALF);
-    join(b"a fingerprint of 9 bits", 0x11B, 0x5A, 8, 0x100, 8);
-    join(b"key 255", 0xFF, 0x5A, 8, 0x59, 8);
-    join(b"key 101, 2^63 bits", 0x101, 0x5A, HALF, 0x59, 8);
+    join(b"2^63 bits and 2^63", KEY, 0x5A, HALF, 0x59, HALF);
+    join(b"a fingerprint of 9 bits", KEY, 0x5A, 8, 0x100, 8);
+    join(b"key 255", vectors::key(7, 0x7F), 0x5A, 8, 0x59, 8);
+    join(
+        b"key 101, 2^63 bits",
+        vectors::key(8, 1),
+        0x5A,
+        HALF,
+        0x59,
+        8,
+    );
+}
+
+// Degree 64: every fingerprint of 64 bits is reduced.
+fn joins_at_the_largest_degree() {
+    let key = vectors::key(64, 0x1B);
+    join(b"41 and 42, degree 64", key, 0x141, 8, 0x142, 8);
+    join(b"all ones and 42, degree 64", key, LAST, 64, 0x142, 8);
 }
 
 fn changes() {
@@ -102,6 +123,7 @@ fn main() {
     joins();
     joins_at_the_limit();
     joins_refused();
+    joins_at_the_largest_degree();
     changes();
     changes_at_the_end();
     changes_refused();

@@ -1,7 +1,14 @@
 // Making, testing and feeding by tables, printed and compared with their figures: the words of document 01, the refusals' numbers with the
 // mark that went back, and a part of 10,000 bytes against feeding by bits. Under key 0x11B where nothing else is said.
+use acceptance::Key;
 use marks::Running;
 use refusals::Reply;
+
+// The key 0x11B.
+const KEY: Key = Key {
+    degree: 8,
+    word: 0x1B,
+};
 
 fn show(reply: Reply, done: &[u8]) {
     match reply {
@@ -21,7 +28,7 @@ fn show_word(n: u64, word: u64) {
     vectors::text(b"\n");
 }
 
-fn running(key: u64, fingerprint: u64, length: u64) -> Running {
+fn running(key: Key, fingerprint: u64, length: u64) -> Running {
     Running {
         key: key,
         fingerprint: fingerprint,
@@ -29,23 +36,23 @@ fn running(key: u64, fingerprint: u64, length: u64) -> Running {
     }
 }
 
-fn make(key: u64, words: &mut [u64]) {
+fn make(key: Key, words: &mut [u64]) {
     show(tables::make(key, words), b"made\n");
 }
 
-fn test(key: u64, words: &[u64]) {
+fn test(key: Key, words: &[u64]) {
     show(tables::test(key, words), b"right\n");
 }
 
 // A part of whole bytes.
-fn feed(key: u64, fingerprint: u64, length: u64, words: &[u64], part: &[u8]) {
+fn feed(key: Key, fingerprint: u64, length: u64, words: &[u64], part: &[u8]) {
     let m = running(key, fingerprint, length);
     vectors::fed_or_refused(m.feed_table(words, part, 8));
 }
 
 // A part with the used bits of its final byte, under 0x11B.
 fn feed_used(fingerprint: u64, length: u64, words: &[u64], part: &[u8], used: u32) {
-    let m = running(0x11B, fingerprint, length);
+    let m = running(KEY, fingerprint, length);
     vectors::fed_or_refused(m.feed_table(words, part, used));
 }
 
@@ -61,15 +68,15 @@ fn some_words(words: &[u64]) {
 
 // What is answered of the table of 0x11B.
 fn some_tests(words: &[u64]) {
-    test(0x11B, words);
-    test(0x11D, words);
-    test(0x101, words);
+    test(KEY, words);
+    test(vectors::key(8, 0x1D), words);
+    test(vectors::key(8, 1), words);
 }
 
 fn some_feeds(words: &[u64]) {
-    feed(0x11B, 1, 0, words, b"AB");
-    feed(0x11B, 1, 0, words, b"");
-    feed(0x11B, 0x5A, refusals::LONGEST, words, b"");
+    feed(KEY, 1, 0, words, b"AB");
+    feed(KEY, 1, 0, words, b"");
+    feed(KEY, 0x5A, refusals::LONGEST, words, b"");
 }
 
 // 41 42, cut behind its third bit.
@@ -88,33 +95,33 @@ fn misused(words: &[u64]) {
 }
 
 fn some_refusals(words: &[u64]) {
-    feed(0x11B, 0x5A, refusals::LONGEST, words, b"A");
-    feed(0x11B, 0x100, 0, words, b"A");
-    feed(0x11D, 1, 0, words, b"");
-    feed(0xFF, 1, 0, words, b"A");
+    feed(KEY, 0x5A, refusals::LONGEST, words, b"A");
+    feed(KEY, 0x100, 0, words, b"A");
+    feed(vectors::key(8, 0x1D), 1, 0, words, b"");
+    feed(vectors::key(7, 0x7F), 1, 0, words, b"A");
 }
 
 // One bit of the last word is another.
 fn with_a_wrong_word(words: &mut [u64]) {
     if words.len() == 1024 {
         words[1023] = words[1023] ^ 1;
-        test(0x11B, words);
-        feed(0x11B, 0x100, 34359738368, words, b"A");
+        test(KEY, words);
+        feed(KEY, 0x100, 34359738368, words, b"A");
     }
 }
 
 fn with_a_wrong_size() {
     let mut words: [u64; 1023] = [0; 1023];
-    make(0x101, &mut words);
-    make(0x11B, &mut words);
-    test(0x11B, &words);
-    feed(0x11B, 0x100, 34359738368, &words, b"A");
+    make(vectors::key(8, 1), &mut words);
+    make(KEY, &mut words);
+    test(KEY, &words);
+    feed(KEY, 0x100, 34359738368, &words, b"A");
 }
 
 fn some_tables() {
     let mut words: [u64; 1024] = [0; 1024];
-    make(0x11B, &mut words);
-    make(0xFF, &mut words);
+    make(KEY, &mut words);
+    make(vectors::key(7, 0x7F), &mut words);
     some_words(&words);
     some_tests(&words);
     some_feeds(&words);
@@ -132,24 +139,53 @@ fn fill(part: &mut [u8]) {
 }
 
 // A part by bits, and by the table of the key.
-fn both_ways(key: u64, words: &mut [u64], part: &[u8]) {
+fn both_ways(key: Key, words: &mut [u64], part: &[u8]) {
     make(key, words);
     vectors::fed_or_refused(running(key, 1, 0).feed(part, 8));
     feed(key, 1, 0, words, part);
+}
+
+fn at_some_degrees(words: &mut [u64], part: &[u8]) {
+    both_ways(KEY, words, part);
+    both_ways(vectors::key(31, 9), words, part);
+    both_ways(vectors::key(61, 0x27), words, part);
+    both_ways(vectors::key(63, 3), words, part);
+    both_ways(vectors::key(64, 0x1B), words, part);
 }
 
 fn long_part() {
     let mut words: [u64; 1024] = [0; 1024];
     let mut part: [u8; 10001] = [0; 10001];
     fill(&mut part);
-    both_ways(0x11B, &mut words, &part);
-    both_ways(0x80000009, &mut words, &part);
-    both_ways(0x2000000000000027, &mut words, &part);
-    both_ways(0x8000000000000003, &mut words, &part);
+    at_some_degrees(&mut words, &part);
+}
+
+// Degree 64: every fingerprint of 64 bits is reduced.
+fn largest_degree() {
+    let key = vectors::key(64, 0x1B);
+    let mut words: [u64; 1024] = [0; 1024];
+    make(key, &mut words);
+    show_word(1, words[1]);
+    show_word(128, words[128]);
+    show_word(257, words[257]);
+    test(key, &words);
+    feed(key, 1, 0, &words, b"AB");
+    feed(key, 0xFFFFFFFFFFFFFFFF, 64, &words, b"AB");
+}
+
+// Degree 65, and words with a bit at t^k: number 1. A reducible key of degree 64.
+fn no_keys() {
+    let mut words: [u64; 1024] = [0; 1024];
+    make(vectors::key(65, 0x1B), &mut words);
+    make(vectors::key(8, 0x11B), &mut words);
+    make(vectors::key(63, 0x8000000000000003), &mut words);
+    make(vectors::key(64, 1), &mut words);
 }
 
 fn main() {
     some_tables();
     with_a_wrong_size();
     long_part();
+    largest_degree();
+    no_keys();
 }

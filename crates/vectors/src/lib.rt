@@ -1,7 +1,16 @@
-// What the programs that print vectors share: labelled numbers, refusals and marks on standard output.
+// What the programs that print vectors share: keys, and labelled numbers, refusals and marks on standard output.
+use acceptance::Key;
 use libc::STDOUT_FILENO;
 use marks::Fed;
 use marks::Running;
+
+// A key by its degree and its word.
+pub fn key(degree: u32, word: u64) -> Key {
+    Key {
+        degree: degree,
+        word: word,
+    }
+}
 
 pub fn text(bytes: &[u8]) {
     io::write_all(STDOUT_FILENO, bytes);
