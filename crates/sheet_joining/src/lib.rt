@@ -4,7 +4,7 @@ use sheets::fields;
 use sheets::layout;
 ghost use mathlib.Core.Path.{_≡_};
 ghost use mathlib.Core.List.{_∷_};
-ghost use Prim.Native.Nat.{_+_, _*_, _≤_, _<_, _^_};
+ghost use Prim.Native.Nat.{_+_, _*_, _%_, _≤_, _<_, _^_};
 ghost use lib.ListN.{length};
 ghost use Rattle.gf2.specs.Moduli.{polynomial, Proper};
 ghost use Rattle.refusals.specs.Refusals.{longest};
@@ -75,10 +75,21 @@ fn join_lanes(shift: &[u64], fields: &[u8], q: u64) -> Lanes
     Lanes { a, b, c, d, bits }
 }
 
+// The coefficients below t^n: at n = 64 the whole word.
+fn low_part(x: u64, n: u32) -> u64
+    requires { ⌜ n ≤ 64 ⌝ }
+    ensures { λ r. ⌜ r ≡ x % 2 ^ n ⌝ }
+{
+    if n == 64 {
+        return x;
+    }
+    gf2::low_bits(x, n)
+}
+
 // The first n page marks of a sheet joined, each of a whole page. Many of them in four lanes, which cost a power of t and three products. A
 // field that is not below 2^k shows in the bits. The mark then means nothing: a lane may reach 2^k too, and the products take its low bits.
 fn join_run(fields: &[u8], p: Modulus, size: u64, n: u64) -> Joined
-    requires { ⌜ Proper p × (p .degree < 64) × (size ≤ 4096) × (n < 2 ^ 29) × (8 * n ≤ length (now fields)) ⌝ }
+    requires { ⌜ Proper p × (size ≤ 4096) × (n < 2 ^ 29) × (8 * n ≤ length (now fields)) ⌝ }
     ensures { λ r. ⌜ RunJoined (polynomial p) (p .degree) (8 * size) (numbersAt 0 8 n (now (fields .entry))) r ⌝ }
 {
     let mut shift = [0u64; 2048];
@@ -90,20 +101,20 @@ fn join_run(fields: &[u8], p: Modulus, size: u64, n: u64) -> Joined
     let x = join_lanes(&shift, fields, q);
     let t = gf2::power_of_t(p, 8 * size * q);
     let k = p.degree;
-    let ab = lookups::times_plus(p, gf2::low_bits(x.a, k), t, x.b);
-    let abc = lookups::times_plus(p, gf2::low_bits(ab, k), t, x.c);
-    let abcd = lookups::times_plus(p, gf2::low_bits(abc, k), t, x.d);
+    let ab = lookups::times_plus(p, low_part(x.a, k), t, x.b);
+    let abc = lookups::times_plus(p, low_part(ab, k), t, x.c);
+    let abcd = lookups::times_plus(p, low_part(abc, k), t, x.d);
     let from = (32 * q) as usize;
     join_lane(&shift, fields, from, n - 4 * q, abcd, x.bits)
 }
 
 // The mark of a page of n bits joined behind others. A field that is not below 2^k shows in the bits.
 fn join_last(p: Modulus, x: Joined, last: u64, n: u64) -> Joined
-    requires { ⌜ Proper p × (p .degree < 64) ⌝ }
+    requires { ⌜ Proper p ⌝ }
     ensures { λ r. ⌜ LastJoined (polynomial p) (p .degree) x last n r ⌝ }
 {
-    let f = gf2::low_bits(x.mark, p.degree);
-    let g = gf2::low_bits(last, p.degree);
+    let f = low_part(x.mark, p.degree);
+    let g = low_part(last, p.degree);
     Joined {
         mark: files::joined_residue(p, f, g, n),
         bits: x.bits | last,
@@ -113,7 +124,7 @@ fn join_last(p: Modulus, x: Joined, last: u64, n: u64) -> Joined
 // The page marks of a sheet joined, for a file of n bits: the whole pages, then the last page by its own length, or as one page more where the
 // version fills it up.
 pub fn pages_joined(fields: &[u8], p: Modulus, size: u64, n: u64, version: u64) -> Joined
-    requires { ⌜ Proper p × (p .degree < 64) × (16 ≤ size) × (size ≤ 4096) × (n ≤ longest) × (8 * pagesFor size n ≤ length (now fields)) ⌝ }
+    requires { ⌜ Proper p × (16 ≤ size) × (size ≤ 4096) × (n ≤ longest) × (8 * pagesFor size n ≤ length (now fields)) ⌝ }
     ensures { λ r. ⌜ PagesJoined (layoutOf version) (polynomial p) (p .degree) (8 * size) n (numbersAt 0 8 (pagesFor size n) (now (fields .entry))) r ⌝ }
 {
     let page = 8 * size;

@@ -8,14 +8,14 @@ use borrow.Author.Needs.{needs}
 use Rattle.sheet_joining.proofs.join_last.Statement.{statement}
 use Rattle.sheet_joining.proofs.join_last.Tie as tie
 
-abbrev start : tie.After-low-bits2 → tie.Start
+abbrev start : tie.After-low-part2 → tie.Start
 start c = c .before .before
 
 joined-residue-requires : tie.Need-joined-residue-requires
 joined-residue-requires c κs =
     let s = start c in
     let k = s .args .p .degree in
-    (s .pre .0, low-lt k _ _ (c .before .low-bits .ensures), low-lt k _ _ (c .low-bits2 .ensures))
+    (s .pre, low-lt k _ _ (c .before .low-part .ensures), low-lt k _ _ (c .low-part2 .ensures))
 
 returns : tie.Need-returns
 returns c =
@@ -25,7 +25,7 @@ returns c =
     record {
       mark =
           j .joined-residue .ensures
-          ∙ ap₂ (λ (f g : ℕ). rem (polynomial (a .p)) (f * 2 ^ a .n ⊕ g ⊕ 2 ^ a .n)) (l .before .low-bits .ensures) (l .low-bits2 .ensures);
+          ∙ ap₂ (λ (f g : ℕ). rem (polynomial (a .p)) (f * 2 ^ a .n ⊕ g ⊕ 2 ^ a .n)) (l .before .low-part .ensures) (l .low-part2 .ensures);
       bits = refl;
     }
 

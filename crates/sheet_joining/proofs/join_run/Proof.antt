@@ -23,13 +23,13 @@ lanes c = c .before
 abbrev filled : tie.After-join-lanes → tie.After-fill
 filled c = table (c .before .before .before)
 
-abbrev power : tie.After-low-bits → tie.After-power-of-t
+abbrev power : tie.After-low-part → tie.After-power-of-t
 power c = c .before
 
-abbrev first : tie.After-low-bits2 → tie.After-low-bits
+abbrev first : tie.After-low-part2 → tie.After-low-part
 first c = c .before .before
 
-abbrev second : tie.After-low-bits3 → tie.After-low-bits2
+abbrev second : tie.After-low-part3 → tie.After-low-part2
 second c = c .before .before
 
 power-lt : (c : tie.After-power-of-t) → c .power-of-t .result < 2 ^ start (filled (lanes c)) .args .p .degree
@@ -47,24 +47,24 @@ returns c =
     }
 
 mul-power-of-t-2 : tie.Need-mul-power-of-t-2
-mul-power-of-t-2 c = let s = start (filled c) in omega (arith, mul-le-mul-right (s .args .n / 4) (s .pre .2))
+mul-power-of-t-2 c = let s = start (filled c) in omega (arith, mul-le-mul-right (s .args .n / 4) (s .pre .1))
 
 times-plus-requires : tie.Need-times-plus-requires
 times-plus-requires c κs =
     let s = start (filled (lanes (power c))) in
-    (s .pre .0, low-lt (s .args .p .degree) _ _ (c .low-bits .ensures), power-lt (power c))
+    (s .pre .0, low-lt (s .args .p .degree) _ _ (c .low-part .ensures), power-lt (power c))
 
 times-plus-requires-2 : tie.Need-times-plus-requires-2
 times-plus-requires-2 c κs =
     let p = power (first c) in
     let s = start (filled (lanes p)) in
-    (s .pre .0, low-lt (s .args .p .degree) _ _ (c .low-bits2 .ensures), power-lt p)
+    (s .pre .0, low-lt (s .args .p .degree) _ _ (c .low-part2 .ensures), power-lt p)
 
 times-plus-requires-3 : tie.Need-times-plus-requires-3
 times-plus-requires-3 c κs =
     let p = power (first (second c)) in
     let s = start (filled (lanes p)) in
-    (s .pre .0, low-lt (s .args .p .degree) _ _ (c .low-bits3 .ensures), power-lt p)
+    (s .pre .0, low-lt (s .args .p .degree) _ _ (c .low-part3 .ensures), power-lt p)
 
 returns-2 : tie.Need-returns-2
 returns-2 c =
@@ -83,9 +83,9 @@ returns-2 c =
           (x .result) (x .ensures)
           (p .power-of-t .result) (p .power-of-t .ensures) (b₂ .before .times-plus .result) (b₃ .before .times-plus2 .result) (c₃ .times-plus3 .result)
           (c .join-lane2 .result .mark)
-          (times-low (a .p) _ _ _ _ _ (b₁ .low-bits .ensures) (b₂ .before .times-plus .ensures))
-          (times-low (a .p) _ _ _ _ _ (b₂ .low-bits2 .ensures) (b₃ .before .times-plus2 .ensures))
-          (times-low (a .p) _ _ _ _ _ (b₃ .low-bits3 .ensures) (c₃ .times-plus3 .ensures))
+          (times-low (a .p) _ _ _ _ _ (b₁ .low-part .ensures) (b₂ .before .times-plus .ensures))
+          (times-low (a .p) _ _ _ _ _ (b₂ .low-part2 .ensures) (b₃ .before .times-plus2 .ensures))
+          (times-low (a .p) _ _ _ _ _ (b₃ .low-part3 .ensures) (c₃ .times-plus3 .ensures))
           (c .join-lane2 .ensures .0);
       bits = bits-all (t .last .0) (a .fields .now) 0 (a .n) q (32 * q) (x .result) (c .join-lane2 .result .bits) (omega arith) (omega arith) (x .ensures)
           (c .join-lane2 .ensures .1);

@@ -26,14 +26,14 @@ abbrev page : tie.Start → ℕ
 page s = 8 * s .args .size
 
 some : (s : tie.Start) → 0 < page s
-some s = omega (arith, s .pre .2)
+some s = omega (arith, s .pre .1)
 
 as-bits : (s : tie.Start) → pagesFor (s .args .size) (s .args .n) ≡ pageCount (page s) (s .args .n)
-as-bits s = pages-count (s .args .size) (s .args .n) (omega (arith, s .pre .2))
+as-bits s = pages-count (s .args .size) (s .args .n) (omega (arith, s .pre .1))
 
 -- the number of pages is small, and all fields are there
 few : (s : tie.Start) → pagesFor (s .args .size) (s .args .n) < 2 ^ 29
-few s = count-small (s .args .size) (s .args .n) (s .pre .2) (s .pre .3) (s .pre .4)
+few s = count-small (s .args .size) (s .args .n) (s .pre .1) (s .pre .2) (s .pre .3)
 
 whole : (s : tie.Start) → s .args .n / page s ≤ pagesFor (s .args .size) (s .args .n)
 whole s = omega (arith, count-whole (page s) (s .args .n) (some s), as-bits s)
@@ -44,7 +44,7 @@ ends s = whole-fits (page s) (s .args .n)
 join-run-requires : tie.Need-join-run-requires
 join-run-requires c κs =
     let s = filled c in
-    (s .pre .0, s .pre .1, s .pre .3, omega (arith, few s, c .pages-for .ensures), omega (arith, s .pre .5, c .pages-for .ensures))
+    (s .pre .0, s .pre .2, omega (arith, few s, c .pages-for .ensures), omega (arith, s .pre .4, c .pages-for .ensures))
 
 returns : tie.Need-returns
 returns c =
@@ -60,7 +60,7 @@ returns c =
 join-run-requires-2 : tie.Need-join-run-requires-2
 join-run-requires-2 c κs =
     let s = own c in
-    (s .pre .0, s .pre .1, s .pre .3, omega (arith, few s, whole s), omega (arith, s .pre .5, whole s))
+    (s .pre .0, s .pre .2, omega (arith, few s, whole s), omega (arith, s .pre .4, whole s))
 
 mul-left : tie.Need-mul-left
 mul-left c = let s = own (c .before) in omega (arith, ends s)
@@ -89,7 +89,7 @@ mul-eight-at : tie.Need-mul-eight-at
 mul-eight-at c = let s = begun c in omega (arith, few s, whole s)
 
 eight-at-requires : tie.Need-eight-at-requires
-eight-at-requires c κs = let s = begun c in omega (arith, s .pre .5, count c)
+eight-at-requires c κs = let s = begun c in omega (arith, s .pre .4, count c)
 
 returns-3 : tie.Need-returns-3
 unfolding numberAt
