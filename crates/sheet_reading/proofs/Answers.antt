@@ -11,7 +11,7 @@ use Rattle.gf2.specs.declared.Modulus.{Modulus}
 use Rattle.refusals.specs.declared.Refusal.{Refusal}
 use Rattle.refusals.specs.declared.Refusal.the-variants.{PageSize, SheetMalformed}
 use Rattle.refusals.specs.Refusals.{Done, Refused, Test, _⇒_, firstOf}
-use Rattle.acceptance.specs.Keys.{keyTests}
+use Rattle.acceptance.specs.Keys.{polynomialOf, keyTests}
 use Rattle.acceptance.specs.Opened.{Opened}
 use Rattle.acceptance.proofs.Opened.{opened-first}
 use Rattle.keys.specs.declared.Tested.{Tested}
@@ -21,7 +21,7 @@ use Rattle.keys.specs.Answers.{tested}
 use Rattle.keys.proofs.Laws.{refused}
 use Rattle.sheets.specs.declared.Sheet.{Sheet}
 use Rattle.sheets.specs.declared.layout.Head.{Head}
-use Rattle.sheets.specs.Layout.{numberAt, versionIn, Layout, layouts, layoutOf, pagePlace, sheetLength, pagesFor, Contents, fieldIn, pagesIn, contentsIn}
+use Rattle.sheets.specs.Layout.{numberAt, versionIn, Layout, layouts, layoutOf, pagePlace, sheetLength, pagesFor, Contents, fieldIn, keyIn, pagesIn, contentsIn}
 use Rattle.sheets.specs.Sheets.{someUnreduced, pagesJoined, fileFilled, pageSizeTest, headWrong, bodyWrong, readSheet}
 use Rattle.sheets.specs.Answers.{numbersOf}
 use Rattle.sheets.specs.Parts.{HeadOf, readBody}
@@ -54,7 +54,7 @@ body-total sheet e =
     let v = layoutOf (versionIn sheet) in
     let sizes = eqb (length sheet) (sheetLength v (length (x .pages))) in
     let t =
-    neither (not sizes) (someUnreduced (degree (x .key)) (x .pages ++ x .fingerprint ∷ [])) (not (eqb (pagesJoined x .fingerprint) (fileFilled x))) e in
+    neither (not sizes) (someUnreduced (degree (polynomialOf (x .key))) (x .pages ++ x .fingerprint ∷ [])) (not (eqb (pagesJoined x .fingerprint) (fileFilled x))) e in
     eqb-true (length sheet) (sheetLength v (length (x .pages))) (not-false _ (t .0))
     ∙ ap (sheetLength v) (length-numbersAt (pagePlace v 0) (v .fingerprintWidth) (pagesIn v sheet) sheet)
 
@@ -73,15 +73,15 @@ module _ (sheet : List ℕ) where
   read-head e = first-true (headWrong layouts sheet) SheetMalformed (keyTests (x .key) ++ rest) tt x e
 
   module _ (head : headWrong layouts sheet ≡ false) where
-    after-head : readSheet sheet ≡ firstOf (keyTests (fieldIn v 2 sheet) ++ rest) tt x
+    after-head : readSheet sheet ≡ firstOf (keyTests (keyIn v sheet) ++ rest) tt x
     unfolding readSheet contentsIn
-    after-head = first-false (headWrong layouts sheet) SheetMalformed (keyTests (fieldIn v 2 sheet) ++ rest) tt x head
+    after-head = first-false (headWrong layouts sheet) SheetMalformed (keyTests (keyIn v sheet) ++ rest) tt x head
 
-    pub read-refused : (t : Tested) (q : Refusal) → tested t ≡ testKey (fieldIn (layoutOf (versionIn sheet)) 2 sheet) → t ≡ tested-cases.Refused q
+    pub read-refused : (t : Tested) (q : Refusal) → tested t ≡ testKey (keyIn (layoutOf (versionIn sheet)) sheet) → t ≡ tested-cases.Refused q
         → readSheet sheet ≡ Refused q tt
-    read-refused t q e a = after-head ∙ refused t (fieldIn v 2 sheet) e rest tt x q a
+    read-refused t q e a = after-head ∙ refused t (keyIn v sheet) e rest tt x q a
 
-    pub read-opened : (p : Modulus) → Opened (fieldIn (layoutOf (versionIn sheet)) 2 sheet) p → readSheet sheet ≡ readBody sheet
+    pub read-opened : (p : Modulus) → Opened (keyIn (layoutOf (versionIn sheet)) sheet) p → readSheet sheet ≡ readBody sheet
     read-opened p o = after-head ∙ opened-first o rest tt x
 
   pub body-size : (ltb (fieldIn (layoutOf (versionIn sheet)) 4 sheet) 16 || ltb 4096 (fieldIn (layoutOf (versionIn sheet)) 4 sheet)) ≡ true

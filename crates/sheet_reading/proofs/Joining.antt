@@ -11,6 +11,7 @@ use borrow.Author.Tests.{eq-eqb}
 use Rattle.gf2.specs.Polynomials.{rem, degree}
 use Rattle.gf2.specs.Moduli.{polynomial}
 use Rattle.gf2.specs.declared.Modulus.{Modulus}
+use Rattle.acceptance.specs.Keys.{polynomialOf}
 use Rattle.acceptance.specs.Opened.{Opened}
 use Rattle.acceptance.proofs.Opened.{opened-degree, opened-whole}
 use Rattle.files.specs.Files.{markOf}
@@ -27,6 +28,9 @@ use Rattle.sheet_joining.proofs.Joining.{bits-last}
 module _ (sheet : List ℕ) (head : Head) (h : HeadOf sheet head) (some : 16 ≤ head .size) where
   abbrev v : Layout
   v = layoutOf (head .version)
+
+  abbrev key : ℕ
+  key = polynomialOf (head .key)
 
   abbrev count : ℕ
   count = pagesFor (head .size) (head .length)
@@ -46,9 +50,9 @@ module _ (sheet : List ℕ) (head : Head) (h : HeadOf sheet head) (some : 16 ≤
       let fs = numbersAt (pagePlace v 0) w count sheet in
       let f = numberAt (pagePlace v count) w sheet in
       bodyWrong (length sheet) (contentsIn sheet)
-      ≡ (not (eqb (length sheet) (sheetLength v count)) || someUnreduced (degree (head .key)) (fs ++ f ∷ [])
-      || not (eqb (joinedPages v (head .key) (8 * head .size) (head .length) (markOf (head .key) []) fs .fingerprint)
-      (rem (head .key) (f * 2 ^ zerosBehind v (8 * head .size) (head .length)))))
+      ≡ (not (eqb (length sheet) (sheetLength v count)) || someUnreduced (degree key) (fs ++ f ∷ [])
+      || not (eqb (joinedPages v key (8 * head .size) (head .length) (markOf key []) fs .fingerprint)
+      (rem key (f * 2 ^ zerosBehind v (8 * head .size) (head .length)))))
 
   by-fields : wide (v .fingerprintWidth)
   unfolding contentsIn
@@ -60,22 +64,22 @@ module _ (sheet : List ℕ) (head : Head) (h : HeadOf sheet head) (some : 16 ≤
         ← (h .length),
         ← (h .size),
         ← (h .version),
-        zeros-are v (head .key) (8 * head .size) (head .length) fs (omega arith) (many ∙ as-bits),
+        zeros-are v key (8 * head .size) (head .length) fs (omega arith) (many ∙ as-bits),
         many,
       )
 
   pub body-is : bodyWrong (length sheet) (contentsIn sheet)
       ≡ (not (eqb (length sheet) (sheetLength (layoutOf (head .version)) (pagesFor (head .size) (head .length))))
-      || someUnreduced (degree (head .key)) (pages ++ file ∷ [])
-      || not (eqb (joinedPages v (head .key) (8 * head .size) (head .length) (markOf (head .key) []) pages .fingerprint)
-      (rem (head .key) (file * 2 ^ zerosBehind v (8 * head .size) (head .length)))))
+      || someUnreduced (degree key) (pages ++ file ∷ [])
+      || not (eqb (joinedPages v key (8 * head .size) (head .length) (markOf key []) pages .fingerprint)
+      (rem key (file * 2 ^ zerosBehind v (8 * head .size) (head .length)))))
   body-is = rw (numbers-of-part (pagePlace v 0) 8 count sheet) (subst wide (eight-wide (head .version)) by-fields)
 
   -- the total and the fields are right: the joining decides
   pub body-joined : (m x : ℕ) → length sheet ≡ sheetLength (layoutOf (head .version)) (pagesFor (head .size) (head .length))
-      → someUnreduced (degree (head .key)) (pages ++ file ∷ []) ≡ false
-      → m ≡ joinedPages v (head .key) (8 * head .size) (head .length) (markOf (head .key) []) pages .fingerprint
-      → x ≡ rem (head .key) (file * 2 ^ zerosBehind v (8 * head .size) (head .length))
+      → someUnreduced (degree key) (pages ++ file ∷ []) ≡ false
+      → m ≡ joinedPages v key (8 * head .size) (head .length) (markOf key []) pages .fingerprint
+      → x ≡ rem key (file * 2 ^ zerosBehind v (8 * head .size) (head .length))
       → eqb m x ≡ not (bodyWrong (length sheet) (contentsIn sheet))
   body-joined m x l t em ex = rw (body-is, eq-eqb (length sheet) (sheetLength v count) l, t, ← em, ← ex) (sym (Bool·not-not (eqb m x)))
 
@@ -85,7 +89,7 @@ module _ (sheet : List ℕ) (head : Head) (h : HeadOf sheet head) (some : 16 ≤
     pub bits-are : (bits f : ℕ) (part : List ℕ) → part ≡ fingerprintsPart (head .version) sheet
         → f ≡ numberAt (pagePlace (layoutOf (head .version)) (pagesFor (head .size) (head .length))) 8 sheet
         → BitsOf (numbersAt 0 8 (pagesFor (head .size) (head .length)) part) bits
-        → leb (2 ^ p .degree) (bitOr bits f) ≡ someUnreduced (degree (head .key)) (pages ++ file ∷ [])
+        → leb (2 ^ p .degree) (bitOr bits f) ≡ someUnreduced (degree key) (pages ++ file ∷ [])
     bits-are bits f part ep ef b =
         bits-last (numbersAt 0 8 count part) bits f b (p .degree)
         ∙ ap₂ someUnreduced (opened-degree o) (ap₂ (λ (q : List ℕ) (x : ℕ). numbersAt 0 8 count q ++ x ∷ []) ep ef)
@@ -95,14 +99,14 @@ module _ (sheet : List ℕ) (head : Head) (h : HeadOf sheet head) (some : 16 ≤
         ≡ joinedPages (layoutOf (head .version)) (polynomial p) (8 * head .size) (head .length) (markOf (polynomial p) [])
         (numbersAt 0 8 (pagesFor (head .size) (head .length)) part)
         .fingerprint
-        → mark ≡ joinedPages v (head .key) (8 * head .size) (head .length) (markOf (head .key) []) pages .fingerprint
+        → mark ≡ joinedPages v key (8 * head .size) (head .length) (markOf key []) pages .fingerprint
     joined-are mark part ep e =
         e
         ∙ ap₂ (λ (m : ℕ) (q : List ℕ). joinedPages v m (8 * head .size) (head .length) (markOf m []) (numbersAt 0 8 count q) .fingerprint) (opened-whole o) ep
 
     pub filled-is : (f x z : ℕ) → f ≡ numberAt (pagePlace (layoutOf (head .version)) (pagesFor (head .size) (head .length))) 8 sheet
         → z ≡ zerosBehind (layoutOf (head .version)) (8 * head .size) (head .length) → x ≡ rem (polynomial p) (f * 2 ^ z)
-        → x ≡ rem (head .key) (file * 2 ^ zerosBehind v (8 * head .size) (head .length))
+        → x ≡ rem key (file * 2 ^ zerosBehind v (8 * head .size) (head .length))
     filled-is f x z ef ez ex =
         ex
         ∙ ap₂ (λ (a b : ℕ). rem (polynomial p) (a * 2 ^ b)) ef ez

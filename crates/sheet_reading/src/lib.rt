@@ -34,9 +34,10 @@ fn read_under(p: Modulus, sheet: &[u8], head: Head) -> Reading
         return Reading::Refused(Refusal::SheetMalformed);
     }
     let count = fields::pages_for(head.size, head.length);
+    let key = head.key;
     Reading::Sheet(Sheet {
         version: head.version,
-        key: head.key,
+        key: key,
         length: head.length,
         size: head.size,
         pages: count,
@@ -52,7 +53,8 @@ pub fn read(sheet: &[u8]) -> Reading
         return Reading::Refused(Refusal::SheetMalformed);
     }
     let head = layout::read_head(sheet);
-    match keys::test(head.key) {
+    let key = head.key;
+    match keys::test(key) {
         Tested::Refused(r) => Reading::Refused(r),
         Tested::Accepted(p) => read_under(p, sheet, head),
     }

@@ -3,7 +3,6 @@ use mathlib.Core.Path.{_≡_, sym, ap, _∙_}
 use mathlib.Core.Bool.{false}
 use mathlib.Core.List.{List}
 use Prim.Native.Nat.{ℕ}
-use native.Mathlib.Omega.{arith}
 use Rattle.refusals.proofs.Laws.{holds, fails}
 use Rattle.acceptance.specs.Opened.{Opened}
 use Rattle.keys.specs.Testing.{testKey}
@@ -27,29 +26,32 @@ returns : tie.Need-returns
 returns c = sym (ap sheetRead (read-head (sheet (c .before)) (holds _ _ (c .before .head-right .ensures) (c .if1 .taken))))
 
 -- the key is tested
+abbrev read : tie.After-test → tie.After-read-head
+read c = c .before .before
+
 abbrev bytes : tie.After-test → List ℕ
-bytes c = sheet (c .before .before .before)
+bytes c = sheet (read c .before .before)
 
 abbrev accepted : tie.After-p → tie.After-test
 accepted c = c .before .before
 
-key-opened : (c : tie.After-p) → Opened (accepted c .before .read-head .result .key) (c .p .given .0 .0)
+key-opened : (c : tie.After-p) → Opened (read (accepted c) .read-head .result .key) (c .p .given .0 .0)
 key-opened c =
     let t = accepted c in
-    opened (t .test .result) (t .before .read-head .result .key) (t .test .ensures) (c .p .given .0 .0) (omega arith) (c .p .given .1)
+    opened (t .test .result) (read t .read-head .result .key) (t .test .ensures) (c .p .given .0 .0) (c .p .given .1)
 
 read-head-requires : tie.Need-read-head-requires
 read-head-requires c κs = right c
 
 read-under-requires : tie.Need-read-under-requires
 read-under-requires c κs =
-    let h = accepted (c .before) .before in
+    let h = read (accepted (c .before)) in
     (h .read-head .ensures, key-opened (c .before))
 
 returns-2 : tie.Need-returns-2
 returns-2 c =
     let t = c .before .before .before in
-    let h = t .before in
+    let h = read t in
     let r = c .before .r in
     sym (ap sheetRead (read-refused (bytes t) (right (h .before)) (t .test .result) (r .given .0 .0)
     (t .test .ensures ∙ ap testKey (h .read-head .ensures .key)) (r .given .1)))
@@ -58,7 +60,7 @@ returns-3 : tie.Need-returns-3
 returns-3 c =
     let p = c .before .before in
     let t = accepted p in
-    let h = t .before in
+    let h = read t in
     c .read-under .ensures
     ∙ sym (ap sheetRead (read-opened (bytes t) (right (h .before)) (p .p .given .0 .0) (rw (← (h .read-head .ensures .key)) (key-opened p))))
 

@@ -71,11 +71,11 @@ pages-for-requires c κs =
     (omega (arith, size e .0), size e .1, start (e .before) .pre .0 .length-fits)
 
 fingerprint-at-requires : tie.Need-fingerprint-at-requires
-fingerprint-at-requires c κs = omega (arith, total c)
+fingerprint-at-requires c κs = omega (arith, total (c .before))
 
 returns-3 : tie.Need-returns-3
 returns-3 c =
-    let p = c .before in
+    let p = c .before .before in
     let b = p .before .before in
     let s = start (sized b) in
     sym

@@ -11,7 +11,8 @@ use borrow.Author.Tests.{eq-eqb, ne-eqb, leb-false}
 use Rattle.gf2.specs.Polynomials.{degree}
 use Rattle.gf2.proofs.Steps.{or-leb}
 use Rattle.refusals.proofs.Laws.{holds, fails}
-use Rattle.acceptance.proofs.Opened.{opened-proper, opened-word}
+use Rattle.acceptance.specs.Keys.{polynomialOf}
+use Rattle.acceptance.proofs.Opened.{opened-proper}
 use Rattle.lists.proofs.Truth.{or-neither}
 use Rattle.sheets.specs.declared.layout.Head.{Head}
 use Rattle.sheets.specs.Layout.{numberAt, numbersAt, layoutOf, pagePlace, sheetLength, pagesFor}
@@ -79,7 +80,7 @@ file c =
 -- the bits of all fields are tested
 bits : (c : tie.After-is-residue)
     → leb (2 ^ k (joined c)) (bitOr (joined c .pages-joined .result .bits) (c .before .before .fingerprint-at .result))
-    ≡ someUnreduced (degree (head (begun (joined c)) .key)) (all (begun (joined c)))
+    ≡ someUnreduced (degree (polynomialOf (head (begun (joined c)) .key))) (all (begun (joined c)))
 bits c =
     let j = joined c in
     let s = begun j in
@@ -126,7 +127,7 @@ pages-joined-requires c κs =
     let s = start (counted e) in
     let part = ap length (c .page-fields .ensures) ∙ length-drop (pagePlace (layoutOf (head s .version)) 0) (sheet s) in
     let from = length-from (head s .version) (count s) in
-    (opened-proper (s .pre .3), opened-word (s .pre .3), s .pre .1, s .pre .2, s .pre .0 .length-fits, omega (arith, part, total e, from))
+    (opened-proper (s .pre .3), s .pre .1, s .pre .2, s .pre .0 .length-fits, omega (arith, part, total e, from))
 
 fingerprint-at-requires : tie.Need-fingerprint-at-requires
 fingerprint-at-requires c κs =
@@ -141,7 +142,7 @@ returns-2 : tie.Need-returns-2
 returns-2 c =
     let r = c .before in
     let s = begun (joined r) in
-    let t : someUnreduced (degree (head s .key)) (all s) ≡ true = sym (bits r) ∙ holds _ _ (r .is-residue .ensures) (c .if2 .taken) in
+    let t : someUnreduced (degree (polynomialOf (head s .key))) (all s) ≡ true = sym (bits r) ∙ holds _ _ (r .is-residue .ensures) (c .if2 .taken) in
     rw (
       body-is (sheet s) (head s) (s .pre .0) (s .pre .1),
       eq-eqb (length (sheet s)) (sheetLength (layoutOf (head s .version)) (count s))
@@ -167,7 +168,7 @@ returns-3 c =
     let j = joined r in
     let s = begun j in
     let a = s .args in
-    let t : someUnreduced (degree (head s .key)) (all s) ≡ false = sym (bits r) ∙ fails _ _ (r .is-residue .ensures) (e .if2 .left) in
+    let t : someUnreduced (degree (polynomialOf (head s .key))) (all s) ≡ false = sym (bits r) ∙ fails _ _ (r .is-residue .ensures) (e .if2 .left) in
     let mark = joined-are (sheet s) (head s) (s .pre .0) (s .pre .1) (a .p) (s .pre .3) (j .pages-joined .result .mark) (part j)
     (j .before .page-fields .ensures) (j .pages-joined .ensures .mark (fields e .0)) in
     let filled = filled-is (sheet s) (head s) (s .pre .0) (s .pre .1) (a .p) (s .pre .3) _ (w .with-zeros .result) (z .zeros-behind .result)
