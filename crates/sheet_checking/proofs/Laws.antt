@@ -11,6 +11,8 @@ use borrow.Author.Tests.{eq-eqb, lt-ltb, le-ltb}
 use Rattle.refusals.specs.declared.Refusal.{Refusal}
 use Rattle.refusals.specs.declared.Refusal.the-variants.{TooLong, FinalByte}
 use Rattle.refusals.specs.Refusals.{Done, Refused, Test, _⇒_, firstOf, passes, longest}
+use Rattle.acceptance.specs.declared.Key.{Key}
+use Rattle.acceptance.specs.Keys.{polynomialOf}
 use Rattle.files.specs.Files.{Part, partLength, partBits, misused, bytesFor}
 use Rattle.files.proofs.Parts.{part-length, part-bytes}
 use Rattle.sheets.specs.declared.Sheet.{Sheet}
@@ -64,12 +66,12 @@ module _ (sheet : List ℕ) (file : Part) where
       compare-other n = after-used ∙ ap Done (other-length (contentsIn sheet) (partBits file) (λ e. n (sym (part-length file) ∙ e)))
 
       -- equally long: page by page
-      pub compare-pages : (version key size : ℕ) → version ≡ contentsIn sheet .version → key ≡ contentsIn sheet .key → size ≡ contentsIn sheet .pageSize
+      pub compare-pages : (version : ℕ) (key : Key) (size : ℕ) → version ≡ contentsIn sheet .version → key ≡ contentsIn sheet .key → size ≡ contentsIn sheet .pageSize
           → partLength file ≡ contentsIn sheet .length
           → (part : List ℕ) → part ≡ fingerprintsPart version sheet
           → comparison sheet file
           ≡ Done (firstChange 0 (numbersAt 0 8 (pageCount size (length (file .bytes))) part)
-          (pageFingerprints (layoutOf version) key (8 * size) (pageCount size (length (file .bytes))) (partBits file)))
+          (pageFingerprints (layoutOf version) (polynomialOf key) (8 * size) (pageCount size (length (file .bytes))) (partBits file)))
       unfolding compared contentsOf contentsIn
       compare-pages version key size ev ek es en part ep =
           let bits = partBits file in

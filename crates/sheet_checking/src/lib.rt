@@ -1,4 +1,5 @@
 // Checking a file against a page sheet.
+use gf2::Modulus;
 use refusals::Refusal;
 use sheets::Changed;
 use sheets::Checked;
@@ -20,7 +21,6 @@ fn compare(sheet: &[u8], x: Sheet, file: &[u8], used: u32) -> Checked
 {
     let n = file.len() as u64;
     let length = x.length;
-    let key = x.key;
     let size = x.size as usize;
     if refusals::LONGEST_BYTES < n {
         return Checked::Refused(Refusal::TooLong);
@@ -31,7 +31,11 @@ fn compare(sheet: &[u8], x: Sheet, file: &[u8], used: u32) -> Checked
     if files::part_length(file, used) != length {
         return Checked::OtherLength;
     }
-    let p = gf2::modulus_of(key);
+    let key = x.key;
+    let p = Modulus {
+        degree: key.degree,
+        low: key.word,
+    };
     let pages = layout::page_fields(sheet, x.version);
     let mut none = [0u8; 0];
     let same = sheet_pass::over_pages(&mut none, pages, p, size, x.version, file, used) as u64;

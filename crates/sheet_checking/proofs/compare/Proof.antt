@@ -1,15 +1,14 @@
 -- `compare` meets its contract.
-use mathlib.Core.Path.{_≡_, sym, ap, _∙_}
+use mathlib.Core.Path.{_≡_, refl, sym, ap, _∙_}
 use mathlib.Core.Bool.{false}
 use mathlib.Core.List.{List}
 use Prim.Native.Nat.{ℕ, _*_, _≤_}
 use native.Mathlib.Omega.{arith}
 use lib.ListN.{length, length-drop}
-use Rattle.gf2.specs.Moduli.{polynomial}
-use Rattle.gf2.specs.Opening.{modulusOf}
 use Rattle.refusals.specs.Refusals.{Done, longest}
+use Rattle.acceptance.specs.Keys.{polynomialOf, asModulus}
 use Rattle.acceptance.specs.Opened.{Opened}
-use Rattle.acceptance.proofs.Opened.{open-accepted, opened-from, opened-proper, opened-eight, opened-whole}
+use Rattle.acceptance.proofs.Opened.{opened-proper, opened-eight}
 use Rattle.files.specs.Files.{Part, asPart, partLength, partBits, misused}
 use Rattle.sheets.specs.Layout.{numbersAt, Layout, layoutOf, pagePlace, sheetLength, pageCount, contentsIn}
 use Rattle.sheets.specs.Sheets.{pageFingerprints, firstChange}
@@ -25,7 +24,7 @@ use borrow.Author.Needs.{needs}
 use Rattle.sheet_checking.proofs.compare.Statement.{statement}
 use Rattle.sheet_checking.proofs.compare.Tie as tie
 
--- ---- the places: the length is not too long, the file is not misused, the lengths are equal, the key is opened, the pages are passed over
+-- ---- the places: the length is not too long, the file is not misused, the lengths are equal, the pages are passed over
 
 abbrev else1→start : tie.Else1 → tie.Start
 else1→start c = c .before .before .before
@@ -39,11 +38,8 @@ else3→else2 c = c .before .before
 abbrev start : tie.Else3 → tie.Start
 start c = else1→start (else2→else1 (else3→else2 c))
 
-abbrev equal : tie.After-modulus-of → tie.Else3
-equal c = c .before
-
-abbrev opened : tie.After-page-fields → tie.After-modulus-of
-opened c = c .before
+abbrev equal : tie.After-page-fields → tie.Else3
+equal c = c .before .before
 
 abbrev passed : tie.After-page-count → tie.After-over-pages
 passed c = c .before .before
@@ -52,7 +48,7 @@ abbrev fields-read : tie.After-over-pages → tie.After-page-fields
 fields-read c = c .before .before
 
 abbrev begin : tie.After-over-pages → tie.Else3
-begin c = equal (opened (fields-read c))
+begin c = equal (fields-read c)
 
 abbrev sheet : tie.Start → List ℕ
 sheet s = s .args .sheet .now
@@ -96,11 +92,10 @@ total : (c : tie.Else3) → sheetLength (layout (start c)) (count (start c)) ≡
 total c = let s = start c in pages-there (sheet s) (s .pre) (file s) (as-long c)
 
 -- the key of a sheet that was read is accepted
-key-opened : (c : tie.Else3) → Opened (start c .args .x .key) (modulusOf (start c .args .x .key))
-key-opened c = let s = start c in open-accepted (s .args .x .key) (rw (key-is (sheet s) (s .pre)) (fields s .key))
-
-key-held : (c : tie.After-modulus-of) → Opened (start (c .before) .args .x .key) (c .modulus-of .result)
-key-held c = rw (c .modulus-of .ensures) (key-opened (c .before))
+key-opened : (s : tie.Start) → Opened (s .args .x .key) (asModulus (s .args .x .key))
+key-opened s =
+    let e = key-is (sheet s) (s .pre) in
+    record { in-range = rw e (fields s .in-range); is-accepted = rw e (fields s .key); parts = refl }
 
 returns : tie.Need-returns
 returns c = let s = c .before .before .before in sym (compare-long (sheet s) (file s) (part-long (file s) (omega (arith, c .if1 .taken))))
@@ -121,19 +116,16 @@ returns-3 c =
     (compare-other (sheet s) (file s) (part-fits (file s) (fits e)) (well u)
     (λ h. c .if3 .taken (measured l ∙ h ∙ sym (length-is (sheet s) (s .pre)))))
 
-modulus-of-requires : tie.Need-modulus-of-requires
-modulus-of-requires c κs = omega (arith, opened-from (key-opened c))
-
 page-fields-requires : tie.Need-page-fields-requires
 page-fields-requires c κs =
-    let e = equal c in
+    let e = c .before in
     let s = start e in
     omega (arith, total e, length-from (s .args .x .version) (count s))
 
 -- the fields of all pages are in the part of the sheet that begins with them
-part : (c : tie.After-page-fields) → 8 * count (start (equal (opened c))) ≤ length (c .page-fields .result .now)
+part : (c : tie.After-page-fields) → 8 * count (start (equal c)) ≤ length (c .page-fields .result .now)
 part c =
-    let e = equal (opened c) in
+    let e = equal c in
     let s = start e in
     let long = ap length (c .page-fields .ensures) ∙ length-drop (pagePlace (layout s) 0) (sheet s) in
     omega (arith, long, total e, length-from (s .args .x .version) (count s))
@@ -141,10 +133,10 @@ part c =
 over-pages-requires : tie.Need-over-pages-requires
 over-pages-requires c κs =
     let f = c .before in
-    let s = start (equal (opened f)) in
-    let h = key-held (opened f) in
+    let s = start (equal f) in
+    let h = key-opened s in
     let z = size s in
-    let u = else3→else2 (equal (opened f)) in (
+    let u = else3→else2 (equal f) in (
       opened-proper h,
       opened-eight h,
       z .0,
@@ -165,12 +157,12 @@ page-count-requires c κs =
 abbrev prints : tie.After-over-pages → List ℕ
 prints c =
     let s = start (begin c) in
-    pageFingerprints (layout s) (polynomial (opened (fields-read c) .modulus-of .result)) (8 * s .args .x .size) (count s) (partBits (file s))
+    pageFingerprints (layout s) (polynomialOf (s .args .x .key)) (8 * s .args .x .size) (count s) (partBits (file s))
 
 long : (c : tie.After-over-pages) → length (prints c) ≡ count (start (begin c))
 long c =
     let s = start (begin c) in
-    length-pages (layout s) (polynomial (opened (fields-read c) .modulus-of .result)) (count s) (8 * s .args .x .size) (partBits (file s))
+    length-pages (layout s) (polynomialOf (s .args .x .key)) (count s) (8 * s .args .x .size) (partBits (file s))
 
 few : (c : tie.After-over-pages) → c .over-pages .result ≤ count (start (begin c))
 few c =
@@ -186,11 +178,8 @@ answer c =
     let s = start e in
     let x = s .args .x in
     let fields = fields-read c .page-fields in
-    let given = numbersAt 0 8 (count s) (fields .result .now) in
     compare-pages (sheet s) (file s) (within e) (well (else3→else2 e)) (x .version) (x .key) (x .size) (version-is (sheet s) (s .pre))
     (key-is (sheet s) (s .pre)) (size-is (sheet s) (s .pre)) (as-long e ∙ length-is (sheet s) (s .pre)) (fields .result .now) (fields .ensures)
-    ∙ ap (λ (m : ℕ). Done (firstChange 0 given (pageFingerprints (layout s) m (8 * x .size) (count s) (partBits (file s)))))
-    (sym (opened-whole (key-held (opened (fields-read c)))))
 
 cast-page : tie.Need-cast-t21
 cast-page c =
@@ -220,7 +209,6 @@ compare-spec =
     returns-2
     (λ c κs. search needs)
     returns-3
-    modulus-of-requires
     page-fields-requires
     (λ c. search needs)
     over-pages-requires
