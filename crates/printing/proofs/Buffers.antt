@@ -1,17 +1,19 @@
 -- Laws of a buffer with a text at a place, of texts one behind the other, and of a label with a number behind it.
 use mathlib.Core.Path.{_≡_, sym, ap, ap₂, _∙_}
-use mathlib.Core.List.{List, _++_, append-assoc, append-nil}
+use mathlib.Core.List.{List, [], _∷_, _++_, append-assoc, append-nil}
 use Prim.Native.Nat.{ℕ, _+_, _-_, _^_, _≤_, _<_}
 use native.Mathlib.Nat.{zero-add, add-assoc}
 use native.Mathlib.Omega.{arith}
+use lib.Dec.{lit<}
 use lib.ListN.{length, take, drop, length-append, length-drop}
 use lib.Seq.{length-take-le, take-at, drop-append-add, drop-drop, take-length, take-all, drop-length}
 use borrow.Rule.Slice.PartMut.{midOf, putMid, post-is}
 use Rattle.io.specs.Counts.{Counts}
 use Rattle.io.specs.Digits.{digits, Fewest}
+use Rattle.gf2.specs.Degrees.{monic}
 use Rattle.printing.specs.Printing.{numeral}
 use Rattle.printing.specs.Buffers.{putAt, PutInFront}
-use Rattle.printing.proofs.Numerals.{numeral-is, fewest-le}
+use Rattle.printing.proofs.Numerals.{numeral-is, numeral-64, fewest-le}
 
 module _ (out : List ℕ) (at : ℕ) where
   -- a text copied to the front of what lies from the place on
@@ -84,7 +86,7 @@ whole {out} {text} {l} {n} room h =
 -- a label, and behind it the fewest digits of n in base b; s digits hold n
 module _ (b s n : ℕ) (two : 1 < b) (some : 0 < s) (fits : n < b ^ s) {k : ℕ} (few : Fewest b 1 n k) where
   pub few-digits : k ≤ s
-  few-digits = fewest-le b two s n k some fits few
+  few-digits = fewest-le b two 1 s n k some fits few
 
   pub numeral-put : (out : List ℕ) (at : ℕ) {r : ℕ} {l : List ℕ} (label text : List ℕ) → k ≡ length text → text ≡ digits b k n
       → r ≡ at + length (label ++ text) → l ≡ putAt out at (label ++ text)
@@ -92,3 +94,22 @@ module _ (b s n : ℕ) (two : 1 < b) (some : 0 < s) (fits : n < b ^ s) {k : ℕ}
   numeral-put out at label text long is e f =
       let same : text ≡ numeral b n = is ∙ numeral-is b two n k few in
       (rw same at e, (omega (arith, length-append label text, few-digits), rw same at f))
+
+-- a label with the digit 1, and behind it all sixteen digits of a word
+module _ (w : ℕ) (fits : w < 2 ^ 64) {k : ℕ} (few : Fewest 16 16 w k) where
+  pub all-sixteen : k ≡ 16
+  all-sixteen = omega (arith, few .0, fewest-le 16 (lit< tt) 16 16 w k (omega arith) fits few)
+
+  pub seventeen-put : {out : List ℕ} {at next r : ℕ} {m l : List ℕ} (label text : List ℕ) → k ≡ length text → text ≡ digits 16 k w
+      → next ≤ length out → Holds out at next m (label ++ 49 ∷ []) → r ≡ next + length text → l ≡ putAt m next text
+      → (r ≡ at + length (label ++ numeral 16 (monic 64 w)))
+      × ((r ≤ at + length label + 17) × (l ≡ putAt out at (label ++ numeral 16 (monic 64 w))))
+  seventeen-put {out} {at} label text long is room h e f =
+      let all = put-next room h text e f in
+      let one = length-append label (49 ∷ []) in
+      let same : label ++ 49 ∷ [] ++ text ≡ label ++ numeral 16 (monic 64 w)
+      = append-assoc label (49 ∷ []) text
+      ∙ ap (λ (x : List ℕ). label ++ x) (ap (λ (x : List ℕ). 49 ∷ x) (is ∙ ap (λ (n : ℕ). digits 16 n w) all-sixteen) ∙ numeral-64 w fits) in (
+        all .behind ∙ ap (λ (x : List ℕ). at + length x) same,
+        (omega (arith, e, h .behind, one, long, all-sixteen), all .put ∙ ap (putAt out at) same),
+      )

@@ -1,10 +1,10 @@
--- Laws of the key's line: the value of a byte, one digit more, which tests make it a key, and how many bytes decide it.
-use mathlib.Core.Path.{_≡_, refl, sym, ap, _∙_}
+-- Laws of the key's line: the value of a byte, one digit more, a top digit and a word, which tests make it a key, and how many bytes decide it.
+use mathlib.Core.Path.{_≡_, refl, sym, ap, ap₂, _∙_}
 use mathlib.Core.Bool.{Bool, true, false, cond, _&&_, and-false}
 use mathlib.Core.List.{List, [], _∷_, _++_}
 use Prim.Native.Nat.{ℕ, zero, suc, _+_, _-_, _*_, _^_, _≤_, _<_, min}
-use lib.Pow.{pow-add}
-use native.Mathlib.Nat.{zero-add, min-zero, zero-min, suc-min-suc, min-eq-left, min-eq-right}
+use lib.Pow.{pow-add, pow-mono}
+use native.Mathlib.Nat.{le-trans, le-add-right, mul-le-mul-right, zero-add, add-zero, add-assoc, zero-mul, mul-one, mul-assoc, mul-comm, add-mul, pow-zero, pow-suc, min-zero, zero-min, suc-min-suc, min-eq-left, min-eq-right}
 use native.Mathlib.Decide.{decLe, decLt}
 use native.Mathlib.Numerals.{add-one}
 use native.Mathlib.Omega.{arith}
@@ -14,8 +14,13 @@ use lib.Seq.{drop-cons, take-length, take-take, take-append-le, take-append-seam
 use borrow.Author.Tests.{ltb-true, lt-ltb, le-ltb, le-leb, lt-leb}
 use Rattle.bytes.specs.Bytes.{indexOf, indexAfter, slice}
 use Rattle.lists.proofs.Truth.{and-both}
-use Rattle.printing.specs.Printing.{digit, allDigits, hexFrom, keyBefore, keyLine}
-use Rattle.printing.specs.declared.KeyLine.the-variants.{NoKey, Key}
+use Rattle.gf2.specs.Degrees.{monic}
+use Rattle.acceptance.specs.declared.Key.{Key}
+use Rattle.acceptance.specs.Keys.{keyOf, outside}
+use Rattle.acceptance.proofs.Laws.{in-range, within-range, range-key}
+use Rattle.printing.specs.Printing.{digit, allDigits, hexFrom, lineOf, keyBefore, keyLine}
+use Rattle.printing.specs.declared.KeyLine.{KeyLine}
+use Rattle.printing.specs.declared.KeyLine.the-variants as line-cases
 
 -- the value of a byte, by the range that holds it
 pub digit-under : (b : ℕ) → b < 48 → digit b ≡ 16
@@ -56,6 +61,54 @@ module _ (line : List ℕ) (i : ℕ) (h : i < length line) where
 pub hex-lt : (s d i : ℕ) → s < 2 ^ (4 * i) → d < 16 → s * 16 + d < 2 ^ (4 * (i + 1))
 hex-lt s d i h l = let e : 4 * (i + 1) ≡ 4 * i + 4 = omega arith in rw (e, pow-add) (omega arith)
 
+-- ---- a top digit and a word
+
+-- digits behind the number s: s moves up a digit with each
+hex-behind : (s : ℕ) (xs : List ℕ) → hexFrom s xs ≡ s * 16 ^ length xs + hexFrom 0 xs
+unfolding hexFrom
+hex-behind s [] = simp (pow-zero, mul-one, add-zero)
+hex-behind s (x ∷ xs) =
+    hex-behind (s * 16 + digit x) xs
+    ∙ moved s (digit x) (16 ^ length xs) (hexFrom 0 xs)
+    ∙ ap₂ (λ (y z : ℕ). s * y + z) (sym (pow-suc 16 (length xs))) (sym (hex-behind (0 * 16 + digit x) xs))
+  where
+    moved : (s d q r : ℕ) → (s * 16 + d) * q + r ≡ s * (q * 16) + ((0 * 16 + d) * q + r)
+    moved s d q r = simp (add-mul, mul-assoc, mul-comm 16 q, zero-mul, zero-add, add-assoc)
+
+-- of seventeen
+pub hex-top : (line : List ℕ) → length line ≡ 17 → hexFrom 0 line ≡ digit (getD line 0 0) * 2 ^ 64 + hexFrom 0 (drop 1 line)
+unfolding hexFrom
+hex-top [] l = absurd (omega arith)
+hex-top (x ∷ xs) l =
+    let e : length xs ≡ 16 = omega arith in
+    hex-behind (0 * 16 + digit x) xs ∙ ap (λ (n : ℕ). (0 * 16 + digit x) * 16 ^ n + hexFrom 0 xs) e ∙ simp (zero-mul, zero-add)
+
+-- a top digit above 1
+pub top-large : (d w : ℕ) → 2 ≤ d → 2 ^ 65 ≤ d * 2 ^ 64 + w
+top-large d w h = le-trans (mul-le-mul-right (2 ^ 64) h) (le-add-right (d * 2 ^ 64) w)
+
+-- a number that writes a key, and one that is too large
+pub line-small : (v at : ℕ) → v < 2 ^ 65 → lineOf v at ≡ line-cases.Key (keyOf v) at
+unfolding lineOf
+line-small v at h = rw (lt-ltb v (2 ^ 65) h)
+
+pub line-large : (v at : ℕ) → 2 ^ 65 ≤ v → lineOf v at ≡ line-cases.TooLarge
+unfolding lineOf
+line-large v at h = rw (le-ltb v (2 ^ 65) h)
+
+-- the key of degree 64 with the word w
+pub top-key : (w : ℕ) → w < 2 ^ 64 → keyOf (1 * 2 ^ 64 + w) ≡ record { degree = 64; word = w }
+unfolding monic
+top-key w h = let x : Key = record { degree = 64; word = w } in sym (range-key x (within-range x (omega arith) (omega arith) h))
+
+-- below degree 64 a key's polynomial is a number of 64 bits
+pub word-fits : (x : Key) → outside x ≡ false → x .degree < 64 → 2 ^ x .degree + x .word < 2 ^ 64
+word-fits x r h =
+    let l = in-range x r .2 in
+    let m : x .degree + 1 ≤ 64 = omega arith in
+    let p : 2 ^ (x .degree + 1) ≤ 2 ^ 64 = pow-mono m in
+    omega (arith, l, p, pow-add 2 (x .degree) 1)
+
 -- ---- the tests
 
 pub line-at : (input : List ℕ) (r : ℕ) → r ≡ 0 + indexOf 10 (slice 0 (length input) input) → keyLine input ≡ keyBefore r input
@@ -63,44 +116,52 @@ unfolding keyLine slice
 line-at input r e = ap (λ (n : ℕ). keyBefore n input) (sym (e ∙ zero-add (indexOf 10 (take (length input) input)) ∙ ap (indexOf 10) (take-length input)))
 
 module _ (n : ℕ) (input : List ℕ) where
-  pub no-newline : length input ≤ n → keyBefore n input ≡ NoKey
+  pub no-newline : length input ≤ n → keyBefore n input ≡ line-cases.NoKey
   unfolding keyBefore
   no-newline h = rw (le-ltb n (length input) h)
 
-  pub empty-line : n < 1 → keyBefore n input ≡ NoKey
+  pub empty-line : n < 1 → keyBefore n input ≡ line-cases.NoKey
   unfolding keyBefore
   empty-line h = rw (lt-leb 1 n h, and-false (ltb n (length input)))
 
-  pub long-line : 16 < n → keyBefore n input ≡ NoKey
+  pub long-line : 17 < n → keyBefore n input ≡ line-cases.NoKey
   unfolding keyBefore
-  long-line h = rw (lt-leb n 16 h, and-false (leb 1 n), and-false (ltb n (length input)))
+  long-line h = rw (lt-leb n 17 h, and-false (leb 1 n), and-false (ltb n (length input)))
 
-  pub other-bytes : allDigits (take n input) ≡ false → keyBefore n input ≡ NoKey
+  pub other-bytes : allDigits (take n input) ≡ false → keyBefore n input ≡ line-cases.NoKey
   unfolding keyBefore
-  other-bytes e = rw (e, and-false (ltb n (length input) && (leb 1 n && leb n 16)))
+  other-bytes e = rw (e, and-false (ltb n (length input) && (leb 1 n && leb n 17)))
 
-  pub key-digits : n < length input → 1 ≤ n → n ≤ 16 → allDigits (take n input) ≡ true → keyBefore n input ≡ Key (hexFrom 0 (take n input)) (n + 1)
+  pub key-digits : n < length input → 1 ≤ n → n ≤ 17 → allDigits (take n input) ≡ true → keyBefore n input ≡ lineOf (hexFrom 0 (take n input)) (n + 1)
   unfolding keyBefore
-  key-digits h lo hi e = rw (lt-ltb n (length input) h, le-leb 1 n lo, le-leb n 16 hi, e)
+  key-digits h lo hi e = rw (lt-ltb n (length input) h, le-leb 1 n lo, le-leb n 17 hi, e)
 
-no-key : {key at : ℕ} → NoKey ≡ Key key at → ⊥
+no-key : {x : Key} {at : ℕ} → line-cases.NoKey ≡ line-cases.Key x at → ⊥
 no-key f = let z : _≡_ {A = ℕ} 0 1 = cc in omega arith
 
+too-large : {x : Key} {at : ℕ} → line-cases.TooLarge ≡ line-cases.Key x at → ⊥
+too-large f = let z : _≡_ {A = ℕ} 0 2 = cc in omega arith
+
 -- the file begins within the input or at its end
-pub key-within : (input : List ℕ) (key at : ℕ) → keyLine input ≡ Key key at → at ≤ length input
-unfolding keyLine keyBefore
-key-within input key at e = go (ltb n (length input)) (leb 1 n && leb n 16) (allDigits (take n input)) refl e
+pub key-within : (input : List ℕ) (x : Key) (at : ℕ) → keyLine input ≡ line-cases.Key x at → at ≤ length input
+unfolding keyLine keyBefore lineOf
+key-within input x at e = go (ltb n (length input)) (leb 1 n && leb n 17) (allDigits (take n input)) (ltb v (2 ^ 65)) refl e
   where
     n : ℕ
     n = indexOf 10 input
 
-    go : (a b c : Bool) → ltb n (length input) ≡ a → cond (a && b && c) (Key (hexFrom 0 (take n input)) (n + 1)) NoKey ≡ Key key at → at ≤ length input
-    go true true true t f = let g : n + 1 ≡ at = cc in omega (arith, ltb-true n (length input) t)
-    go true true false t f = absurd (no-key f)
-    go true false c t f = absurd (no-key f)
-    go false b c t f = absurd (no-key f)
+    v : ℕ
+    v = hexFrom 0 (take n input)
 
--- ---- the first 17 bytes decide the key's line
+    go : (a b c d : Bool) → ltb n (length input) ≡ a
+        → cond (a && b && c) (cond d (line-cases.Key (keyOf v) (n + 1)) line-cases.TooLarge) line-cases.NoKey ≡ line-cases.Key x at → at ≤ length input
+    go true true true true t f = let g : n + 1 ≡ at = cc in omega (arith, ltb-true n (length input) t)
+    go true true true false t f = absurd (too-large f)
+    go true true false d t f = absurd (no-key f)
+    go true false c d t f = absurd (no-key f)
+    go false b c d t f = absurd (no-key f)
+
+-- ---- the first 18 bytes decide the key's line
 
 index-more : (t : Bool) (m i j : ℕ) → i ≡ min m j → indexAfter t i ≡ min (suc m) (indexAfter t j)
 unfolding indexAfter
@@ -113,34 +174,34 @@ index-take b zero xs = sym (zero-min (indexOf b xs))
 index-take b (suc m) [] = sym (min-zero (suc m))
 index-take b (suc m) (x ∷ xs) = index-more (eqb x b) m (indexOf b (take m xs)) (indexOf b xs) (index-take b m xs)
 
--- a line of at most 16 bytes, in 17 bytes and in the whole
-line-same : (n : ℕ) (input : List ℕ) → n < 17 → keyBefore n (take 17 input) ≡ keyBefore n input
+-- a line of at most 17 bytes, in 18 bytes and in the whole
+line-same : (n : ℕ) (input : List ℕ) → n < 18 → keyBefore n (take 18 input) ≡ keyBefore n input
 unfolding keyBefore
-line-same n input h = rw (take-take n 17 input (omega arith), length-take 17 input, room)
+line-same n input h = rw (take-take n 18 input (omega arith), length-take 18 input, room)
   where
-    room : ltb n (min 17 (length input)) ≡ ltb n (length input)
+    room : ltb n (min 18 (length input)) ≡ ltb n (length input)
     room = go (decLt n (length input))
       where
-        go : Dec (n < length input) → ltb n (min 17 (length input)) ≡ ltb n (length input)
-        go (yes q) = rw (lt-ltb n (length input) q) (lt-ltb n (min 17 (length input)) (omega arith))
-        go (no q) = rw (le-ltb n (length input) (omega arith)) (le-ltb n (min 17 (length input)) (omega arith))
+        go : Dec (n < length input) → ltb n (min 18 (length input)) ≡ ltb n (length input)
+        go (yes q) = rw (lt-ltb n (length input) q) (lt-ltb n (min 18 (length input)) (omega arith))
+        go (no q) = rw (le-ltb n (length input) (omega arith)) (le-ltb n (min 18 (length input)) (omega arith))
 
-pub head-decides : (input : List ℕ) → keyLine (take 17 input) ≡ keyLine input
+pub head-decides : (input : List ℕ) → keyLine (take 18 input) ≡ keyLine input
 unfolding keyLine
-head-decides input = go (decLe (indexOf 10 input) 16)
+head-decides input = go (decLe (indexOf 10 input) 17)
   where
     n : ℕ
     n = indexOf 10 input
 
-    go : Dec (n ≤ 16) → keyBefore (indexOf 10 (take 17 input)) (take 17 input) ≡ keyBefore n input
+    go : Dec (n ≤ 17) → keyBefore (indexOf 10 (take 18 input)) (take 18 input) ≡ keyBefore n input
     go (no q) =
-        let e : indexOf 10 (take 17 input) ≡ 17 = index-take 10 17 input ∙ min-eq-left (omega arith) in
-        rw (e, long-line 17 (take 17 input) (omega arith)) (sym (long-line n input (omega arith)))
+        let e : indexOf 10 (take 18 input) ≡ 18 = index-take 10 18 input ∙ min-eq-left (omega arith) in
+        rw (e, long-line 18 (take 18 input) (omega arith)) (sym (long-line n input (omega arith)))
     go (yes q) =
-        let e : indexOf 10 (take 17 input) ≡ n = index-take 10 17 input ∙ min-eq-right (omega arith) in
+        let e : indexOf 10 (take 18 input) ≡ n = index-take 10 18 input ∙ min-eq-right (omega arith) in
         rw e (line-same n input (omega arith))
 
--- ---- what comes behind a line that gives a key does not change it
+-- ---- what comes behind a line does not change what it says
 
 line-stays : (n : ℕ) (input more : List ℕ) → n < length input → keyBefore n (input ++ more) ≡ keyBefore n input
 unfolding keyBefore
@@ -153,10 +214,19 @@ index-stays b input more h =
     = ap (indexOf b) (sym (take-append-seam input more)) ∙ index-take b (length input) (input ++ more) in
     omega arith
 
-pub key-stays : (input more : List ℕ) (key at : ℕ) → keyLine input ≡ Key key at → keyLine (input ++ more) ≡ Key key at
+pub line-settled : (input more : List ℕ) (l : KeyLine) → (l ≡ line-cases.NoKey → ⊥) → keyLine input ≡ l → keyLine (input ++ more) ≡ l
 unfolding keyLine
-key-stays input more key at e = go (decLt (indexOf 10 input) (length input))
+line-settled input more l some e = go (decLt (indexOf 10 input) (length input))
   where
-    go : Dec (indexOf 10 input < length input) → keyBefore (indexOf 10 (input ++ more)) (input ++ more) ≡ Key key at
+    go : Dec (indexOf 10 input < length input) → keyBefore (indexOf 10 (input ++ more)) (input ++ more) ≡ l
     go (yes h) = rw (index-stays 10 input more h) (line-stays (indexOf 10 input) input more h ∙ e)
-    go (no h) = absurd (no-key (sym (no-newline (indexOf 10 input) input (omega arith)) ∙ e))
+    go (no h) = absurd (some (sym e ∙ no-newline (indexOf 10 input) input (omega arith)))
+
+pub key-stays : (input more : List ℕ) (x : Key) (at : ℕ) → keyLine input ≡ line-cases.Key x at → keyLine (input ++ more) ≡ line-cases.Key x at
+key-stays input more x at e = line-settled input more (line-cases.Key x at) (λ f. no-key (sym f)) e
+
+pub large-stays : (input more : List ℕ) → keyLine input ≡ line-cases.TooLarge → keyLine (input ++ more) ≡ line-cases.TooLarge
+large-stays input more e = line-settled input more line-cases.TooLarge apart e
+  where
+    apart : line-cases.TooLarge ≡ line-cases.NoKey → ⊥
+    apart f = let z : _≡_ {A = ℕ} 2 0 = cc in omega arith

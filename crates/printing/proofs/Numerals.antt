@@ -1,12 +1,14 @@
--- The fewest digits that hold a number are its numeral.
-use mathlib.Core.Path.{_≡_, refl, _∙_}
-use Prim.Native.Nat.{ℕ, zero, suc, _-_, _/_, _^_, _≤_, _<_}
+-- The fewest digits that hold a number are its numeral; the digit 1 in front of a word of sixteen.
+use mathlib.Core.Path.{_≡_, refl, sym, ap, _∙_}
+use mathlib.Core.List.{List, [], _∷_, _++_}
+use Prim.Native.Nat.{ℕ, zero, suc, _+_, _-_, _/_, _%_, _^_, _≤_, _<_}
 use native.Mathlib.Nat.{le-refl, one-mul, mul-le-mul-right, mod-eq-of-lt, pow-zero, pow-suc, one-le-pow, pow-le-pow-right}
 use native.Mathlib.Nat.{div-lt-iff-lt-mul, le-div-iff-mul-le, div-lt-self}
 use native.Mathlib.Decide.{decLt}
 use native.Mathlib.Omega.{arith}
 use borrow.Author.Tests.{lt-ltb, le-ltb}
-use Rattle.io.specs.Digits.{digits, Fewest}
+use Rattle.io.specs.Digits.{glyph, digits, Fewest}
+use Rattle.gf2.specs.Degrees.{monic}
 use Rattle.gf2.proofs.Steps.{less-one}
 use Rattle.printing.specs.Printing.{digitsOf, numeral}
 
@@ -58,9 +60,9 @@ module _ (b : ℕ) (two : 1 < b) where
   fewest zero n (suc j) l h = rw (single n j (omega arith) h)
   fewest (suc s) n (suc j) l h = step s n j l h (decLt n b) (λ m f. fewest s (n / b) j m f)
 
-  -- no more digits than any count that holds the number
-  pub fewest-le : (s n k : ℕ) → 0 < s → n < b ^ s → Fewest b 1 n k → k ≤ s
-  fewest-le s n k p l h = go (decLt s k)
+  -- no more digits than any count that holds the number, if it is not below the least
+  pub fewest-le : (least s n k : ℕ) → least ≤ s → n < b ^ s → Fewest b least n k → k ≤ s
+  fewest-le least s n k p l h = go (decLt s k)
     where
       go : Dec (s < k) → k ≤ s
       go (yes q) =
@@ -73,3 +75,15 @@ module _ (b : ℕ) (two : 1 < b) where
   pub numeral-is : (n k : ℕ) → Fewest b 1 n k → digits b k n ≡ numeral b n
   unfolding numeral
   numeral-is n k h = fewest n n k (le-refl n) h
+
+top-one : (k w : ℕ) → w < 16 ^ k → digits 16 (suc k) (16 ^ k + w) ≡ 49 ∷ digits 16 k w
+top-one zero w l = let e : w ≡ 0 = omega arith in rw e
+top-one (suc k) w l =
+    let d : (16 ^ suc k + w) / 16 ≡ 16 ^ k + w / 16 = omega (arith, pow-suc 16 k) in
+    let m : (16 ^ suc k + w) % 16 ≡ w % 16 = omega (arith, pow-suc 16 k) in
+    rw (d, m) (ap (λ (xs : List ℕ). xs ++ glyph (w % 16) ∷ []) (top-one k (w / 16) (omega (arith, pow-suc 16 k))))
+
+-- the polynomial of a key of degree 64
+pub numeral-64 : (w : ℕ) → w < 2 ^ 64 → 49 ∷ digits 16 16 w ≡ numeral 16 (monic 64 w)
+unfolding monic
+numeral-64 w l = sym (top-one 16 w l) ∙ numeral-is 16 (omega arith) (2 ^ 64 + w) 17 (omega arith, omega arith, λ m. omega arith)

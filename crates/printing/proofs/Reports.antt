@@ -12,17 +12,18 @@ use lib.ListN.{length, getD, drop}
 use borrow.Author.Tests.{lt-ltb, le-ltb}
 use Rattle.io.specs.Digits.{glyph}
 use Rattle.lists.proofs.Parts.{behind-common, before-common}
-use Rattle.gf2.specs.Polynomials.{degree}
 use Rattle.refusals.specs.declared.Refusal.the-variants.{TooLong}
 use Rattle.refusals.specs.Refusals.{Answer, _⇒_, firstOf, passes}
-use Rattle.acceptance.specs.Keys.{accepted}
+use Rattle.acceptance.specs.declared.Key.{Key}
+use Rattle.acceptance.specs.Keys.{accepted, polynomialOf, keyOf}
+use Rattle.acceptance.proofs.Laws.{accepted-pos, whole-key}
 use Rattle.acceptance.proofs.Opened.{open-accepted, opened-first}
 use Rattle.files.specs.declared.Mark.{Mark}
 use Rattle.files.specs.Files.{bits, fingerprint, markOf}
 use Rattle.marks.specs.declared.Running.{Running}
 use Rattle.marks.specs.Answers.{begunUnder}
 use Rattle.printing.specs.declared.KeyLine.{KeyLine}
-use Rattle.printing.specs.declared.KeyLine.the-variants.{Key}
+use Rattle.printing.specs.declared.KeyLine.the-variants as line-cases
 use Rattle.printing.specs.Printing.{digit, hexFrom, ascii, digitsOf, numeral, keyLine, report, refused, answerText, markFile, printedAfter, printed}
 use Rattle.printing.proofs.Laws.{digit-decimal, digit-letter}
 
@@ -61,8 +62,8 @@ numeral-inj m n e = sym (digits-back m m (le-refl m)) ∙ ap (hexFrom 0) e ∙ d
 -- ---- reports
 
 -- two reports of one key and one length
-module _ (key n f g : ℕ) where
-  pub report-fingerprint : report (record { key = key; fingerprint = f; length = n }) ≡ report (record { key = key; fingerprint = g; length = n }) → f ≡ g
+module _ (x : Key) (n f g : ℕ) where
+  pub report-fingerprint : report (record { key = x; fingerprint = f; length = n }) ≡ report (record { key = x; fingerprint = g; length = n }) → f ≡ g
   unfolding report
   report-fingerprint e =
       numeral-inj f g
@@ -71,7 +72,7 @@ module _ (key n f g : ℕ) where
       (before-common (front ++ (ascii "\nmark " ++ numeral 16 f)) (front ++ (ascii "\nmark " ++ numeral 16 g)) (ascii "\n") e)))
     where
       front : List ℕ
-      front = ascii "key " ++ numeral 10 (degree key) ++ (ascii " " ++ numeral 16 key) ++ (ascii "\nbytes " ++ numeral 10 (n / 8))
+      front = ascii "key " ++ numeral 10 (x .degree) ++ (ascii " " ++ numeral 16 (polynomialOf x)) ++ (ascii "\nbytes " ++ numeral 10 (n / 8))
 
 -- a report is no refusal
 no-report : (m : Running) → refused TooLong ≡ report m → ⊥
@@ -79,24 +80,27 @@ unfolding refused report ascii
 no-report m e = omega (arith, ap (λ (text : List ℕ). getD text 0 0) e)
 
 -- where a report is printed, its fingerprint is that of the file behind the key's line
-pub printed-fingerprint : (input : List ℕ) (key at f : ℕ) → accepted key ≡ true → keyLine input ≡ Key key at
-    → printed input ≡ report (record { key = key; fingerprint = f; length = length (bits (drop at input)) }) → f ≡ fingerprint key (bits (drop at input))
+pub printed-fingerprint : (input : List ℕ) (key at f : ℕ) → accepted key ≡ true → keyLine input ≡ line-cases.Key (keyOf key) at
+    → printed input ≡ report (record { key = keyOf key; fingerprint = f; length = length (bits (drop at input)) })
+    → f ≡ fingerprint key (bits (drop at input))
 unfolding printed markFile markOf
-printed-fingerprint input key at f a line e = go (passes (8 * length file ∷ [])) (sym is ∙ e)
+printed-fingerprint input key at f a line e =
+    go (passes (8 * length file ∷ [])) (sym is ∙ e) ∙ ap (λ (k : ℕ). fingerprint k (bits (drop at input))) (whole-key key (accepted-pos key a))
   where
     file : List ℕ
     file = drop at input
 
     answer : Bool → Answer Unit Running
-    answer b = begunUnder key (firstOf (b ⇒ TooLong ∷ []) tt (markOf key (bits (drop at input))))
+    answer b = begunUnder (keyOf key) (firstOf (b ⇒ TooLong ∷ []) tt (markOf (polynomialOf (keyOf key)) (bits (drop at input))))
 
     is : printed input ≡ answerText (answer (passes (8 * length file ∷ [])))
     is =
         ap (λ (l : KeyLine). printedAfter l input) line
-        ∙ ap (λ (x : Answer Unit Mark). answerText (begunUnder key x))
-        (opened-first (open-accepted key a) (passes (8 * length (drop at input) ∷ []) ⇒ TooLong ∷ []) tt (markOf key (bits (drop at input))))
+        ∙ ap (λ (m : Answer Unit Mark). answerText (begunUnder (keyOf key) m))
+        (opened-first (open-accepted key a) (passes (8 * length (drop at input) ∷ []) ⇒ TooLong ∷ []) tt (markOf (polynomialOf (keyOf key)) (bits (drop at input))))
 
-    go : (b : Bool) → answerText (answer b) ≡ report (record { key = key; fingerprint = f; length = length (bits (drop at input)) })
-        → f ≡ fingerprint key (bits (drop at input))
-    go true h = absurd (no-report (record { key = key; fingerprint = f; length = length (bits (drop at input)) }) h)
-    go false h = sym (report-fingerprint key (length (bits (drop at input))) (fingerprint key (bits (drop at input))) f h)
+    go : (b : Bool) → answerText (answer b) ≡ report (record { key = keyOf key; fingerprint = f; length = length (bits (drop at input)) })
+        → f ≡ fingerprint (polynomialOf (keyOf key)) (bits (drop at input))
+    go true h = absurd (no-report (record { key = keyOf key; fingerprint = f; length = length (bits (drop at input)) }) h)
+    go false h =
+        sym (report-fingerprint (keyOf key) (length (bits (drop at input))) (fingerprint (polynomialOf (keyOf key)) (bits (drop at input))) f h)

@@ -1,25 +1,25 @@
--- The printing program (document 01), on lists of bytes: which key its first line gives, and what it prints.
+-- The printing program (document 01; 17 digits: document 02, wish 8), on lists of bytes: which key its first line gives, and what it prints.
 use mathlib.Core.Bool.{Bool, true, cond, _&&_}
 use mathlib.Core.List.{List, [], _∷_, _++_}
-use Prim.Native.Nat.{ℕ, zero, suc, _+_, _-_, _*_, _/_, _%_}
+use Prim.Native.Nat.{ℕ, zero, suc, _+_, _-_, _*_, _/_, _%_, _^_}
 use Prim.Native.Char.{code}
 use Prim.Native.String.{String, [] as end, _∷_ as _then_}
 use lib.Dec.{leb, ltb}
 use lib.ListN.{length, take, drop}
 use Rattle.bytes.specs.Bytes.{indexOf}
 use Rattle.io.specs.Digits.{glyph}
-use Rattle.gf2.specs.Polynomials.{degree}
 use Rattle.refusals.specs.declared.Refusal.{Refusal}
-use Rattle.refusals.specs.declared.Refusal.the-variants.{TooLong}
+use Rattle.refusals.specs.declared.Refusal.the-variants.{KeyRange, TooLong}
 use Rattle.refusals.specs.Refusals.{Answer, Done, Refused, number, _⇒_, firstOf, passes}
-use Rattle.acceptance.specs.Keys.{keyTests}
+use Rattle.acceptance.specs.declared.Key.{Key}
+use Rattle.acceptance.specs.Keys.{polynomialOf, keyOf, keyTests}
 use Rattle.files.specs.Files.{bits, markOf}
 use Rattle.marks.specs.declared.Running.{Running}
 use Rattle.marks.specs.Answers.{begunUnder}
 use Rattle.printing.specs.declared.KeyLine.{KeyLine}
-use Rattle.printing.specs.declared.KeyLine.the-variants.{NoKey, Key}
+use Rattle.printing.specs.declared.KeyLine.the-variants as line-cases
 
--- ---- the key's line: 1 to 16 lowercase hexadecimal digits before the first newline
+-- ---- the key's line: 1 to 17 lowercase hexadecimal digits before the first newline
 
 -- the value of a digit; 16 of a byte that is none
 unfoldable pub digit : ℕ → ℕ
@@ -34,10 +34,14 @@ unfoldable pub hexFrom : ℕ → List ℕ → ℕ
 hexFrom s [] = s
 hexFrom s (b ∷ bs) = hexFrom (s * 16 + digit b) bs
 
--- of an input with its first newline at place n, or of n bytes where it has none: the key, and the place where the file begins
+-- digits that write v, with the file from a place on: the key, or a number of degree above 64
+unfoldable pub lineOf : ℕ → ℕ → KeyLine
+lineOf v at = cond (ltb v (2 ^ 65)) (line-cases.Key (keyOf v) at) line-cases.TooLarge
+
+-- of an input with its first newline at place n, or of n bytes where it has none
 unfoldable pub keyBefore : ℕ → List ℕ → KeyLine
 keyBefore n input =
-    cond (ltb n (length input) && (leb 1 n && leb n 16) && allDigits (take n input)) (Key (hexFrom 0 (take n input)) (n + 1)) NoKey
+    cond (ltb n (length input) && (leb 1 n && leb n 17) && allDigits (take n input)) (lineOf (hexFrom 0 (take n input)) (n + 1)) line-cases.NoKey
 
 unfoldable pub keyLine : List ℕ → KeyLine
 keyLine input = keyBefore (indexOf 10 input) input
@@ -60,7 +64,7 @@ numeral b n = digitsOf n b n
 -- of a running mark, whose length is in bits: the program prints bytes
 unfoldable pub report : Running → List ℕ
 report m =
-    ascii "key " ++ numeral 10 (degree (m .key)) ++ (ascii " " ++ numeral 16 (m .key))
+    ascii "key " ++ numeral 10 (m .key .degree) ++ (ascii " " ++ numeral 16 (polynomialOf (m .key)))
     ++ (ascii "\nbytes " ++ numeral 10 (m .length / 8))
     ++ (ascii "\nmark " ++ numeral 16 (m .fingerprint))
     ++ ascii "\n"
@@ -76,12 +80,13 @@ answerText (Done m) = report m
 answerText (Refused r s) = refused r
 
 -- The mark of the file behind the key's line, which is whole bytes. Number 7 applies to the file's length.
-unfoldable pub markFile : ℕ → List ℕ → Answer Unit Running
-markFile key file = begunUnder key (firstOf (keyTests key ++ passes (8 * length file ∷ []) ⇒ TooLong ∷ []) tt (markOf key (bits file)))
+unfoldable pub markFile : Key → List ℕ → Answer Unit Running
+markFile x file = begunUnder x (firstOf (keyTests x ++ passes (8 * length file ∷ []) ⇒ TooLong ∷ []) tt (markOf (polynomialOf x) (bits file)))
 
 abbrev pub printedAfter : KeyLine → List ℕ → List ℕ
-printedAfter NoKey input = noKey
-printedAfter (Key key at) input = answerText (markFile key (drop at input))
+printedAfter line-cases.NoKey input = noKey
+printedAfter (line-cases.Key x at) input = answerText (markFile x (drop at input))
+printedAfter line-cases.TooLarge input = refused KeyRange
 
 -- what the program prints on an input
 unfoldable pub printed : List ℕ → List ℕ

@@ -1,19 +1,22 @@
 // The text of the printing program: the key's line that it reads, and the lines that it prints.
+use acceptance::Key;
 use marks::Running;
 use refusals::Refusal;
 ghost use mathlib.Core.Path.{_≡_};
-ghost use mathlib.Core.Bool.{true};
+ghost use mathlib.Core.Bool.{true, false};
 ghost use Prim.Native.Nat.{_+_, _≤_};
 ghost use mathlib.Core.List.{_++_};
 ghost use lib.ListN.{length};
-ghost use Rattle.gf2.specs.Polynomials.{degree};
-ghost use Rattle.printing.specs.Printing.{digit, allDigits, hexFrom, keyLine, numeral, report, refused, noKey};
+ghost use Rattle.gf2.specs.Degrees.{monic};
+ghost use Rattle.acceptance.specs.Keys.{polynomialOf, outside};
+ghost use Rattle.printing.specs.Printing.{digit, allDigits, hexFrom, lineOf, keyLine, numeral, report, refused, noKey};
 ghost use Rattle.printing.specs.Buffers.{putAt, PutInFront};
 
-// What the first line of an input says: the key, and the place where the file begins.
+// What the first line of an input says: the key, and the place where the file begins; or a number of 2^65 or more.
 pub enum KeyLine {
     NoKey,
-    Key(u64, usize),
+    Key(Key, usize),
+    TooLarge,
 }
 
 // The value of a lowercase hexadecimal digit; 16 of a byte that is none.
@@ -62,6 +65,31 @@ fn hex_value(line: &[u8]) -> u64
     value
 }
 
+// What 1 to 17 digits say, with the file from a place on. Seventeen are a top digit and a word.
+fn line_of(line: &[u8], at: usize) -> KeyLine
+    requires { ⌜ (length (now line) ≤ 17) × (allDigits (now line) ≡ true) ⌝ }
+    ensures { λ r. ⌜ r ≡ lineOf (hexFrom 0 (now (line .entry))) at ⌝ }
+{
+    if line.len() < 17 {
+        return KeyLine::Key(acceptance::key_of(hex_value(line)), at);
+    }
+    let top = digit(line[0]);
+    let word = hex_value(&line[1..]);
+    if top == 0 {
+        return KeyLine::Key(acceptance::key_of(word), at);
+    }
+    if top == 1 {
+        return KeyLine::Key(
+            Key {
+                degree: 64,
+                word: word,
+            },
+            at,
+        );
+    }
+    KeyLine::TooLarge
+}
+
 // The key that the first line of an input gives.
 pub fn key_line(input: &[u8]) -> KeyLine
     ensures { λ r. ⌜ r ≡ keyLine (now (input .entry)) ⌝ }
@@ -73,14 +101,14 @@ pub fn key_line(input: &[u8]) -> KeyLine
     if n < 1 {
         return KeyLine::NoKey;
     }
-    if 16 < n {
+    if 17 < n {
         return KeyLine::NoKey;
     }
     let line = &input[..n];
     if !all_digits(line) {
         return KeyLine::NoKey;
     }
-    KeyLine::Key(hex_value(line), n + 1)
+    line_of(line, n + 1)
 }
 
 // Puts a text at a place of a buffer, and answers the place behind it.
@@ -127,25 +155,46 @@ fn put_hex(out: &mut [u8], at: usize, label: &[u8], n: u64) -> usize
     put_both(out, at, label, &digits[..k])
 }
 
-// The degree of a key; 0 of the number 0.
-fn degree(key: u64) -> u32
-    ensures { λ r. ⌜ r ≡ degree key ⌝ }
+// The same of a label and t^64 with a word below it in hexadecimal: the digit 1, and all sixteen of the word.
+fn put_seventeen(out: &mut [u8], at: usize, label: &[u8], word: u64) -> usize
+    requires { ⌜ at + length (now label) + 17 ≤ length (now out) ⌝ }
+    ensures { λ r. ⌜ r ≡ at + length (now (label .entry) ++ numeral 16 (monic 64 word)) ⌝ }
+    ensures { λ r. ⌜ r ≤ at + length (now (label .entry)) + 17 ⌝ }
+    ensures { λ _. ⌜ now (out .exit) ≡ putAt (now (out .entry)) at (now (label .entry) ++ numeral 16 (monic 64 word)) ⌝ }
 {
-    if key == 0 {
-        return 0;
+    let mut digits = [0u8; 16];
+    let k = io::hex(word, 16, &mut digits);
+    let next = put_both(out, at, label, b"1");
+    put(out, next, &digits[..k])
+}
+
+// The same of a label and a key's polynomial in hexadecimal.
+fn put_polynomial(out: &mut [u8], at: usize, label: &[u8], x: Key) -> usize
+    requires { ⌜ at + length (now label) + 17 ≤ length (now out) ⌝ }
+    requires { ⌜ outside x ≡ false ⌝ }
+    ensures { λ r. ⌜ r ≡ at + length (now (label .entry) ++ numeral 16 (polynomialOf x)) ⌝ }
+    ensures { λ r. ⌜ r ≤ at + length (now (label .entry)) + 17 ⌝ }
+    ensures { λ _. ⌜ now (out .exit) ≡ putAt (now (out .entry)) at (now (label .entry) ++ numeral 16 (polynomialOf x)) ⌝ }
+{
+    let k = x.degree;
+    let word = x.word;
+    if k == 64 {
+        return put_seventeen(out, at, label, word);
     }
-    gf2::degree(key)
+    let power: u64 = 1 << k;
+    put_hex(out, at, label, power + word)
 }
 
 // The three lines of a mark, whose length they give in bytes, at the front of a buffer, and their own length.
 pub fn report(m: Running, out: &mut [u8; 96]) -> usize
+    requires { ⌜ outside (m .key) ≡ false ⌝ }
     ensures { λ n. ⌜ PutInFront (now (out .entry)) (now (out .exit)) n (report m) ⌝ }
 {
     let key = m.key;
     let fingerprint = m.fingerprint;
     let bytes = m.length / 8;
-    let a = put_decimal(out, 0, b"key ", degree(key) as u64);
-    let b = put_hex(out, a, b" ", key);
+    let a = put_decimal(out, 0, b"key ", key.degree as u64);
+    let b = put_polynomial(out, a, b" ", key);
     let c = put_decimal(out, b, b"\nbytes ", bytes);
     let d = put_hex(out, c, b"\nmark ", fingerprint);
     put(out, d, b"\n")

@@ -50,15 +50,15 @@ slice-aggregate-line c = sym (cut (found (c .before)))
 returns-4 : tie.Need-returns-4
 returns-4 c = sym (decided (found-line (c .before)) ∙ other-bytes _ _ (sym (c .before .all-digits .ensures) ∙ not-true _ (c .if4 .taken)))
 
-hex-value-requires : tie.Need-hex-value-requires
-hex-value-requires c κs = (omega (arith, cut (found-line (c .before))), all-digits-left c)
+line-of-requires : tie.Need-line-of-requires
+line-of-requires c κs = (omega (arith, cut (found-line (c .before))), all-digits-left c)
 
 returns-5 : tie.Need-returns-5
 returns-5 c =
     let f = found-line (c .before .before) in
     let less : f .find .result < length (input-at f) = omega (arith, f .find .ensures .1) in
-    rw (c .hex-value .ensures)
-    (sym (decided f ∙ key-digits (f .find .result) (input-at f) less (omega arith) (omega arith) (all-digits-left (c .before))))
+    c .line-of .ensures
+    ∙ sym (decided f ∙ key-digits (f .find .result) (input-at f) less (omega arith) (omega arith) (all-digits-left (c .before)))
 
 pub key-line-spec : {M : Type 1} → statement M
 key-line-spec =
@@ -71,6 +71,6 @@ key-line-spec =
     slice-aggregate-line
     (λ c κs. search needs)
     returns-4
-    hex-value-requires
     (λ c. search needs)
+    line-of-requires
     returns-5)
