@@ -16,7 +16,8 @@ use Rattle.refusals.specs.Refusals.{Done, Refused, Test, _⇒_, firstOf, longes
 use Rattle.refusals.proofs.Laws.{Clear, done-clear, more-refused, more-clear, first-true, first-false}
 use Rattle.files.specs.Files.{Part, partLength, partBits, misused}
 use Rattle.lists.proofs.Truth.{or-neither}
-use Rattle.acceptance.specs.Keys.{keyTests}
+use Rattle.acceptance.specs.declared.Key.{Key}
+use Rattle.acceptance.specs.Keys.{polynomialOf, keyTests}
 use Rattle.acceptance.specs.Opened.{Opened}
 use Rattle.acceptance.proofs.Opened.{opened-first}
 use Rattle.keys.specs.declared.Tested.{Tested}
@@ -74,7 +75,7 @@ module _ (n s : ℕ) where
 by-bytes : (p : Part) (s : ℕ) → lengthTests (partLength p) s ≡ lengthTests (8 * length (p .bytes)) s
 by-bytes p s = ap {B = List Test} (λ (b : Bool). b ⇒ TooLong ∷ pageSizeTest s ∷ []) (part-passes p)
 
-module _ (key s : ℕ) (part : Part) (buffer : List ℕ) where
+module _ (key : Key) (s : ℕ) (part : Part) (buffer : List ℕ) where
   abbrev count : ℕ
   count = pageCount s (length (part .bytes))
 
@@ -134,7 +135,7 @@ module _ (key s : ℕ) (part : Part) (buffer : List ℕ) where
             let x = contentsOf (newest .version) key s (partBits part) in
             let c = pagesFor s (length (partBits part)) in
             let own : length (sheetBytes x) ≡ sheetLength v count =
-            length-sheet x ∙ ap (sheetLength v) (length-pages v key c (8 * s) (partBits part) ∙ pages-held s part) in
+            length-sheet x ∙ ap (sheetLength v) (length-pages v (polynomialOf key) c (8 * s) (partBits part) ∙ pages-held s part) in
             let all : length (sheetBytes x) ≡ long = own ∙ ap (λ (w : Layout). sheetLength w count) newest-is in
             after-room
             ∙ first-false (misused part) FinalByte [] buffer after e

@@ -1,4 +1,5 @@
 // Writing a page sheet.
+use acceptance::Key;
 use gf2::Modulus;
 use keys::Tested;
 use refusals::Refusal;
@@ -23,7 +24,7 @@ ghost use Rattle.sheets.specs.Answers.{lengthAnswer};
 
 // The file's fingerprint: those of its pages, which stand in the fields, joined, the last with its own length.
 fn file_mark(fields: &[u8], p: Modulus, size: u64, file: &[u8], used: u32) -> u64
-    requires { ⌜ Proper p × (p .degree < 64) × (16 ≤ size) × (size ≤ 4096) × (length (now file) < 2 ^ 32)
+    requires { ⌜ Proper p × (16 ≤ size) × (size ≤ 4096) × (length (now file) < 2 ^ 32)
         × (8 * pageCount size (length (now file)) ≤ length (now fields))
         × (numbersAt 0 8 (pageCount size (length (now file))) (now fields)
         ≡ pageFingerprints (layoutOf (newest .version)) (polynomial p) (8 * size) (pageCount size (length (now file))) (partBits (asPart (now file) used))) ⌝ }
@@ -35,7 +36,7 @@ fn file_mark(fields: &[u8], p: Modulus, size: u64, file: &[u8], used: u32) -> u6
 
 // Writes all fingerprints: the pages', and the file's behind them.
 fn put_fingerprints(fields: &mut [u8], p: Modulus, size: u64, file: &[u8], used: u32)
-    requires { ⌜ Proper p × (8 ≤ p .degree) × (p .degree < 64) × (16 ≤ size) × (size ≤ 4096) × (length (now file) < 2 ^ 32)
+    requires { ⌜ Proper p × (8 ≤ p .degree) × (16 ≤ size) × (size ≤ 4096) × (length (now file) < 2 ^ 32)
         × (8 * pageCount size (length (now file)) + 8 ≤ length (now fields)) × (misused (asPart (now file) used) ≡ false) ⌝ }
     ensures { λ r. ⌜ now (fields .exit) ≡ sets (now (fields .entry)) 0
         (fieldsOf 8 (pageFingerprints (layoutOf (newest .version)) (polynomial p) (8 * size) (pageCount size (length (now (file .entry))))
@@ -50,7 +51,7 @@ fn put_fingerprints(fields: &mut [u8], p: Modulus, size: u64, file: &[u8], used:
 }
 
 // Writes the sheet; the buffer's further bytes keep their value.
-fn put_sheet(buffer: &mut [u8], key: u64, p: Modulus, size: u64, file: &[u8], used: u32)
+fn put_sheet(buffer: &mut [u8], key: Key, p: Modulus, size: u64, file: &[u8], used: u32)
     requires { ⌜ Opened key p × (16 ≤ size) × (size ≤ 4096) × (length (now file) < 2 ^ 32)
         × (sheetLength (layoutOf (newest .version)) (pageCount size (length (now file))) ≤ length (now buffer))
         × (misused (asPart (now file) used) ≡ false) ⌝ }
@@ -82,7 +83,7 @@ pub fn length(n: u64, size: u64) -> SheetLength
 }
 
 // Writes the sheet of a file under an opened key. Numbers 7, 12, 13, 19.
-fn write_under(key: u64, p: Modulus, size: u64, file: &[u8], used: u32, buffer: &mut [u8]) -> Reply
+fn write_under(key: Key, p: Modulus, size: u64, file: &[u8], used: u32, buffer: &mut [u8]) -> Reply
     requires { ⌜ Opened key p ⌝ }
     ensures { λ r. ⌜ reply (now (buffer .exit)) r ≡ writeSheet key size (asPart (now (file .entry)) used) (now (buffer .entry)) ⌝ }
 {
@@ -102,7 +103,7 @@ fn write_under(key: u64, p: Modulus, size: u64, file: &[u8], used: u32, buffer: 
 }
 
 // Writes the sheet of a file. Numbers 1, 2, 7, 12, 13, 19.
-pub fn write(key: u64, size: u64, file: &[u8], used: u32, buffer: &mut [u8]) -> Reply
+pub fn write(key: Key, size: u64, file: &[u8], used: u32, buffer: &mut [u8]) -> Reply
     ensures { λ r. ⌜ reply (now (buffer .exit)) r ≡ writeSheet key size (asPart (now (file .entry)) used) (now (buffer .entry)) ⌝ }
 {
     match keys::test(key) {

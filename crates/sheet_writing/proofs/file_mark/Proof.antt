@@ -39,7 +39,7 @@ abbrev start : tie.After-part-length → tie.Start
 start c = c .before .before .before
 
 bits-counted : (c : tie.After-part-length) → c .part-length .result ≡ partLength (part (start c))
-bits-counted c = let s = start c in c .part-length .ensures ∙ counted-part (part s) (omega (arith, s .pre .4))
+bits-counted c = let s = start c in c .part-length .ensures ∙ counted-part (part s) (omega (arith, s .pre .3))
 
 pages-counted : (c : tie.After-part-length) → pagesFor (start c .args .size) (c .part-length .result) ≡ count (start c)
 pages-counted c =
@@ -52,9 +52,8 @@ pages-joined-requires c κs =
       s .pre .0,
       s .pre .1,
       s .pre .2,
-      s .pre .3,
-      omega (arith, bits-counted c, part-fits (part s) (omega (arith, s .pre .4))),
-      omega (arith, pages-counted c, s .pre .5),
+      omega (arith, bits-counted c, part-fits (part s) (omega (arith, s .pre .3))),
+      omega (arith, pages-counted c, s .pre .4),
     )
 
 returns : tie.Need-returns
@@ -68,13 +67,13 @@ returns c =
     let size = 8 * a .size in
     let pos = monic-pos (a .p .degree) (a .p .low) (s .pre .0 .2) in
     let small = rw (monic-degree (a .p .degree) (a .p .low) (s .pre .0 .2)) at (fingerprints-lt pos v (count s) size file) in
-    let fields = ap (λ (m : ℕ). numbersAt 0 8 m (a .fields .now)) (pages-counted l) ∙ s .pre .6 in
-    let all : count s ≡ pageCount size (length file) = sym (pages-held (a .size) (part s)) ∙ pages-count (a .size) (length file) (omega (arith, s .pre .2)) in
+    let fields = ap (λ (m : ℕ). numbersAt 0 8 m (a .fields .now)) (pages-counted l) ∙ s .pre .5 in
+    let all : count s ≡ pageCount size (length file) = sym (pages-held (a .size) (part s)) ∙ pages-count (a .size) (length file) (omega (arith, s .pre .1)) in
     c .pages-joined .ensures .mark
     (ap (someUnreduced (a .p .degree)) fields ∙ list-reduced (a .p .degree) (pageFingerprints v key size (count s) file) small)
     ∙ ap₂ (λ (n : ℕ) (fs : List ℕ). joinedPages v key size n (markOf key []) fs .fingerprint) (bits-counted l ∙ sym (part-length (part s))) fields
     ∙ ap (λ (m : ℕ). joinedPages v key size (length file) (markOf key []) (pageFingerprints v key size m file) .fingerprint) all
-    ∙ ap (λ (m : Mark). m .fingerprint) (own-joined pos v own size file (omega (arith, s .pre .2)))
+    ∙ ap (λ (m : Mark). m .fingerprint) (own-joined pos v own size file (omega (arith, s .pre .1)))
 
 pub file-mark-spec : {M : Type 1} → statement M
 file-mark-spec = tie.close (tie.spec (λ c κs. search needs) pages-joined-requires returns)

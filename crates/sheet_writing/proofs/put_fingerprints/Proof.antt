@@ -57,7 +57,7 @@ prints c =
 over-pages-requires : tie.Need-over-pages-requires
 over-pages-requires c κs =
     let s = start c in
-    (s .pre .0, s .pre .1, s .pre .3, s .pre .4, s .pre .5, λ lent. omega (arith, s .pre .6), λ lent. absurd (omega (arith, lent)), s .pre .7)
+    (s .pre .0, s .pre .1, s .pre .2, s .pre .3, s .pre .4, λ lent. omega (arith, s .pre .5), λ lent. absurd (omega (arith, lent)), s .pre .6)
 
 file-mark-requires : tie.Need-file-mark-requires
 file-mark-requires c κs =
@@ -68,21 +68,20 @@ file-mark-requires c κs =
       s .pre .2,
       s .pre .3,
       s .pre .4,
-      s .pre .5,
-      omega (arith, p .over-pages .kept .0, s .pre .6),
-      ap (numbersAt 0 8 (count s)) (prints p) ∙ pages-stored (a .p) (s .pre .0) v (size s) (count s) (file s) (a .fields .now) (omega (arith, s .pre .6)),
+      omega (arith, p .over-pages .kept .0, s .pre .5),
+      ap (numbersAt 0 8 (count s)) (prints p) ∙ pages-stored (a .p) (s .pre .0) v (size s) (count s) (file s) (a .fields .now) (omega (arith, s .pre .5)),
     )
 
 page-count-requires : tie.Need-page-count-requires
-page-count-requires c κs = let s = begin (pages c) in (omega (arith, s .pre .3), s .pre .4, s .pre .5)
+page-count-requires c κs = let s = begin (pages c) in (omega (arith, s .pre .2), s .pre .3, s .pre .4)
 
 mul-put : tie.Need-mul-put
-mul-put c = let s = begin (pages (c .before .before)) in omega (arith, c .before .page-count .ensures, s .pre .6)
+mul-put c = let s = begin (pages (c .before .before)) in omega (arith, c .before .page-count .ensures, s .pre .5)
 
 put-requires : tie.Need-put-requires
 put-requires c κs =
     let p = pages (c .before .before) in
-    (omega arith, omega (arith, c .before .page-count .ensures, p .over-pages .kept .0, begin p .pre .6))
+    (omega arith, omega (arith, c .before .page-count .ensures, p .over-pages .kept .0, begin p .pre .5))
 
 returns : tie.Need-returns
 returns c =

@@ -1,17 +1,19 @@
 -- `put_sheet` meets its contract.
 use mathlib.Core.Path.{_≡_, sym, ap, ap₂, _∙_}
+use mathlib.Core.Bool.{true}
 use mathlib.Core.List.{List, [], _∷_, _++_, append-nil}
 use Prim.Native.Nat.{ℕ, _+_, _-_, _*_, _/_, _≤_}
 use native.Mathlib.Nat.{le-refl}
 use native.Mathlib.Omega.{arith}
 use lib.ListN.{length, take, drop, length-drop, drop-of-length-le}
 use lib.Seq.{sets}
-use Rattle.acceptance.proofs.Opened.{opened-proper, opened-eight, opened-word, opened-whole}
+use Rattle.acceptance.specs.Keys.{polynomialOf}
+use Rattle.acceptance.proofs.Opened.{opened-proper, opened-eight, opened-whole}
 use Rattle.files.specs.Files.{fingerprint, Part, asPart, partBits}
 use Rattle.files.proofs.Parts.{part-length}
-use Rattle.sheets.specs.Layout.{bytesOf, fieldsOf, letters, Layout, newest, layoutOf, fieldWidths, pageCount, pagesFor, bytesIn}
+use Rattle.sheets.specs.Layout.{bytesOf, fieldsOf, letters, Layout, newest, layoutOf, fieldWidths, pageCount, pagesFor, keyNumber, bytesIn}
 use Rattle.sheets.specs.Sheets.{pageFingerprints, contentsOf}
-use Rattle.sheets.proofs.Versions.{length-from}
+use Rattle.sheets.proofs.Versions.{length-from, newest-is}
 use Rattle.sheets.proofs.Pages.{length-pages, all-left}
 use Rattle.sheets.proofs.Parts.{counted-part, pages-held}
 use Rattle.sheet_writing.proofs.Stores.{sheet-stores}
@@ -40,10 +42,14 @@ fits c =
     let from = length-from (newest .version) (pageCount (a .size) (length (a .file .now))) in
     omega (arith, h .put-head .kept .0, start h .pre .4, c .pages-place .ensures .0, from)
 
+-- the key is held as a pair
+paired : v .paired ≡ true
+paired = ap (λ (w : Layout). w .paired) newest-is
+
 put-head-requires : tie.Need-put-head-requires
 put-head-requires c κs =
     let s = c .before .before .before .before in
-    omega (arith, s .pre .4, length-from (newest .version) (pageCount (s .args .size) (length (s .args .file .now))))
+    (paired, omega (arith, s .pre .4, length-from (newest .version) (pageCount (s .args .size) (length (s .args .file .now)))))
 
 sub-put-fingerprints : tie.Need-sub-put-fingerprints
 sub-put-fingerprints c = omega (arith, fits c)
@@ -58,7 +64,7 @@ put-fingerprints-requires c κs =
     let p = start (head q) .pre in
     let n = q .pages-place .result in
     let part = ap length (all-left b n) ∙ length-drop n b in
-    (opened-proper (p .0), opened-eight (p .0), opened-word (p .0), p .1, p .2, p .3, omega (arith, part, fits q), p .5)
+    (opened-proper (p .0), opened-eight (p .0), p .1, p .2, p .3, omega (arith, part, fits q), p .5)
 
 abbrev part : tie.Start → Part
 part s = asPart (s .args .file .now) (s .args .used)
@@ -77,16 +83,17 @@ returns c =
     let h = head q in
     let s = start h in
     let a = s .args in
+    let key = polynomialOf (a .key) in
     let file = partBits (part s) in
     let size = 8 * a .size in
     let count = pageCount (a .size) (length (a .file .now)) in
     let held = pages-held (a .size) (part s) in
-    let fields : ℕ → List ℕ = λ m. letters ∷ newest .version ∷ a .key ∷ m / v .lengthUnit ∷ a .size ∷ [] in
+    let fields : ℕ → List ℕ = λ m. letters ∷ newest .version ∷ keyNumber (v .paired) (a .key) ∷ m / v .lengthUnit ∷ a .size ∷ [] in
     let b = h .put-head .last .0 in
     let n = q .pages-place .result in
     let part = f .put-fingerprints .last .0 in
     let none : drop (length b - n) (drop n b) ≡ [] = drop-of-length-le (drop n b) {i = length b - n} (rw (length-drop n b) (le-refl (length b - n))) in
-    let stored : part ≡ sets (drop n b) 0 (fieldsOf 8 (pageFingerprints v (a .key) size count file) ++ bytesOf 8 (fingerprint (a .key) file)) =
+    let stored : part ≡ sets (drop n b) 0 (fieldsOf 8 (pageFingerprints v key size count file) ++ bytesOf 8 (fingerprint key file)) =
     f .put-fingerprints .ensures
     ∙ ap₂ (λ (l : List ℕ) (m : ℕ). sets l 0 (fieldsOf 8 (pageFingerprints v m size count file) ++ bytesOf 8 (fingerprint m file))) (all-left b n)
     (opened-whole (s .pre .0)) in
@@ -95,10 +102,10 @@ returns c =
     ∙ ap (λ (l : List ℕ). take n b ++ l) (append-nil part)
     ∙ ap (λ (m : ℕ). take m b ++ part) from
     ∙ sheet-stores (contentsOf (newest .version) (a .key) (a .size) file) count (a .buffer .now) b part
-    (length-pages v (a .key) (pagesFor (a .size) (length file)) size file ∙ held) (s .pre .4)
+    (length-pages v key (pagesFor (a .size) (length file)) size file ∙ held) (s .pre .4)
     (h .put-head .ensures ∙ ap (λ (m : ℕ). sets (a .buffer .now) 0 (bytesIn (fieldWidths v) (fields m))) (counted h))
     (stored
-    ∙ ap₂ (λ (m c : ℕ). sets (drop m b) 0 (fieldsOf 8 (pageFingerprints v (a .key) size c file) ++ bytesOf 8 (fingerprint (a .key) file))) from (sym held))
+    ∙ ap₂ (λ (m c : ℕ). sets (drop m b) 0 (fieldsOf 8 (pageFingerprints v key size c file) ++ bytesOf 8 (fingerprint key file))) from (sym held))
 
 pub put-sheet-spec : {M : Type 1} → statement M
 put-sheet-spec =

@@ -18,7 +18,7 @@ key-opened : (c : tie.After-p) → Opened (start (accepted c) .args .key) (c .p 
 key-opened c =
     let t = accepted c in
     let s = start t in
-    opened (t .test .result) (s .args .key) (t .test .ensures) (c .p .given .0 .0) (s .fits .key .fits) (c .p .given .1)
+    opened (t .test .result) (s .args .key) (t .test .ensures) (c .p .given .0 .0) (c .p .given .1)
 
 write-under-requires : tie.Need-write-under-requires
 write-under-requires c κs = key-opened (c .before .before)
