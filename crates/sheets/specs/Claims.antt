@@ -144,7 +144,7 @@ abbrev pub SomeAltered : Type 0
 SomeAltered = (s : ℕ) (a b : List ℕ) → 0 < s → length a ≡ length b → a ≢ b → (i : ℕ) × FirstAltered s a b i
 
 -- "A change that keeps the length and lies inside k neighbouring bits is found on the first page that it alters", in a file whose length
--- the version can hold, under a key of which the same is true
+-- the version can hold and under a key that it can hold
 abbrev pub BurstFound : Type 0
 BurstFound =
     (version key s : ℕ) (a : List ℕ) (b : Part) → known layouts version ≡ true → accepted key ≡ true

@@ -43,39 +43,32 @@ pub struct Fields {
     pub filled: bool,
 }
 
+// The fields of a version that holds the key as a number: the width of its length, the bits that this counts as one, and whether it fills up.
+fn numbered(length: usize, unit: u64, filled: bool) -> Fields
+    ensures { λ r. ⌜ r ≡ record { key = 8; paired = false; length = length; size = 2; unit = unit; filled = filled } ⌝ }
+{
+    Fields {
+        key: 8,
+        paired: false,
+        length: length,
+        size: 2,
+        unit: unit,
+        filled: filled,
+    }
+}
+
 // The fields of a version; those of the newest where there is no such version.
 fn fields_of(version: u64) -> Fields
     ensures { λ r. ⌜ LaidOut (layoutOf version) r ⌝ }
 {
     if version == 1 {
-        return Fields {
-            key: 8,
-            paired: false,
-            length: 4,
-            size: 2,
-            unit: 8,
-            filled: true,
-        };
+        return numbered(4, 8, true);
     }
     if version == 2 {
-        return Fields {
-            key: 8,
-            paired: false,
-            length: 4,
-            size: 2,
-            unit: 8,
-            filled: false,
-        };
+        return numbered(4, 8, false);
     }
     if version == 3 {
-        return Fields {
-            key: 8,
-            paired: false,
-            length: 8,
-            size: 2,
-            unit: 1,
-            filled: false,
-        };
+        return numbered(8, 1, false);
     }
     Fields {
         key: 9,

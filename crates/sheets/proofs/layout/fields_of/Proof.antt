@@ -1,13 +1,14 @@
 -- `fields_of` meets its contract.
 use mathlib.Core.Path.{refl}
 use native.Mathlib.Omega.{arith}
+use borrow.Author.Needs.{needs}
 use Rattle.sheets.proofs.Versions.{first-is, second-is, third-is, other-is}
 use Rattle.sheets.proofs.layout.fields_of.Statement.{statement}
 use Rattle.sheets.proofs.layout.fields_of.Tie as tie
 
 returns : tie.Need-returns
 returns c =
-    rw (first-is (c .before .args .version) (c .if1 .taken))
+    rw (first-is (c .before .before .args .version) (c .before .if1 .taken), c .numbered .ensures)
     (record {
       widths = refl;
       paired = refl;
@@ -24,7 +25,7 @@ returns c =
 
 returns-2 : tie.Need-returns-2
 returns-2 c =
-    rw (second-is (c .before .before .args .version) (c .if2 .taken))
+    rw (second-is (c .before .before .before .args .version) (c .before .if2 .taken), c .numbered2 .ensures)
     (record {
       widths = refl;
       paired = refl;
@@ -41,7 +42,7 @@ returns-2 c =
 
 returns-3 : tie.Need-returns-3
 returns-3 c =
-    rw (third-is (c .before .before .before .args .version) (c .if3 .taken))
+    rw (third-is (c .before .before .before .before .args .version) (c .before .if3 .taken), c .numbered3 .ensures)
     (record {
       widths = refl;
       paired = refl;
@@ -74,4 +75,5 @@ returns-4 c =
     })
 
 pub fields-of-spec : {M : Type 1} → statement M
-fields-of-spec = tie.close (tie.spec returns returns-2 returns-3 returns-4)
+fields-of-spec =
+    tie.close (tie.spec (λ c κs. search needs) returns (λ c κs. search needs) returns-2 (λ c κs. search needs) returns-3 returns-4)

@@ -26,7 +26,7 @@ number-at-requires : tie.Need-number-at-requires
 number-at-requires c κs = (omega arith, omega (arith, paired c))
 
 number-at-requires-2 : tie.Need-number-at-requires-2
-number-at-requires-2 c κs = (omega arith, paired (c .before))
+number-at-requires-2 c κs = (omega arith, omega (arith, paired (c .before)))
 
 number-at-requires-3 : tie.Need-number-at-requires-3
 number-at-requires-3 c κs =
