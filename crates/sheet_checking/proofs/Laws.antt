@@ -66,7 +66,8 @@ module _ (sheet : List ℕ) (file : Part) where
       compare-other n = after-used ∙ ap Done (other-length (contentsIn sheet) (partBits file) (λ e. n (sym (part-length file) ∙ e)))
 
       -- equally long: page by page
-      pub compare-pages : (version : ℕ) (key : Key) (size : ℕ) → version ≡ contentsIn sheet .version → key ≡ contentsIn sheet .key → size ≡ contentsIn sheet .pageSize
+      pub compare-pages : (version : ℕ) (key : Key) (size : ℕ) → version ≡ contentsIn sheet .version → key ≡ contentsIn sheet .key
+          → size ≡ contentsIn sheet .pageSize
           → partLength file ≡ contentsIn sheet .length
           → (part : List ℕ) → part ≡ fingerprintsPart version sheet
           → comparison sheet file

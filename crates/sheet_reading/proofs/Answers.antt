@@ -53,8 +53,9 @@ body-total sheet e =
     let x = contentsIn sheet in
     let v = layoutOf (versionIn sheet) in
     let sizes = eqb (length sheet) (sheetLength v (length (x .pages))) in
+    let k = degree (polynomialOf (x .key)) in
     let t =
-    neither (not sizes) (someUnreduced (degree (polynomialOf (x .key))) (x .pages ++ x .fingerprint ∷ [])) (not (eqb (pagesJoined x .fingerprint) (fileFilled x))) e in
+    neither (not sizes) (someUnreduced k (x .pages ++ x .fingerprint ∷ [])) (not (eqb (pagesJoined x .fingerprint) (fileFilled x))) e in
     eqb-true (length sheet) (sheetLength v (length (x .pages))) (not-false _ (t .0))
     ∙ ap (sheetLength v) (length-numbersAt (pagePlace v 0) (v .fingerprintWidth) (pagesIn v sheet) sheet)
 
