@@ -11,7 +11,6 @@ use lib.Pow.{pow-pos}
 use Rattle.gf2.specs.Polynomials.{degree}
 use Rattle.gf2.specs.Degrees.{monic}
 use Rattle.gf2.specs.Moduli.{Proper}
-use Rattle.gf2.proofs.Monics.{monic-of}
 use Rattle.refusals.specs.Refusals.{Done}
 use Rattle.acceptance.specs.declared.Key.{Key}
 use Rattle.acceptance.specs.Keys.{keyOf}
@@ -19,6 +18,7 @@ use Rattle.lists.specs.Inner.{among}
 use Rattle.lists.proofs.Truth.{or-neither}
 use Rattle.fields.specs.Fields.{Field}
 use Rattle.stock.specs.Stock.{stockKey, stockWord}
+use Rattle.stock.proofs.Table.{stock-whole}
 use Rattle.draw.specs.Drawing.{degrees, drawn, drawnKey, draw}
 use Rattle.draw.proofs.Fairness.{range, field, key-degree}
 use Rattle.draw.proofs.draw.Statement.{statement}
@@ -38,8 +38,7 @@ stock-word→start c = else2→start (c .before)
 -- the stock key of a listed degree, from its word
 module _ (k : ℕ) (listed : among k degrees ≡ true) (w : ℕ) (is : w ≡ stockWord k) where
   whole : monic k w ≡ stockKey k
-  unfolding stockWord
-  whole = ap (monic k) is ∙ monic-of k (stockKey k) (field k listed .of-degree)
+  whole = ap (monic k) is ∙ stock-whole k (omega (arith, range k listed .0)) (omega (arith, range k listed .1))
 
   proper : Proper (record { degree = k; low = w })
   unfolding stockWord
