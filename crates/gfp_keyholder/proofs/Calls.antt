@@ -3,9 +3,10 @@ use mathlib.Core.Path.{refl}
 use Prim.Native.Nat.{ℕ}
 use Rattle.lists.proofs.Lists.{rising}
 use Rattle.refusals.proofs.Laws.{gives-lowest}
-use Rattle.draw.specs.Drawing.{keyOf, draw}
+use Rattle.acceptance.specs.Keys.{keyOf}
+use Rattle.draw.specs.Drawing.{drawnKey, draw}
 use Rattle.gfp_keyholder.specs.Calls.{EachCall}
 
 pub each-call : (k e : ℕ) → EachCall k e
 unfolding draw rising
-each-call k e = record { draw-key = gives-lowest tt (keyOf k e) refl refl tt }
+each-call k e = record { draw-key = gives-lowest tt (keyOf (drawnKey k e)) refl refl tt }

@@ -16,7 +16,7 @@ use Rattle.book.specs.Confusions.{confused}
 use Rattle.book.proofs.ConfusionLaws.{confusions-count, bursts-count}
 use Rattle.gfp_site.specs.Book.{Route}
 use Rattle.gfp_site.proofs.Guarantee as site-level
-use Rattle.draw.specs.Drawing.{draw, keyOf, elements}
+use Rattle.draw.specs.Drawing.{draw, drawnKey, elements}
 use Rattle.draw.proofs.Fairness.{key-drawn, key-degree, key-accepted, key-only, drawers-count, elements-count, keys-count}
 use Rattle.gfp_keyholder.specs.Claims.{Listed, Answered, One, Accepted, Fair, Number, Risk, ByRoutes, NoBurst}
 
@@ -47,7 +47,7 @@ unfolding confused
 confused-accepted a b p e = and-both (accepted p) (eqb (fingerprint p a) (fingerprint p b)) e .0
 
 -- k elements for each key
-by-keys : (k : ℕ) → Listed k → (a b : List ℕ) → elements k (λ e. confused a b (keyOf k e)) ≡ countFrom (confused a b) (2 ^ k) (2 ^ k) * k
+by-keys : (k : ℕ) → Listed k → (a b : List ℕ) → elements k (λ e. confused a b (drawnKey k e)) ≡ countFrom (confused a b) (2 ^ k) (2 ^ k) * k
 by-keys k l a b = elements-count k l (confused a b) (confused-accepted a b)
 
 pub risk : Risk
@@ -55,9 +55,9 @@ risk k l a b ha hb ne n la lb = rw (by-keys k l a b) (confusions-count k a b ha 
 
 pub by-routes : ByRoutes Route
 by-routes k e l m a b =
-    let c = site-level.counted k a b (keyOf k e) in
+    let c = site-level.counted k a b (drawnKey k e) in
     let d = key-drawn k l e (m .0) (m .1) .of-degree in
-    (λ x. c .0 x .2, λ t. c .1 (deg-lo (keyOf k e) k d, omega (arith, deg-hi (keyOf k e) k d, two-pow-succ k), t))
+    (λ x. c .0 x .2, λ t. c .1 (deg-lo (drawnKey k e) k d, omega (arith, deg-hi (drawnKey k e) k d, two-pow-succ k), t))
 
 pub no-burst : NoBurst
 no-burst k l a b ha hb ne s = by-keys k l a b ∙ ap (λ (n : ℕ). n * k) (bursts-count k a b ha hb ne s) ∙ zero-mul k

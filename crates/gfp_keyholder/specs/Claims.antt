@@ -10,14 +10,14 @@ use lib.Dec.{eqb}
 use lib.ListN.{length}
 use Rattle.gf2.specs.Polynomials.{degree}
 use Rattle.refusals.specs.Refusals.{Done}
-use Rattle.acceptance.specs.Keys.{accepted}
+use Rattle.acceptance.specs.Keys.{accepted, keyOf}
 use Rattle.files.specs.Files.{Bits}
 use Rattle.files.specs.Bursts.{Burst}
 use Rattle.lists.specs.Inner.{among}
 use Rattle.lists.specs.Counts.{countFrom}
 use Rattle.book.specs.Confusions.{Routes, Confuses, confused}
 use Rattle.stock.specs.Stock.{stockKey}
-use Rattle.draw.specs.Drawing.{degrees, keyOf, elements, draw, Draws}
+use Rattle.draw.specs.Drawing.{degrees, drawnKey, elements, draw, Draws}
 
 abbrev pub Listed : ℕ → Type 0
 Listed k = among k degrees ≡ true
@@ -27,22 +27,22 @@ Element k e = (2 ≤ e) × (e < 2 ^ k)
 
 -- ---- the key
 
--- The call is not refused, and answers it.
+-- The call is not refused, and answers it as its degree and its word.
 abbrev pub Answered : Type 0
-Answered = (k e : ℕ) → Listed k → Element k e → draw k e ≡ Done (keyOf k e)
+Answered = (k e : ℕ) → Listed k → Element k e → draw k e ≡ Done (keyOf (drawnKey k e))
 
 -- "the drawn key is the one polynomial p of degree k with p(element) = 0 modulo f": it is one, and there is no other.
 abbrev pub One : Type 0
-One = (k e : ℕ) → Listed k → Element k e → Draws (stockKey k) k e (keyOf k e) × ((p : ℕ) → Draws (stockKey k) k e p → p ≡ keyOf k e)
+One = (k e : ℕ) → Listed k → Element k e → Draws (stockKey k) k e (drawnKey k e) × ((p : ℕ) → Draws (stockKey k) k e p → p ≡ drawnKey k e)
 
 abbrev pub Accepted : Type 0
-Accepted = (k e : ℕ) → Listed k → Element k e → (accepted (keyOf k e) ≡ true) × (degree (keyOf k e) ≡ k)
+Accepted = (k e : ℕ) → Listed k → Element k e → (accepted (drawnKey k e) ≡ true) × (degree (drawnKey k e) ≡ k)
 
 -- ---- a uniform element draws a uniform key
 
 -- Rabin's Lemma 2: each accepted key of degree k is drawn by exactly k elements,
 abbrev pub Fair : Type 0
-Fair = (k : ℕ) → Listed k → (p : ℕ) → accepted p ≡ true → degree p ≡ k → elements k (λ e. eqb (keyOf k e) p) ≡ k
+Fair = (k : ℕ) → Listed k → (p : ℕ) → accepted p ≡ true → degree p ≡ k → elements k (λ e. eqb (drawnKey k e) p) ≡ k
 
 -- Rabin's Lemma 1: and so there are (2^k - 2) / k of them.
 abbrev pub Number : Type 0
@@ -54,15 +54,15 @@ Number = (k : ℕ) → Listed k → countFrom accepted (2 ^ k) (2 ^ k) * k ≡ 2
 abbrev pub Risk : Type 0
 Risk =
     (k : ℕ) → Listed k → (a b : List ℕ) → Bits a → Bits b → a ≢ b → (n : ℕ) → length a ≤ n → length b ≤ n
-    → elements k (λ e. confused a b (keyOf k e)) ≤ n
+    → elements k (λ e. confused a b (drawnKey k e)) ≤ n
 
 -- These are the elements that draw a key under which, by any of our calls, a route to the one file and a route to the other can leave
 -- equal fingerprints.
 abbrev pub ByRoutes : Routes → Type 0
 ByRoutes Route =
-    (k e : ℕ) → Listed k → Element k e → (a b : List ℕ) → Confuses Route k a b (keyOf k e) ↔ (confused a b (keyOf k e) ≡ true)
+    (k e : ℕ) → Listed k → Element k e → (a b : List ℕ) → Confuses Route k a b (drawnKey k e) ↔ (confused a b (drawnKey k e) ≡ true)
 
 -- Where the lengths are equal and the first and last differing bits are at most k - 1 places apart, there is no such element.
 abbrev pub NoBurst : Type 0
 NoBurst =
-    (k : ℕ) → Listed k → (a b : List ℕ) → Bits a → Bits b → a ≢ b → Burst k a b → elements k (λ e. confused a b (keyOf k e)) ≡ 0
+    (k : ℕ) → Listed k → (a b : List ℕ) → Bits a → Bits b → a ≢ b → Burst k a b → elements k (λ e. confused a b (drawnKey k e)) ≡ 0

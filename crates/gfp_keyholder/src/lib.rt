@@ -2,16 +2,19 @@
 ghost use mathlib.Core.Path.{_≡_};
 ghost use Rattle.refusals.specs.Refusals.{numberOf, valueOr};
 ghost use Rattle.draw.specs.Drawing.{draw};
+ghost use Rattle.places.specs.Places.{keyAt};
 use draw::Drawn;
 
-// The key of a degree that an element draws: 0 or the refusal's number, and on refusal the place keeps what it held. Numbers 3, 4.
+// The key that an element draws is of the degree asked for, and its word goes to the place: 0 or the refusal's number, and on refusal the place
+// keeps what it held. Numbers 3, 4.
 #[no_mangle]
-pub extern "C" fn gfp_draw(degree: u64, element: u64, key: &mut u64) -> u32
-    ensures { λ r. ⌜ (r ≡ numberOf (draw degree element)) × (now (key .exit) ≡ valueOr (now (key .entry)) (draw degree element)) ⌝ }
+pub extern "C" fn gfp_draw(degree: u32, element: u64, word: &mut u64) -> u32
+    ensures { λ r. ⌜ (r ≡ numberOf (draw degree element))
+        × (keyAt degree (now (word .exit)) ≡ valueOr (keyAt degree (now (word .entry))) (draw degree element)) ⌝ }
 {
     match draw::draw(degree, element) {
-        Drawn::Key(p) => {
-            *key = p;
+        Drawn::Key(key) => {
+            *word = key.word;
             0
         }
         Drawn::Refused(r) => refusals::number(r),
