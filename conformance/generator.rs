@@ -1,5 +1,5 @@
 //! Pseudo-random inputs (xorshift), and the edges of each kind of input.
-use crate::reference;
+use crate::{reference, Key};
 
 /// The bytes with the unused low bits of the final one set to 0. Of a u outside 1 to 8 none is unused.
 pub fn cleaned(mut bytes: Vec<u8>, used: u32) -> Vec<u8> {
@@ -35,57 +35,73 @@ impl Generator {
         (0..n).map(|_| self.next() as u8).collect()
     }
 
-    pub fn of_degree(&mut self, k: u32) -> u64 {
-        1 << k | self.next() & ((1 << k) - 1)
+    /// A number below 2^k, for k from 1 to 64.
+    pub fn residue(&mut self, k: u32) -> u64 {
+        self.next() >> (64 - k)
+    }
+
+    pub fn of_degree(&mut self, k: u32) -> Key {
+        Key { degree: k, word: self.residue(k) }
     }
 
     /// An irreducible polynomial of degree k.
-    pub fn accepted(&mut self, k: u32) -> u64 {
+    pub fn accepted(&mut self, k: u32) -> Key {
         loop {
-            let p = self.of_degree(k) | 1;
-            if reference::irreducible(p) {
-                return p;
+            let key = Key { degree: k, word: self.residue(k) | 1 };
+            if reference::irreducible(reference::polynomial(key)) {
+                return key;
             }
         }
     }
 
     /// An irreducible polynomial of degree k whose coefficients below t^k stand in a random number of low places.
-    pub fn accepted_with_low_part(&mut self, k: u32) -> u64 {
+    pub fn accepted_with_low_part(&mut self, k: u32) -> Key {
         loop {
-            let width = 1 + self.below(u64::from(k));
-            let p = 1 << k | self.next() & ((1 << width) - 1) | 1;
-            if reference::irreducible(p) {
-                return p;
+            let width = 1 + self.below(u64::from(k)) as u32;
+            let key = Key { degree: k, word: self.residue(width) | 1 };
+            if reference::irreducible(reference::polynomial(key)) {
+                return key;
             }
         }
     }
 
+    /// A degree of keys. Degree 64, whose fingerprints fill the word, is more frequent than others.
     pub fn degree(&mut self) -> u32 {
-        8 + self.below(56) as u32
+        if self.one_in(8) { 64 } else { 8 + self.below(57) as u32 }
     }
 
-    /// A key: mostly accepted, sometimes too small or reducible.
-    pub fn key(&mut self) -> u64 {
+    /// A pair that number 1 is given for: another degree, or a bit of the word at t^k or above.
+    pub fn outside(&mut self) -> Key {
+        let (small, k) = (self.below(8) as u32, 8 + self.below(56) as u32);
+        match self.below(5) {
+            0 => Key { degree: small, word: self.residue(small + 1) >> 1 },
+            1 => Key { degree: small, word: self.next() },
+            2 => {
+                let degree = [65, 66, 71, 72, 127, 128, 255, 256 + 8, 1 << 31, (1 << 31) + 61, u32::MAX];
+                Key { degree: degree[self.below(11) as usize], word: self.next() }
+            }
+            3 => Key { degree: k, word: self.accepted(k).word | 1 << k },
+            _ => Key { degree: k, word: self.next() | 1 << (63 - self.below(64 - u64::from(k))) },
+        }
+    }
+
+    /// A key: mostly accepted, sometimes out of range or reducible.
+    pub fn key(&mut self) -> Key {
+        let k = self.degree();
         match self.below(8) {
-            0 => self.below(256),
-            1 => {
-                let k = self.degree();
-                self.of_degree(k)
-            }
-            _ => {
-                let k = self.degree();
-                self.accepted(k)
-            }
+            0 => self.outside(),
+            1 => self.of_degree(k),
+            _ => self.accepted(k),
         }
     }
 
     /// A mark under a key: mostly possible, sometimes too long or not reduced.
-    pub fn mark(&mut self, key: u64) -> reference::Mark {
-        let width = if key < 2 { 1 } else { reference::degree(key) };
+    pub fn mark(&mut self, key: Key) -> reference::Mark {
+        let width = key.degree.clamp(1, 64);
         let fingerprint = match self.below(8) {
             0 => self.next(),
             1 => 1 << width.min(63),
-            _ => self.next() & ((1 << width.min(63)) - 1),
+            _ => self.residue(width),
         };
         let bits = match self.below(10) {
             0 => self.next(),
@@ -100,8 +116,8 @@ impl Generator {
     }
 
     /// A mark under an accepted key to which up to n bytes can be fed.
-    pub fn start(&mut self, key: u64, n: usize) -> reference::Mark {
-        let fingerprint = self.below(1 << reference::degree(key));
+    pub fn start(&mut self, key: Key, n: usize) -> reference::Mark {
+        let fingerprint = self.residue(key.degree);
         reference::Mark { fingerprint, bits: self.below(reference::LIMIT - 8 * n as u64 + 1) }
     }
 
@@ -122,8 +138,8 @@ impl Generator {
     }
 
     /// A table under a key: mostly right, sometimes of another size or with one bit changed.
-    pub fn table(&mut self, key: u64) -> Vec<u64> {
-        let mut words = if key < 256 { vec![0; 1024] } else { reference::table(key) };
+    pub fn table(&mut self, key: Key) -> Vec<u64> {
+        let mut words = if reference::test_key(key) == Err(1) { vec![0; 1024] } else { reference::table(key) };
         match self.below(5) {
             0 => {
                 let n = self.below(1024) as usize;

@@ -14,6 +14,8 @@ mod reference;
 mod search;
 mod sheets;
 
+pub use gfp::Key;
+
 /// Counts what was compared, and reports the first differences.
 pub struct Tally {
     passed: u64,

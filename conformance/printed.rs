@@ -9,34 +9,43 @@ mod reference;
 
 use std::io::{Read, Result, Write};
 
-/// The key that the first line gives, and the file behind it.
-fn key_line(input: &[u8]) -> Option<(u64, &[u8])> {
+/// A key: its degree, and the coefficients below t^degree.
+#[derive(Clone, Copy, Debug, PartialEq, Eq)]
+pub struct Key {
+    degree: u32,
+    word: u64,
+}
+
+/// The number that the first line gives, of up to 68 bits, and the file behind it.
+fn key_line(input: &[u8]) -> Option<(u128, &[u8])> {
     let end = input.iter().position(|&b| b == b'\n')?;
     let line = &input[..end];
     let digit = |b: &u8| matches!(b, b'0'..=b'9' | b'a'..=b'f');
-    if line.is_empty() || line.len() > 16 || !line.iter().all(digit) {
+    if line.is_empty() || line.len() > 17 || !line.iter().all(digit) {
         return None;
     }
     let text = std::str::from_utf8(line).ok()?;
-    Some((u64::from_str_radix(text, 16).ok()?, &input[end + 1..]))
+    Some((u128::from_str_radix(text, 16).ok()?, &input[end + 1..]))
 }
 
 fn printed(input: &[u8]) -> String {
-    let Some((key, file)) = key_line(input) else {
+    let Some((number, file)) = key_line(input) else {
         return "no key\n".to_string();
     };
+    let key = reference::key_of(number);
     match reference::begin(key).and_then(|mark| reference::feed(key, mark, file)) {
         Ok(mark) => {
-            let (degree, bytes, fingerprint) = (reference::degree(key), mark.bits / 8, mark.fingerprint);
-            format!("key {degree} {key:x}\nbytes {bytes}\nmark {fingerprint:x}\n")
+            let (degree, bytes, fingerprint) = (key.degree, mark.bits / 8, mark.fingerprint);
+            format!("key {degree} {number:x}\nbytes {bytes}\nmark {fingerprint:x}\n")
         }
-        Err(number) => format!("refused {number}\n"),
+        Err(refusal) => format!("refused {refusal}\n"),
     }
 }
 
 fn input_of(degree: u64, count: u64) -> Vec<u8> {
     let mut generator = generator::Generator::new(degree);
-    let mut input = format!("{:x}\n", generator.accepted(degree as u32)).into_bytes();
+    let key = generator.accepted(degree as u32);
+    let mut input = format!("{:x}\n", reference::polynomial(key)).into_bytes();
     input.extend(generator.bytes(count as usize));
     input
 }

@@ -1,7 +1,9 @@
 //! A second implementation, written from document 01's definitions and document 02's wishes alone and as plainly as they read: long division
 //! bit by bit, trial comparisons, no tables. It shares no code and no method with the library that it is compared with. `ByteSteps` alone has a
-//! table, of its own, for what is compared at many lengths.
+//! table, of its own, for what is compared at many lengths. A polynomial is a number of up to 128 bits, called p; a key is the pair that the
+//! calls take, a degree and a word.
 
+use crate::Key;
 use std::{cell::RefCell, collections::HashSet};
 
 /// The longest file, in bits, and the same in bytes.
@@ -9,18 +11,31 @@ pub const LIMIT: u64 = 34_359_738_360;
 pub const LIMIT_BYTES: u64 = LIMIT / 8;
 
 /// The place of the highest one bit.
-pub fn degree(p: u64) -> u32 {
-    63 - p.leading_zeros()
+pub fn degree(p: u128) -> u32 {
+    127 - p.leading_zeros()
+}
+
+/// The polynomial of a key whose degree is 64 at most: t^k, and the word's coefficients below.
+pub fn polynomial(key: Key) -> u128 {
+    (1 << key.degree) + u128::from(key.word)
+}
+
+/// The key that a polynomial is handed in as. The number 0, which has no degree, is handed in as degree 0 and word 0.
+pub fn key_of(p: u128) -> Key {
+    match p {
+        0 => Key { degree: 0, word: 0 },
+        _ => Key { degree: degree(p), word: (p - (1 << degree(p))) as u64 },
+    }
 }
 
 /// Long division of a string of bits, the highest coefficient first, beginning with the residue `start`.
-pub fn divide(key: u64, start: u64, bits: impl Iterator<Item = bool>) -> u64 {
-    let top = 1u128 << degree(key);
+pub fn divide(p: u128, start: u64, bits: impl Iterator<Item = bool>) -> u64 {
+    let top = 1u128 << degree(p);
     let mut rest = u128::from(start);
     for bit in bits {
         rest = rest << 1 | u128::from(bit);
         if rest & top != 0 {
-            rest ^= u128::from(key);
+            rest ^= p;
         }
     }
     rest as u64
@@ -94,21 +109,22 @@ impl std::fmt::Debug for Part<'_> {
 }
 
 /// The residue of t^n plus the n bits.
-pub fn fingerprint_of_bits(key: u64, bits: impl Iterator<Item = bool>) -> u64 {
-    let one = divide(key, 0, std::iter::once(true));
-    divide(key, one, bits)
+pub fn fingerprint_of_bits(key: Key, bits: impl Iterator<Item = bool>) -> u64 {
+    let p = polynomial(key);
+    let one = divide(p, 0, std::iter::once(true));
+    divide(p, one, bits)
 }
 
-pub fn fingerprint<'a>(key: u64, file: impl Into<Part<'a>>) -> u64 {
+pub fn fingerprint<'a>(key: Key, file: impl Into<Part<'a>>) -> u64 {
     fingerprint_of_bits(key, file.into().bits())
 }
 
 /// The residue of a polynomial of up to 128 bits.
-pub fn residue(key: u64, mut a: u128) -> u64 {
-    let k = degree(key);
+pub fn residue(p: u128, mut a: u128) -> u64 {
+    let k = degree(p);
     for place in (k..128).rev() {
         if a >> place & 1 == 1 {
-            a ^= u128::from(key) << (place - k);
+            a ^= p << (place - k);
         }
     }
     a as u64
@@ -123,9 +139,9 @@ pub struct ByteSteps {
 }
 
 impl ByteSteps {
-    pub fn new(key: u64) -> Self {
-        let degree = degree(key);
-        ByteSteps { degree, residues: std::array::from_fn(|i| residue(key, (i as u128) << degree)) }
+    pub fn new(key: Key) -> Self {
+        let (p, degree) = (polynomial(key), key.degree);
+        ByteSteps { degree, residues: std::array::from_fn(|i| residue(p, (i as u128) << degree)) }
     }
 
     /// The residue of f·t^8 plus the byte, where f is a residue.
@@ -154,48 +170,56 @@ pub fn multiply(a: u64, b: u64) -> u128 {
     (0..64).filter(|i| b >> i & 1 == 1).fold(0, |sum, i| sum ^ u128::from(a) << i)
 }
 
-pub fn multiply_modulo(key: u64, a: u64, b: u64) -> u64 {
-    residue(key, multiply(a, b))
+pub fn multiply_modulo(p: u128, a: u64, b: u64) -> u64 {
+    residue(p, multiply(a, b))
 }
 
-/// t^n modulo the key, squaring from the lowest bit of n.
-pub fn power_of_t(key: u64, mut n: u64) -> u64 {
-    let mut square = residue(key, 2);
-    let mut power = residue(key, 1);
+/// t^n modulo p, squaring from the lowest bit of n.
+pub fn power_of_t(p: u128, mut n: u64) -> u64 {
+    let mut square = residue(p, 2);
+    let mut power = residue(p, 1);
     while n > 0 {
         if n & 1 == 1 {
-            power = multiply_modulo(key, power, square);
+            power = multiply_modulo(p, power, square);
         }
-        square = multiply_modulo(key, square, square);
+        square = multiply_modulo(p, square, square);
         n >>= 1;
     }
     power
 }
 
-fn gcd(mut a: u64, mut b: u64) -> u64 {
+fn gcd(mut a: u128, mut b: u128) -> u128 {
     while b != 0 {
-        let rest = if b == 1 { 0 } else { residue(b, u128::from(a)) };
+        let rest = if b == 1 { 0 } else { residue(b, a) };
         a = b;
-        b = rest;
+        b = rest.into();
     }
     a
 }
 
 /// Ben-Or's test: no irreducible polynomial of degree up to k/2 divides p.
-pub fn irreducible(p: u64) -> bool {
+pub fn irreducible(p: u128) -> bool {
     let mut x = residue(p, 2);
     for _ in 0..degree(p) / 2 {
         x = multiply_modulo(p, x, x);
-        if gcd(p, x ^ 2) != 1 {
+        if gcd(p, u128::from(x ^ 2)) != 1 {
             return false;
         }
     }
     true
 }
 
+/// Rabin's test: p divides t^(2^k) − t, and has no factor in common with t^(2^(k/q)) − t for any prime q that divides k.
+pub fn irreducible_by_rabin(p: u128) -> bool {
+    let k = degree(p);
+    let squared = |times: u32| (0..times).fold(residue(p, 2), |x, _| multiply_modulo(p, x, x));
+    let divides = |q: &u32| k % q == 0 && (2..*q).all(|d| q % d != 0);
+    squared(k) == residue(p, 2) && (2..=k).filter(divides).all(|q| gcd(p, u128::from(squared(k / q) ^ 2)) == 1)
+}
+
 /// Trial division by every polynomial of degree 1 to k/2.
-pub fn irreducible_by_trial(p: u64) -> bool {
-    (2..1u64 << (degree(p) / 2 + 1)).all(|d| residue(d, u128::from(p)) != 0)
+pub fn irreducible_by_trial(p: u128) -> bool {
+    (2..1u128 << (degree(p) / 2 + 1)).all(|d| residue(d, p) != 0)
 }
 
 /// The numbers that a call can be refused with, in the order of its tests; the first that applies is given.
@@ -209,24 +233,29 @@ fn refuse(tests: &[(u32, bool)]) -> Answer<()> {
 }
 
 thread_local! {
-    /// The keys that `irreducible` has found to be so: most are asked for again and again.
-    static FOUND: RefCell<HashSet<u64>> = RefCell::default();
+    /// The polynomials that `irreducible` has found to be so: most are asked for again and again.
+    static FOUND: RefCell<HashSet<u128>> = RefCell::default();
 }
 
-fn known_irreducible(key: u64) -> bool {
-    FOUND.with_borrow_mut(|found| found.contains(&key) || irreducible(key) && found.insert(key))
+fn known_irreducible(p: u128) -> bool {
+    FOUND.with_borrow_mut(|found| found.contains(&p) || irreducible(p) && found.insert(p))
 }
 
-pub fn test_key(key: u64) -> Answer<()> {
-    if key < 256 {
+/// Number 1: a degree outside 8 to 64, or a word with a bit at or above t^k.
+fn outside(key: Key) -> bool {
+    !(8..=64).contains(&key.degree) || u128::from(key.word) >> key.degree != 0
+}
+
+pub fn test_key(key: Key) -> Answer<()> {
+    if outside(key) {
         return Err(1);
     }
-    refuse(&[(2, !known_irreducible(key))])
+    refuse(&[(2, !known_irreducible(polynomial(key)))])
 }
 
-/// The stock list: for each degree 8 to 63 the smallest irreducible polynomial of that degree.
-pub fn stock_key(k: u64) -> Option<u64> {
-    (8..=63).contains(&k).then(|| (1u64 << k..).find(|&p| irreducible(p)).expect("one of each degree"))
+/// The stock list: for each degree 8 to 64 the smallest irreducible polynomial of that degree.
+pub fn stock_key(k: u32) -> Option<Key> {
+    (8..=64).contains(&k).then(|| key_of((1u128 << k..).find(|&p| irreducible(p)).expect("one of each degree")))
 }
 
 /// A fingerprint and a length in bits.
@@ -237,12 +266,12 @@ pub struct Mark {
 }
 
 /// The mark of a file.
-pub fn mark_of<'a>(key: u64, file: impl Into<Part<'a>>) -> Mark {
+pub fn mark_of<'a>(key: Key, file: impl Into<Part<'a>>) -> Mark {
     let file = file.into();
     Mark { fingerprint: fingerprint_of_bits(key, file.bits()), bits: file.length() as u64 }
 }
 
-pub fn begin(key: u64) -> Answer<Mark> {
+pub fn begin(key: Key) -> Answer<Mark> {
     test_key(key)?;
     Ok(mark_of(key, &[]))
 }
@@ -251,15 +280,16 @@ fn too_long(lengths: &[u128]) -> bool {
     lengths.iter().any(|&n| n > u128::from(LIMIT))
 }
 
-fn unreduced(key: u64, fingerprint: u64) -> bool {
-    fingerprint >> degree(key) != 0
+/// Number 8, and 14 for a field of a sheet: not below 2^k. At degree 64 no fingerprint is that.
+fn unreduced(key: Key, fingerprint: u64) -> bool {
+    u128::from(fingerprint) >> key.degree != 0
 }
 
 fn sum_too_long(a: u128, b: u128) -> bool {
     too_long(&[a, b, a + b])
 }
 
-pub fn feed<'a>(key: u64, mark: Mark, part: impl Into<Part<'a>>) -> Answer<Mark> {
+pub fn feed<'a>(key: Key, mark: Mark, part: impl Into<Part<'a>>) -> Answer<Mark> {
     let part = part.into();
     test_key(key)?;
     refuse(&[
@@ -267,52 +297,54 @@ pub fn feed<'a>(key: u64, mark: Mark, part: impl Into<Part<'a>>) -> Answer<Mark>
         (8, unreduced(key, mark.fingerprint)),
         (19, part.misused()),
     ])?;
-    Ok(Mark { fingerprint: divide(key, mark.fingerprint, part.bits()), bits: mark.bits + part.length() as u64 })
+    let fingerprint = divide(polynomial(key), mark.fingerprint, part.bits());
+    Ok(Mark { fingerprint, bits: mark.bits + part.length() as u64 })
 }
 
 /// Word 256·j + i: the residue of i·t^(k + 8j).
-pub fn table_word(key: u64, n: usize) -> u64 {
-    residue(key, ((n % 256) as u128) << (degree(key) as usize + 8 * (n / 256)))
+pub fn table_word(key: Key, n: usize) -> u64 {
+    residue(polynomial(key), ((n % 256) as u128) << (key.degree as usize + 8 * (n / 256)))
 }
 
-pub fn table(key: u64) -> Vec<u64> {
+pub fn table(key: Key) -> Vec<u64> {
     (0..1024).map(|n| table_word(key, n)).collect()
 }
 
-pub fn make_table(key: u64, words: &[u64]) -> Answer<Vec<u64>> {
+pub fn make_table(key: Key, words: &[u64]) -> Answer<Vec<u64>> {
     test_key(key)?;
     refuse(&[(5, words.len() != 1024)])?;
     Ok(table(key))
 }
 
-pub fn test_table(key: u64, words: &[u64]) -> Answer<()> {
+pub fn test_table(key: Key, words: &[u64]) -> Answer<()> {
     test_key(key)?;
     refuse(&[(5, words.len() != 1024)])?;
     refuse(&[(6, words.iter().enumerate().any(|(n, &w)| w != table_word(key, n)))])
 }
 
-pub fn feed_table<'a>(key: u64, mark: Mark, words: &[u64], part: impl Into<Part<'a>>) -> Answer<Mark> {
+pub fn feed_table<'a>(key: Key, mark: Mark, words: &[u64], part: impl Into<Part<'a>>) -> Answer<Mark> {
     test_table(key, words)?;
     feed(key, mark, part)
 }
 
-pub const HOUSE_KEY: u64 = 0x2000_0000_0000_0027;
+pub const HOUSE_KEY: Key = Key { degree: 61, word: 0x27 };
 
 /// Feeding by the house key's words, whatever the key is.
-pub fn feed_house<'a>(key: u64, mark: Mark, part: impl Into<Part<'a>>) -> Answer<Mark> {
+pub fn feed_house<'a>(key: Key, mark: Mark, part: impl Into<Part<'a>>) -> Answer<Mark> {
     feed_table(key, mark, &table(HOUSE_KEY), part)
 }
 
 // ---- Site: joining, page change, search, page sheets
 
 /// F·t^b + G + t^b, length a + b, where a and b are in bits.
-fn joined(key: u64, front: Mark, back: Mark) -> Mark {
-    let power = power_of_t(key, back.bits);
-    let fingerprint = multiply_modulo(key, front.fingerprint, power) ^ back.fingerprint ^ power;
+fn joined(key: Key, front: Mark, back: Mark) -> Mark {
+    let p = polynomial(key);
+    let power = power_of_t(p, back.bits);
+    let fingerprint = multiply_modulo(p, front.fingerprint, power) ^ back.fingerprint ^ power;
     Mark { fingerprint, bits: front.bits + back.bits }
 }
 
-fn join_tests(key: u64, mark: Mark, other: Mark) -> Answer<()> {
+fn join_tests(key: Key, mark: Mark, other: Mark) -> Answer<()> {
     test_key(key)?;
     refuse(&[
         (7, sum_too_long(mark.bits.into(), other.bits.into())),
@@ -320,19 +352,19 @@ fn join_tests(key: u64, mark: Mark, other: Mark) -> Answer<()> {
     ])
 }
 
-pub fn join_behind(key: u64, mark: Mark, other: Mark) -> Answer<Mark> {
+pub fn join_behind(key: Key, mark: Mark, other: Mark) -> Answer<Mark> {
     join_tests(key, mark, other)?;
     Ok(joined(key, mark, other))
 }
 
-pub fn join_in_front(key: u64, mark: Mark, other: Mark) -> Answer<Mark> {
+pub fn join_in_front(key: Key, mark: Mark, other: Mark) -> Answer<Mark> {
     join_tests(key, mark, other)?;
     Ok(joined(key, other, mark))
 }
 
 /// The place is in bytes, the lengths are in bits.
 pub fn replace_page<'a, 'b>(
-    key: u64,
+    key: Key,
     mark: Mark,
     place: u64,
     old: impl Into<Part<'a>>,
@@ -349,12 +381,13 @@ pub fn replace_page<'a, 'b>(
         (19, old.misused() || new.misused()),
     ])?;
     let difference = fingerprint(key, old) ^ fingerprint(key, new);
-    let after = power_of_t(key, mark.bits - end as u64);
-    Ok(Mark { fingerprint: mark.fingerprint ^ multiply_modulo(key, difference, after), bits: mark.bits })
+    let p = polynomial(key);
+    let after = power_of_t(p, mark.bits - end as u64);
+    Ok(Mark { fingerprint: mark.fingerprint ^ multiply_modulo(p, difference, after), bits: mark.bits })
 }
 
 /// The places in bytes, and the number of windows with the pattern's fingerprint and other bytes.
-pub fn search(key: u64, text: &[u8], pattern: &[u8]) -> Answer<(Vec<u32>, u64)> {
+pub fn search(key: Key, text: &[u8], pattern: &[u8]) -> Answer<(Vec<u32>, u64)> {
     test_key(key)?;
     let lengths = [text, pattern].map(|bytes| Part::from(bytes).length());
     refuse(&[(7, too_long(&lengths)), (11, pattern.is_empty())])?;
@@ -381,39 +414,67 @@ fn pages(n: u64, s: u64) -> u64 {
     (u128::from(n) + u128::from(s) - 1).div_euclid(u128::from(s)) as u64
 }
 
-/// A version of page sheets: its number, the bytes of its length field, how many bits that field counts as one, and
-/// whether a last page shorter than the page size is taken as filled up with zeros.
+/// A version of page sheets: its number, whether its key field is a pair, the bytes of its length field, how many bits
+/// that field counts as one, and whether a last page shorter than the page size is taken as filled up with zeros.
 #[derive(Clone, Copy, Debug, PartialEq, Eq)]
 pub struct Version {
     pub number: u64,
+    pub pair: bool,
     pub width: usize,
     pub unit: u64,
     pub filled: bool,
 }
 
 impl Version {
-    /// Where the page fingerprints begin: behind letters, version, key, length and page size.
-    pub fn head(self) -> usize {
-        3 + 2 + 8 + self.width + 2
+    /// Where the length field begins: behind letters, version and key. A pair has a byte of degree and the word in 8; else the key is a
+    /// number in 8 bytes.
+    pub fn length_at(self) -> usize {
+        3 + 2 + if self.pair { 1 + 8 } else { 8 }
     }
 
-    /// The bytes of a sheet with c pages: 27 + 8c, or 31 + 8c.
+    /// Where the page fingerprints begin: behind length and page size.
+    pub fn head(self) -> usize {
+        self.length_at() + self.width + 2
+    }
+
+    /// The bytes of a sheet with c pages: 27 + 8c, 31 + 8c or 32 + 8c.
     pub fn total(self, c: u64) -> u64 {
         self.head() as u64 + 8 * c + 8
+    }
+
+    /// Whether the version has sheets under a key: a number in 8 bytes is no key of degree 64.
+    pub fn holds(self, key: Key) -> bool {
+        self.pair || key.degree < 64
+    }
+
+    /// The bytes of the key field.
+    pub fn key_field(self, key: Key) -> Vec<u8> {
+        assert!(self.holds(key), "{key:?} in {self:?}");
+        if self.pair {
+            [&[key.degree as u8], &key.word.to_be_bytes()[..]].concat()
+        } else {
+            (polynomial(key) as u64).to_be_bytes().to_vec()
+        }
     }
 }
 
 /// The versions that are read.
-pub const VERSIONS: [Version; 3] = [
-    Version { number: 1, width: 4, unit: 8, filled: true },
-    Version { number: 2, width: 4, unit: 8, filled: false },
-    Version { number: 3, width: 8, unit: 1, filled: false },
+pub const VERSIONS: [Version; 4] = [
+    Version { number: 1, pair: false, width: 4, unit: 8, filled: true },
+    Version { number: 2, pair: false, width: 4, unit: 8, filled: false },
+    Version { number: 3, pair: false, width: 8, unit: 1, filled: false },
+    Version { number: 4, pair: true, width: 8, unit: 1, filled: false },
 ];
 /// The version that is written.
-pub const WRITTEN: Version = VERSIONS[2];
+pub const WRITTEN: Version = VERSIONS[3];
+
+/// The versions that have sheets under a key.
+pub fn versions(key: Key) -> impl Iterator<Item = Version> {
+    VERSIONS.into_iter().filter(move |version| version.holds(key))
+}
 
 /// The fingerprint of each page of a file: its bits, cut in pages of s bytes.
-fn page_fingerprints(version: Version, key: u64, s: u64, file: Part) -> Vec<u64> {
+fn page_fingerprints(version: Version, key: Key, s: u64, file: Part) -> Vec<u64> {
     let bits: Vec<bool> = file.bits().collect();
     let size = 8 * s as usize;
     let page_fingerprint = |page: &[bool]| {
@@ -426,14 +487,14 @@ fn page_fingerprints(version: Version, key: u64, s: u64, file: Part) -> Vec<u64>
     bits.chunks(size).map(page_fingerprint).collect()
 }
 
-/// The sheet of a file. Versions 1 and 2 have no sheet of a file that stops inside a byte.
-pub fn sheet<'a>(version: Version, key: u64, s: u64, file: impl Into<Part<'a>>) -> Vec<u8> {
+/// The sheet of a file. Versions 1 and 2 have no sheet of a file that stops inside a byte, versions 1 to 3 none under a key of degree 64.
+pub fn sheet<'a>(version: Version, key: Key, s: u64, file: impl Into<Part<'a>>) -> Vec<u8> {
     let file = file.into();
     let length = file.length() as u64;
     assert!(length % version.unit == 0, "no sheet of {length} bits in version {}", version.number);
     let mut bytes = b"GFP".to_vec();
     bytes.extend((version.number as u16).to_be_bytes());
-    bytes.extend(key.to_be_bytes());
+    bytes.extend(version.key_field(key));
     bytes.extend(&(length / version.unit).to_be_bytes()[8 - version.width..]);
     bytes.extend((s as u16).to_be_bytes());
     for f in page_fingerprints(version, key, s, file) {
@@ -444,7 +505,7 @@ pub fn sheet<'a>(version: Version, key: u64, s: u64, file: impl Into<Part<'a>>) 
 }
 
 /// The lent buffer after the call.
-pub fn write_sheet<'a>(key: u64, s: u64, file: impl Into<Part<'a>>, buffer: &[u8]) -> Answer<Vec<u8>> {
+pub fn write_sheet<'a>(key: Key, s: u64, file: impl Into<Part<'a>>, buffer: &[u8]) -> Answer<Vec<u8>> {
     let file = file.into();
     test_key(key)?;
     refuse(&[(7, too_long(&[file.length()])), (12, !(16..=4096).contains(&s))])?;
@@ -465,7 +526,7 @@ pub fn sheet_length(n: u64, s: u64) -> Answer<u64> {
 #[derive(Clone, Debug, PartialEq, Eq)]
 pub struct Sheet {
     pub version: Version,
-    pub key: u64,
+    pub key: Key,
     pub bits: u64,
     pub page_size: u64,
     pub pages: Vec<u64>,
@@ -477,28 +538,42 @@ fn number(bytes: &[u8]) -> u64 {
 }
 
 /// Page fingerprints joined behind f, each page b bits long: F·t^b + G + t^b. No length is limited.
-fn joined_pages(key: u64, f: u64, pages: &[u64], b: u64) -> u64 {
-    let power = power_of_t(key, b);
-    pages.iter().fold(f, |f, g| multiply_modulo(key, f, power) ^ g ^ power)
+fn joined_pages(key: Key, f: u64, pages: &[u64], b: u64) -> u64 {
+    let p = polynomial(key);
+    let power = power_of_t(p, b);
+    pages.iter().fold(f, |f, g| multiply_modulo(p, f, power) ^ g ^ power)
 }
 
 /// Version 1: the page marks joined, each of length s, give the file's fingerprint times t^(8 × c × s − n), n being in
 /// bits; no pages give 1.
 fn joins_filled(x: &Sheet) -> bool {
-    let whole = joined_pages(x.key, residue(x.key, 1), &x.pages, 8 * x.page_size);
+    let p = polynomial(x.key);
+    let whole = joined_pages(x.key, residue(p, 1), &x.pages, 8 * x.page_size);
     let behind = 8 * x.pages.len() as u64 * x.page_size - x.bits;
-    whole == multiply_modulo(x.key, x.fingerprint, power_of_t(x.key, behind))
+    whole == multiply_modulo(p, x.fingerprint, power_of_t(p, behind))
 }
 
-/// Versions 2 and 3: the page marks joined, each of its own length, give the file's fingerprint; no pages give 1.
+/// Versions 2 to 4: the page marks joined, each of its own length, give the file's fingerprint; no pages give 1.
 fn joins_unfilled(x: &Sheet) -> bool {
-    let one = residue(x.key, 1);
+    let one = residue(polynomial(x.key), 1);
     let Some((&last, front)) = x.pages.split_last() else {
         return x.fingerprint == one;
     };
     let front_joined = joined_pages(x.key, one, front, 8 * x.page_size);
     let last_length = x.bits - 8 * front.len() as u64 * x.page_size;
     joined_pages(x.key, front_joined, &[last], last_length) == x.fingerprint
+}
+
+/// The key in the key field: a number in versions 1 to 3, where 1 means below 256, and a pair in version 4.
+fn key_in(version: Version, field: &[u8]) -> Answer<Key> {
+    let key = if version.pair {
+        Key { degree: field[0].into(), word: number(&field[1..]) }
+    } else {
+        refuse(&[(1, number(field) < 256)])?;
+        key_of(number(field).into())
+    };
+    test_key(key)?;
+    Ok(key)
 }
 
 pub fn read_sheet(bytes: &[u8]) -> Answer<Sheet> {
@@ -508,11 +583,11 @@ pub fn read_sheet(bytes: &[u8]) -> Answer<Sheet> {
     let version_number = number(&bytes[3..5]);
     let version = VERSIONS.into_iter().find(|v| v.number == version_number).ok_or(14u32)?;
     refuse(&[(14, (bytes.len() as u64) < version.total(0))])?;
-    let (behind_key, head) = (13 + version.width, version.head());
-    let bits = u128::from(version.unit) * u128::from(number(&bytes[13..behind_key]));
+    let (at, head) = (version.length_at(), version.head());
+    let bits = u128::from(version.unit) * u128::from(number(&bytes[at..head - 2]));
     refuse(&[(14, too_long(&[bits]))])?;
-    let (key, bits, page_size) = (number(&bytes[5..13]), bits as u64, number(&bytes[behind_key..head]));
-    test_key(key)?;
+    let key = key_in(version, &bytes[5..at])?;
+    let (bits, page_size) = (bits as u64, number(&bytes[head - 2..head]));
     refuse(&[(12, !(16..=4096).contains(&page_size))])?;
     refuse(&[(14, bytes.len() as u64 != version.total(pages(bytes_for(bits), page_size)))])?;
     let fields: Vec<u64> = bytes[head..].chunks(8).map(number).collect();
@@ -571,10 +646,10 @@ pub fn changed_range<'a>(bytes: &[u8], file: impl Into<Part<'a>>) -> Answer<Chan
 pub const DRAWN_DEGREES: [u32; 14] = [11, 13, 17, 19, 23, 29, 31, 37, 41, 43, 47, 53, 59, 61];
 
 /// The product of (x + c) over the conjugates c of the element: its minimal polynomial where the degree is prime.
-pub fn draw(k: u64, element: u64) -> Answer<u64> {
-    refuse(&[(3, !DRAWN_DEGREES.contains(&(k.min(64) as u32)))])?;
+pub fn draw(k: u32, element: u64) -> Answer<Key> {
+    refuse(&[(3, !DRAWN_DEGREES.contains(&k))])?;
     refuse(&[(4, element < 2 || element >> k != 0)])?;
-    let f = stock_key(k).expect("a degree of the stock list");
+    let f = polynomial(stock_key(k).expect("a degree of the stock list"));
     // coefficients in the field, the lowest first
     let mut product = vec![1u64];
     let mut conjugate = element;
@@ -587,8 +662,8 @@ pub fn draw(k: u64, element: u64) -> Answer<u64> {
         product = next;
         conjugate = multiply_modulo(f, conjugate, conjugate);
     }
-    Ok(product.iter().enumerate().fold(0, |p, (i, &c)| {
+    Ok(key_of(product.iter().enumerate().fold(0, |p, (i, &c)| {
         assert!(c < 2, "a coefficient outside the field of two elements");
-        p | c << i
-    }))
+        p | u128::from(c) << i
+    })))
 }

@@ -14,8 +14,15 @@
  * aligned will do. What a call only reads (const) may overlap, as a pattern inside its text or two pages. What a call
  * writes to must not overlap anything else that is lent to the same call.
  *
- * A key is a polynomial over the field of two elements: bit i is the coefficient of t^i. A mark is a fingerprint and
- * a length in bits. Lengths are at most 34359738360 bits, which are 4294967295 bytes.
+ * A key is a polynomial over the field of two elements, of degree 8 to 64. It is two arguments in every declaration:
+ * its degree, and the word of its coefficients below t^degree, bit i being that of t^i. No bit of the word stands at
+ * t^degree or above. A key that is written as one number in hexadecimal splits so: the degree is the place of the
+ * number's highest one bit, counted from 0, and the word is the number without that bit. 11b is degree 8 and word 0x1b;
+ * 1000000000000001b, whose 17 digits fit into no uint64_t, is degree 64 and has its last 16 digits as the word, 0x1b.
+ *
+ * A mark is a fingerprint and a length in bits. Under a key of degree k fingerprints are below 2^k; at degree 64 every
+ * uint64_t is one, so that GFP_MARK_NOT_REDUCED, and GFP_SHEET_MALFORMED for a fingerprint that is too large, cannot
+ * apply there. Lengths are at most 34359738360 bits, which are 4294967295 bytes.
  *
  * A part of a file, a page and a file for a sheet come as bytes and `used`: how many bits of the final byte belong to
  * it, 1 to 8, at that byte's high end. The low bits that are not used must be 0. For whole bytes, and where there are
@@ -40,13 +47,19 @@ extern "C" {
  * gfp_write_sheet writes sheets of version 3, which are 4 bytes longer and which a library of a lower number refuses.
  * Two functions keep their declaration and change their meaning: gfp_join_behind and gfp_join_in_front take both
  * lengths in bits. A compiler does not see it: look at each of these calls, and multiply lengths in bytes by 8, also
- * those of marks kept from before. A new function is no break; the minor number of the pkg-config version counts these
- * additions. */
-#define GFP_INTERFACE 4
+ * those of marks kept from before. 5: a key is two arguments, degree and word, wherever it was one, and gfp_read_sheet
+ * writes both; GFP_HOUSE_DEGREE and GFP_HOUSE_WORD stand for GFP_HOUSE_KEY, GFP_KEY_RANGE for GFP_KEY_BELOW_256;
+ * gfp_write_sheet writes sheets of version 4, which are one byte longer and which a library of a lower number refuses.
+ * gfp_stock_key and gfp_draw, to which the degree is passed, give the word, without the bit at t^degree that they gave
+ * before. A compiler does not see it: look at each of these calls. A new function is no break; the minor number of the
+ * pkg-config version counts these additions. */
+#define GFP_INTERFACE 5
 
 /* What a function returns: not refused, or one of 15 refusals. */
 #define GFP_OK 0
-#define GFP_KEY_BELOW_256 1
+/* The degree is not 8 to 64, or a bit of the word stands at t^degree or above. To mend: pass a key of degree 8 to 64,
+ * and its word without the bit at t^degree. */
+#define GFP_KEY_RANGE 1
 #define GFP_KEY_REDUCIBLE 2
 #define GFP_DEGREE_NOT_LISTED 3
 #define GFP_ELEMENT_OUT_OF_RANGE 4
@@ -68,64 +81,68 @@ extern "C" {
 /* The words of a table buffer. */
 #define GFP_TABLE_WORDS 1024
 
-/* The key of the constant table: the smallest irreducible polynomial of degree 61. */
-#define GFP_HOUSE_KEY UINT64_C(0x2000000000000027)
+/* The house key, which is that of the constant table: the smallest irreducible polynomial of degree 61,
+ * 2000000000000027 in hexadecimal. */
+#define GFP_HOUSE_DEGREE 61
+#define GFP_HOUSE_WORD UINT64_C(0x27)
 
 /* ---- Bench: link libgfp_bench.a */
 
-/* Whether a key is accepted: its degree is 8 to 63 and it is irreducible. Refusals: 1, 2. Stack: 1,536 bytes. */
-uint32_t gfp_test_key(uint64_t key);
+/* Whether a key is accepted: its degree is 8 to 64, its word has no bit at t^degree or above, and it is irreducible.
+ * Refusals: 1, 2. Stack: 1,536 bytes. */
+uint32_t gfp_test_key(uint32_t degree, uint64_t word);
 
-/* The stock key of a degree 8 to 63: the smallest accepted key of that degree. 0 for every other number, which no key
- * is. Refusals: none. Stack: 1,024 bytes. */
-uint64_t gfp_stock_key(uint64_t degree);
+/* The word of the stock key of a degree 8 to 64, which is the smallest accepted key of that degree. 0 for every other
+ * degree; no accepted key has the word 0. Refusals: none. Stack: 1,024 bytes. */
+uint64_t gfp_stock_key(uint32_t degree);
 
 /* The mark of the empty file: fingerprint 1, no bits. Refusals: 1, 2. Stack: 1,536 bytes. */
-uint32_t gfp_begin(uint64_t key, uint64_t *fingerprint, uint64_t *bits);
+uint32_t gfp_begin(uint32_t degree, uint64_t word, uint64_t *fingerprint, uint64_t *bits);
 
-/* Feeds the next part of a file to a mark, with no table: fast under GFP_HOUSE_KEY, one to seven bytes at a time under
+/* Feeds the next part of a file to a mark, with no table: fast under the house key, one to seven bytes at a time under
  * the other stock keys from degree 16 on, bit by bit under most other keys. The part's bits go behind those that were
  * fed, from the next bit on.
  * Refusals: 1, 2, 7, 8, 19. Stack: 7,680 bytes. */
-uint32_t gfp_feed(uint64_t key, uint64_t *fingerprint, uint64_t *bits, const uint8_t *part, size_t part_length,
-                  uint32_t used);
+uint32_t gfp_feed(uint32_t degree, uint64_t word, uint64_t *fingerprint, uint64_t *bits, const uint8_t *part,
+                  size_t part_length, uint32_t used);
 
 /* Fills a lent buffer of 1,024 words with the key's table. Refusals: 1, 2, 5. Stack: 1,536 bytes. */
-uint32_t gfp_make_table(uint64_t key, uint64_t *words, size_t words_length);
+uint32_t gfp_make_table(uint32_t degree, uint64_t word, uint64_t *words, size_t words_length);
 
 /* Whether the words are the key's table. Refusals: 1, 2, 5, 6. Stack: 1,536 bytes. */
-uint32_t gfp_test_table(uint64_t key, const uint64_t *words, size_t words_length);
+uint32_t gfp_test_table(uint32_t degree, uint64_t word, const uint64_t *words, size_t words_length);
 
 /* Feeds the next part by a table: the same mark as gfp_feed, under a drawn key many times faster. All words are tested
  * first. Refusals: 1, 2, 5, 6, 7, 8, 19. Stack: 7,680 bytes. */
-uint32_t gfp_feed_table(uint64_t key, uint64_t *fingerprint, uint64_t *bits, const uint64_t *words,
+uint32_t gfp_feed_table(uint32_t degree, uint64_t word, uint64_t *fingerprint, uint64_t *bits, const uint64_t *words,
                         size_t words_length, const uint8_t *part, size_t part_length, uint32_t used);
 
-/* Feeds the next part by the table of GFP_HOUSE_KEY, which the library holds: the same as gfp_feed_table with its
- * words. Under that key no word is tested, since they are proved right, and none is read: that is the fastest way to
- * feed. Under another key they are tested like a lent table. Refusals: 1, 2, 6, 7, 8, 19. Stack: 15,360 bytes. */
-uint32_t gfp_feed_house(uint64_t key, uint64_t *fingerprint, uint64_t *bits, const uint8_t *part, size_t part_length,
-                        uint32_t used);
+/* Feeds the next part by the table of the house key, which the library holds: the same as gfp_feed_table with its
+ * words. Under that key (GFP_HOUSE_DEGREE, GFP_HOUSE_WORD) no word is tested, since they are proved right, and none is
+ * read: that is the fastest way to feed. Under another key they are tested like a lent table.
+ * Refusals: 1, 2, 6, 7, 8, 19. Stack: 15,360 bytes. */
+uint32_t gfp_feed_house(uint32_t degree, uint64_t word, uint64_t *fingerprint, uint64_t *bits, const uint8_t *part,
+                        size_t part_length, uint32_t used);
 
 /* ---- Site: link libgfp_site.a and libgfp_bench.a */
 
 /* Joins marks: the file of the mark (other_fingerprint, other_bits) goes behind the file of the mark in the two
  * places. Both lengths are in bits; up to GFP_INTERFACE 3 they were in bytes.
  * Refusals: 1, 2, 7, 8. Stack: 1,536 bytes. */
-uint32_t gfp_join_behind(uint64_t key, uint64_t *fingerprint, uint64_t *bits, uint64_t other_fingerprint,
-                         uint64_t other_bits);
+uint32_t gfp_join_behind(uint32_t degree, uint64_t word, uint64_t *fingerprint, uint64_t *bits,
+                         uint64_t other_fingerprint, uint64_t other_bits);
 
 /* Joins marks: the file of the mark (other_fingerprint, other_bits) goes in front. Both lengths are in bits; up to
  * GFP_INTERFACE 3 they were in bytes.
  * Refusals: 1, 2, 7, 8. Stack: 1,536 bytes. */
-uint32_t gfp_join_in_front(uint64_t key, uint64_t *fingerprint, uint64_t *bits, uint64_t other_fingerprint,
-                           uint64_t other_bits);
+uint32_t gfp_join_in_front(uint32_t degree, uint64_t word, uint64_t *fingerprint, uint64_t *bits,
+                           uint64_t other_fingerprint, uint64_t other_bits);
 
 /* Changes a page in a file's mark: the new bits stand where the old ones stood, from the byte at the given place on.
  * The mark is right where the old bits are what stood there. Both pages have the same number of bits; a page with used
  * below 8 may stand anywhere in the file, and the bits behind it stay.
  * Refusals: 1, 2, 7, 8, 9, 10, 19. Stack: 1,536 bytes. */
-uint32_t gfp_replace_page(uint64_t key, uint64_t *fingerprint, uint64_t *bits, uint64_t place,
+uint32_t gfp_replace_page(uint32_t degree, uint64_t word, uint64_t *fingerprint, uint64_t *bits, uint64_t place,
                           const uint8_t *old_page, size_t old_page_length, uint32_t old_used, const uint8_t *new_page,
                           size_t new_page_length, uint32_t new_used);
 
@@ -134,45 +151,49 @@ uint32_t gfp_replace_page(uint64_t key, uint64_t *fingerprint, uint64_t *bits, u
  * lent, and the number of windows with the pattern's fingerprint and other bytes to *alarms. Where many windows match,
  * each is compared byte by byte: docs/API.md says what that costs.
  * Refusals: 1, 2, 7, 11. Stack: 6,656 bytes. */
-uint32_t gfp_search(uint64_t key, const uint8_t *text, size_t text_length, const uint8_t *pattern,
+uint32_t gfp_search(uint32_t degree, uint64_t word, const uint8_t *text, size_t text_length, const uint8_t *pattern,
                     size_t pattern_length, uint32_t *places, size_t places_length, uint32_t *count, uint32_t *alarms);
 
-/* The bytes of a sheet without pages, as gfp_write_sheet writes it; each page adds 8. In versions 1 and 2 it is 27. */
-#define GFP_SHEET_BYTES 31
+/* The bytes of a sheet without pages, as gfp_write_sheet writes it; each page adds 8. In versions 1 and 2 it is 27, in
+ * version 3 it is 31. */
+#define GFP_SHEET_BYTES 32
 
-/* The version of the sheets that gfp_write_sheet writes; sheets of versions 1 and 2 are read and checked too. The
- * versions differ in the length field, which has 8 bytes and is in bits in version 3, and has 4 bytes and is in bytes
- * in versions 1 and 2; and in a last page that is shorter than the page size. In versions 2 and 3 its fingerprint is
- * that of the bits it has, in version 1 that of the page filled up with zero bytes to the page size. */
-#define GFP_SHEET_VERSION 3
+/* The version of the sheets that gfp_write_sheet writes, whatever the key's degree; sheets of versions 1 to 3 are read
+ * and checked too. The versions differ in three things. The key field has 9 bytes in version 4, the degree (1) and the
+ * word (8); in versions 1 to 3 it has 8, the key as one number, so that these sheets have keys of degree 8 to 63. The
+ * length field has 8 bytes and is in bits in versions 3 and 4, and has 4 bytes and is in bytes in versions 1 and 2. The
+ * fingerprint of a last page that is shorter than the page size is in versions 2 to 4 that of the bits it has, and in
+ * version 1 that of the page filled up with zero bytes to the page size. */
+#define GFP_SHEET_VERSION 4
 
 /* The bytes of the sheet of a file of the given length in bytes, an unfinished byte counted as one, with pages of the
- * given size, to *sheet_length: 31 + 8 * pages. Refusals: 7, 12. Stack: 512 bytes. */
+ * given size, to *sheet_length: 32 + 8 * pages. Refusals: 7, 12. Stack: 512 bytes. */
 uint32_t gfp_sheet_length(uint64_t file_length, uint64_t page_size, uint64_t *sheet_length);
 
 /* Writes the page sheet of a file into the lent bytes; further bytes keep their value. The page size is 16 to 4,096
- * bytes, and the sheet takes 31 + 8 * pages bytes, pages being the file's length in bytes, an unfinished byte counted
- * as one, over the page size, rounded up: the letters GFP, the version GFP_SHEET_VERSION (2 bytes), the key (8), the
- * file's length in bits (8), the page size in bytes (2), the fingerprint of each page (8 each, the last page as long as
- * it is, without filling) and the file's (8), high byte first.
+ * bytes, and the sheet takes 32 + 8 * pages bytes, pages being the file's length in bytes, an unfinished byte counted
+ * as one, over the page size, rounded up: the letters GFP, the version GFP_SHEET_VERSION (2 bytes), the key's degree
+ * (1) and word (8), the file's length in bits (8), the page size in bytes (2), the fingerprint of each page (8 each,
+ * the last page as long as it is, without filling) and the file's (8), high byte first.
  * Refusals: 1, 2, 7, 12, 13, 19. Stack: 26,624 bytes. */
-uint32_t gfp_write_sheet(uint64_t key, uint64_t page_size, const uint8_t *file, size_t file_length, uint32_t used,
-                         uint8_t *sheet, size_t sheet_length);
+uint32_t gfp_write_sheet(uint32_t degree, uint64_t word, uint64_t page_size, const uint8_t *file, size_t file_length,
+                         uint32_t used, uint8_t *sheet, size_t sheet_length);
 
-/* Reads a page sheet of version 1, 2 or 3: its version, the key, the file's length in bits whatever the version, the
- * page size in bytes, the number of pages and the file's fingerprint. The joining of number 14: in versions 2 and 3 the
+/* Reads a page sheet of version 1, 2, 3 or 4: its version, the key's degree and word whatever the version, the file's
+ * length in bits whatever the version, the page size in bytes, the number of pages and the file's fingerprint. The key
+ * field of versions 1 to 3 is judged as a number: below 256 gives 1. The joining of number 14: in versions 2 to 4 the
  * page marks joined, each with its own length, must give the file's fingerprint; in version 1 the page marks joined,
  * each as long as the page size, must give that of the file with zero bytes behind it, as many as its last page is
  * filled up with. Without pages the file's fingerprint must be 1 in all.
  * Refusals, in this order: 14 (size under 27, letters, version, shorter than the version's sheet without pages, a
  * length past the limit), 1, 2, 12, 14 (total, fingerprints, joining).
  * Stack: 17,408 bytes. */
-uint32_t gfp_read_sheet(const uint8_t *sheet, size_t sheet_length, uint32_t *version, uint64_t *key, uint64_t *bits,
-                        uint64_t *page_size, uint64_t *pages, uint64_t *fingerprint);
+uint32_t gfp_read_sheet(const uint8_t *sheet, size_t sheet_length, uint32_t *version, uint32_t *degree, uint64_t *word,
+                        uint64_t *bits, uint64_t *page_size, uint64_t *pages, uint64_t *fingerprint);
 
 /* The page fingerprints of a page sheet into the lent places: the first ones, as far as they reach; further ones keep
  * their value. A sheet has as many as gfp_read_sheet writes to *pages. They are given as the sheet has them: the last
- * one is that of the page filled up in version 1, and of the page as long as it is in versions 2 and 3.
+ * one is that of the page filled up in version 1, and of the page as long as it is in versions 2 to 4.
  * Refusals, as of gfp_read_sheet: 14, 1, 2, 12, 14. Stack: 17,408 bytes. */
 uint32_t gfp_read_pages(const uint8_t *sheet, size_t sheet_length, uint64_t *fingerprints, size_t fingerprints_length);
 
@@ -183,7 +204,7 @@ uint32_t gfp_read_pages(const uint8_t *sheet, size_t sheet_length, uint64_t *fin
 /* Checks a file against a page sheet: *outcome is GFP_SAME, GFP_PAGE with the first page whose fingerprint differs,
  * counted from 0, in *page, or GFP_OTHER_LENGTH. *page is 0 where the outcome is not GFP_PAGE. Lengths are compared in
  * bits: against a sheet of version 1 or 2 a file with used below 8 has another length. Against a sheet of version 1 the
- * file's last page is filled up with zero bytes to the page size, against one of version 2 or 3 it is not.
+ * file's last page is filled up with zero bytes to the page size, against one of version 2, 3 or 4 it is not.
  * Refusals, those of gfp_read_sheet first: 14, 1, 2, 12, 14, 7, 19. Stack: 26,624 bytes. */
 uint32_t gfp_check_file(const uint8_t *sheet, size_t sheet_length, const uint8_t *file, size_t file_length,
                         uint32_t used, uint32_t *outcome, uint32_t *page);
@@ -198,11 +219,12 @@ uint32_t gfp_changed_range(const uint8_t *sheet, size_t sheet_length, const uint
 /* ---- Keyholder: link libgfp_keyholder.a, libgfp_site.a and libgfp_bench.a */
 
 /* Draws a key by Rabin's method: the degree is one of 11, 13, 17, 19, 23, 29, 31, 37, 41, 43, 47, 53, 59, 61, and the
- * element a random number from 2 to 2^degree - 1. A uniform element draws a uniform key: each accepted key of the
- * degree is drawn by as many elements as the degree. Take the element from the system's random source (getrandom), as
- * many bits as the degree, and try again on GFP_ELEMENT_OUT_OF_RANGE.
+ * element a random number from 2 to 2^degree - 1. The key drawn has that degree and the word that is written to *word.
+ * A uniform element draws a uniform key: each accepted key of the degree is drawn by as many elements as the degree.
+ * Take the element from the system's random source (getrandom), as many bits as the degree, and try again on
+ * GFP_ELEMENT_OUT_OF_RANGE.
  * Refusals: 3, 4. Stack: 1,536 bytes. */
-uint32_t gfp_draw(uint64_t degree, uint64_t element, uint64_t *key);
+uint32_t gfp_draw(uint32_t degree, uint64_t element, uint64_t *word);
 
 #ifdef __cplusplus
 }

@@ -5,44 +5,46 @@
 
 mod raw {
     extern "C" {
-        pub fn gfp_test_key(key: u64) -> u32;
-        pub fn gfp_stock_key(degree: u64) -> u64;
-        pub fn gfp_begin(key: u64, fingerprint: *mut u64, bits: *mut u64) -> u32;
+        pub fn gfp_test_key(degree: u32, word: u64) -> u32;
+        pub fn gfp_stock_key(degree: u32) -> u64;
+        pub fn gfp_begin(degree: u32, word: u64, fingerprint: *mut u64, bits: *mut u64) -> u32;
         pub fn gfp_feed(
-            key: u64, fingerprint: *mut u64, bits: *mut u64, part: *const u8, part_length: usize, used: u32,
+            degree: u32, word: u64, fingerprint: *mut u64, bits: *mut u64, part: *const u8, part_length: usize,
+            used: u32,
         ) -> u32;
-        pub fn gfp_make_table(key: u64, words: *mut u64, words_length: usize) -> u32;
-        pub fn gfp_test_table(key: u64, words: *const u64, words_length: usize) -> u32;
+        pub fn gfp_make_table(degree: u32, word: u64, words: *mut u64, words_length: usize) -> u32;
+        pub fn gfp_test_table(degree: u32, word: u64, words: *const u64, words_length: usize) -> u32;
         pub fn gfp_feed_table(
-            key: u64, fingerprint: *mut u64, bits: *mut u64, words: *const u64, words_length: usize,
+            degree: u32, word: u64, fingerprint: *mut u64, bits: *mut u64, words: *const u64, words_length: usize,
             part: *const u8, part_length: usize, used: u32,
         ) -> u32;
         pub fn gfp_feed_house(
-            key: u64, fingerprint: *mut u64, bits: *mut u64, part: *const u8, part_length: usize, used: u32,
+            degree: u32, word: u64, fingerprint: *mut u64, bits: *mut u64, part: *const u8, part_length: usize,
+            used: u32,
         ) -> u32;
         pub fn gfp_join_behind(
-            key: u64, fingerprint: *mut u64, bits: *mut u64, other_fingerprint: u64, other_bits: u64,
+            degree: u32, word: u64, fingerprint: *mut u64, bits: *mut u64, other_fingerprint: u64, other_bits: u64,
         ) -> u32;
         pub fn gfp_join_in_front(
-            key: u64, fingerprint: *mut u64, bits: *mut u64, other_fingerprint: u64, other_bits: u64,
+            degree: u32, word: u64, fingerprint: *mut u64, bits: *mut u64, other_fingerprint: u64, other_bits: u64,
         ) -> u32;
         pub fn gfp_replace_page(
-            key: u64, fingerprint: *mut u64, bits: *mut u64, place: u64,
+            degree: u32, word: u64, fingerprint: *mut u64, bits: *mut u64, place: u64,
             old_page: *const u8, old_page_length: usize, old_used: u32,
             new_page: *const u8, new_page_length: usize, new_used: u32,
         ) -> u32;
         pub fn gfp_search(
-            key: u64, text: *const u8, text_length: usize, pattern: *const u8, pattern_length: usize,
+            degree: u32, word: u64, text: *const u8, text_length: usize, pattern: *const u8, pattern_length: usize,
             places: *mut u32, places_length: usize, count: *mut u32, alarms: *mut u32,
         ) -> u32;
         pub fn gfp_sheet_length(file_length: u64, page_size: u64, sheet_length: *mut u64) -> u32;
         pub fn gfp_write_sheet(
-            key: u64, page_size: u64, file: *const u8, file_length: usize, used: u32,
+            degree: u32, word: u64, page_size: u64, file: *const u8, file_length: usize, used: u32,
             sheet: *mut u8, sheet_length: usize,
         ) -> u32;
         pub fn gfp_read_sheet(
-            sheet: *const u8, sheet_length: usize, version: *mut u32, key: *mut u64, bits: *mut u64,
-            page_size: *mut u64, pages: *mut u64, fingerprint: *mut u64,
+            sheet: *const u8, sheet_length: usize, version: *mut u32, degree: *mut u32, word: *mut u64,
+            bits: *mut u64, page_size: *mut u64, pages: *mut u64, fingerprint: *mut u64,
         ) -> u32;
         pub fn gfp_read_pages(
             sheet: *const u8, sheet_length: usize, fingerprints: *mut u64, fingerprints_length: usize,
@@ -55,7 +57,7 @@ mod raw {
             sheet: *const u8, sheet_length: usize, file: *const u8, file_length: usize, used: u32,
             outcome: *mut u32, from: *mut u64, to: *mut u64,
         ) -> u32;
-        pub fn gfp_draw(degree: u64, element: u64, key: *mut u64) -> u32;
+        pub fn gfp_draw(degree: u32, element: u64, word: *mut u64) -> u32;
     }
 }
 
@@ -65,7 +67,8 @@ pub type Refusal = u32;
 /// The names of the refusals.
 pub mod refusal {
     use super::Refusal;
-    pub const KEY_BELOW_256: Refusal = 1;
+    /// The degree is not 8 to 64, or a bit of the word stands at t^degree or above.
+    pub const KEY_RANGE: Refusal = 1;
     pub const KEY_REDUCIBLE: Refusal = 2;
     pub const DEGREE_NOT_LISTED: Refusal = 3;
     pub const ELEMENT_OUT_OF_RANGE: Refusal = 4;
@@ -86,16 +89,53 @@ pub mod refusal {
 }
 
 /// The version of the C interface that this wrapper is for (`GFP_INTERFACE`).
-pub const INTERFACE: u32 = 4;
+pub const INTERFACE: u32 = 5;
 
-pub const HOUSE_KEY: u64 = 0x2000_0000_0000_0027;
+/// The house key, which is that of the constant table (`GFP_HOUSE_DEGREE` and `GFP_HOUSE_WORD`).
+pub const HOUSE_KEY: Key = Key { degree: 61, word: 0x27 };
 pub const TABLE_WORDS: usize = 1024;
 
-/// The version of the sheets that `write_sheet` writes (`GFP_SHEET_VERSION`); sheets of versions 1 and 2 are read and
-/// checked too. The length field is in bits and has 8 bytes in version 3; it is in bytes and has 4 in versions 1 and 2.
-/// A last page shorter than the page size is fingerprinted in versions 2 and 3 over the bits it has, in version 1
-/// filled up with zero bytes to the page size.
-pub const SHEET_VERSION: u16 = 3;
+/// The version of the sheets that `write_sheet` writes (`GFP_SHEET_VERSION`); sheets of versions 1 to 3 are read and
+/// checked too. The key field has 9 bytes in version 4, the degree and the word; in versions 1 to 3 it has 8, the key
+/// as one number, so that these sheets have keys of degree 8 to 63. The length field is in bits and has 8 bytes in
+/// versions 3 and 4; it is in bytes and has 4 in versions 1 and 2. A last page shorter than the page size is
+/// fingerprinted in versions 2 to 4 over the bits it has, in version 1 filled up with zero bytes to the page size.
+pub const SHEET_VERSION: u16 = 4;
+
+/// A key: a polynomial of degree 8 to 64 over the field of two elements, as its degree and the word of its coefficients
+/// below t^degree, bit i being that of t^i. Other pairs can be passed, and are refused with 1.
+#[derive(Clone, Copy, Default, PartialEq, Eq, Hash)]
+pub struct Key {
+    pub degree: u32,
+    pub word: u64,
+}
+
+impl Key {
+    /// The key that is written as one number, say in hexadecimal: the degree is the place of its highest one bit, the
+    /// word its 64 low bits without that one. `Key::of(0x11b)` is degree 8, word 0x1b, and
+    /// `Key::of(0x1_0000_0000_0000_001b)` is degree 64, word 0x1b. Numbers below 256, and those of 2^65 or more, give a
+    /// pair that is refused with 1; of 0 it is degree 0, word 0.
+    pub const fn of(number: u128) -> Key {
+        if number == 0 {
+            return Key { degree: 0, word: 0 };
+        }
+        let degree = 127 - number.leading_zeros();
+        Key { degree, word: (number ^ 1 << degree) as u64 }
+    }
+
+    /// The number that `of` makes the key from, for a key that `test_key` accepts.
+    pub const fn number(self) -> u128 {
+        let top = if self.degree < 128 { 1 << self.degree } else { 0 };
+        top | self.word as u128
+    }
+}
+
+/// The word is shown in hexadecimal.
+impl std::fmt::Debug for Key {
+    fn fmt(&self, f: &mut std::fmt::Formatter) -> std::fmt::Result {
+        write!(f, "Key {{ degree: {}, word: {:#x} }}", self.degree, self.word)
+    }
+}
 
 /// A fingerprint and a length in bits.
 #[derive(Clone, Copy, Debug, PartialEq, Eq)]
@@ -124,92 +164,103 @@ fn answer<T>(number: u32, value: T) -> Result<T, Refusal> {
     if number == 0 { Ok(value) } else { Err(number) }
 }
 
-pub fn test_key(key: u64) -> Result<(), Refusal> {
-    answer(unsafe { raw::gfp_test_key(key) }, ())
+/// Whether a key is accepted: its degree is 8 to 64, its word has no bit at t^degree or above, and it is irreducible.
+pub fn test_key(key: Key) -> Result<(), Refusal> {
+    let Key { degree, word } = key;
+    answer(unsafe { raw::gfp_test_key(degree, word) }, ())
 }
 
-/// The stock key of a degree 8 to 63: the smallest accepted key of that degree. `None` for every other number.
-pub fn stock_key(degree: u64) -> Option<u64> {
+/// The stock key of a degree 8 to 64: the smallest accepted key of that degree. `None` for every other number.
+pub fn stock_key(degree: u32) -> Option<Key> {
     match unsafe { raw::gfp_stock_key(degree) } {
         0 => None,
-        key => Some(key),
+        word => Some(Key { degree, word }),
     }
 }
 
 /// The mark of the empty file.
-pub fn begin(key: u64) -> Result<Mark, Refusal> {
+pub fn begin(key: Key) -> Result<Mark, Refusal> {
+    let Key { degree, word } = key;
     let mut mark = Mark { fingerprint: 0, bits: 0 };
-    let number = unsafe { raw::gfp_begin(key, &mut mark.fingerprint, &mut mark.bits) };
+    let number = unsafe { raw::gfp_begin(degree, word, &mut mark.fingerprint, &mut mark.bits) };
     answer(number, mark)
 }
 
 impl Mark {
     /// Feeds the next part of a file, with no table, from the next bit on. On refusal the mark is unchanged.
-    pub fn feed<'a>(&mut self, key: u64, part: impl Into<Part<'a>>) -> Result<(), Refusal> {
+    pub fn feed<'a>(&mut self, key: Key, part: impl Into<Part<'a>>) -> Result<(), Refusal> {
+        let Key { degree, word } = key;
         let Part { bytes, used } = part.into();
         let (fingerprint, bits) = (&mut self.fingerprint, &mut self.bits);
-        answer(unsafe { raw::gfp_feed(key, fingerprint, bits, bytes.as_ptr(), bytes.len(), used) }, ())
+        answer(unsafe { raw::gfp_feed(degree, word, fingerprint, bits, bytes.as_ptr(), bytes.len(), used) }, ())
     }
 
     /// Feeds the next part by a table.
-    pub fn feed_table<'a>(&mut self, key: u64, words: &[u64], part: impl Into<Part<'a>>) -> Result<(), Refusal> {
+    pub fn feed_table<'a>(&mut self, key: Key, words: &[u64], part: impl Into<Part<'a>>) -> Result<(), Refusal> {
+        let Key { degree, word } = key;
         let Part { bytes, used } = part.into();
         let (fingerprint, bits) = (&mut self.fingerprint, &mut self.bits);
         let (table, size) = (words.as_ptr(), words.len());
         let number = unsafe {
-            raw::gfp_feed_table(key, fingerprint, bits, table, size, bytes.as_ptr(), bytes.len(), used)
+            raw::gfp_feed_table(degree, word, fingerprint, bits, table, size, bytes.as_ptr(), bytes.len(), used)
         };
         answer(number, ())
     }
 
     /// Feeds the next part by the table of `HOUSE_KEY`, which the library holds. Under another key its words are tested
     /// first.
-    pub fn feed_house<'a>(&mut self, key: u64, part: impl Into<Part<'a>>) -> Result<(), Refusal> {
+    pub fn feed_house<'a>(&mut self, key: Key, part: impl Into<Part<'a>>) -> Result<(), Refusal> {
+        let Key { degree, word } = key;
         let Part { bytes, used } = part.into();
         let (fingerprint, bits) = (&mut self.fingerprint, &mut self.bits);
-        answer(unsafe { raw::gfp_feed_house(key, fingerprint, bits, bytes.as_ptr(), bytes.len(), used) }, ())
+        answer(unsafe { raw::gfp_feed_house(degree, word, fingerprint, bits, bytes.as_ptr(), bytes.len(), used) }, ())
     }
 
     /// The other mark's file goes behind this one's.
-    pub fn join_behind(&mut self, key: u64, other: Mark) -> Result<(), Refusal> {
+    pub fn join_behind(&mut self, key: Key, other: Mark) -> Result<(), Refusal> {
+        let Key { degree, word } = key;
         let (fingerprint, bits) = (&mut self.fingerprint, &mut self.bits);
-        answer(unsafe { raw::gfp_join_behind(key, fingerprint, bits, other.fingerprint, other.bits) }, ())
+        answer(unsafe { raw::gfp_join_behind(degree, word, fingerprint, bits, other.fingerprint, other.bits) }, ())
     }
 
     /// The other mark's file goes in front of this one's.
-    pub fn join_in_front(&mut self, key: u64, other: Mark) -> Result<(), Refusal> {
+    pub fn join_in_front(&mut self, key: Key, other: Mark) -> Result<(), Refusal> {
+        let Key { degree, word } = key;
         let (fingerprint, bits) = (&mut self.fingerprint, &mut self.bits);
-        answer(unsafe { raw::gfp_join_in_front(key, fingerprint, bits, other.fingerprint, other.bits) }, ())
+        answer(unsafe { raw::gfp_join_in_front(degree, word, fingerprint, bits, other.fingerprint, other.bits) }, ())
     }
 
     /// The new page stands where the old one stood, from the byte at `place` on. Both have the same number of bits; a
     /// page with `used` below 8 may stand anywhere in the file.
     pub fn replace_page<'a, 'b>(
         &mut self,
-        key: u64,
+        key: Key,
         place: u64,
         old: impl Into<Part<'a>>,
         new: impl Into<Part<'b>>,
     ) -> Result<(), Refusal> {
+        let Key { degree, word } = key;
         let (old, new): (Part, Part) = (old.into(), new.into());
         let (old_page, old_length) = (old.bytes.as_ptr(), old.bytes.len());
         let (new_page, new_length) = (new.bytes.as_ptr(), new.bytes.len());
         let (fingerprint, bits) = (&mut self.fingerprint, &mut self.bits);
         let number = unsafe {
             raw::gfp_replace_page(
-                key, fingerprint, bits, place, old_page, old_length, old.used, new_page, new_length, new.used,
+                degree, word, fingerprint, bits, place, old_page, old_length, old.used, new_page, new_length, new.used,
             )
         };
         answer(number, ())
     }
 }
 
-pub fn make_table(key: u64, words: &mut [u64]) -> Result<(), Refusal> {
-    answer(unsafe { raw::gfp_make_table(key, words.as_mut_ptr(), words.len()) }, ())
+pub fn make_table(key: Key, words: &mut [u64]) -> Result<(), Refusal> {
+    let Key { degree, word } = key;
+    answer(unsafe { raw::gfp_make_table(degree, word, words.as_mut_ptr(), words.len()) }, ())
 }
 
-pub fn test_table(key: u64, words: &[u64]) -> Result<(), Refusal> {
-    answer(unsafe { raw::gfp_test_table(key, words.as_ptr(), words.len()) }, ())
+pub fn test_table(key: Key, words: &[u64]) -> Result<(), Refusal> {
+    let Key { degree, word } = key;
+    answer(unsafe { raw::gfp_test_table(degree, word, words.as_ptr(), words.len()) }, ())
 }
 
 /// The number of places and of false alarms.
@@ -220,63 +271,67 @@ pub struct Counts {
 }
 
 /// The places of the pattern in the text, byte offsets, the first ones into `places`, as far as they reach.
-pub fn search(key: u64, text: &[u8], pattern: &[u8], places: &mut [u32]) -> Result<Counts, Refusal> {
+pub fn search(key: Key, text: &[u8], pattern: &[u8], places: &mut [u32]) -> Result<Counts, Refusal> {
+    let Key { degree, word } = key;
     let mut counts = Counts { places: 0, alarms: 0 };
     let (lent, room) = (places.as_mut_ptr(), places.len());
     let (count, alarms) = (&mut counts.places, &mut counts.alarms);
+    let (text, text_length, pattern, pattern_length) = (text.as_ptr(), text.len(), pattern.as_ptr(), pattern.len());
     let number = unsafe {
-        raw::gfp_search(key, text.as_ptr(), text.len(), pattern.as_ptr(), pattern.len(), lent, room, count, alarms)
+        raw::gfp_search(degree, word, text, text_length, pattern, pattern_length, lent, room, count, alarms)
     };
     answer(number, counts)
 }
 
 /// The bytes of the page sheet of a file of the given length in bytes, an unfinished byte counted as one:
-/// 31 + 8 × pages.
+/// 32 + 8 × pages.
 pub fn sheet_length(file_length: u64, page_size: u64) -> Result<u64, Refusal> {
     let mut bytes = 0;
     let number = unsafe { raw::gfp_sheet_length(file_length, page_size, &mut bytes) };
     answer(number, bytes)
 }
 
-/// Writes the page sheet of a file, of version `SHEET_VERSION`: 31 + 8 × pages bytes.
+/// Writes the page sheet of a file, of version `SHEET_VERSION`: 32 + 8 × pages bytes.
 pub fn write_sheet<'a>(
-    key: u64,
+    key: Key,
     page_size: u64,
     file: impl Into<Part<'a>>,
     sheet: &mut [u8],
 ) -> Result<(), Refusal> {
+    let Key { degree, word } = key;
     let Part { bytes, used } = file.into();
     let (lent, room) = (sheet.as_mut_ptr(), sheet.len());
-    answer(unsafe { raw::gfp_write_sheet(key, page_size, bytes.as_ptr(), bytes.len(), used, lent, room) }, ())
+    answer(unsafe { raw::gfp_write_sheet(degree, word, page_size, bytes.as_ptr(), bytes.len(), used, lent, room) }, ())
 }
 
 /// The numbers of a page sheet: `bits` is the file's length in bits whatever the version, `page_size` is in bytes.
 #[derive(Clone, Copy, Debug, Default, PartialEq, Eq)]
 pub struct Sheet {
     pub version: u32,
-    pub key: u64,
+    pub key: Key,
     pub bits: u64,
     pub page_size: u64,
     pub pages: u64,
     pub fingerprint: u64,
 }
 
-/// Reads a page sheet of version 1, 2 or 3. The joining of number 14: in versions 2 and 3 the page marks joined, each
+/// Reads a page sheet of version 1, 2, 3 or 4. The joining of number 14: in versions 2 to 4 the page marks joined, each
 /// with its own length, must give the file's fingerprint; in version 1 the page marks joined, each as long as the page
 /// size, must give that of the file with zero bytes behind it, as many as its last page is filled up with. Without
 /// pages the file's fingerprint must be 1 in all.
 pub fn read_sheet(sheet: &[u8]) -> Result<Sheet, Refusal> {
     let mut x = Sheet::default();
-    let (version, key, bits) = (&mut x.version, &mut x.key, &mut x.bits);
+    let (lent, size) = (sheet.as_ptr(), sheet.len());
+    let (version, degree, word, bits) = (&mut x.version, &mut x.key.degree, &mut x.key.word, &mut x.bits);
     let (page_size, pages, fingerprint) = (&mut x.page_size, &mut x.pages, &mut x.fingerprint);
     let number = unsafe {
-        raw::gfp_read_sheet(sheet.as_ptr(), sheet.len(), version, key, bits, page_size, pages, fingerprint)
+        raw::gfp_read_sheet(lent, size, version, degree, word, bits, page_size, pages, fingerprint)
     };
     answer(number, x)
 }
 
 /// The page fingerprints of a page sheet, the first ones into `fingerprints`, as far as they reach. The last one is
-/// that of the page filled up in version 1, and of the page as long as it is in versions 2 and 3.
+/// that of the page filled up in version 1, and of the page as long as it is in versions 2 to 4.
 pub fn read_pages(sheet: &[u8], fingerprints: &mut [u64]) -> Result<(), Refusal> {
     let (lent, room) = (fingerprints.as_mut_ptr(), fingerprints.len());
     answer(unsafe { raw::gfp_read_pages(sheet.as_ptr(), sheet.len(), lent, room) }, ())
@@ -293,7 +348,7 @@ pub enum Check {
 
 /// Checks a file against a page sheet. Lengths are compared in bits: against a sheet of version 1 or 2 a file with
 /// `used` below 8 has another length. Against one of version 1 the file's last page is filled up with zero bytes to the
-/// page size, against one of version 2 or 3 it is not.
+/// page size, against one of version 2, 3 or 4 it is not.
 pub fn check_file<'a>(sheet: &[u8], file: impl Into<Part<'a>>) -> Result<Check, Refusal> {
     let Part { bytes, used } = file.into();
     let (mut outcome, mut page) = (0, 0);
@@ -325,8 +380,8 @@ pub fn changed_range<'a>(sheet: &[u8], file: impl Into<Part<'a>>) -> Result<Chan
 }
 
 /// The key of a degree that an element draws.
-pub fn draw(degree: u64, element: u64) -> Result<u64, Refusal> {
-    let mut key = 0;
-    let number = unsafe { raw::gfp_draw(degree, element, &mut key) };
-    answer(number, key)
+pub fn draw(degree: u32, element: u64) -> Result<Key, Refusal> {
+    let mut word = 0;
+    let number = unsafe { raw::gfp_draw(degree, element, &mut word) };
+    answer(number, Key { degree, word })
 }
