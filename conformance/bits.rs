@@ -4,9 +4,9 @@
 use crate::generator::{cleaned, Generator};
 use crate::marks::{after, ours, outcome};
 use crate::reference::{self, pack, Mark, Part};
-use crate::{gfp, Tally};
+use crate::{gfp, Key, Tally};
 
-const KEY: u64 = 0x11b;
+const KEY: Key = Key { degree: 8, word: 0x1b };
 
 /// u inside and outside 1 to 8.
 const USED: [u32; 12] = [0, 1, 2, 3, 4, 5, 6, 7, 8, 9, 1 << 31, u32::MAX];
@@ -112,7 +112,7 @@ fn longest_parts(tally: &mut Tally) {
     let empty = gfp::Mark { fingerprint: 1, bits: 0 };
     for used in [3, 8] {
         let n = reference::LIMIT - 8 + u64::from(used);
-        let whole = gfp::Mark { fingerprint: reference::power_of_t(gfp::HOUSE_KEY, n), bits: n };
+        let whole = gfp::Mark { fingerprint: reference::power_of_t(reference::polynomial(gfp::HOUSE_KEY), n), bits: n };
         let longest = part(&bytes[1..], used);
         tally.same("the longest part", after(empty, |m| m.feed_house(gfp::HOUSE_KEY, longest)), (whole, 0));
     }
@@ -135,14 +135,14 @@ fn longest_parts(tally: &mut Tally) {
 // ---- cuts
 
 /// An accepted key with its table.
-struct Key {
-    key: u64,
+struct KeyTable {
+    key: Key,
     words: Vec<u64>,
 }
 
-impl Key {
-    fn new(key: u64) -> Self {
-        Key { key, words: reference::table(key) }
+impl KeyTable {
+    fn new(key: Key) -> Self {
+        KeyTable { key, words: reference::table(key) }
     }
 
     /// The ways to feed, by number.
@@ -163,7 +163,7 @@ impl Key {
         let parts = [pack(&file[..cut]), pack(&file[cut..])];
         let [front, back] = [parts[0].part(), parts[1].part()];
         let empty = gfp::Mark { fingerprint: 1, bits: 0 };
-        let what = format!("key {:#x}, {} bits cut at {cut}", self.key, file.len());
+        let what = format!("{:?}, {} bits cut at {cut}", self.key, file.len());
         for way in self.ways() {
             let fed = after(empty, |m| self.feed(way, m, front).and(self.feed(way, m, back)));
             tally.same(format_args!("{what}, fed by way {way}"), fed, (whole, 0));
@@ -178,7 +178,7 @@ impl Key {
 /// Files of 0 to 40 bytes and every u, cut at every bit.
 fn cuts(tally: &mut Tally, generator: &mut Generator) {
     let k = generator.degree();
-    let keys = [Key::new(KEY), Key::new(gfp::HOUSE_KEY), Key::new(generator.accepted(k))];
+    let keys = [KEY, gfp::HOUSE_KEY, generator.accepted(k), generator.accepted(64)].map(KeyTable::new);
     for n in 0..=320 {
         let file: Vec<bool> = (0..n).map(|_| generator.one_in(2)).collect();
         for key in &keys {
@@ -193,7 +193,7 @@ fn cuts(tally: &mut Tally, generator: &mut Generator) {
 /// A file of up to 2,000 bytes cut at random bits into several parts, each fed in a random way.
 fn random_cuts(tally: &mut Tally, generator: &mut Generator) {
     let k = generator.degree();
-    let key = Key::new(if generator.one_in(3) { gfp::HOUSE_KEY } else { generator.accepted(k) });
+    let key = KeyTable::new(if generator.one_in(3) { gfp::HOUSE_KEY } else { generator.accepted(k) });
     let n = generator.below(16_000) as usize;
     let file: Vec<bool> = (0..n).map(|_| generator.one_in(2)).collect();
     let start = generator.start(key.key, 2000);
@@ -205,9 +205,9 @@ fn random_cuts(tally: &mut Tally, generator: &mut Generator) {
         numbers = numbers.and(key.feed(way, &mut mark, pack(&file[at..to]).part()));
         at = to;
     }
-    let fingerprint = reference::divide(key.key, start.fingerprint, file.iter().copied());
+    let fingerprint = reference::divide(reference::polynomial(key.key), start.fingerprint, file.iter().copied());
     let whole = gfp::Mark { fingerprint, bits: start.bits + n as u64 };
-    tally.same(format_args!("key {:#x}, {n} bits in parts", key.key), (mark, numbers), (whole, Ok(())));
+    tally.same(format_args!("{:?}, {n} bits in parts", key.key), (mark, numbers), (whole, Ok(())));
 }
 
 // ---- u and the final byte
@@ -231,9 +231,9 @@ fn parts(generator: &mut Generator) -> Vec<(Vec<u8>, u32)> {
 }
 
 /// Every call that takes one part or file.
-fn one_part(tally: &mut Tally, key: &Key, part: Part, generator: &mut Generator) {
-    let mark = Mark { fingerprint: generator.below(1 << reference::degree(key.key)), bits: generator.below(100) };
-    let what = format!("key {:#x}, {mark:?}, {part:?}", key.key);
+fn one_part(tally: &mut Tally, key: &KeyTable, part: Part, generator: &mut Generator) {
+    let mark = Mark { fingerprint: generator.residue(key.key.degree), bits: generator.below(100) };
+    let what = format!("{:?}, {mark:?}, {part:?}", key.key);
     for way in key.ways() {
         let given = after(ours(mark), |m| key.feed(way, m, part));
         let second = outcome(mark, reference::feed(key.key, mark, part));
@@ -244,7 +244,7 @@ fn one_part(tally: &mut Tally, key: &Key, part: Part, generator: &mut Generator)
     let second = reference::write_sheet(key.key, 16, part, &[9; 100]);
     tally.same(format_args!("{what}, sheet"), number, second.clone().err().unwrap_or(0));
     tally.same(format_args!("{what}, sheet"), sheet, second.unwrap_or(vec![9; 100]));
-    for version in reference::VERSIONS {
+    for version in reference::versions(key.key) {
         let sheet = reference::sheet(version, key.key, 16, part.bytes);
         let numbers = (gfp::check_file(&sheet, part).err(), gfp::changed_range(&sheet, part).err());
         let number = reference::check_file(&sheet, part).err();
@@ -255,7 +255,7 @@ fn one_part(tally: &mut Tally, key: &Key, part: Part, generator: &mut Generator)
 }
 
 fn used_bits(tally: &mut Tally, generator: &mut Generator) {
-    for key in [Key::new(KEY), Key::new(gfp::HOUSE_KEY)] {
+    for key in [KEY, gfp::HOUSE_KEY, generator.accepted(64)].map(KeyTable::new) {
         for (bytes, used) in parts(generator) {
             one_part(tally, &key, part(&bytes, used), generator);
         }
@@ -278,9 +278,9 @@ fn small_pages(tally: &mut Tally) {
     }
 }
 
-fn page_change(tally: &mut Tally, key: u64, mark: Mark, place: u64, old: Part, new: Part) {
+fn page_change(tally: &mut Tally, key: Key, mark: Mark, place: u64, old: Part, new: Part) {
     tally.same(
-        format_args!("page at {place}, {old:?} by {new:?}, key {key:#x}, {mark:?}"),
+        format_args!("page at {place}, {old:?} by {new:?}, {key:?}, {mark:?}"),
         after(ours(mark), |m| m.replace_page(key, place, old, new)),
         outcome(mark, reference::replace_page(key, mark, place, old, new)),
     );
@@ -341,7 +341,7 @@ fn far_places(tally: &mut Tally) {
 /// Pages of every number of bits at every byte of files of every number of bits, changed: the mark of the changed file.
 fn pages_anywhere(tally: &mut Tally, generator: &mut Generator) {
     let k = generator.degree();
-    for key in [KEY, gfp::HOUSE_KEY, generator.accepted(k)] {
+    for key in [KEY, gfp::HOUSE_KEY, generator.accepted(k), generator.accepted(64)] {
         for n in [0, 1, 7, 8, 9, 23, 40, 61] {
             let file: Vec<bool> = (0..n).map(|_| generator.one_in(2)).collect();
             let mark = ours(reference::mark_of(key, pack(&file).part()));

@@ -1,5 +1,5 @@
 //! Joining and page change, singly, and lists of calls beside the plain book of document 01.
-use crate::{generator::Generator, gfp, marks::{after, ours, outcome}, reference::{self, pack, Part}, Tally};
+use crate::{generator::Generator, gfp, marks::{after, ours, outcome}, reference::{self, pack, Part}, Key, Tally};
 
 /// The place of a page: random, or beside the last one at which the page fits.
 fn place(generator: &mut Generator, mark: reference::Mark, old: Part) -> u64 {
@@ -14,7 +14,7 @@ fn place(generator: &mut Generator, mark: reference::Mark, old: Part) -> u64 {
     }
 }
 
-fn page_change(tally: &mut Tally, generator: &mut Generator, key: u64, mark: reference::Mark) {
+fn page_change(tally: &mut Tally, generator: &mut Generator, key: Key, mark: reference::Mark) {
     let (n, old_used) = (generator.below(30) as usize, generator.used());
     let m = if generator.one_in(6) { generator.below(30) as usize } else { n };
     let new_used = if generator.one_in(4) { generator.used() } else { old_used };
@@ -22,7 +22,7 @@ fn page_change(tally: &mut Tally, generator: &mut Generator, key: u64, mark: ref
     let (old, new) = (Part { bytes: &old, used: old_used }, Part { bytes: &new, used: new_used });
     let place = place(generator, mark, old);
     tally.same(
-        &format!("replace page at {place}, {old:?} by {new:?}, key {key:#x}, mark {mark:?}"),
+        &format!("replace page at {place}, {old:?} by {new:?}, {key:?}, mark {mark:?}"),
         after(ours(mark), |m| m.replace_page(key, place, old, new)),
         outcome(mark, reference::replace_page(key, mark, place, old, new)),
     );
@@ -33,7 +33,7 @@ fn calls(tally: &mut Tally, generator: &mut Generator) {
     let key = generator.key();
     let mark = generator.mark(key);
     let other = generator.mark(key);
-    let what = format!("key {key:#x}, mark {mark:?}, other {other:?}");
+    let what = format!("{key:?}, mark {mark:?}, other {other:?}");
     tally.same(
         &format!("join behind, {what}"),
         after(ours(mark), |m| m.join_behind(key, ours(other))),
@@ -49,7 +49,7 @@ fn calls(tally: &mut Tally, generator: &mut Generator) {
 
 /// The book: it holds a file as a string of bits, is told the calls and sees no mark. Refused calls leave the file.
 struct Book {
-    key: u64,
+    key: Key,
     words: Vec<u64>,
     file: Vec<bool>,
     mark: gfp::Mark,
@@ -111,8 +111,10 @@ impl Book {
                 (self.mark.feed_table(key, &damaged, packed.part()), number)
             }
             2 => {
-                let unreduced = gfp::Mark { fingerprint: 1 << reference::degree(key), bits: bits.len() as u64 };
-                (self.mark.join_behind(key, unreduced), 8)
+                // at degree 64 every fingerprint is a residue, and the other mark is too long instead
+                let (fingerprint, length, number) =
+                    if key.degree < 64 { (1 << key.degree, bits.len() as u64, 8) } else { (u64::MAX, reference::LIMIT + 1, 7) };
+                (self.mark.join_behind(key, gfp::Mark { fingerprint, bits: length }), number)
             }
             3 => {
                 let place = reference::bytes_for(self.file.len() as u64) + 1;
@@ -141,17 +143,20 @@ fn list(tally: &mut Tally, generator: &mut Generator) {
     for _ in 0..calls {
         let bad = generator.one_in(4);
         let (given, number) = if bad { book.bad_call(generator) } else { (book.good_call(generator), 0) };
-        tally.same(&format!("refusal in a list, key {key:#x}"), given.err().unwrap_or(0), number);
+        tally.same(&format!("refusal in a list, {key:?}"), given.err().unwrap_or(0), number);
     }
     let whole = book.true_mark(&book.file);
-    tally.same(&format!("mark after a list of {calls} calls, key {key:#x}"), book.mark, whole);
+    tally.same(&format!("mark after a list of {calls} calls, {key:?}"), book.mark, whole);
 }
 
 pub fn run(tally: &mut Tally, rounds: u64) {
     let mut generator = Generator::new(5);
-    let mut joined = gfp::Mark { fingerprint: 0x5a, bits: 8 };
-    let number = joined.join_behind(0x11b, gfp::Mark { fingerprint: 0x59, bits: 8 });
-    tally.same("reading, 5a and 59 joined", (number, joined), (Ok(()), gfp::Mark { fingerprint: 0x9d, bits: 16 }));
+    // 41 and 42 joined, under keys of degree 8 and 64
+    for (degree, front, back, whole) in [(8, 0x5a, 0x59, 0x9d), (64, 0x141, 0x142, 0x14142)] {
+        let (key, mark) = (Key { degree, word: 0x1b }, |fingerprint, bits| gfp::Mark { fingerprint, bits });
+        let joined = after(mark(front, 8), |m| m.join_behind(key, mark(back, 8)));
+        tally.same(&format!("reading, 41 and 42 joined, {key:?}"), joined, (mark(whole, 16), 0));
+    }
     for _ in 0..rounds * 3000 {
         calls(tally, &mut generator);
     }

@@ -3,7 +3,7 @@
 //! and of a single bit around the lengths at which a way may change. What is expected is the second implementation's, one byte after another.
 //! At the lengths at which a way may change, and at every ninth, the final byte also has less than 8 used bits. Suite
 //! bits.rs cuts at every bit.
-use crate::{generator::{cleaned, Generator}, gfp, marks::{after, ours}, Tally};
+use crate::{generator::{cleaned, Generator}, gfp, marks::{after, ours}, Key, Tally};
 use crate::reference::{self, ByteSteps, Mark, Part};
 use std::{collections::BTreeSet, fmt::Display};
 
@@ -12,9 +12,9 @@ const EVERY: usize = 10_000;
 /// The longest part.
 const LONGEST: usize = 1 << 20;
 /// The degrees whose keys are fed at every length: the least and the greatest, and those beside the widths of words and of groups of bytes.
-const DEGREES: [u32; 8] = [8, 31, 32, 33, 55, 56, 61, 63];
+const DEGREES: [u32; 9] = [8, 31, 32, 33, 55, 56, 61, 63, 64];
 /// t^42 + t^5 + t^2 + t + 1: its table is the house key's.
-const SHARES_HOUSE_TABLE: u64 = 0x400_0000_0027;
+const SHARES_HOUSE_TABLE: Key = Key { degree: 42, word: 0x27 };
 
 /// The lengths beside which a way may change: the powers of two and the sizes of groups, words and blocks, up to n, and two on either side.
 pub fn turning_lengths(n: usize) -> Vec<usize> {
@@ -34,23 +34,23 @@ enum Call {
 use Call::{Feed, FeedHouse, FeedTable};
 
 /// An accepted key, with its table and the second implementation's steps.
-struct Key {
-    key: u64,
+struct KeyTable {
+    key: Key,
     words: Vec<u64>,
     steps: ByteSteps,
 }
 
-impl Key {
-    fn new(key: u64) -> Self {
-        Key { key, words: reference::table(key), steps: ByteSteps::new(key) }
+impl KeyTable {
+    fn new(key: Key) -> Self {
+        KeyTable { key, words: reference::table(key), steps: ByteSteps::new(key) }
     }
 
     fn house() -> Self {
-        Key::new(gfp::HOUSE_KEY)
+        KeyTable::new(gfp::HOUSE_KEY)
     }
 
     fn stock(k: u32) -> Self {
-        Key::new(reference::stock_key(k.into()).expect("a degree of the stock list"))
+        KeyTable::new(reference::stock_key(k).expect("a degree of the stock list"))
     }
 
     /// The calls that are not refused under the key.
@@ -79,7 +79,7 @@ impl Key {
             FeedHouse => m.feed_house(self.key, part),
         });
         let expected = gfp::Mark { fingerprint, bits: start.bits + part.length() as u64 };
-        let name = format_args!("{call:?}, key {:#x}, start {start:?}, {what}, part of {part:?}", self.key);
+        let name = format_args!("{call:?}, {:?}, start {start:?}, {what}, part of {part:?}", self.key);
         tally.same(name, given, (expected, 0));
     }
 
@@ -89,7 +89,7 @@ impl Key {
         let (used, end) = (1 + part.len() as u32 % 7, part.len() - 1);
         let whole = part[end];
         part[end] = cleaned(vec![whole], used)[0];
-        let fingerprint = reference::divide(self.key, before, Part { bytes: &part[end..], used }.bits());
+        let fingerprint = reference::divide(reference::polynomial(self.key), before, Part { bytes: &part[end..], used }.bits());
         self.compare(tally, call, start, Part { bytes: part, used }, what, fingerprint);
         part[end] = whole;
     }
@@ -115,20 +115,20 @@ impl Key {
 /// The second implementation itself: its byte steps are compared with its long division bit by bit, under two keys of each degree. A difference
 /// stops the run.
 fn byte_steps(generator: &mut Generator) {
-    for k in 8..64 {
+    for k in 8..=64 {
         for key in [generator.accepted(k), generator.accepted_with_low_part(k)] {
             let n = generator.below(3000) as usize;
             let (start, part) = (generator.start(key, n), generator.bytes(n));
             let steps = ByteSteps::new(key);
             let by_bytes = (steps.divide(start.fingerprint, &part), steps.behind_each(start.fingerprint, &part)[n]);
             let by_bits = reference::feed(key, start, &part).expect("a mark that can be fed").fingerprint;
-            assert_eq!(by_bytes, (by_bits, by_bits), "the second implementation by bytes and by bits, key {key:#x}, start {start:?}, part of {n} bytes");
+            assert_eq!(by_bytes, (by_bits, by_bits), "the second implementation by bytes and by bits, {key:?}, start {start:?}, part of {n} bytes");
         }
     }
 }
 
 /// Random bytes of every length up to 10,000, behind a random start for each call.
-fn every_length(tally: &mut Tally, generator: &mut Generator, key: &Key, calls: &[Call]) {
+fn every_length(tally: &mut Tally, generator: &mut Generator, key: &KeyTable, calls: &[Call]) {
     for &call in calls {
         let (start, part) = (generator.start(key.key, EVERY), generator.bytes(EVERY));
         key.compare_fronts(tally, call, start, &part, "random bytes", 0..=EVERY);
@@ -138,17 +138,17 @@ fn every_length(tally: &mut Tally, generator: &mut Generator, key: &Key, calls: 
 }
 
 /// Random bytes of random lengths up to 10,000, by gfp_feed, which takes its time under a drawn key.
-fn random_lengths(tally: &mut Tally, generator: &mut Generator, key: &Key) {
+fn random_lengths(tally: &mut Tally, generator: &mut Generator, key: &KeyTable) {
     let (start, part) = (generator.start(key.key, EVERY), generator.bytes(EVERY));
     let lengths: Vec<usize> = (0..200).map(|_| generator.below(EVERY as u64 + 1) as usize).collect();
     key.compare_fronts(tally, Feed, start, &part, "random bytes", lengths.into_iter());
 }
 
 /// Zero bytes, bytes of ones and random bytes, behind a start of ones and a random one, at the lengths beside which a way may change.
-fn at_turning_lengths(tally: &mut Tally, generator: &mut Generator, key: &Key, calls: &[Call], longest: usize) {
+fn at_turning_lengths(tally: &mut Tally, generator: &mut Generator, key: &KeyTable, calls: &[Call], longest: usize) {
     let lengths = turning_lengths(longest);
     let n = lengths.last().copied().unwrap_or(0);
-    let ones = Mark { fingerprint: (1 << reference::degree(key.key)) - 1, bits: reference::LIMIT - 8 * n as u64 };
+    let ones = Mark { fingerprint: u64::MAX >> (64 - key.key.degree), bits: reference::LIMIT - 8 * n as u64 };
     for (what, part) in [("zero bytes", vec![0; n]), ("bytes of ones", vec![0xff; n]), ("random bytes", generator.bytes(n))] {
         for &call in calls {
             for start in [ones, generator.start(key.key, n)] {
@@ -169,8 +169,8 @@ fn tried_places(generator: &mut Generator, call: Call, n: usize) -> Vec<usize> {
 
 /// Parts of zero bits but one, at the lengths up to 10,000 beside which a way may change: a random bit of each byte of the part, in turn.
 /// Where m bits stand behind it, the fingerprint is that of the zero bits plus t^m.
-fn single_bits(tally: &mut Tally, generator: &mut Generator, key: &Key) {
-    let zero = |f: &u64| Some(reference::divide(key.key, *f, std::iter::once(false)));
+fn single_bits(tally: &mut Tally, generator: &mut Generator, key: &KeyTable) {
+    let zero = |f: &u64| Some(reference::divide(reference::polynomial(key.key), *f, std::iter::once(false)));
     let powers_of_t: Vec<u64> = std::iter::successors(Some(1), zero).take(8 * EVERY).collect();
     for &call in key.calls() {
         let start = generator.start(key.key, EVERY);
@@ -189,7 +189,7 @@ fn single_bits(tally: &mut Tally, generator: &mut Generator, key: &Key) {
 }
 
 /// Random bytes at each of 64 offsets from an aligned address.
-fn offsets(tally: &mut Tally, generator: &mut Generator, key: &Key) {
+fn offsets(tally: &mut Tally, generator: &mut Generator, key: &KeyTable) {
     let room = generator.bytes(EVERY + 128);
     let aligned = room.as_ptr().align_offset(64);
     for offset in 0..64 {
@@ -211,7 +211,7 @@ fn next_length(generator: &mut Generator, left: usize) -> usize {
 }
 
 /// A file of up to 1 MiB behind a random start, cut in random parts, each fed by a random call.
-fn random_cuts(tally: &mut Tally, generator: &mut Generator, key: &Key) {
+fn random_cuts(tally: &mut Tally, generator: &mut Generator, key: &KeyTable) {
     let size = generator.below(LONGEST as u64 + 1) as usize;
     let (start, file) = (generator.start(key.key, size), generator.bytes(size));
     let expected = key.steps.behind_each(start.fingerprint, &file);
@@ -228,8 +228,8 @@ fn random_cuts(tally: &mut Tally, generator: &mut Generator, key: &Key) {
 
 /// Keys of every degree: the stock key, a random one, and one with a short low part.
 fn every_degree(tally: &mut Tally, generator: &mut Generator) {
-    for k in 8..64 {
-        for key in [Key::stock(k), Key::new(generator.accepted(k)), Key::new(generator.accepted_with_low_part(k))] {
+    for k in 8..=64 {
+        for key in [KeyTable::stock(k), KeyTable::new(generator.accepted(k)), KeyTable::new(generator.accepted_with_low_part(k))] {
             at_turning_lengths(tally, generator, &key, key.calls(), 5000);
             random_cuts(tally, generator, &key);
         }
@@ -239,9 +239,9 @@ fn every_degree(tally: &mut Tally, generator: &mut Generator) {
 /// Stock and drawn keys of some degrees, at every length.
 fn some_degrees(tally: &mut Tally, generator: &mut Generator) {
     for k in DEGREES {
-        let stock = Key::stock(k);
+        let stock = KeyTable::stock(k);
         every_length(tally, generator, &stock, &[Feed, FeedTable]);
-        let drawn = Key::new(generator.accepted(k));
+        let drawn = KeyTable::new(generator.accepted(k));
         every_length(tally, generator, &drawn, &[FeedTable]);
         random_lengths(tally, generator, &drawn);
         for key in [stock, drawn] {
@@ -253,7 +253,7 @@ fn some_degrees(tally: &mut Tally, generator: &mut Generator) {
 
 /// The house key, and the key that shares its table.
 fn house(tally: &mut Tally, generator: &mut Generator) {
-    for key in [Key::house(), Key::new(SHARES_HOUSE_TABLE)] {
+    for key in [KeyTable::house(), KeyTable::new(SHARES_HOUSE_TABLE)] {
         every_length(tally, generator, &key, key.calls());
         at_turning_lengths(tally, generator, &key, key.calls(), LONGEST);
         single_bits(tally, generator, &key);
@@ -270,7 +270,7 @@ pub fn run(tally: &mut Tally, rounds: u64) {
         byte_steps(&mut generator);
         house(tally, &mut generator);
         some_degrees(tally, &mut generator);
-        for key in [Key::new(generator.accepted(32)), Key::new(generator.accepted(61)), Key::stock(63)] {
+        for key in [KeyTable::new(generator.accepted(32)), KeyTable::new(generator.accepted(61)), KeyTable::stock(63), KeyTable::stock(64)] {
             single_bits(tally, &mut generator, &key);
         }
         every_degree(tally, &mut generator);

@@ -1,9 +1,18 @@
 //! The order of refusals: for each call every combination of the faults that it can be refused for, alone and together.
-use crate::{gfp, marks::{after, ours, outcome}, reference::{self, Part}, Tally};
+use crate::{gfp, marks::{after, ours, outcome}, reference::{self, Part}, Key, Tally};
 
-const GOOD: u64 = 0x11b;
-/// An accepted key, one below 256 and a reducible one.
-const KEYS: [u64; 3] = [GOOD, 0xff, 0x101];
+const GOOD: Key = Key { degree: 8, word: 0x1b };
+/// Accepted keys, of degree 8 and 64; keys of number 1, by their degree, by a bit of the word at t^k and by both; reducible ones.
+const KEYS: [Key; 8] = [
+    GOOD,
+    Key { degree: 64, word: 0x1b },
+    Key { degree: 7, word: 0x7f },
+    Key { degree: 65, word: 0x1b },
+    Key { degree: 8, word: 0x11b },
+    Key { degree: u32::MAX, word: u64::MAX },
+    Key { degree: 8, word: 0x01 },
+    Key { degree: 64, word: 0 },
+];
 
 /// A part whose final byte is right, and parts whose final byte is not: u outside 1 to 8, an unused bit that is 1, and
 /// u other than 8 without bytes.
@@ -35,10 +44,10 @@ fn each(n: u32, mut f: impl FnMut(&dyn Fn(u32) -> bool)) {
 }
 
 /// Feeding by bits and by a table, and the table's own calls, under a key.
-fn marks_under(tally: &mut Tally, long: &[u8], key: u64, good: Part) {
+fn marks_under(tally: &mut Tally, long: &[u8], key: Key, good: Part) {
     // faults: size, word, own length, part's length, sum, fingerprint
     each(6, |fault| {
-        let mut words = reference::table(GOOD);
+        let mut words = reference::table(if reference::test_key(key).is_ok() { key } else { GOOD });
         if fault(1) {
             words[700] ^= 1;
         }
@@ -48,7 +57,7 @@ fn marks_under(tally: &mut Tally, long: &[u8], key: u64, good: Part) {
         let bits = if fault(2) { reference::LIMIT + 1 } else if fault(4) { reference::LIMIT } else { 5 };
         let mark = reference::Mark { fingerprint: if fault(5) { 0x100 } else { 0x5a }, bits };
         let part = or_long(good, fault(3), long);
-        let what = format!("order, key {key:#x}, mark {mark:?}, {} words, part of {part:?}", words.len());
+        let what = format!("order, {key:?}, mark {mark:?}, {} words, part of {part:?}", words.len());
         tally.same(
             &what,
             after(ours(mark), |m| m.feed(key, part)),
@@ -64,17 +73,17 @@ fn marks_under(tally: &mut Tally, long: &[u8], key: u64, good: Part) {
     });
 }
 
-/// Feeding by the house key's words under a key, and the lowest power of t that is not below it.
-fn house_under(tally: &mut Tally, long: &[u8], key: u64, above: u32, good: Part) {
+/// Feeding by the house key's words under a key, with a fingerprint that is not below 2^above.
+fn house_under(tally: &mut Tally, long: &[u8], key: Key, above: u32, good: Part) {
     // faults: own length, part's length, sum, fingerprint
     each(4, |fault| {
         let bits = if fault(0) { reference::LIMIT + 1 } else if fault(2) { reference::LIMIT } else { 5 };
         let mark = reference::Mark { fingerprint: if fault(3) { 1 << above } else { 0x5a }, bits };
         let part = or_long(good, fault(1), long);
-        let what = format!("order, the house key's words, key {key:#x}, mark {mark:?}, part of {part:?}");
+        let what = format!("order, the house key's words, {key:?}, mark {mark:?}, part of {part:?}");
         let answer = after(ours(mark), |m| m.feed_house(key, part));
         tally.same(&what, answer, outcome(mark, reference::feed_house(key, mark, part)));
-        if key == GOOD {
+        if key == GOOD || key == KEYS[1] {
             tally.same(&what, answer, (ours(mark), 6));
         }
     });
@@ -82,27 +91,28 @@ fn house_under(tally: &mut Tally, long: &[u8], key: u64, above: u32, good: Part)
 
 fn marks(tally: &mut Tally, long: &[u8]) {
     for key in KEYS {
-        tally.same(&format!("order, begin, key {key:#x}"), gfp::begin(key), reference::begin(key).map(ours));
+        tally.same(&format!("order, begin, {key:?}"), gfp::begin(key), reference::begin(key).map(ours));
         for part in PARTS {
             marks_under(tally, long, key, part);
         }
     }
     // An accepted key whose table differs from the house key's, the house key, one that shares its table, and the refused ones.
-    for (key, above) in [(GOOD, 8), (gfp::HOUSE_KEY, 61), (0x400_0000_0027, 42), (KEYS[1], 8), (KEYS[2], 8)] {
+    let accepted = [(gfp::HOUSE_KEY, 61), (Key { degree: 42, word: 0x27 }, 42)];
+    for (key, above) in KEYS.map(|key| (key, key.degree.min(63))).into_iter().chain(accepted) {
         for part in PARTS {
             house_under(tally, long, key, above, part);
         }
     }
 }
 
-fn joining(tally: &mut Tally, key: u64) {
+fn joining(tally: &mut Tally, key: Key) {
     // faults: own length, other's length, sum, own fingerprint, other's fingerprint
     each(5, |fault| {
         let bits = if fault(0) { u64::MAX } else if fault(2) { reference::LIMIT } else { 5 };
         let mark = reference::Mark { fingerprint: if fault(3) { 0x100 } else { 0x5a }, bits };
         let other_bits = if fault(1) { 1 << 63 } else { 2 };
         let other = reference::Mark { fingerprint: if fault(4) { 0x1ff } else { 0x59 }, bits: other_bits };
-        let what = format!("order, key {key:#x}, mark {mark:?}, other {other:?}");
+        let what = format!("order, {key:?}, mark {mark:?}, other {other:?}");
         tally.same(
             &what,
             after(ours(mark), |m| m.join_behind(key, ours(other))),
@@ -117,7 +127,7 @@ fn joining(tally: &mut Tally, key: u64) {
 }
 
 /// Page change with given used bits of both pages' final bytes: with 6 the old page's is wrong, with 5 both are.
-fn page_change(tally: &mut Tally, long: &[u8], key: u64, old_used: u32, new_used: u32) {
+fn page_change(tally: &mut Tally, long: &[u8], key: Key, old_used: u32, new_used: u32) {
     // faults: own length, old page's length, new page's length, fingerprint, unequal pages, past the end
     each(6, |fault| {
         let bits = if fault(0) { reference::LIMIT + 1 } else { 72 };
@@ -126,7 +136,7 @@ fn page_change(tally: &mut Tally, long: &[u8], key: u64, old_used: u32, new_used
         let new_bytes: &[u8] = if fault(4) { b"A" } else { b"CD" };
         let new = or_long(Part { bytes: new_bytes, used: new_used }, fault(2), long);
         let place = if fault(5) { u64::MAX } else { 7 };
-        let what = format!("order, key {key:#x}, mark {mark:?}, place {place}, {old:?} by {new:?}");
+        let what = format!("order, {key:?}, mark {mark:?}, place {place}, {old:?} by {new:?}");
         tally.same(
             &what,
             after(ours(mark), |m| m.replace_page(key, place, old, new)),
@@ -154,7 +164,7 @@ fn search(tally: &mut Tally, long: &[u8]) {
             let refused = reference::test_key(key).is_err() || fault(0) || fault(1) || fault(2);
             let mut words = [7; 2];
             let answer = gfp::search(key, text, pattern, &mut words);
-            let what = format!("order, search, key {key:#x}, {} bytes in {}", pattern.len(), text.len());
+            let what = format!("order, search, {key:?}, {} bytes in {}", pattern.len(), text.len());
             if refused {
                 let number = reference::test_key(key).err().unwrap_or(if fault(0) || fault(1) { 7 } else { 11 });
                 tally.same(&what, (answer.map(|c| c.places), words), (Err(number), [7; 2]));
@@ -166,19 +176,19 @@ fn search(tally: &mut Tally, long: &[u8]) {
 }
 
 /// Writing a sheet; the number is told by hand, since every fault has its own.
-fn writing(tally: &mut Tally, long: &[u8], key: u64, good: Part) {
+fn writing(tally: &mut Tally, long: &[u8], key: Key, good: Part) {
     // faults: file's length, page size, buffer
     each(3, |fault| {
         let file = or_long(good, fault(0), long);
         let size = if fault(1) { 15 } else { 16 };
-        let total = if good.bytes.is_empty() { 31 } else { 39 };
+        let total = if good.bytes.is_empty() { 32 } else { 40 };
         let before = vec![9; if fault(2) { total - 1 } else { total }];
         let mut sheet = before.clone();
         let number = gfp::write_sheet(key, size, file, &mut sheet).err().unwrap_or(0);
         let faults = [(7, fault(0)), (12, fault(1)), (13, fault(2)), (19, good != PARTS[0])];
         let lowest = faults.into_iter().find(|(_, applies)| *applies).map_or(0, |(number, _)| number);
         let expected = reference::test_key(key).err().unwrap_or(lowest);
-        let what = format!("order, write, key {key:#x}, {file:?}, page size {size}, {} lent", before.len());
+        let what = format!("order, write, {key:?}, {file:?}, page size {size}, {} lent", before.len());
         tally.same(&what, number, expected);
         tally.same(&what, sheet == before, expected != 0);
         tally.same(&what, number, reference::write_sheet(key, size, file, &before).err().unwrap_or(0));
@@ -190,7 +200,9 @@ fn sheets(tally: &mut Tally, long: &[u8]) {
         for part in PARTS {
             writing(tally, long, key, part);
         }
-        for version in reference::VERSIONS {
+        // a key that has a number in 8 bytes is tried in every version
+        let as_number = key.degree < 64 && key.word >> key.degree == 0;
+        for version in reference::VERSIONS.into_iter().filter(|version| version.pair || as_number) {
             sheet_faults(tally, long, key, version);
         }
     }
@@ -198,15 +210,16 @@ fn sheets(tally: &mut Tally, long: &[u8]) {
 
 /// The sheet of 41 42 in a version, with the faults: letters, version, page size, total, a fingerprint, the joining,
 /// the highest byte of the length field, under the version's total without pages, under 27 bytes.
-fn faulty_sheet(key: u64, version: reference::Version, fault: &dyn Fn(u32) -> bool) -> Vec<u8> {
+fn faulty_sheet(key: Key, version: reference::Version, fault: &dyn Fn(u32) -> bool) -> Vec<u8> {
     let head = version.head();
-    let mut sheet = reference::sheet(version, GOOD, 16, b"AB");
-    sheet[5..13].copy_from_slice(&key.to_be_bytes());
+    let of = if reference::test_key(key).is_ok() { key } else { GOOD };
+    let mut sheet = reference::sheet(version, of, 16, b"AB");
+    sheet[5..version.length_at()].copy_from_slice(&version.key_field(key));
     if fault(0) {
         sheet[1] = b'f';
     }
     if fault(1) {
-        // 257 to 259: the version has two bytes
+        // 257 to 260: the version has two bytes
         sheet[3] = 1;
     }
     if fault(2) {
@@ -219,7 +232,7 @@ fn faulty_sheet(key: u64, version: reference::Version, fault: &dyn Fn(u32) -> bo
         sheet[head + 7] ^= 1;
     }
     if fault(6) {
-        sheet[13] = 1;
+        sheet[version.length_at()] = 1;
     }
     if fault(3) {
         sheet.push(0);
@@ -235,8 +248,8 @@ fn faulty_sheet(key: u64, version: reference::Version, fault: &dyn Fn(u32) -> bo
 
 /// Sheets of a version, read and checked with files that are right, too long, of another length, or whose final byte is
 /// wrong.
-fn sheet_faults(tally: &mut Tally, long: &[u8], key: u64, version: reference::Version) {
-    let page = if version.filled { 0xac } else { 0x9d };
+fn sheet_faults(tally: &mut Tally, long: &[u8], key: Key, version: reference::Version) {
+    let page = if key == KEYS[1] { 0x14142 } else if version.filled { 0xac } else { 0x9d };
     let whole_long = Part::from(long);
     let long_and_bad = Part { bytes: long, used: 9 };
     each(9, |fault| {
@@ -263,7 +276,7 @@ fn lengths(tally: &mut Tally) {
     each(2, |fault| {
         let length = if fault(0) { reference::LIMIT_BYTES + 1 } else { 33 };
         let size = if fault(1) { 4097 } else { 16 };
-        let expected = if fault(0) { Err(7) } else if fault(1) { Err(12) } else { Ok(55) };
+        let expected = if fault(0) { Err(7) } else if fault(1) { Err(12) } else { Ok(56) };
         tally.same(&format!("order, length {length}, page size {size}"), gfp::sheet_length(length, size), expected);
     });
 }
