@@ -9,13 +9,25 @@
 #include <string.h>
 #include <sys/mman.h>
 
-#define KEY UINT64_C(0x11b)
-#define SMALL UINT64_C(0xff)
-#define REDUCIBLE UINT64_C(0x101)
+/* keys, each two arguments: degree and word */
+#define KEY 8, UINT64_C(0x1b)
+#define KEY_64 64, UINT64_C(0x1b)
+#define HOUSE GFP_HOUSE_DEGREE, GFP_HOUSE_WORD
+#define SMALL 7, UINT64_C(0x7f)
+#define LARGE 65, UINT64_C(0x1b)
+#define WIDE 8, UINT64_C(0x11b)
+#define REDUCIBLE 8, UINT64_C(0x01)
+#define REDUCIBLE_64 64, UINT64_C(0)
 #define LONGEST UINT64_C(34359738360) /* in bits */
 #define LONGEST_BYTES UINT64_C(4294967295)
 #define NONE UINT64_C(0x1234567812345678)
 #define NONE32 UINT32_C(0x12345678)
+
+/* a key where it is chosen by number */
+struct key {
+    uint32_t degree;
+    uint64_t word;
+};
 
 static unsigned right, wrong;
 
@@ -54,36 +66,59 @@ static void *area(size_t size) {
 
 /* ---- Bench */
 
-static void keys_and_tables(void) {
-    static uint64_t made[GFP_TABLE_WORDS];
-    uint64_t f = NONE, n = NONE, k;
+static void keys(void) {
+    uint32_t k;
     same("test_key", gfp_test_key(KEY), GFP_OK);
-    same("test_key", gfp_test_key(SMALL), GFP_KEY_BELOW_256);
+    same("test_key", gfp_test_key(KEY_64), GFP_OK);
+    same("test_key", gfp_test_key(HOUSE), GFP_OK);
+    same("test_key", gfp_test_key(SMALL), GFP_KEY_RANGE);
+    same("test_key", gfp_test_key(LARGE), GFP_KEY_RANGE);
+    same("test_key", gfp_test_key(WIDE), GFP_KEY_RANGE);
+    same("test_key", gfp_test_key(0, 0), GFP_KEY_RANGE);
+    same("test_key", gfp_test_key(255, 0x1b), GFP_KEY_RANGE);
+    same("test_key", gfp_test_key(UINT32_MAX, UINT64_MAX), GFP_KEY_RANGE);
+    same("test_key", gfp_test_key(63, UINT64_C(1) << 63 | 3), GFP_KEY_RANGE);
+    same("test_key", gfp_test_key(63, 3), GFP_OK);
     same("test_key", gfp_test_key(REDUCIBLE), GFP_KEY_REDUCIBLE);
-    same("stock_key", gfp_stock_key(8), KEY);
-    same("stock_key", gfp_stock_key(61), GFP_HOUSE_KEY);
+    same("test_key", gfp_test_key(REDUCIBLE_64), GFP_KEY_REDUCIBLE);
+    same("test_key", gfp_test_key(64, UINT64_MAX), GFP_KEY_REDUCIBLE);
+    same("stock_key", gfp_stock_key(8), 0x1b);
+    same("stock_key", gfp_stock_key(GFP_HOUSE_DEGREE), GFP_HOUSE_WORD);
+    same("stock_key", gfp_stock_key(64), 0x1b);
     for (k = 0; k < 70; k++) {
-        uint64_t key = gfp_stock_key(k);
-        same("stock_key", k < 8 || 63 < k ? key : (uint64_t)(key >> k), k < 8 || 63 < k ? 0 : 1);
-        same("stock_key", gfp_test_key(key), k < 8 || 63 < k ? GFP_KEY_BELOW_256 : GFP_OK);
+        const uint64_t word = gfp_stock_key(k);
+        const int listed = 8 <= k && k <= 64;
+        same("stock_key", word != 0, (uint64_t)listed);
+        same("stock_key", gfp_test_key(k, word), listed ? GFP_OK : GFP_KEY_RANGE);
     }
-    same("stock_key", gfp_stock_key(UINT64_MAX), 0);
-    same("stock_key", gfp_stock_key((UINT64_C(1) << 32) + 8), 0);
-    marked("begin", gfp_begin(SMALL, &f, &n), GFP_KEY_BELOW_256, &f, &n, NONE, NONE);
+    same("stock_key", gfp_stock_key(UINT32_MAX), 0);
+    same("stock_key", gfp_stock_key((UINT32_C(1) << 31) + 8), 0);
+}
+
+static void marks_and_tables(void) {
+    static uint64_t made[GFP_TABLE_WORDS];
+    uint64_t f = NONE, n = NONE;
+    marked("begin", gfp_begin(SMALL, &f, &n), GFP_KEY_RANGE, &f, &n, NONE, NONE);
+    marked("begin", gfp_begin(WIDE, &f, &n), GFP_KEY_RANGE, &f, &n, NONE, NONE);
     marked("begin", gfp_begin(REDUCIBLE, &f, &n), GFP_KEY_REDUCIBLE, &f, &n, NONE, NONE);
+    marked("begin", gfp_begin(KEY_64, &f, &n), GFP_OK, &f, &n, 1, 0);
     f = 7;
     same("begin", gfp_begin(KEY, &f, &n), GFP_OK);
     same("begin", f, 1);
     same("begin", n, 0);
-    same("make_table", gfp_make_table(SMALL, made, GFP_TABLE_WORDS), GFP_KEY_BELOW_256);
+    same("make_table", gfp_make_table(SMALL, made, GFP_TABLE_WORDS), GFP_KEY_RANGE);
     same("make_table", gfp_make_table(REDUCIBLE, made, GFP_TABLE_WORDS), GFP_KEY_REDUCIBLE);
     same("make_table", gfp_make_table(KEY, made, GFP_TABLE_WORDS - 1), GFP_TABLE_SIZE);
     same("make_table", made[1], 0);
+    same("make_table", gfp_make_table(KEY_64, made, GFP_TABLE_WORDS), GFP_OK);
+    same("make_table", made[1] == 0x1b && made[128] == 0xd80 && made[257] == 0x1b00, 1);
+    same("test_table", gfp_test_table(KEY_64, made, GFP_TABLE_WORDS), GFP_OK);
+    same("test_table", gfp_test_table(KEY, made, GFP_TABLE_WORDS), GFP_TABLE_WORD);
     same("make_table", gfp_make_table(KEY, made, GFP_TABLE_WORDS), GFP_OK);
     same("make_table", made[257], 0x5e);
     memcpy(words, made, sizeof words);
     same("test_table", gfp_test_table(KEY, made, GFP_TABLE_WORDS), GFP_OK);
-    same("test_table", gfp_test_table(SMALL, made, GFP_TABLE_WORDS), GFP_KEY_BELOW_256);
+    same("test_table", gfp_test_table(SMALL, made, GFP_TABLE_WORDS), GFP_KEY_RANGE);
     same("test_table", gfp_test_table(REDUCIBLE, made, GFP_TABLE_WORDS), GFP_KEY_REDUCIBLE);
     same("test_table", gfp_test_table(KEY, made, 0), GFP_TABLE_SIZE);
     made[1023] ^= 1;
@@ -91,15 +126,15 @@ static void keys_and_tables(void) {
 }
 
 /* the three ways of feeding, by number */
-static uint32_t fed(int way, uint64_t key, uint64_t *f, uint64_t *n, const uint8_t *part, size_t part_length,
-                    uint32_t used) {
+static uint32_t fed(int way, uint32_t degree, uint64_t word, uint64_t *f, uint64_t *n, const uint8_t *part,
+                    size_t part_length, uint32_t used) {
     switch (way) {
     case 0:
-        return gfp_feed(key, f, n, part, part_length, used);
+        return gfp_feed(degree, word, f, n, part, part_length, used);
     case 1:
-        return gfp_feed_table(key, f, n, words, GFP_TABLE_WORDS, part, part_length, used);
+        return gfp_feed_table(degree, word, f, n, words, GFP_TABLE_WORDS, part, part_length, used);
     default:
-        return gfp_feed_house(key, f, n, part, part_length, used);
+        return gfp_feed_house(degree, word, f, n, part, part_length, used);
     }
 }
 
@@ -110,20 +145,21 @@ static void feeding(void) {
     uint64_t f, n;
     int way;
     for (way = 0; way < 3; way++) {
-        const uint64_t key = way == 2 ? GFP_HOUSE_KEY : KEY, above = UINT64_C(1) << (way == 2 ? 61 : 8);
+        const uint32_t k = way == 2 ? GFP_HOUSE_DEGREE : 8;
+        const uint64_t word = way == 2 ? GFP_HOUSE_WORD : 0x1b, above = UINT64_C(1) << k;
         f = 1, n = 0;
-        marked(WAYS[way], fed(way, key, &f, &n, AB, 2, 8), GFP_OK, &f, &n, way == 2 ? 0x14142 : 0x9d, 16);
-        marked(WAYS[way], fed(way, key, &f, &n, AB, 0, 8), GFP_OK, &f, &n, way == 2 ? 0x14142 : 0x9d, 16);
+        marked(WAYS[way], fed(way, k, word, &f, &n, AB, 2, 8), GFP_OK, &f, &n, way == 2 ? 0x14142 : 0x9d, 16);
+        marked(WAYS[way], fed(way, k, word, &f, &n, AB, 0, 8), GFP_OK, &f, &n, way == 2 ? 0x14142 : 0x9d, 16);
         f = 5, n = 6;
-        marked(WAYS[way], fed(way, SMALL, &f, &n, AB, 2, 8), GFP_KEY_BELOW_256, &f, &n, 5, 6);
+        marked(WAYS[way], fed(way, SMALL, &f, &n, AB, 2, 8), GFP_KEY_RANGE, &f, &n, 5, 6);
         marked(WAYS[way], fed(way, REDUCIBLE, &f, &n, AB, 2, 8), GFP_KEY_REDUCIBLE, &f, &n, 5, 6);
-        marked(WAYS[way], fed(way, key, &f, &n, too_long, TOO_LONG, 8), GFP_TOO_LONG, &f, &n, 5, 6);
-        marked(WAYS[way], fed(way, key, &f, &n, too_long, TOO_LONG, 1), GFP_TOO_LONG, &f, &n, 5, 6);
+        marked(WAYS[way], fed(way, k, word, &f, &n, too_long, TOO_LONG, 8), GFP_TOO_LONG, &f, &n, 5, 6);
+        marked(WAYS[way], fed(way, k, word, &f, &n, too_long, TOO_LONG, 1), GFP_TOO_LONG, &f, &n, 5, 6);
         n = LONGEST;
-        marked(WAYS[way], fed(way, key, &f, &n, AB, 1, 8), GFP_TOO_LONG, &f, &n, 5, LONGEST);
-        marked(WAYS[way], fed(way, key, &f, &n, UNFINISHED + 1, 1, 2), GFP_TOO_LONG, &f, &n, 5, LONGEST);
+        marked(WAYS[way], fed(way, k, word, &f, &n, AB, 1, 8), GFP_TOO_LONG, &f, &n, 5, LONGEST);
+        marked(WAYS[way], fed(way, k, word, &f, &n, UNFINISHED + 1, 1, 2), GFP_TOO_LONG, &f, &n, 5, LONGEST);
         f = above, n = 6;
-        marked(WAYS[way], fed(way, key, &f, &n, AB, 2, 8), GFP_MARK_NOT_REDUCED, &f, &n, above, 6);
+        marked(WAYS[way], fed(way, k, word, &f, &n, AB, 2, 8), GFP_MARK_NOT_REDUCED, &f, &n, above, 6);
     }
     f = 5, n = 6;
     memcpy(damaged, words, sizeof damaged);
@@ -131,6 +167,32 @@ static void feeding(void) {
     marked("feed_table", gfp_feed_table(KEY, &f, &n, words, 1023, AB, 2, 8), GFP_TABLE_SIZE, &f, &n, 5, 6);
     marked("feed_table", gfp_feed_table(KEY, &f, &n, damaged, GFP_TABLE_WORDS, AB, 2, 8), GFP_TABLE_WORD, &f, &n, 5, 6);
     marked("feed_house", gfp_feed_house(KEY, &f, &n, AB, 2, 8), GFP_TABLE_WORD, &f, &n, 5, 6);
+    marked("feed_house", gfp_feed_house(KEY_64, &f, &n, AB, 2, 8), GFP_TABLE_WORD, &f, &n, 5, 6);
+}
+
+/* degree 64: two files that share a fingerprint, and fingerprints of 2^63 or more, which are refused at degree 63 */
+static void degree_64(void) {
+    static const uint8_t ZEROS[9] = {0, 0, 0, 0, 0, 0, 0, 0, 0}, SAME[9] = {1, 0, 0, 0, 0, 0, 0, 0, 0x1b};
+    const uint64_t half = UINT64_C(1) << 63;
+    uint64_t f = 1, n = 0;
+    marked("feed", gfp_feed(KEY_64, &f, &n, AB, 2, 8), GFP_OK, &f, &n, 0x14142, 16);
+    f = 1, n = 0;
+    marked("feed", gfp_feed(KEY_64, &f, &n, ZEROS, 9, 8), GFP_OK, &f, &n, 0x1b00, 72);
+    f = 1, n = 0;
+    marked("feed", gfp_feed(KEY_64, &f, &n, SAME, 9, 8), GFP_OK, &f, &n, 0x1b00, 72);
+    f = half, n = 64;
+    marked("feed", gfp_feed(KEY_64, &f, &n, ZEROS, 1, 1), GFP_OK, &f, &n, 0x1b, 65);
+    f = UINT64_MAX, n = 64;
+    marked("join_behind", gfp_join_behind(KEY_64, &f, &n, 1, 0), GFP_OK, &f, &n, UINT64_MAX, 64);
+    f = 1, n = 0;
+    marked("join_behind", gfp_join_behind(KEY_64, &f, &n, UINT64_MAX, 64), GFP_OK, &f, &n, UINT64_MAX, 64);
+    marked("join_in_front", gfp_join_in_front(KEY_64, &f, &n, 1, 0), GFP_OK, &f, &n, UINT64_MAX, 64);
+    marked("replace_page", gfp_replace_page(KEY_64, &f, &n, 0, AB, 2, 8, AB, 2, 8), GFP_OK, &f, &n, UINT64_MAX, 64);
+    f = half, n = 64;
+    marked("feed", gfp_feed(63, 3, &f, &n, ZEROS, 1, 1), GFP_MARK_NOT_REDUCED, &f, &n, half, 64);
+    marked("join_behind", gfp_join_behind(63, 3, &f, &n, 1, 0), GFP_MARK_NOT_REDUCED, &f, &n, half, 64);
+    marked("replace_page", gfp_replace_page(63, 3, &f, &n, 0, AB, 2, 8, AB, 2, 8), GFP_MARK_NOT_REDUCED, &f, &n, half,
+           64);
 }
 
 /* parts that stop inside a byte, and each wrong final byte */
@@ -139,23 +201,24 @@ static void unfinished_parts(void) {
     uint64_t f, n;
     int way;
     for (way = 0; way < 3; way++) {
-        const uint64_t key = way == 2 ? GFP_HOUSE_KEY : KEY;
+        const uint32_t k = way == 2 ? GFP_HOUSE_DEGREE : 8;
+        const uint64_t word = way == 2 ? GFP_HOUSE_WORD : 0x1b;
         f = 1, n = 0;
-        marked(WAYS[way], fed(way, key, &f, &n, UNFINISHED, 2, 3), GFP_OK, &f, &n, way == 2 ? 0xa0a : 0xe4, 11);
+        marked(WAYS[way], fed(way, k, word, &f, &n, UNFINISHED, 2, 3), GFP_OK, &f, &n, way == 2 ? 0xa0a : 0xe4, 11);
         f = 1, n = 0;
-        marked(WAYS[way], fed(way, key, &f, &n, UNFINISHED + 1, 1, 3), GFP_OK, &f, &n, 0x0a, 3);
-        marked(WAYS[way], fed(way, key, &f, &n, REST, 2, 5), GFP_OK, &f, &n, way == 2 ? 0x14142 : 0x9d, 16);
+        marked(WAYS[way], fed(way, k, word, &f, &n, UNFINISHED + 1, 1, 3), GFP_OK, &f, &n, 0x0a, 3);
+        marked(WAYS[way], fed(way, k, word, &f, &n, REST, 2, 5), GFP_OK, &f, &n, way == 2 ? 0x14142 : 0x9d, 16);
         f = 5, n = 6;
-        marked(WAYS[way], fed(way, key, &f, &n, AB, 2, 0), GFP_FINAL_BYTE, &f, &n, 5, 6);
-        marked(WAYS[way], fed(way, key, &f, &n, AB, 2, 9), GFP_FINAL_BYTE, &f, &n, 5, 6);
-        marked(WAYS[way], fed(way, key, &f, &n, AB, 2, UINT32_MAX), GFP_FINAL_BYTE, &f, &n, 5, 6);
-        marked(WAYS[way], fed(way, key, &f, &n, AB, 2, 6), GFP_FINAL_BYTE, &f, &n, 5, 6);
-        marked(WAYS[way], fed(way, key, &f, &n, AB, 0, 7), GFP_FINAL_BYTE, &f, &n, 5, 6);
+        marked(WAYS[way], fed(way, k, word, &f, &n, AB, 2, 0), GFP_FINAL_BYTE, &f, &n, 5, 6);
+        marked(WAYS[way], fed(way, k, word, &f, &n, AB, 2, 9), GFP_FINAL_BYTE, &f, &n, 5, 6);
+        marked(WAYS[way], fed(way, k, word, &f, &n, AB, 2, UINT32_MAX), GFP_FINAL_BYTE, &f, &n, 5, 6);
+        marked(WAYS[way], fed(way, k, word, &f, &n, AB, 2, 6), GFP_FINAL_BYTE, &f, &n, 5, 6);
+        marked(WAYS[way], fed(way, k, word, &f, &n, AB, 0, 7), GFP_FINAL_BYTE, &f, &n, 5, 6);
         /* in a length 0 and 9 count as 8 */
         n = LONGEST - 7;
-        marked(WAYS[way], fed(way, key, &f, &n, AB, 1, 0), GFP_TOO_LONG, &f, &n, 5, LONGEST - 7);
-        marked(WAYS[way], fed(way, key, &f, &n, AB, 1, 9), GFP_TOO_LONG, &f, &n, 5, LONGEST - 7);
-        marked(WAYS[way], fed(way, key, &f, &n, AB, 1, 7), GFP_FINAL_BYTE, &f, &n, 5, LONGEST - 7);
+        marked(WAYS[way], fed(way, k, word, &f, &n, AB, 1, 0), GFP_TOO_LONG, &f, &n, 5, LONGEST - 7);
+        marked(WAYS[way], fed(way, k, word, &f, &n, AB, 1, 9), GFP_TOO_LONG, &f, &n, 5, LONGEST - 7);
+        marked(WAYS[way], fed(way, k, word, &f, &n, AB, 1, 7), GFP_FINAL_BYTE, &f, &n, 5, LONGEST - 7);
     }
 }
 
@@ -174,11 +237,11 @@ static void joining(void) {
     marked("join_behind", gfp_join_behind(KEY, &f, &n, 1, 0), GFP_OK, &f, &n, 5, LONGEST);
     marked("join_behind", gfp_join_behind(KEY, &f, &n, 1, 1), GFP_TOO_LONG, &f, &n, 5, LONGEST);
     f = 5, n = 6;
-    marked("join_behind", gfp_join_behind(SMALL, &f, &n, 1, 1), GFP_KEY_BELOW_256, &f, &n, 5, 6);
+    marked("join_behind", gfp_join_behind(SMALL, &f, &n, 1, 1), GFP_KEY_RANGE, &f, &n, 5, 6);
     marked("join_behind", gfp_join_behind(REDUCIBLE, &f, &n, 1, 1), GFP_KEY_REDUCIBLE, &f, &n, 5, 6);
     marked("join_behind", gfp_join_behind(KEY, &f, &n, 1, LONGEST), GFP_TOO_LONG, &f, &n, 5, 6);
     marked("join_behind", gfp_join_behind(KEY, &f, &n, 0x100, 1), GFP_MARK_NOT_REDUCED, &f, &n, 5, 6);
-    marked("join_in_front", gfp_join_in_front(SMALL, &f, &n, 1, 1), GFP_KEY_BELOW_256, &f, &n, 5, 6);
+    marked("join_in_front", gfp_join_in_front(SMALL, &f, &n, 1, 1), GFP_KEY_RANGE, &f, &n, 5, 6);
     marked("join_in_front", gfp_join_in_front(REDUCIBLE, &f, &n, 1, 1), GFP_KEY_REDUCIBLE, &f, &n, 5, 6);
     marked("join_in_front", gfp_join_in_front(KEY, &f, &n, 1, LONGEST), GFP_TOO_LONG, &f, &n, 5, 6);
     marked("join_in_front", gfp_join_in_front(KEY, &f, &n, 0x100, 1), GFP_MARK_NOT_REDUCED, &f, &n, 5, 6);
@@ -187,11 +250,11 @@ static void joining(void) {
 static uint64_t page_f, page_n;
 
 /* a call of gfp_replace_page with pages of one length in bytes, its number, and the fingerprint after it */
-static void replaced(uint64_t key, uint64_t place, const uint8_t *old_page, uint32_t old_used, const uint8_t *new_page,
-                     uint32_t new_used, size_t length, uint32_t expected, uint64_t after) {
+static void replaced(uint32_t degree, uint64_t word, uint64_t place, const uint8_t *old_page, uint32_t old_used,
+                     const uint8_t *new_page, uint32_t new_used, size_t length, uint32_t expected, uint64_t after) {
     const uint64_t bits = page_n;
-    const uint32_t number = gfp_replace_page(key, &page_f, &page_n, place, old_page, length, old_used, new_page, length,
-                                             new_used);
+    const uint32_t number = gfp_replace_page(degree, word, &page_f, &page_n, place, old_page, length, old_used,
+                                             new_page, length, new_used);
     marked("replace_page", number, expected, &page_f, &page_n, after, bits);
 }
 
@@ -201,7 +264,7 @@ static void page_change(void) {
     page_f = 0x9d, page_n = 16;
     replaced(KEY, 0, AB, 8, CD, 8, 2, GFP_OK, whole);
     page_f = 5, page_n = 48;
-    replaced(SMALL, 0, AB, 8, CD, 8, 2, GFP_KEY_BELOW_256, 5);
+    replaced(SMALL, 0, AB, 8, CD, 8, 2, GFP_KEY_RANGE, 5);
     replaced(REDUCIBLE, 0, AB, 8, CD, 8, 2, GFP_KEY_REDUCIBLE, 5);
     replaced(KEY, 5, AB, 8, CD, 8, 2, GFP_PAGE_PAST_END, 5);
     replaced(KEY, UINT64_C(1) << 61, AB, 8, CD, 8, 2, GFP_PAGE_PAST_END, 5);
@@ -239,7 +302,7 @@ static void unfinished_pages(void) {
 static void searching(void) {
     static const uint8_t text[5] = {'a', 'a', 'a', 'b', 'a'};
     uint32_t places[3] = {7, 7, 7}, count = NONE32, alarms = NONE32;
-    same("search", gfp_search(SMALL, text, 5, text, 2, places, 3, &count, &alarms), GFP_KEY_BELOW_256);
+    same("search", gfp_search(SMALL, text, 5, text, 2, places, 3, &count, &alarms), GFP_KEY_RANGE);
     same("search", gfp_search(REDUCIBLE, text, 5, text, 2, places, 3, &count, &alarms), GFP_KEY_REDUCIBLE);
     same("search", gfp_search(KEY, too_long, TOO_LONG, text, 2, places, 3, &count, &alarms), GFP_TOO_LONG);
     same("search", gfp_search(KEY, text, 5, text, 0, places, 3, &count, &alarms), GFP_EMPTY_PATTERN);
@@ -252,137 +315,168 @@ static void searching(void) {
 }
 
 /* what gfp_read_sheet writes */
-static uint32_t version;
-static uint64_t key_read, bits_read, size_read, pages_read, fingerprint_read;
+static uint32_t version, degree_read;
+static uint64_t word_read, bits_read, size_read, pages_read, fingerprint_read;
 
 static uint32_t read_all(const uint8_t *sheet, size_t sheet_length) {
-    version = NONE32, key_read = bits_read = size_read = pages_read = fingerprint_read = NONE;
-    return gfp_read_sheet(sheet, sheet_length, &version, &key_read, &bits_read, &size_read, &pages_read,
+    version = degree_read = NONE32, word_read = bits_read = size_read = pages_read = fingerprint_read = NONE;
+    return gfp_read_sheet(sheet, sheet_length, &version, &degree_read, &word_read, &bits_read, &size_read, &pages_read,
                           &fingerprint_read);
 }
 
 static int nothing_read(void) {
-    return version == NONE32 && key_read == NONE && bits_read == NONE && size_read == NONE && pages_read == NONE
-           && fingerprint_read == NONE;
+    return version == NONE32 && degree_read == NONE32 && word_read == NONE && bits_read == NONE && size_read == NONE
+           && pages_read == NONE && fingerprint_read == NONE;
 }
 
-/* of a sheet under KEY with one page of 16 bytes */
-static int one_page_read(uint32_t version_expected, uint64_t bits, uint64_t fingerprint) {
-    return version == version_expected && key_read == KEY && bits_read == bits && size_read == 16 && pages_read == 1
-           && fingerprint_read == fingerprint;
+/* of a sheet under a key with one page of 16 bytes */
+static int one_page_read(uint32_t version_expected, uint32_t degree, uint64_t word, uint64_t bits,
+                         uint64_t fingerprint) {
+    return version == version_expected && degree_read == degree && word_read == word && bits_read == bits
+           && size_read == 16 && pages_read == 1 && fingerprint_read == fingerprint;
 }
 
 static void writing_sheets(void) {
-    static const uint8_t expected[39] = {'G', 'F', 'P', 0, 3, 0, 0, 0, 0, 0, 0, 1, 0x1b, 0, 0, 0, 0, 0, 0, 0,
-                                         16, 0, 16, 0, 0, 0, 0, 0, 0, 0, 0x9d, 0, 0, 0, 0, 0, 0, 0, 0x9d};
-    uint8_t sheet[40];
+    static const uint8_t expected[40] = {'G', 'F', 'P', 0, 4, 8, 0, 0, 0, 0, 0, 0, 0, 0x1b, 0, 0, 0, 0, 0, 0,
+                                         0, 16, 0, 16, 0, 0, 0, 0, 0, 0, 0, 0x9d, 0, 0, 0, 0, 0, 0, 0, 0x9d};
+    static const uint8_t expected_64[40] = {'G', 'F', 'P', 0, 4, 64, 0, 0, 0, 0, 0, 0, 0, 0x1b, 0, 0, 0, 0, 0, 0,
+                                            0, 16, 0, 16, 0, 0, 0, 0, 0, 1, 0x41, 0x42, 0, 0, 0, 0, 0, 1, 0x41, 0x42};
+    uint8_t sheet[41];
     memset(sheet, 9, sizeof sheet);
-    same("write_sheet", gfp_write_sheet(SMALL, 16, AB, 2, 8, sheet, 40), GFP_KEY_BELOW_256);
-    same("write_sheet", gfp_write_sheet(REDUCIBLE, 16, AB, 2, 8, sheet, 40), GFP_KEY_REDUCIBLE);
-    same("write_sheet", gfp_write_sheet(KEY, 16, too_long, TOO_LONG, 8, sheet, 40), GFP_TOO_LONG);
-    same("write_sheet", gfp_write_sheet(KEY, 15, AB, 2, 8, sheet, 40), GFP_PAGE_SIZE);
-    same("write_sheet", gfp_write_sheet(KEY, 16, AB, 2, 8, sheet, 38), GFP_BUFFER_SHORT);
-    same("write_sheet", gfp_write_sheet(KEY, 16, AB, 2, 0, sheet, 38), GFP_BUFFER_SHORT);
-    same("write_sheet", gfp_write_sheet(KEY, 16, AB, 2, 0, sheet, 40), GFP_FINAL_BYTE);
-    same("write_sheet", gfp_write_sheet(KEY, 16, AB, 2, 9, sheet, 40), GFP_FINAL_BYTE);
-    same("write_sheet", gfp_write_sheet(KEY, 16, AB, 2, 6, sheet, 40), GFP_FINAL_BYTE);
-    same("write_sheet", gfp_write_sheet(KEY, 16, AB, 0, 7, sheet, 40), GFP_FINAL_BYTE);
-    same("write_sheet", sheet[0] == 9 && sheet[38] == 9, 1);
-    same("write_sheet", gfp_write_sheet(KEY, 16, AB, 2, 8, sheet, 40), GFP_OK);
-    same("write_sheet", memcmp(sheet, expected, 39) == 0 && sheet[39] == 9, 1);
+    same("write_sheet", gfp_write_sheet(SMALL, 16, AB, 2, 8, sheet, 41), GFP_KEY_RANGE);
+    same("write_sheet", gfp_write_sheet(LARGE, 16, AB, 2, 8, sheet, 41), GFP_KEY_RANGE);
+    same("write_sheet", gfp_write_sheet(WIDE, 16, AB, 2, 8, sheet, 41), GFP_KEY_RANGE);
+    same("write_sheet", gfp_write_sheet(REDUCIBLE, 16, AB, 2, 8, sheet, 41), GFP_KEY_REDUCIBLE);
+    same("write_sheet", gfp_write_sheet(KEY, 16, too_long, TOO_LONG, 8, sheet, 41), GFP_TOO_LONG);
+    same("write_sheet", gfp_write_sheet(KEY, 15, AB, 2, 8, sheet, 41), GFP_PAGE_SIZE);
+    same("write_sheet", gfp_write_sheet(KEY, 16, AB, 2, 8, sheet, 39), GFP_BUFFER_SHORT);
+    same("write_sheet", gfp_write_sheet(KEY, 16, AB, 2, 0, sheet, 39), GFP_BUFFER_SHORT);
+    same("write_sheet", gfp_write_sheet(KEY, 16, AB, 2, 0, sheet, 41), GFP_FINAL_BYTE);
+    same("write_sheet", gfp_write_sheet(KEY, 16, AB, 2, 9, sheet, 41), GFP_FINAL_BYTE);
+    same("write_sheet", gfp_write_sheet(KEY, 16, AB, 2, 6, sheet, 41), GFP_FINAL_BYTE);
+    same("write_sheet", gfp_write_sheet(KEY, 16, AB, 0, 7, sheet, 41), GFP_FINAL_BYTE);
+    same("write_sheet", sheet[0] == 9 && sheet[39] == 9, 1);
+    same("write_sheet", gfp_write_sheet(KEY, 16, AB, 2, 8, sheet, 41), GFP_OK);
+    same("write_sheet", memcmp(sheet, expected, 40) == 0 && sheet[40] == 9, 1);
     same("GFP_SHEET_VERSION", (unsigned)sheet[3] << 8 | sheet[4], GFP_SHEET_VERSION);
-    same("write_sheet", gfp_write_sheet(KEY, 16, UNFINISHED, 2, 3, sheet, 40), GFP_OK);
-    same("write_sheet", sheet[20] == 11 && sheet[30] == 0xe4 && sheet[38] == 0xe4 && sheet[39] == 9, 1);
+    same("write_sheet", gfp_write_sheet(KEY_64, 16, AB, 2, 8, sheet, 41), GFP_OK);
+    same("write_sheet", memcmp(sheet, expected_64, 40) == 0 && sheet[40] == 9, 1);
+    same("read_sheet", read_all(sheet, 40), GFP_OK);
+    same("read_sheet", one_page_read(4, KEY_64, 16, 0x14142), 1);
+    same("write_sheet", gfp_write_sheet(KEY, 16, UNFINISHED, 2, 3, sheet, 41), GFP_OK);
+    same("write_sheet", sheet[21] == 11 && sheet[31] == 0xe4 && sheet[39] == 0xe4 && sheet[40] == 9, 1);
 }
 
 static void reading_sheets(void) {
-    uint8_t sheet[40];
+    static const uint8_t DEGREES[4] = {0, 7, 65, 255};
+    uint8_t sheet[41];
     uint64_t fingerprints[2] = {7, 7};
+    int i;
     memset(sheet, 9, sizeof sheet);
-    same("write_sheet", gfp_write_sheet(KEY, 16, AB, 2, 8, sheet, 40), GFP_OK);
-    same("read_sheet", read_all(sheet, 40), GFP_SHEET_MALFORMED);
+    same("write_sheet", gfp_write_sheet(KEY, 16, AB, 2, 8, sheet, 41), GFP_OK);
+    same("read_sheet", read_all(sheet, 41), GFP_SHEET_MALFORMED);
     same("read_sheet", nothing_read(), 1);
-    same("read_sheet", read_all(sheet, 39), GFP_OK);
-    same("read_sheet", one_page_read(3, 16, 0x9d), 1);
-    same("read_pages", gfp_read_pages(sheet, 40, fingerprints, 2), GFP_SHEET_MALFORMED);
+    same("read_sheet", read_all(sheet, 40), GFP_OK);
+    same("read_sheet", one_page_read(4, KEY, 16, 0x9d), 1);
+    same("read_pages", gfp_read_pages(sheet, 41, fingerprints, 2), GFP_SHEET_MALFORMED);
     same("read_pages", fingerprints[0], 7);
-    same("read_pages", gfp_read_pages(sheet, 39, fingerprints, 2), GFP_OK);
+    same("read_pages", gfp_read_pages(sheet, 40, fingerprints, 2), GFP_OK);
     same("read_pages", fingerprints[0] == 0x9d && fingerprints[1] == 7, 1);
-    sheet[22] = 15;
-    same("read_sheet", read_all(sheet, 39), GFP_PAGE_SIZE);
-    sheet[11] = 0, sheet[12] = 0xff;
-    same("read_sheet", read_all(sheet, 39), GFP_KEY_BELOW_256);
-    same("read_sheet", read_all(sheet, 31), GFP_KEY_BELOW_256);
-    same("read_sheet", read_all(sheet, 30), GFP_SHEET_MALFORMED);
-    same("read_sheet", read_all(sheet, 27), GFP_SHEET_MALFORMED);
-    sheet[11] = 1, sheet[12] = 1;
-    same("read_sheet", read_all(sheet, 39), GFP_KEY_REDUCIBLE);
+    sheet[23] = 15;
+    same("read_sheet", read_all(sheet, 40), GFP_PAGE_SIZE);
+    /* the degree, the word's bit at t^8, and the word of a reducible key */
+    for (i = 0; i < 4; i++) {
+        sheet[5] = DEGREES[i];
+        same("read_sheet", read_all(sheet, 40), GFP_KEY_RANGE);
+        same("read_sheet", read_all(sheet, 32), GFP_KEY_RANGE);
+        same("read_sheet", read_all(sheet, 31), GFP_SHEET_MALFORMED);
+        same("read_sheet", read_all(sheet, 27), GFP_SHEET_MALFORMED);
+    }
+    sheet[5] = 8, sheet[12] = 1;
+    same("read_sheet", read_all(sheet, 40), GFP_KEY_RANGE);
+    sheet[12] = 0, sheet[13] = 1;
+    same("read_sheet", read_all(sheet, 40), GFP_KEY_REDUCIBLE);
     /* the length field past the limit, by one and by far, whatever the key */
-    sheet[16] = 7, sheet[17] = sheet[18] = sheet[19] = 0xff, sheet[20] = 0xf8;
-    same("read_sheet", read_all(sheet, 39), GFP_KEY_REDUCIBLE);
-    sheet[20] = 0xf9;
-    same("read_sheet", read_all(sheet, 39), GFP_SHEET_MALFORMED);
-    memset(sheet + 13, 0xff, 8);
-    same("read_sheet", read_all(sheet, 39), GFP_SHEET_MALFORMED);
+    sheet[17] = 7, sheet[18] = sheet[19] = sheet[20] = 0xff, sheet[21] = 0xf8;
+    same("read_sheet", read_all(sheet, 40), GFP_KEY_REDUCIBLE);
+    sheet[21] = 0xf9;
+    same("read_sheet", read_all(sheet, 40), GFP_SHEET_MALFORMED);
+    memset(sheet + 14, 0xff, 8);
+    same("read_sheet", read_all(sheet, 40), GFP_SHEET_MALFORMED);
     same("read_sheet", nothing_read(), 1);
 }
 
 static void checking_files(void) {
-    uint8_t sheet[39];
+    uint8_t sheet[40];
     uint32_t outcome = NONE32, page = NONE32;
-    same("write_sheet", gfp_write_sheet(KEY, 16, AB, 2, 8, sheet, 39), GFP_OK);
-    same("check_file", gfp_check_file(sheet, 39, too_long, TOO_LONG, 8, &outcome, &page), GFP_TOO_LONG);
-    same("check_file", gfp_check_file(sheet, 39, too_long, TOO_LONG, 0, &outcome, &page), GFP_TOO_LONG);
-    same("check_file", gfp_check_file(sheet, 38, AB, 2, 8, &outcome, &page), GFP_SHEET_MALFORMED);
-    same("check_file", gfp_check_file(sheet, 39, AB, 2, 0, &outcome, &page), GFP_FINAL_BYTE);
-    same("check_file", gfp_check_file(sheet, 39, AB, 1, 9, &outcome, &page), GFP_FINAL_BYTE);
-    same("check_file", gfp_check_file(sheet, 39, AB, 2, 6, &outcome, &page), GFP_FINAL_BYTE);
+    same("write_sheet", gfp_write_sheet(KEY, 16, AB, 2, 8, sheet, 40), GFP_OK);
+    same("check_file", gfp_check_file(sheet, 40, too_long, TOO_LONG, 8, &outcome, &page), GFP_TOO_LONG);
+    same("check_file", gfp_check_file(sheet, 40, too_long, TOO_LONG, 0, &outcome, &page), GFP_TOO_LONG);
+    same("check_file", gfp_check_file(sheet, 39, AB, 2, 8, &outcome, &page), GFP_SHEET_MALFORMED);
+    same("check_file", gfp_check_file(sheet, 40, AB, 2, 0, &outcome, &page), GFP_FINAL_BYTE);
+    same("check_file", gfp_check_file(sheet, 40, AB, 1, 9, &outcome, &page), GFP_FINAL_BYTE);
+    same("check_file", gfp_check_file(sheet, 40, AB, 2, 6, &outcome, &page), GFP_FINAL_BYTE);
     same("check_file", outcome == NONE32 && page == NONE32, 1);
-    same("check_file", gfp_check_file(sheet, 39, AB, 1, 8, &outcome, &page), GFP_OK);
+    same("check_file", gfp_check_file(sheet, 40, AB, 1, 8, &outcome, &page), GFP_OK);
     same("check_file", outcome == GFP_OTHER_LENGTH && page == 0, 1);
     page = outcome = NONE32;
-    same("check_file", gfp_check_file(sheet, 39, AB, 2, 7, &outcome, &page), GFP_OK);
+    same("check_file", gfp_check_file(sheet, 40, AB, 2, 7, &outcome, &page), GFP_OK);
     same("check_file", outcome == GFP_OTHER_LENGTH && page == 0, 1);
     page = NONE32;
-    same("check_file", gfp_check_file(sheet, 39, AB, 2, 8, &outcome, &page), GFP_OK);
+    same("check_file", gfp_check_file(sheet, 40, AB, 2, 8, &outcome, &page), GFP_OK);
     same("check_file", outcome == GFP_SAME && page == 0, 1);
     page = NONE32;
-    same("check_file", gfp_check_file(sheet, 39, CD, 2, 8, &outcome, &page), GFP_OK);
+    same("check_file", gfp_check_file(sheet, 40, CD, 2, 8, &outcome, &page), GFP_OK);
     same("check_file", outcome == GFP_PAGE && page == 0, 1);
-    same("write_sheet", gfp_write_sheet(KEY, 16, UNFINISHED, 2, 3, sheet, 39), GFP_OK);
-    same("check_file", gfp_check_file(sheet, 39, UNFINISHED, 2, 3, &outcome, &page), GFP_OK);
+    same("write_sheet", gfp_write_sheet(KEY, 16, UNFINISHED, 2, 3, sheet, 40), GFP_OK);
+    same("check_file", gfp_check_file(sheet, 40, UNFINISHED, 2, 3, &outcome, &page), GFP_OK);
     same("check_file", outcome == GFP_SAME && page == 0, 1);
-    same("check_file", gfp_check_file(sheet, 39, OTHER, 2, 3, &outcome, &page), GFP_OK);
+    same("check_file", gfp_check_file(sheet, 40, OTHER, 2, 3, &outcome, &page), GFP_OK);
     same("check_file", outcome == GFP_PAGE && page == 0, 1);
-    same("check_file", gfp_check_file(sheet, 39, UNFINISHED, 2, 4, &outcome, &page), GFP_OK);
+    same("check_file", gfp_check_file(sheet, 40, UNFINISHED, 2, 4, &outcome, &page), GFP_OK);
     same("check_file", outcome == GFP_OTHER_LENGTH && page == 0, 1);
 }
 
-/* the sheet of 41 42 in version 1, whose page is filled up with zero bytes, or in version 2 */
+/* the sheet of 41 42 in a version whose key is a number: in version 1 its page is filled up with zero bytes; in
+ * versions 1 and 2 its length is in bytes, in version 3 in bits */
 static void sheets_of_version(uint8_t number, uint8_t page_field) {
-    uint8_t sheet[35] = {'G', 'F', 'P', 0, 0, 0, 0, 0, 0, 0, 0, 1, 0x1b, 0, 0, 0, 2, 0,
-                         16,  0,   0,   0, 0, 0, 0, 0, 0, 0, 0, 0, 0,    0, 0, 0, 0x9d};
+    static const uint8_t IN_BYTES[14] = {0, 0, 0, 0, 0, 0, 1, 0x1b, 0, 0, 0, 2, 0, 16};
+    static const uint8_t IN_BITS[18] = {0, 0, 0, 0, 0, 0, 1, 0x1b, 0, 0, 0, 0, 0, 0, 0, 16, 0, 16};
+    const size_t head = number < 3 ? 19 : 23, total = head + 16;
+    uint8_t sheet[39] = {'G', 'F', 'P'};
     uint64_t fingerprints[2] = {7, 7}, from = NONE, to = NONE;
     uint32_t outcome = NONE32, page = NONE32;
-    sheet[4] = number, sheet[26] = page_field;
-    same("read_sheet", read_all(sheet, 35), GFP_OK);
-    same("read_sheet", one_page_read(number, 16, 0x9d), 1);
-    same("read_pages", gfp_read_pages(sheet, 35, fingerprints, 2), GFP_OK);
+    memcpy(sheet + 5, number < 3 ? IN_BYTES : IN_BITS, head - 5);
+    sheet[4] = number, sheet[head + 7] = page_field, sheet[head + 15] = 0x9d;
+    same("read_sheet", read_all(sheet, total), GFP_OK);
+    same("read_sheet", one_page_read(number, KEY, 16, 0x9d), 1);
+    same("read_pages", gfp_read_pages(sheet, total, fingerprints, 2), GFP_OK);
     same("read_pages", fingerprints[0] == page_field && fingerprints[1] == 7, 1);
-    same("check_file", gfp_check_file(sheet, 35, AB, 2, 8, &outcome, &page), GFP_OK);
+    same("check_file", gfp_check_file(sheet, total, AB, 2, 8, &outcome, &page), GFP_OK);
     same("check_file", outcome == GFP_SAME && page == 0, 1);
-    same("check_file", gfp_check_file(sheet, 35, UNFINISHED, 2, 3, &outcome, &page), GFP_OK);
+    same("check_file", gfp_check_file(sheet, total, UNFINISHED, 2, 3, &outcome, &page), GFP_OK);
     same("check_file", outcome == GFP_OTHER_LENGTH && page == 0, 1);
-    same("changed_range", gfp_changed_range(sheet, 35, CD, 2, 8, &outcome, &from, &to), GFP_OK);
+    same("changed_range", gfp_changed_range(sheet, total, CD, 2, 8, &outcome, &from, &to), GFP_OK);
     same("changed_range", outcome == GFP_PAGE && from == 0 && to == 2, 1);
-    sheet[4] = (uint8_t)(3 - number);
-    same("read_sheet", read_all(sheet, 35), GFP_SHEET_MALFORMED);
-    sheet[4] = 3;
-    same("read_sheet", read_all(sheet, 35), GFP_PAGE_SIZE);
+    /* the key, a number below 256 and a reducible one */
+    sheet[11] = 0;
+    same("read_sheet", read_all(sheet, total), GFP_KEY_RANGE);
+    sheet[11] = 1, sheet[12] = 1;
+    same("read_sheet", read_all(sheet, total), GFP_KEY_REDUCIBLE);
+    sheet[12] = 0x1b;
+    if (number < 3) {
+        sheet[4] = (uint8_t)(3 - number);
+        same("read_sheet", read_all(sheet, total), GFP_SHEET_MALFORMED);
+        sheet[4] = 3;
+        same("read_sheet", read_all(sheet, total), GFP_PAGE_SIZE);
+    }
+    /* in version 4 the first byte of the number is the degree; other versions there are none */
     sheet[4] = 4;
-    same("read_sheet", read_all(sheet, 35), GFP_SHEET_MALFORMED);
+    same("read_sheet", read_all(sheet, total), number < 3 ? GFP_SHEET_MALFORMED : GFP_KEY_RANGE);
+    sheet[4] = 5;
+    same("read_sheet", read_all(sheet, total), GFP_SHEET_MALFORMED);
     sheet[3] = 1, sheet[4] = number;
-    same("check_file", gfp_check_file(sheet, 35, AB, 2, 8, &outcome, &page), GFP_SHEET_MALFORMED);
+    same("check_file", gfp_check_file(sheet, total, AB, 2, 8, &outcome, &page), GFP_SHEET_MALFORMED);
 }
 
 static void sheet_lengths(void) {
@@ -392,7 +486,7 @@ static void sheet_lengths(void) {
     same("sheet_length", gfp_sheet_length(40, 4097, &bytes), GFP_PAGE_SIZE);
     same("sheet_length", bytes, NONE);
     same("sheet_length", gfp_sheet_length(40, 16, &bytes), GFP_OK);
-    same("sheet_length", bytes, 55);
+    same("sheet_length", bytes, 56);
     same("sheet_length", gfp_sheet_length(0, 16, &bytes), GFP_OK);
     same("sheet_length", bytes, GFP_SHEET_BYTES);
     same("sheet_length", gfp_sheet_length(LONGEST_BYTES, 4096, &bytes), GFP_OK);
@@ -401,40 +495,44 @@ static void sheet_lengths(void) {
 
 /* a file of 40 bytes, with all bits of the final byte or with 1 */
 static void ranges(uint32_t used) {
-    static uint8_t file[40], sheet[55];
+    static uint8_t file[40], sheet[56];
     uint64_t from = NONE, to = NONE;
     uint32_t outcome = NONE32;
     memset(file, 0, sizeof file);
-    same("write_sheet", gfp_write_sheet(GFP_HOUSE_KEY, 16, file, 40, used, sheet, 55), GFP_OK);
-    same("changed_range", gfp_changed_range(sheet, 54, file, 40, used, &outcome, &from, &to), GFP_SHEET_MALFORMED);
-    same("changed_range", gfp_changed_range(sheet, 55, too_long, TOO_LONG, used, &outcome, &from, &to), GFP_TOO_LONG);
-    same("changed_range", gfp_changed_range(sheet, 55, file, 40, 0, &outcome, &from, &to), GFP_FINAL_BYTE);
-    same("changed_range", gfp_changed_range(sheet, 55, file, 0, 7, &outcome, &from, &to), GFP_FINAL_BYTE);
+    same("write_sheet", gfp_write_sheet(HOUSE, 16, file, 40, used, sheet, 56), GFP_OK);
+    same("changed_range", gfp_changed_range(sheet, 55, file, 40, used, &outcome, &from, &to), GFP_SHEET_MALFORMED);
+    same("changed_range", gfp_changed_range(sheet, 56, too_long, TOO_LONG, used, &outcome, &from, &to), GFP_TOO_LONG);
+    same("changed_range", gfp_changed_range(sheet, 56, file, 40, 0, &outcome, &from, &to), GFP_FINAL_BYTE);
+    same("changed_range", gfp_changed_range(sheet, 56, file, 0, 7, &outcome, &from, &to), GFP_FINAL_BYTE);
     same("changed_range", outcome == NONE32 && from == NONE && to == NONE, 1);
-    same("changed_range", gfp_changed_range(sheet, 55, file, 40, used, &outcome, &from, &to), GFP_OK);
+    same("changed_range", gfp_changed_range(sheet, 56, file, 40, used, &outcome, &from, &to), GFP_OK);
     same("changed_range", outcome == GFP_SAME && from == 0 && to == 0, 1);
     file[39] = 0x80;
-    same("changed_range", gfp_changed_range(sheet, 55, file, 40, used, &outcome, &from, &to), GFP_OK);
+    same("changed_range", gfp_changed_range(sheet, 56, file, 40, used, &outcome, &from, &to), GFP_OK);
     same("changed_range", outcome == GFP_PAGE && from == 32 && to == 40, 1);
     file[16] = 1;
-    same("changed_range", gfp_changed_range(sheet, 55, file, 40, used, &outcome, &from, &to), GFP_OK);
+    same("changed_range", gfp_changed_range(sheet, 56, file, 40, used, &outcome, &from, &to), GFP_OK);
     same("changed_range", outcome == GFP_PAGE && from == 16 && to == 32, 1);
-    same("changed_range", gfp_changed_range(sheet, 55, file, 39, used, &outcome, &from, &to), GFP_OK);
+    same("changed_range", gfp_changed_range(sheet, 56, file, 39, used, &outcome, &from, &to), GFP_OK);
     same("changed_range", outcome == GFP_OTHER_LENGTH && from == 0 && to == 0, 1);
     outcome = NONE32;
-    same("changed_range", gfp_changed_range(sheet, 55, file, 40, used == 8 ? 7 : 8, &outcome, &from, &to), GFP_OK);
+    same("changed_range", gfp_changed_range(sheet, 56, file, 40, used == 8 ? 7 : 8, &outcome, &from, &to), GFP_OK);
     same("changed_range", outcome == GFP_OTHER_LENGTH && from == 0 && to == 0, 1);
 }
 
 /* ---- Keyholder */
 
 static void drawing(void) {
-    uint64_t key = NONE;
-    same("draw", gfp_draw(12, 2, &key), GFP_DEGREE_NOT_LISTED);
-    same("draw", gfp_draw(11, 1, &key), GFP_ELEMENT_OUT_OF_RANGE);
-    same("draw", key, NONE);
-    same("draw", gfp_draw(11, 3, &key), GFP_OK);
-    same("draw", key, 0xf0b);
+    uint64_t word = NONE;
+    same("draw", gfp_draw(12, 2, &word), GFP_DEGREE_NOT_LISTED);
+    same("draw", gfp_draw(64, 2, &word), GFP_DEGREE_NOT_LISTED);
+    same("draw", gfp_draw((UINT32_C(1) << 31) + 11, 2, &word), GFP_DEGREE_NOT_LISTED);
+    same("draw", gfp_draw(11, 1, &word), GFP_ELEMENT_OUT_OF_RANGE);
+    same("draw", gfp_draw(11, 2048, &word), GFP_ELEMENT_OUT_OF_RANGE);
+    same("draw", word, NONE);
+    same("draw", gfp_draw(11, 3, &word), GFP_OK);
+    same("draw", word, 0x70b);
+    same("draw", gfp_test_key(11, word), GFP_OK);
 }
 
 /* ---- refusals with everything lent on a page that cannot be written to: a write would end the program */
@@ -443,7 +541,6 @@ static void read_only(void) {
     uint64_t *u = (uint64_t *)area(65536);
     uint32_t *v = (uint32_t *)(u + 4096);
     uint8_t *b = (uint8_t *)(u + 6144), written[GFP_SHEET_BYTES];
-    uint64_t key;
     int way, i;
     u[0] = 0x100, u[1] = 2;
     if (mprotect(u, 65536, PROT_READ) != 0) {
@@ -451,23 +548,25 @@ static void read_only(void) {
         exit(2);
     }
     for (i = 0; i < 3; i++) {
-        static const uint64_t KEYS[3] = {SMALL, REDUCIBLE, KEY};
-        static const uint32_t NUMBERS[3] = {GFP_KEY_BELOW_256, GFP_KEY_REDUCIBLE, GFP_MARK_NOT_REDUCED};
-        key = KEYS[i];
+        static const struct key TRIED[3] = {{SMALL}, {REDUCIBLE}, {KEY}};
+        static const uint32_t NUMBERS[3] = {GFP_KEY_RANGE, GFP_KEY_REDUCIBLE, GFP_MARK_NOT_REDUCED};
+        const uint32_t k = TRIED[i].degree;
+        const uint64_t word = TRIED[i].word;
         for (way = 0; way < 2; way++)
-            same("read-only, feeding", fed(way, key, u, u + 1, AB, 2, 8), NUMBERS[i]);
-        same("read-only, feed_house", gfp_feed_house(key, u, u + 1, AB, 2, 8), i == 2 ? GFP_TABLE_WORD : NUMBERS[i]);
-        same("read-only, join_behind", gfp_join_behind(key, u, u + 1, 1, 1), NUMBERS[i]);
-        same("read-only, join_in_front", gfp_join_in_front(key, u, u + 1, 1, 1), NUMBERS[i]);
-        same("read-only, replace_page", gfp_replace_page(key, u, u + 1, 0, AB, 2, 8, CD, 2, 8), NUMBERS[i]);
-        same("read-only, make_table", gfp_make_table(key, u, i == 2 ? 1023 : 1024),
+            same("read-only, feeding", fed(way, k, word, u, u + 1, AB, 2, 8), NUMBERS[i]);
+        same("read-only, feed_house", gfp_feed_house(k, word, u, u + 1, AB, 2, 8),
+             i == 2 ? GFP_TABLE_WORD : NUMBERS[i]);
+        same("read-only, join_behind", gfp_join_behind(k, word, u, u + 1, 1, 1), NUMBERS[i]);
+        same("read-only, join_in_front", gfp_join_in_front(k, word, u, u + 1, 1, 1), NUMBERS[i]);
+        same("read-only, replace_page", gfp_replace_page(k, word, u, u + 1, 0, AB, 2, 8, CD, 2, 8), NUMBERS[i]);
+        same("read-only, make_table", gfp_make_table(k, word, u, i == 2 ? 1023 : 1024),
              i == 2 ? GFP_TABLE_SIZE : NUMBERS[i]);
-        same("read-only, search", gfp_search(key, AB, 2, AB, i == 2 ? 0 : 1, v, 2, v + 2, v + 3),
+        same("read-only, search", gfp_search(k, word, AB, 2, AB, i == 2 ? 0 : 1, v, 2, v + 2, v + 3),
              i == 2 ? GFP_EMPTY_PATTERN : NUMBERS[i]);
-        same("read-only, write_sheet", gfp_write_sheet(key, 16, AB, 2, 8, b, 38),
+        same("read-only, write_sheet", gfp_write_sheet(k, word, 16, AB, 2, 8, b, 39),
              i == 2 ? GFP_BUFFER_SHORT : NUMBERS[i]);
     }
-    same("read-only, begin", gfp_begin(SMALL, u, u + 1), GFP_KEY_BELOW_256);
+    same("read-only, begin", gfp_begin(SMALL, u, u + 1), GFP_KEY_RANGE);
     same("read-only, feed", gfp_feed(KEY, u, u + 1, too_long, TOO_LONG, 8), GFP_TOO_LONG);
     same("read-only, join_behind", gfp_join_behind(KEY, u, u + 1, 1, LONGEST), GFP_TOO_LONG);
     same("read-only, replace_page", gfp_replace_page(KEY, u + 2, u + 1, 0, AB, 2, 8, CD, 1, 8),
@@ -475,9 +574,9 @@ static void read_only(void) {
     same("read-only, replace_page", gfp_replace_page(KEY, u + 2, u + 1, 0, AB, 0, 7, CD, 0, 7), GFP_FINAL_BYTE);
     same("read-only, feed", gfp_feed(KEY, u + 2, u + 1, AB, 2, 0), GFP_FINAL_BYTE);
     same("read-only, feed_table", gfp_feed_table(KEY, u + 2, u + 1, words, GFP_TABLE_WORDS, AB, 2, 6), GFP_FINAL_BYTE);
-    same("read-only, feed_house", gfp_feed_house(GFP_HOUSE_KEY, u + 2, u + 1, AB, 0, 7), GFP_FINAL_BYTE);
-    same("read-only, write_sheet", gfp_write_sheet(KEY, 16, AB, 2, 9, b, 39), GFP_FINAL_BYTE);
-    same("read-only, read_sheet", gfp_read_sheet(AB, 2, v, u, u + 1, u + 2, u + 3, u + 4), GFP_SHEET_MALFORMED);
+    same("read-only, feed_house", gfp_feed_house(HOUSE, u + 2, u + 1, AB, 0, 7), GFP_FINAL_BYTE);
+    same("read-only, write_sheet", gfp_write_sheet(KEY, 16, AB, 2, 9, b, 40), GFP_FINAL_BYTE);
+    same("read-only, read_sheet", gfp_read_sheet(AB, 2, v, v + 1, u, u + 1, u + 2, u + 3, u + 4), GFP_SHEET_MALFORMED);
     same("read-only, read_pages", gfp_read_pages(AB, 2, u, 2), GFP_SHEET_MALFORMED);
     same("read-only, check_file", gfp_check_file(AB, 2, AB, 2, 8, v, v + 1), GFP_SHEET_MALFORMED);
     same("read-only, changed_range", gfp_changed_range(AB, 2, AB, 2, 8, v, u, u + 1), GFP_SHEET_MALFORMED);
@@ -500,51 +599,65 @@ static void read_only(void) {
 static uint8_t file[FILE_BYTES], sheet[GFP_SHEET_BYTES + 8 * FILE_BYTES / 16];
 static uint64_t page_marks[FILE_BYTES / 16];
 static uint32_t found[64];
-static const uint64_t KEYS[4] = {KEY, GFP_HOUSE_KEY, UINT64_C(0x80000009), UINT64_C(0x8000000000000003)};
+#define KEYS 5
+static const struct key STACK_KEYS[KEYS] = {{KEY}, {HOUSE}, {31, 9}, {63, 3}, {KEY_64}};
 
-/* keys of degree 8, 61, 31 and 63; short and long parts; every function with all of them */
+/* keys of degree 8, 61, 31, 63 and 64; short and long parts; every function with all of them */
 static uint64_t f, n, w[5];
 static uint32_t c[2], used_now;
 static size_t sheet_now; /* the sheet's bytes */
 static uint8_t lent[sizeof sheet];
 
-static void run_test_key(uint64_t key, size_t m) { (void)m, gfp_test_key(key ^ 2), gfp_test_key(key); }
-static void run_stock_key(uint64_t key, size_t m) { (void)key, gfp_stock_key(m); }
-static void run_begin(uint64_t key, size_t m) { (void)m, gfp_begin(key, &f, &n); }
-static void run_feed(uint64_t key, size_t m) { f = 1, n = 0, gfp_feed(key, &f, &n, file, m, used_now); }
-static void run_make_table(uint64_t key, size_t m) { (void)m, gfp_make_table(key, words, GFP_TABLE_WORDS); }
-static void run_test_table(uint64_t key, size_t m) { (void)m, gfp_test_table(key, words, GFP_TABLE_WORDS); }
-static void run_feed_table(uint64_t key, size_t m) {
-    f = 1, n = 0, gfp_feed_table(key, &f, &n, words, GFP_TABLE_WORDS, file, m, used_now);
+static void run_test_key(struct key x, size_t m) {
+    (void)m, gfp_test_key(x.degree, x.word ^ 2), gfp_test_key(x.degree, x.word);
 }
-static void run_feed_house(uint64_t key, size_t m) { f = 1, n = 0, gfp_feed_house(key, &f, &n, file, m, used_now); }
-static void run_join_behind(uint64_t key, size_t m) { f = 1, n = 0, gfp_join_behind(key, &f, &n, 1, m); }
-static void run_join_in_front(uint64_t key, size_t m) { f = 1, n = 0, gfp_join_in_front(key, &f, &n, 1, m); }
-static void run_replace_page(uint64_t key, size_t m) {
-    f = 1, n = 8 * FILE_BYTES, gfp_replace_page(key, &f, &n, 0, file, m, used_now, file, m, used_now);
+static void run_stock_key(struct key x, size_t m) { (void)m, gfp_stock_key(x.degree); }
+static void run_begin(struct key x, size_t m) { (void)m, gfp_begin(x.degree, x.word, &f, &n); }
+static void run_feed(struct key x, size_t m) { f = 1, n = 0, gfp_feed(x.degree, x.word, &f, &n, file, m, used_now); }
+static void run_make_table(struct key x, size_t m) {
+    (void)m, gfp_make_table(x.degree, x.word, words, GFP_TABLE_WORDS);
 }
-static void run_search(uint64_t key, size_t m) { gfp_search(key, file, m, file, m / 100 + 1, found, 64, c, c + 1); }
-static void run_write_sheet(uint64_t key, size_t m) {
-    gfp_write_sheet(key, 16 + m % 64, file, m, used_now, lent, sizeof lent);
+static void run_test_table(struct key x, size_t m) {
+    (void)m, gfp_test_table(x.degree, x.word, words, GFP_TABLE_WORDS);
 }
-static void run_read_sheet(uint64_t key, size_t m) {
-    (void)key, (void)m, gfp_read_sheet(sheet, sheet_now, c, w, w + 1, w + 2, w + 3, w + 4);
+static void run_feed_table(struct key x, size_t m) {
+    f = 1, n = 0, gfp_feed_table(x.degree, x.word, &f, &n, words, GFP_TABLE_WORDS, file, m, used_now);
 }
-static void run_read_pages(uint64_t key, size_t m) {
-    (void)key, (void)m, gfp_read_pages(sheet, sheet_now, page_marks, FILE_BYTES / 16);
+static void run_feed_house(struct key x, size_t m) {
+    f = 1, n = 0, gfp_feed_house(x.degree, x.word, &f, &n, file, m, used_now);
 }
-static void run_check_file(uint64_t key, size_t m) {
-    (void)key, gfp_check_file(sheet, sheet_now, file, m, used_now, c, c + 1);
+static void run_join_behind(struct key x, size_t m) { f = 1, n = 0, gfp_join_behind(x.degree, x.word, &f, &n, 1, m); }
+static void run_join_in_front(struct key x, size_t m) {
+    f = 1, n = 0, gfp_join_in_front(x.degree, x.word, &f, &n, 1, m);
 }
-static void run_changed_range(uint64_t key, size_t m) {
-    (void)key, gfp_changed_range(sheet, sheet_now, file, m, used_now, c, w, w + 1);
+static void run_replace_page(struct key x, size_t m) {
+    f = 1, n = 8 * FILE_BYTES;
+    gfp_replace_page(x.degree, x.word, &f, &n, 0, file, m, used_now, file, m, used_now);
 }
-static void run_sheet_length(uint64_t key, size_t m) { (void)key, gfp_sheet_length(m, 16, w); }
-static void run_draw(uint64_t key, size_t m) { (void)m, gfp_draw(61, key >> 4, w), gfp_draw(11, 3, w); }
+static void run_search(struct key x, size_t m) {
+    gfp_search(x.degree, x.word, file, m, file, m / 100 + 1, found, 64, c, c + 1);
+}
+static void run_write_sheet(struct key x, size_t m) {
+    gfp_write_sheet(x.degree, x.word, 16 + m % 64, file, m, used_now, lent, sizeof lent);
+}
+static void run_read_sheet(struct key x, size_t m) {
+    (void)x, (void)m, gfp_read_sheet(sheet, sheet_now, c, c + 1, w, w + 1, w + 2, w + 3, w + 4);
+}
+static void run_read_pages(struct key x, size_t m) {
+    (void)x, (void)m, gfp_read_pages(sheet, sheet_now, page_marks, FILE_BYTES / 16);
+}
+static void run_check_file(struct key x, size_t m) {
+    (void)x, gfp_check_file(sheet, sheet_now, file, m, used_now, c, c + 1);
+}
+static void run_changed_range(struct key x, size_t m) {
+    (void)x, gfp_changed_range(sheet, sheet_now, file, m, used_now, c, w, w + 1);
+}
+static void run_sheet_length(struct key x, size_t m) { (void)x, gfp_sheet_length(m, 16, w); }
+static void run_draw(struct key x, size_t m) { gfp_draw(61, x.word << 32 ^ m, w), gfp_draw(11, 3, w); }
 
 static const struct {
     const char *name;
-    void (*run)(uint64_t key, size_t m);
+    void (*run)(struct key x, size_t m);
 } RUNS[] = {
     {"gfp_test_key", run_test_key},
     {"gfp_stock_key", run_stock_key},
@@ -568,7 +681,7 @@ static const struct {
 };
 
 static size_t now_running;
-static uint64_t now_key;
+static struct key now_key;
 static size_t now_m;
 static uint8_t *top;
 
@@ -598,6 +711,16 @@ static size_t taken(uint8_t *stack) {
     return (size_t)(top - (stack + i));
 }
 
+/* Turns the sheet into one of version 3: its key field has 8 bytes and is a number. */
+static void to_version_3(struct key x) {
+    uint64_t number = UINT64_C(1) << x.degree | x.word;
+    int i;
+    memmove(sheet + 13, sheet + 14, sizeof sheet - 14);
+    sheet[4] = 3, sheet_now -= 1;
+    for (i = 12; i >= 5; i--, number >>= 8)
+        sheet[i] = (uint8_t)number;
+}
+
 /* Turns the sheet of m bytes into one of version 2: its length field has 4 bytes and is in bytes. */
 static void to_version_2(size_t m) {
     uint8_t *field = sheet + 13;
@@ -608,7 +731,7 @@ static void to_version_2(size_t m) {
 
 /* Turns a sheet of version 2 with pages of 32 bytes into one of version 1: zero bytes are fed behind a short last
  * page. */
-static void to_version_1(uint64_t key, size_t m) {
+static void to_version_1(struct key x, size_t m) {
     static const uint8_t zeros[32] = {0};
     uint8_t *field = sheet + 19 + 8 * (m / 32);
     uint64_t fingerprint = 0, bits = 0;
@@ -618,20 +741,22 @@ static void to_version_1(uint64_t key, size_t m) {
         return;
     for (i = 0; i < 8; i++)
         fingerprint = fingerprint << 8 | field[i];
-    gfp_feed(key, &fingerprint, &bits, zeros, 32 - m % 32, 8);
+    gfp_feed(x.degree, x.word, &fingerprint, &bits, zeros, 32 - m % 32, 8);
     for (i = 7; i >= 0; i--, fingerprint >>= 8)
         field[i] = (uint8_t)fingerprint;
 }
 
 /* the sheet that the functions are measured with, of a version */
-static void make_sheet(uint64_t key, size_t m, int number) {
+static void make_sheet(struct key x, size_t m, int number) {
     uint32_t outcome = NONE32, page;
-    gfp_write_sheet(key, 32, file, m, used_now, sheet, sizeof sheet);
+    gfp_write_sheet(x.degree, x.word, 32, file, m, used_now, sheet, sizeof sheet);
     sheet_now = GFP_SHEET_BYTES + 8 * ((m + 31) / 32);
+    if (number < 4)
+        to_version_3(x);
     if (number < 3)
         to_version_2(m);
     if (number < 2)
-        to_version_1(key, m);
+        to_version_1(x, m);
     if (gfp_check_file(sheet, sheet_now, file, m, used_now, &outcome, &page) != GFP_OK || outcome != GFP_SAME) {
         fprintf(stderr, "no sheet of version %d\n", number);
         exit(2);
@@ -639,22 +764,23 @@ static void make_sheet(uint64_t key, size_t m, int number) {
 }
 
 /* a version of the sheet, and the used bits of the final byte */
+#define CASES 6
 static const struct {
     int number;
     uint32_t used;
-} CASES[4] = {{1, 8}, {2, 8}, {3, 8}, {3, 3}};
+} SHEETS[CASES] = {{1, 8}, {2, 8}, {3, 8}, {3, 3}, {4, 8}, {4, 3}};
 
-/* the most that a function takes under a key and with a part of m bytes */
-static size_t most_taken(uint8_t *stack, size_t running, uint64_t key, size_t m) {
+/* the most that a function takes under a key and with a part of m bytes; under a key of degree 64 in version 4 alone */
+static size_t most_taken(uint8_t *stack, size_t running, struct key x, size_t m) {
     size_t i, bytes, most = 0;
     const uint8_t last = m == 0 ? 0 : file[m - 1];
-    gfp_make_table(key, words, GFP_TABLE_WORDS);
-    for (i = 0; i < 4; i++) {
-        used_now = m == 0 ? 8 : CASES[i].used;
-        if (used_now == 3)
-            file[m - 1] &= 0xe0;
-        make_sheet(key, m, CASES[i].number);
-        now_running = running, now_key = key, now_m = m;
+    gfp_make_table(x.degree, x.word, words, GFP_TABLE_WORDS);
+    for (i = x.degree == 64 ? 4 : 0; i < CASES; i++) {
+        used_now = m == 0 ? 8 : SHEETS[i].used;
+        if (m != 0)
+            file[m - 1] = used_now == 3 ? last & 0xe0 : last;
+        make_sheet(x, m, SHEETS[i].number);
+        now_running = running, now_key = x, now_m = m;
         bytes = taken(stack);
         if (most < bytes)
             most = bytes;
@@ -672,9 +798,9 @@ static void measure(void) {
         file[i] = (uint8_t)(i * i >> 7);
     for (i = 0; i < sizeof RUNS / sizeof RUNS[0]; i++) {
         size_t most = 0;
-        for (j = 0; j < 4; j++)
+        for (j = 0; j < KEYS; j++)
             for (k = 0; k < 5; k++) {
-                const size_t bytes = most_taken(stack, i, KEYS[j], SIZES[k]);
+                const size_t bytes = most_taken(stack, i, STACK_KEYS[j], SIZES[k]);
                 if (most < bytes)
                     most = bytes;
             }
@@ -688,8 +814,10 @@ int main(int argc, char **argv) {
         measure();
         return 0;
     }
-    keys_and_tables();
+    keys();
+    marks_and_tables();
     feeding();
+    degree_64();
     unfinished_parts();
     joining();
     page_change();
@@ -700,6 +828,7 @@ int main(int argc, char **argv) {
     checking_files();
     sheets_of_version(1, 0xac);
     sheets_of_version(2, 0x9d);
+    sheets_of_version(3, 0x9d);
     sheet_lengths();
     ranges(8);
     ranges(1);

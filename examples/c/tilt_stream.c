@@ -16,29 +16,30 @@ static size_t pack(const uint16_t *readings, size_t count, uint8_t *bytes) {
 }
 
 /* Feeds readings as one part: the bytes, and how many bits of the final byte are used. */
-static uint32_t feed(uint64_t key, uint64_t *fingerprint, uint64_t *bits, const uint16_t *readings, size_t count) {
+static uint32_t feed(uint64_t *fingerprint, uint64_t *bits, const uint16_t *readings, size_t count) {
     uint8_t bytes[(READINGS * WIDTH + 7) / 8] = {0};
     size_t n = pack(readings, count, bytes);
     uint32_t used = n % 8 == 0 ? 8 : (uint32_t)(n % 8);
-    return gfp_feed(key, fingerprint, bits, bytes, (n + 7) / 8, used);
+    return gfp_feed(GFP_HOUSE_DEGREE, GFP_HOUSE_WORD, fingerprint, bits, bytes, (n + 7) / 8, used);
 }
 
 int main(void) {
     static const uint16_t readings[READINGS] = {1021, 1023, 1022, 517, 2047};
-    const uint64_t key = gfp_stock_key(61);
     uint64_t stream, bits, back, back_bits, whole, whole_bits;
-    if (gfp_begin(key, &stream, &bits) != GFP_OK || feed(key, &stream, &bits, readings, FIRST) != GFP_OK)
+    if (gfp_begin(GFP_HOUSE_DEGREE, GFP_HOUSE_WORD, &stream, &bits) != GFP_OK
+        || feed(&stream, &bits, readings, FIRST) != GFP_OK)
         return 1;
     printf("%" PRIu64 " bits", bits);
     uint64_t joined = stream, joined_bits = bits;
-    if (feed(key, &stream, &bits, readings + FIRST, READINGS - FIRST) != GFP_OK)
+    if (feed(&stream, &bits, readings + FIRST, READINGS - FIRST) != GFP_OK)
         return 1;
     printf(", then %" PRIu64 " bits: ", bits);
-    if (gfp_begin(key, &back, &back_bits) != GFP_OK
-        || feed(key, &back, &back_bits, readings + FIRST, READINGS - FIRST) != GFP_OK
-        || gfp_join_behind(key, &joined, &joined_bits, back, back_bits) != GFP_OK)
+    if (gfp_begin(GFP_HOUSE_DEGREE, GFP_HOUSE_WORD, &back, &back_bits) != GFP_OK
+        || feed(&back, &back_bits, readings + FIRST, READINGS - FIRST) != GFP_OK
+        || gfp_join_behind(GFP_HOUSE_DEGREE, GFP_HOUSE_WORD, &joined, &joined_bits, back, back_bits) != GFP_OK)
         return 1;
-    if (gfp_begin(key, &whole, &whole_bits) != GFP_OK || feed(key, &whole, &whole_bits, readings, READINGS) != GFP_OK)
+    if (gfp_begin(GFP_HOUSE_DEGREE, GFP_HOUSE_WORD, &whole, &whole_bits) != GFP_OK
+        || feed(&whole, &whole_bits, readings, READINGS) != GFP_OK)
         return 1;
     int fed_same = stream == whole && bits == whole_bits, joined_same = joined == whole && joined_bits == whole_bits;
     printf("%s, %s\n", fed_same ? "as fed whole" : "differs", joined_same ? "and so joined" : "joined differs");

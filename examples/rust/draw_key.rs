@@ -18,6 +18,6 @@ fn main() -> std::io::Result<()> {
             Err(number) => panic!("refused {number}"),
         }
     };
-    println!("drew a key of degree {}, {}", 63 - key.leading_zeros(), if gfp::test_key(key).is_ok() { "accepted" } else { "refused" });
+    println!("drew a key of degree {}, {}", key.degree, if gfp::test_key(key).is_ok() { "accepted" } else { "refused" });
     Ok(())
 }

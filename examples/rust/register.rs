@@ -1,16 +1,20 @@
-//! A register of marks: each logger's file under the office's key, kept up to date by joining and page change. Site level.
+//! A register of marks: each logger's file under the office's key, kept up to date by joining and page change:
+//! register KEY, the key in hexadecimal, or the stock key of degree 47. Site level.
 #[path = "../../bindings/rust/gfp.rs"]
 mod gfp;
-use gfp::{begin, Mark};
+use gfp::{begin, Key, Mark};
 
-fn mark_of(key: u64, file: &[u8]) -> Result<Mark, u32> {
+fn mark_of(key: Key, file: &[u8]) -> Result<Mark, u32> {
     let mut mark = begin(key)?;
     mark.feed(key, file)?;
     Ok(mark)
 }
 
 fn main() -> Result<(), u32> {
-    let key = gfp::stock_key(47).expect("a degree 8 to 63");
+    let key = match std::env::args().nth(1) {
+        Some(text) => Key::of(u128::from_str_radix(&text, 16).expect("a key in hexadecimal")),
+        None => gfp::stock_key(47).expect("a degree 8 to 64"),
+    };
     let mut register = vec![("piezometer 3", mark_of(key, b"offset 183.2 kPa;")?), ("tilt 7", mark_of(key, b"offset 0.0125 mrad;")?)];
     // a day's entries arrive as a mark of their own, and go behind
     let day = mark_of(key, b" checked 2026-11-15;")?;
