@@ -1,21 +1,24 @@
 -- The parts that the program reads: feeding them one after another marks the file that they make, and what is printed then is what `printed` says
 -- of the input that they make.
 use mathlib.Core.Path.{_≡_, refl, sym, ap, subst, _∙_}
+use mathlib.Core.Bool.{false}
 use mathlib.Core.List.{List, [], _∷_, _++_, flatten, append-assoc, append-nil}
 use Prim.Native.Nat.{ℕ, _+_, _-_, _*_, _≤_, _<_}
 use native.Mathlib.Decide.{decLe}
 use native.Mathlib.Omega.{arith}
 use lib.ListN.{length, take, drop, length-append, length-drop}
 use lib.Seq.{drop-append-le, take-all}
-use borrow.Author.Tests.{lt-ltb, le-ltb, ltb-false}
+use borrow.Author.Tests.{lt-ltb, le-ltb}
 use Rattle.io.specs.Counts.{Counts}
 use Rattle.lists.specs.Lists.{listFrom}
 use Rattle.refusals.specs.declared.Refusal.{Refusal}
-use Rattle.refusals.specs.declared.Refusal.the-variants.{TooLong, MarkNotReduced, FinalByte}
-use Rattle.refusals.specs.Refusals.{Answer, Done, Refused, _⇒_, firstOf, passes, longest}
+use Rattle.refusals.specs.declared.Refusal.the-variants.{KeyRange, TooLong, MarkNotReduced, FinalByte}
+use Rattle.refusals.specs.Refusals.{Answer, Done, Refused, Test, _⇒_, firstOf, passes, longest}
 use Rattle.refusals.proofs.Laws.{Clear, clear-done, done-clear, more-clear, more-refused, first-true}
 use Rattle.refusals.proofs.Lengths.{sum-passes, sum-fits}
-use Rattle.acceptance.specs.Keys.{keyTests}
+use Rattle.acceptance.specs.declared.Key.{Key}
+use Rattle.acceptance.specs.Keys.{polynomialOf, outside, keyTests}
+use Rattle.acceptance.proofs.Laws.{accepted-pos, key-iff}
 use Rattle.files.specs.declared.Mark.{Mark}
 use Rattle.files.specs.Files.{bits, markOf, Part, whole, partLength, partBits, misused, unreduced, fedMark}
 use Rattle.files.proofs.Values.{length-bits, bits-append}
@@ -32,8 +35,8 @@ use Rattle.marks.specs.declared.Fed.the-variants as fed-cases
 use Rattle.marks.specs.Feeding.{feedTests, begin, feedTable}
 use Rattle.marks.specs.Answers.{markIn, running, fed, begunUnder, fedUnder}
 use Rattle.printing.specs.declared.KeyLine.{KeyLine}
-use Rattle.printing.specs.declared.KeyLine.the-variants.{NoKey, Key}
-use Rattle.printing.specs.Printing.{keyLine, noKey, answerText, markFile, printedAfter, printed}
+use Rattle.printing.specs.declared.KeyLine.the-variants as line-cases
+use Rattle.printing.specs.Printing.{keyLine, noKey, refused, answerText, markFile, printedAfter, printed}
 use Rattle.printing.specs.Buffers.{PutInFront}
 use Rattle.printing.proofs.Laws.{key-within, key-stays}
 use Rattle.mark.specs.declared.Marked.{Marked}
@@ -47,7 +50,7 @@ use Rattle.mark.specs.Marking.{feeds, stateless, Gives, FedInParts, Mark
 
 -- ---- one feed, in code
 
-module _ (key : ℕ) where
+module _ (key : Key) where
   pub fed-next : (a : Answer Mark Mark) (next : Running) → Done next ≡ fedUnder key a → (next .key ≡ key) × (a ≡ Done (markIn next))
   fed-next (Done m) next e = let is : next ≡ running key m = cc in (ap (λ (x : Running). x .key) is, ap (λ (x : Running). Done (markIn x)) (sym is))
   fed-next (Refused r m) next e = absurd (apart e)
@@ -61,7 +64,7 @@ module _ (key : ℕ) where
 
 -- ---- feeds one after another
 
-module _ (key : ℕ) (words : List ℕ) where
+module _ (key : Key) (words : List ℕ) where
   stopped : (r : Refusal) (m : Mark) (parts : List (List ℕ)) → feeds key words (Refused r m) parts ≡ Refused r m
   stopped r m [] = refl
   stopped r m (part ∷ parts) = refl
@@ -89,7 +92,7 @@ module _ (start : Running) (words : List ℕ) (m : Running) (s : SoFar start wor
   one-more part =
       feeds-append (start .key) words (Done (markIn start)) (s .1 .0) (part ∷ [])
       ∙ ap (λ (a : Answer Mark Mark). feeds (start .key) words a (part ∷ [])) (s .1 .1 .1)
-      ∙ ap (λ (k : ℕ). feedTable k (markIn m) words (whole part)) (sym (s .0))
+      ∙ ap (λ (k : Key). feedTable k (markIn m) words (whole part)) (sym (s .0))
 
   pub next-turn : (part : List ℕ) (next : Running) → 0 < length part
       → Done next ≡ fedUnder (m .key) (feedTable (m .key) (markIn m) words (whole part)) → SoFar start words next
@@ -113,7 +116,7 @@ module _ (start : Running) (words : List ℕ) (m : Running) (s : SoFar start wor
     (
       s .1 .1 .0,
       ap (λ (a : Answer Mark Mark). begunUnder (start .key) (stateless a)) (s .1 .1 .1)
-          ∙ ap (λ (k : ℕ). Done (running k (markIn m))) (sym (s .0)),
+          ∙ ap (λ (k : Key). Done (running k (markIn m))) (sym (s .0)),
     ),
   )
 
@@ -134,25 +137,28 @@ module _ (start : Running) (words : List ℕ) (m : Running) (s : SoFar start wor
 
 -- ---- feeding the parts is marking the file
 
-module _ (key : ℕ) (h : Clear (keyTests key)) where
+module _ (x : Key) (h : Clear (keyTests x)) where
+  abbrev key : ℕ
+  key = polynomialOf x
+
   pos : 0 < key
-  pos = omega (arith, ltb-false key 256 (h .0))
+  pos = accepted-pos (polynomialOf x) (key-iff x .0 (h .0, h .1 .0) .0)
 
   -- the table that is made passes its tests
   table : List ℕ
   table = listFrom (word 8 key) 0 1024
 
-  made : (blank : List ℕ) → length blank ≡ 1024 → makeTable key blank ≡ Done table
+  made : (blank : List ℕ) → length blank ≡ 1024 → makeTable x blank ≡ Done table
   unfolding table makeTable
   made blank e =
-      more-clear (keyTests key) (tableSizeTest blank ∷ []) blank (listFrom (word 8 key) 0 1024) h
+      more-clear (keyTests x) (tableSizeTest blank ∷ []) blank (listFrom (word 8 key) 0 1024) h
       ∙ size-passed blank [] blank (listFrom (word 8 key) 0 1024) e
 
-  tested : (m : Mark) (part : Part) → feedTable key m table part ≡ firstOf (feedTests key m part) m (fedMark key m part)
+  tested : (m : Mark) (part : Part) → feedTable x m table part ≡ firstOf (feedTests key m part) m (fedMark key m part)
   unfolding table feedTable
   tested m part =
       let words = listFrom (word 8 key) 0 1024 in
-      more-clear (keyTests key) (tableTests key words ++ feedTests key m part) m (fedMark key m part) h
+      more-clear (keyTests x) (tableTests key words ++ feedTests key m part) m (fedMark key m part) h
       ∙ more-clear (tableTests key words) (feedTests key m part) m (fedMark key m part) (clear-table words key refl)
 
   -- whole bytes behind whole bytes
@@ -166,7 +172,7 @@ module _ (key : ℕ) (h : Clear (keyTests key)) where
     both-bits : bits file ++ partBits (whole part) ≡ bits (file ++ part)
     both-bits = ap (λ (l : List ℕ). bits file ++ l) (whole-bits part) ∙ sym (bits-append file part)
 
-    feed-goes : 8 * length (file ++ part) ≤ longest → feedTable key before table (whole part) ≡ Done (markOf key (bits (file ++ part)))
+    feed-goes : 8 * length (file ++ part) ≤ longest → feedTable x before table (whole part) ≡ Done (markOf key (bits (file ++ part)))
     unfolding markOf
     feed-goes l =
         tested before (whole part)
@@ -174,7 +180,7 @@ module _ (key : ℕ) (h : Clear (keyTests key)) where
         (sum-fits (length (bits file)) (partLength (whole part)) (omega (arith, both-long)), (true-reduced key pos (bits file), (whole-used part, tt)))
         ∙ ap Done (fed-true key pos (bits file) (whole part) ∙ ap (markOf key) both-bits)
 
-    feed-stops : longest < 8 * length (file ++ part) → feedTable key before table (whole part) ≡ Refused TooLong before
+    feed-stops : longest < 8 * length (file ++ part) → feedTable x before table (whole part) ≡ Refused TooLong before
     unfolding markOf
     feed-stops l =
         tested before (whole part)
@@ -193,40 +199,40 @@ module _ (key : ℕ) (h : Clear (keyTests key)) where
 
   feed-one : (file part : List ℕ) (parts : List (List ℕ)) → Dec (8 * length (file ++ part) ≤ longest)
       → (8 * length (file ++ part) ≤ longest
-      → stateless (feeds key table (Done (markOf key (bits (file ++ part)))) parts) ≡ judged (file ++ part ++ flatten parts))
-      → stateless (feeds key table (feedTable key (markOf key (bits file)) table (whole part)) parts) ≡ judged (file ++ (part ++ flatten parts))
+      → stateless (feeds x table (Done (markOf key (bits (file ++ part)))) parts) ≡ judged (file ++ part ++ flatten parts))
+      → stateless (feeds x table (feedTable x (markOf key (bits file)) table (whole part)) parts) ≡ judged (file ++ (part ++ flatten parts))
   feed-one file part parts (yes l) ih =
-      ap (λ (a : Answer Mark Mark). stateless (feeds key table a parts)) (feed-goes file part l)
+      ap (λ (a : Answer Mark Mark). stateless (feeds x table a parts)) (feed-goes file part l)
       ∙ ih l
       ∙ ap judged (append-assoc file part (flatten parts))
   feed-one file part parts (no l) ih =
       let all = length-append file (part ++ flatten parts) in
-      ap (λ (a : Answer Mark Mark). stateless (feeds key table a parts)) (feed-stops file part (omega arith))
-      ∙ ap stateless (stopped key table TooLong (markOf key (bits file)) parts)
+      ap (λ (a : Answer Mark Mark). stateless (feeds x table a parts)) (feed-stops file part (omega arith))
+      ∙ ap stateless (stopped x table TooLong (markOf key (bits file)) parts)
       ∙ sym (long (file ++ (part ++ flatten parts)) (omega (arith, all, length-append part (flatten parts), length-append file part)))
 
   feeds-judged : (file : List ℕ) (parts : List (List ℕ)) → 8 * length file ≤ longest
-      → stateless (feeds key table (Done (markOf key (bits file))) parts) ≡ judged (file ++ flatten parts)
+      → stateless (feeds x table (Done (markOf key (bits file))) parts) ≡ judged (file ++ flatten parts)
   unfolding flatten
   feeds-judged file [] l = sym (ap judged (append-nil file) ∙ short file l)
   feeds-judged file (part ∷ parts) l =
       feed-one file part parts (decLe (8 * length (file ++ part)) longest) (λ m. feeds-judged (file ++ part) parts m)
 
   feeds-marked : (parts : List (List ℕ))
-      → begunUnder key (stateless (feeds key table (Done (markOf key [])) parts)) ≡ markFile key (flatten parts)
+      → begunUnder x (stateless (feeds x table (Done (markOf key [])) parts)) ≡ markFile x (flatten parts)
   unfolding markFile bits
   feeds-marked parts =
-      ap (begunUnder key) (feeds-judged [] parts (omega arith))
+      ap (begunUnder x) (feeds-judged [] parts (omega arith))
       ∙ sym
-      (ap (begunUnder key)
-      (more-clear (keyTests key) (passes (8 * length (flatten parts) ∷ []) ⇒ TooLong ∷ []) tt (markOf key (bits (flatten parts))) h))
+      (ap (begunUnder x)
+      (more-clear (keyTests x) (passes (8 * length (flatten parts) ∷ []) ⇒ TooLong ∷ []) tt (markOf key (bits (flatten parts))) h))
 
 -- ---- the calls of `mark_file`, one after another
 
 done-refused : {S A : Type 0} {a : A} {r : Refusal} {s : S} → _≡_ {A = Answer S A} (Done a) (Refused r s) → ⊥
 done-refused e = let z : _≡_ {A = ℕ} 0 1 = cc in omega arith
 
-module _ (key : ℕ) where
+module _ (key : Key) where
   -- a key that is refused
   pub begun-refused : (first : List ℕ) (r : Refusal) → Refused r tt ≡ begunUnder key (begin key) → MarkedInParts key first (marked-cases.Refused r)
   unfolding begin markFile
@@ -236,7 +242,7 @@ module _ (key : ℕ) where
         (
           tt,
           ap (begunUnder key)
-              (more-refused (keyTests key) (passes (8 * length file ∷ []) ⇒ TooLong ∷ []) tt tt (markOf key []) (markOf key (bits file)) r
+              (more-refused (keyTests key) (passes (8 * length file ∷ []) ⇒ TooLong ∷ []) tt tt (markOf (polynomialOf key) []) (markOf (polynomialOf key) (bits file)) r
               (go (begin key) refl e)),
         ),
       )
@@ -246,13 +252,13 @@ module _ (key : ℕ) where
       go (Refused q s) t u = t ∙ cc
 
   -- a key that is accepted
-  pub begun-clear : (m : Running) → Done m ≡ begunUnder key (begin key) → Clear (keyTests key) × (m ≡ running key (markOf key []))
+  pub begun-clear : (m : Running) → Done m ≡ begunUnder key (begin key) → Clear (keyTests key) × (m ≡ running key (markOf (polynomialOf key) []))
   unfolding begin
   begun-clear m e = go (begin key) refl e
     where
-      go : (a : Answer Unit Mark) → begin key ≡ a → Done m ≡ begunUnder key a → Clear (keyTests key) × (m ≡ running key (markOf key []))
+      go : (a : Answer Unit Mark) → begin key ≡ a → Done m ≡ begunUnder key a → Clear (keyTests key) × (m ≡ running key (markOf (polynomialOf key) []))
       go (Done x) t u =
-          let d = done-clear (keyTests key) tt (markOf key []) x t in
+          let d = done-clear (keyTests key) tt (markOf (polynomialOf key) []) x t in
           let is : m ≡ running key x = cc in
           (d .0, is ∙ ap (running key) (sym (d .1)))
       go (Refused q s) t u = absurd (done-refused u)
@@ -294,7 +300,7 @@ module _ (key : ℕ) where
 
           same : begunUnder (next .key) (stateless (feeds (next .key) words (Done (markIn next)) (p .0))) ≡ markFile key (first ++ flatten (p .0))
           same =
-              ap (λ (k : ℕ). begunUnder k (stateless (feeds k words (Done (markIn next)) (p .0))))
+              ap (λ (k : Key). begunUnder k (stateless (feeds k words (Done (markIn next)) (p .0))))
               (fed-is .0 ∙ ap (λ (x : Running). x .key) (begun-clear m begun-is .1))
               ∙ ap (λ (a : Answer Mark Mark). begunUnder key (stateless (feeds key words a (p .0)))) (sym (fed-is .1))
               ∙ fed-marked (p .0)
@@ -306,12 +312,21 @@ pub from : (at : ℕ) (l : List ℕ) → take (length l - at) (drop at l) ≡ dr
 from at l = take-all (length l - at) (drop at l) (omega (arith, length-drop at l))
 
 module _ (head before after : List ℕ) (n : ℕ) where
-  pub none-printed : keyLine head ≡ NoKey → PutInFront before after n noKey → PrintedInParts head before after (front-cases.Bytes n)
+  -- of the head alone
+  head-printed : (line : KeyLine) → keyLine head ≡ line → PutInFront before after n (printedAfter line head)
+      → PrintedInParts head before after (front-cases.Bytes n)
   unfolding flatten printed
-  none-printed e p =
+  head-printed line e p =
       ([], (tt, subst (PutInFront before after n) (sym (ap printed (append-nil head) ∙ ap (λ (l : KeyLine). printedAfter l head) e)) p))
 
-  module _ (key at : ℕ) (line : keyLine head ≡ Key key at) where
+  pub none-printed : keyLine head ≡ line-cases.NoKey → PutInFront before after n noKey → PrintedInParts head before after (front-cases.Bytes n)
+  none-printed e p = head-printed line-cases.NoKey e p
+
+  pub large-printed : keyLine head ≡ line-cases.TooLarge → PutInFront before after n (refused KeyRange)
+      → PrintedInParts head before after (front-cases.Bytes n)
+  large-printed e p = head-printed line-cases.TooLarge e p
+
+  module _ (key : Key) (at : ℕ) (line : keyLine head ≡ line-cases.Key key at) where
     text : (rest : List ℕ) → printed (head ++ rest) ≡ answerText (markFile key (drop at head ++ rest))
     unfolding printed
     text rest =
@@ -323,6 +338,32 @@ module _ (head before after : List ℕ) (n : ℕ) where
     marked-printed r a p is put =
         let g = is (markFile key (drop at head ++ flatten (p .0))) (p .1 .1) in
         (p .0, (p .1 .0, subst (PutInFront before after n) (sym (text (flatten (p .0)) ∙ ap answerText g)) put))
+
+-- a mark that was made has a key to which number 1 does not apply
+pub marked-range : (key : Key) (first : List ℕ) (r : Marked) (m : Running) → MarkedInParts key first r → r ≡ marked-cases.Done m
+    → outside (m .key) ≡ false
+unfolding markFile
+marked-range key first r m p e =
+    go (firstOf (keyTests key ++ rest) tt mark) refl (subst (λ (s : Marked). Gives s (markFile key file)) e (p .1 .1))
+  where
+    file : List ℕ
+    file = first ++ flatten (p .0)
+
+    rest : List Test
+    rest = passes (8 * length file ∷ []) ⇒ TooLong ∷ []
+
+    mark : Mark
+    mark = markOf (polynomialOf key) (bits file)
+
+    keyIn : Answer Unit Running → Key
+    keyIn (Done n) = n .key
+    keyIn (Refused q s) = key
+
+    go : (a : Answer Unit Mark) → firstOf (keyTests key ++ rest) tt mark ≡ a → begunUnder key a ≡ Done m → outside (m .key) ≡ false
+    go (Done x) t u =
+        let is : key ≡ m .key = ap keyIn u in
+        rw (sym is) (done-clear (keyTests key ++ rest) tt mark x t .0 .0)
+    go (Refused q s) t u = absurd (done-refused (sym u))
 
 -- the code's answer, where it is known
 pub gives : {r : Marked} {s : Marked} → r ≡ s → (x : Answer Unit Running) → Gives r x → Gives s x

@@ -4,6 +4,7 @@ use mathlib.Core.List.{List, [], _∷_, _++_, flatten}
 use Prim.Native.Nat.{ℕ}
 use Rattle.io.specs.Counts.{Counts}
 use Rattle.refusals.specs.Refusals.{Answer, Done, Refused}
+use Rattle.acceptance.specs.declared.Key.{Key}
 use Rattle.files.specs.declared.Mark.{Mark}
 use Rattle.files.specs.Files.{whole}
 use Rattle.marks.specs.declared.Running.{Running}
@@ -22,7 +23,7 @@ Filled (front-cases.Bytes n) buffer = Counts n buffer
 Filled front-cases.Unread buffer = Unit {0}
 
 -- feeds by the words of a table, one after another, until one is refused
-abbrev pub feeds : ℕ → List ℕ → Answer Mark Mark → List (List ℕ) → Answer Mark Mark
+abbrev pub feeds : Key → List ℕ → Answer Mark Mark → List (List ℕ) → Answer Mark Mark
 feeds key words a [] = a
 feeds key words (Done m) (part ∷ parts) = feeds key words (feedTable key m words (whole part)) parts
 feeds key words (Refused r m) (part ∷ parts) = Refused r m
@@ -44,5 +45,5 @@ FedInParts m words r =
     (parts : List (List ℕ)) × (NonEmpty parts × Gives r (begunUnder (m .key) (stateless (feeds (m .key) words (Done (markIn m)) parts))))
 
 -- the file of the first bytes and the parts that were read behind them, marked
-abbrev pub MarkedInParts : ℕ → List ℕ → Marked → Type 0
+abbrev pub MarkedInParts : Key → List ℕ → Marked → Type 0
 MarkedInParts key first r = (parts : List (List ℕ)) × (NonEmpty parts × Gives r (markFile key (first ++ flatten parts)))

@@ -5,6 +5,7 @@
 // the front of `out` is what `printed` says of the head and of some parts behind it (`answer`).
 // Not proved, since no contract reaches behind a read: that libc::read puts the input's next bytes at the front of the buffer, which is assumed; that
 // the parts are all that was read and in its order, that a failure is handed on, and that `main` prints what `answer` gives: tools/test-program tests it.
+use acceptance::Key;
 use libc::STDERR_FILENO;
 use libc::STDIN_FILENO;
 use libc::STDOUT_FILENO;
@@ -161,7 +162,7 @@ fn feed_rest(start: Running, words: &[u64]) -> Marked
 }
 
 // The mark of the file that begins with the first bytes and goes on to the input's end, fed by the table of the key.
-fn mark_file(key: u64, first: &[u8]) -> Marked
+fn mark_file(key: Key, first: &[u8]) -> Marked
     ensures { λ r. ⌜ MarkedInParts key (now (first .entry)) r ⌝ }
 {
     let mut words = [0u64; 1024];
@@ -177,7 +178,7 @@ fn mark_file(key: u64, first: &[u8]) -> Marked
     }
 }
 
-// The text for an input that begins with the bytes of head, which are the first 17, or all where there are fewer: with 17 bytes the key's line is
+// The text for an input that begins with the bytes of head, which are the first 18, or all where there are fewer: with 18 bytes the key's line is
 // decided. Answers its length.
 fn answer(head: &[u8], out: &mut [u8; 96]) -> Front
     ensures { λ r. ⌜ PrintedInParts (now (head .entry)) (now (out .entry)) (now (out .exit)) r ⌝ }
@@ -189,6 +190,7 @@ fn answer(head: &[u8], out: &mut [u8; 96]) -> Front
             Marked::Refused(r) => Front::Bytes(printing::refusal(r, out)),
             Marked::Unread => Front::Unread,
         },
+        KeyLine::TooLarge => Front::Bytes(printing::refusal(Refusal::KeyRange, out)),
     }
 }
 
@@ -205,7 +207,7 @@ fn unread() {
 }
 
 fn main() {
-    let mut head = [0u8; 17];
+    let mut head = [0u8; 18];
     let mut out = [0u8; 96];
     match read_head(&mut head) {
         Front::Unread => unread(),

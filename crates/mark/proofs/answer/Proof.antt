@@ -10,7 +10,7 @@ use Rattle.printing.specs.declared.KeyLine.the-variants.{Key}
 use Rattle.printing.specs.Printing.{keyLine}
 use Rattle.printing.proofs.Laws.{key-within}
 use Rattle.mark.specs.Marking.{MarkedInParts}
-use Rattle.mark.proofs.Parts.{from, none-printed, marked-printed, gives}
+use Rattle.mark.proofs.Parts.{from, none-printed, large-printed, marked-printed, marked-range, gives}
 use Rattle.mark.proofs.answer.Statement.{statement}
 use Rattle.mark.proofs.answer.Tie as tie
 
@@ -55,6 +55,13 @@ sub-mark-file c = omega (arith, within (c .before))
 part-mark-file-start : tie.Need-part-mark-file-start
 part-mark-file-start c = omega (arith, within (c .before))
 
+report-requires : tie.Need-report-requires
+report-requires c κs =
+    let m = c .before .before in
+    let f = m→mark-file m in
+    let k = mark-file→key f in
+    marked-range _ (drop (k .key .given .0 .1 .0) (head-at k)) (f .mark-file .result) _ (file f) (m .m .given .1)
+
 returns : tie.Need-returns
 returns c =
     let k = c .before .before .before .before in
@@ -75,6 +82,11 @@ returns-3 c =
 returns-4 : tie.Need-returns-4
 returns-4 c = refl
 
+returns-5 : tie.Need-returns-5
+returns-5 c =
+    let t = c .before .before in
+    large-printed _ _ _ _ (sym (t .before .before .key-line .ensures) ∙ t .enum-told3 .given .1) (c .refusal2 .ensures)
+
 pub answer-spec : {M : Type 1} → statement M
 answer-spec =
     tie.close
@@ -88,11 +100,14 @@ answer-spec =
     (λ c. search needs)
     (λ c κs. search needs)
     (λ c. search needs)
-    (λ c κs. search needs)
+    report-requires
     (λ c. search needs)
     (λ c κs. search needs)
     (λ c. search needs)
+    (λ c. search needs)
+    (λ c κs. search needs)
     returns
     returns-2
     returns-3
-    returns-4)
+    returns-4
+    returns-5)
