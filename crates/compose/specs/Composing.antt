@@ -1,5 +1,5 @@
 -- Joining marks and changing a page in a file's mark (document 01, "Marks"; pages: document 02, wish 7): each call is its tests, in the
--- order of their numbers, and its value.
+-- order of their numbers, and its value. A key is handed in as x; all but its own tests go by its polynomial.
 use mathlib.Core.Bool.{_||_, not}
 use mathlib.Core.List.{List, [], _∷_, _++_}
 use Prim.Native.Nat.{ℕ, _+_, _*_}

@@ -1,5 +1,5 @@
 -- Beginning a mark and feeding it, by bits and by tables (document 01, "Marks", "Tables"; parts: document 02, wish 7): each call is its
--- tests, in the order of their numbers, and its value.
+-- tests, in the order of their numbers, and its value. A key is handed in as x; all but its own tests go by its polynomial.
 use mathlib.Core.List.{List, [], _∷_, _++_}
 use Prim.Native.Nat.{ℕ, _+_}
 use Rattle.refusals.specs.declared.Refusal.the-variants.{TooLong, MarkNotReduced, FinalByte}

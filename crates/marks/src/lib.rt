@@ -52,17 +52,19 @@ fn judge(p: Modulus, m: Running, part: &[u8], used: u32) -> Measured
     ensures { λ r. ⌜ measured r ≡ firstOf (feedTests (polynomialOf (m .key)) (markIn m) (asPart (now (part .entry)) used)) tt
         (m .length + partLength (asPart (now (part .entry)) used)) ⌝ }
 {
+    let f = m.fingerprint;
     let n = files::part_length(part, used);
     if !refusals::fits(m.length, n) {
         return Measured::Refused(Refusal::TooLong);
     }
-    if !gf2::is_residue(p, m.fingerprint) {
+    if !gf2::is_residue(p, f) {
         return Measured::Refused(Refusal::MarkNotReduced);
     }
     if files::is_misused(part, used) {
         return Measured::Refused(Refusal::FinalByte);
     }
-    Measured::Length(m.length + n)
+    let total = m.length + n;
+    Measured::Length(total)
 }
 
 // A part behind a residue, with no table: its whole bytes, and the used bits behind them.

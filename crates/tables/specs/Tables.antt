@@ -1,4 +1,5 @@
--- Making and testing a table (document 01, "Tables"): each call is its tests, in the order of their numbers, and its value.
+-- Making and testing a table (document 01, "Tables"): each call is its tests, in the order of their numbers, and its value. A key is
+-- handed in as x; all but its own tests go by its polynomial.
 use mathlib.Core.List.{List, [], _∷_, _++_}
 use Prim.Native.Nat.{ℕ}
 use Rattle.refusals.specs.Refusals.{Answer, firstOf, judged}

@@ -87,8 +87,8 @@ returns-3 c =
     sym (feed-misused (polynomialOf (s .args .m .key)) (markIn (s .args .m)) (partAt s) _ (short (else2→else1 e)) (low e)
     (sym (c .before .is-misused .ensures) ∙ c .if3 .taken))
 
-add-t12 : tie.Need-add-t12
-add-t12 c = let e = else2→else1 (c .before .before .before) in record { fits = omega (arith, in-full e, within e) }
+add-total : tie.Need-add-total
+add-total c = let e = else2→else1 (c .before .before .before) in record { fits = omega (arith, in-full e, within e) }
 
 returns-4 : tie.Need-returns-4
 returns-4 c =
@@ -109,5 +109,5 @@ judge-spec =
     returns-2
     (λ c κs. search needs)
     returns-3
-    add-t12
+    add-total
     returns-4)
