@@ -38,7 +38,7 @@ alarms key text pattern = passing (isAlarm key text pattern) 0 (windows text pat
 abbrev pub textTests : List ℕ → List ℕ → List Test
 textTests text pattern = passes (8 * length text ∷ 8 * length pattern ∷ []) ⇒ TooLong ∷ eqb (length pattern) 0 ⇒ EmptyPattern ∷ []
 
--- and those of the key
+-- and those of the key, which is handed in as x; the counts go by its polynomial
 abbrev pub searchTests : Key → List ℕ → List ℕ → List Test
 searchTests x text pattern = keyTests x ++ textTests text pattern
 
