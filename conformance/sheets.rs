@@ -292,9 +292,9 @@ fn refused(tally: &mut Tally, what: &str, sheet: &[u8], file: &[u8], number: u32
     tally.same(&format!("range, {what}"), gfp::changed_range(sheet, file), Err(number));
 }
 
-/// Sheets of twelve other versions are refused with 14. The version has two bytes: 257 to 260 are 01 01 to 01 04.
+/// Sheets of thirteen other versions are refused with 14. The version has two bytes: 257 to 260 are 01 01 to 01 04.
 fn other_versions(tally: &mut Tally) {
-    for number in [0, 5, 6, 255, 256, 257, 258, 259, 260, 512, 1024, 65_535] {
+    for number in [0, 5, 6, 255, 256, 257, 258, 259, 260, 512, 513, 1024, 65_535] {
         for version in VERSIONS {
             for file in [&b""[..], b"AB", b"one page, whole.", b"one page and a bit"] {
                 let sheet = reference::sheet(Version { number, ..version }, EIGHT, 16, file);

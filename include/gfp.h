@@ -51,8 +51,8 @@ extern "C" {
  * writes both; GFP_HOUSE_DEGREE and GFP_HOUSE_WORD stand for GFP_HOUSE_KEY, GFP_KEY_RANGE for GFP_KEY_BELOW_256;
  * gfp_write_sheet writes sheets of version 4, which are one byte longer and which a library of a lower number refuses.
  * gfp_stock_key and gfp_draw, to which the degree is passed, give the word, without the bit at t^degree that they gave
- * before. A compiler does not see it: look at each of these calls. A new function is no break; the minor number of the
- * pkg-config version counts these additions. */
+ * before. A compiler does not see it: look at each of these calls. Keys kept as one number from before are split as
+ * said above. A new function is no break; the minor number of the pkg-config version counts these additions. */
 #define GFP_INTERFACE 5
 
 /* What a function returns: not refused, or one of 15 refusals. */
