@@ -6,11 +6,12 @@ use Prim.Native.Nat.{ℕ}
 use native.Mathlib.Omega.{arith}
 use lib.ListN.{length, replicate, length-replicate}
 use Rattle.gf2.specs.Polynomials.{_⊕_, halvings, degree, reduce, longDivision, rem}
+use Rattle.gf2.specs.Degrees.{monic}
 use Rattle.lists.specs.Lists.{listFrom, anyBelow}
 use Rattle.refusals.specs.declared.Refusal.the-variants.{TableSize, TableWord, TooLong, FinalByte}
 use Rattle.refusals.specs.Refusals.{Done, Refused, _⇒_, longest}
 use Rattle.refusals.proofs.Lengths.{sum-passes}
-use Rattle.acceptance.specs.Keys.{reducible, accepted}
+use Rattle.acceptance.specs.Keys.{reducible, accepted, keyOf}
 use Rattle.files.specs.declared.Mark.{Mark}
 use Rattle.files.specs.Files.{lowBits, bits, valueFrom, value, fingerprint, markOf, Part, asPart, whole, usedBits, partLength, partBits, misused, fedMark}
 use Rattle.files.proofs.Marks.{empty-mark}
@@ -22,6 +23,7 @@ use Rattle.printing.specs.Printing.{ascii}
 use Rattle.printing.proofs.Readings.{example-line, example-report}
 use Rattle.house.specs.House.{houseKey, houseWords}
 use Rattle.house.proofs.House.{house-accepted}
+use Rattle.stock.proofs.Table.{stock-smallest, stock-64}
 use Rattle.book.specs.Runs.{bookStep, run, Honest}
 use Rattle.book.specs.Confusions.{Confuses}
 use Rattle.gfp_bench.specs.Book.{Call, ByBits, ByTable, step, bookTests, bench, Route, Printed}
@@ -81,15 +83,15 @@ too-long =
     ∙ rw (sum-passes (length byte-41) (partLength long) (omega (arith, whole-long (zeros 4294967296), length-zeros 4294967296)))
 
 no-words : bookStep bench 0x11B byte-41 (ByTable [] (whole (0x00 ∷ []))) ≡ Refused TableSize byte-41
-unfolding bookStep bookTests accepted reducible anyBelow rem longDivision reduce degree halvings _⊕_
+unfolding bookStep bookTests monic reducible anyBelow rem longDivision reduce degree halvings _⊕_
 no-words = refl
 
 wrong-words : bookStep bench 0x11B byte-41 (ByTable wrong (whole (0x00 ∷ []))) ≡ Refused TableWord byte-41
-unfolding wrong bookStep bookTests accepted reducible anyBelow rem longDivision reduce degree halvings _⊕_ listFrom differs word
+unfolding wrong bookStep bookTests monic reducible anyBelow rem longDivision reduce degree halvings _⊕_ listFrom differs word
 wrong-words = refl
 
 dirty-byte : bookStep bench 0x11B byte-41 (ByBits dirty) ≡ Refused FinalByte byte-41
-unfolding bookStep bookTests accepted reducible anyBelow rem longDivision reduce degree halvings _⊕_ partLength usedBits misused bits lowBits
+unfolding bookStep bookTests monic reducible anyBelow rem longDivision reduce degree halvings _⊕_ partLength usedBits misused bits lowBits
 dirty-byte = refl
 
 right-words : bookStep bench 0x11B byte-41 (ByTable right (whole (0x42 ∷ []))) ≡ Done (bits (0x41 ∷ 0x42 ∷ []))
@@ -153,7 +155,7 @@ both-parts =
 
 -- feeding a part to a mark, computed
 abbrev Gives : Mark → Part → ℕ → ℕ → Type 0
-Gives m part f n = feedBits 0x11B m part ≡ Done (record { fingerprint = f; length = n })
+Gives m part f n = feedBits (keyOf 0x11B) m part ≡ Done (record { fingerprint = f; length = n })
 
 pub computed : Gives begun (asPart (0x00 ∷ []) 1) 0x02 1
     × Gives begun (asPart (0x80 ∷ []) 1) 0x03 1
@@ -161,7 +163,7 @@ pub computed : Gives begun (asPart (0x00 ∷ []) 1) 0x02 1
     × Gives begun (asPart (0x41 ∷ 0x40 ∷ []) 3) 0xE4 11
     × Gives begun front 0x0A 3
     × Gives (record { fingerprint = 0x0A; length = 3 }) back 0x9D 16
-unfolding feedBits fedMark misused partBits partLength usedBits valueFrom bits lowBits accepted reducible anyBelow rem longDivision reduce degree halvings _⊕_
+unfolding feedBits fedMark misused partBits partLength usedBits valueFrom bits lowBits monic reducible anyBelow rem longDivision reduce degree halvings _⊕_
 computed = (refl, refl, refl, refl, refl, refl)
 
 -- ---- under the house key, from the empty file
@@ -214,4 +216,32 @@ both-5E =
       fingerprint = 0x5E;
       one = reaches 0x11B (bits (0x00 ∷ 0x00 ∷ []));
       other = reaches 0x11B (bits (0x01 ∷ 0x1B ∷ []));
+    }
+
+-- ---- degree 64 (document 02, wish 8): nine bytes 00, and 01, seven times 00, 1B, under the stock key
+
+abbrev pub key64 : ℕ
+key64 = 0x1000000000000001B
+
+pub accepted-64 : accepted key64 ≡ true
+accepted-64 = rw stock-64 at (stock-smallest 64 (omega arith) (omega arith) .is-accepted)
+
+pub degree-64 : degree key64 ≡ 64
+degree-64 = rw stock-64 at (stock-smallest 64 (omega arith) (omega arith) .of-degree)
+
+abbrev pub nine-zeros : List ℕ
+nine-zeros = bits (0x00 ∷ 0x00 ∷ 0x00 ∷ 0x00 ∷ 0x00 ∷ 0x00 ∷ 0x00 ∷ 0x00 ∷ 0x00 ∷ [])
+
+abbrev pub nine-other : List ℕ
+nine-other = bits (0x01 ∷ 0x00 ∷ 0x00 ∷ 0x00 ∷ 0x00 ∷ 0x00 ∷ 0x00 ∷ 0x00 ∷ 0x1B ∷ [])
+
+pub both-1B00 : Confuses Route 64 nine-zeros nine-other key64
+unfolding fingerprint value valueFrom bits lowBits rem longDivision reduce degree halvings _⊕_
+both-1B00 =
+    record {
+      is-accepted = accepted-64;
+      of-degree = degree-64;
+      fingerprint = 0x1B00;
+      one = reaches key64 nine-zeros;
+      other = reaches key64 nine-other;
     }

@@ -6,6 +6,7 @@ use lib.Dec.{T}
 use Rattle.lists.proofs.Lists.{rising}
 use Rattle.refusals.specs.Refusals.{Answer, Done, valueOr}
 use Rattle.refusals.specs.Lowest.{numbers}
+use Rattle.acceptance.specs.Keys.{keyOf}
 use Rattle.files.specs.declared.Mark.{Mark}
 use Rattle.files.specs.Files.{fingerprint, markOf}
 use Rattle.marks.specs.Feeding.{begin}
@@ -34,7 +35,7 @@ lowest = any-level.lowest-first bench in-order
 
 -- ---- two different files
 
-begun : (key f : ℕ) → begin key ≡ Done (markOf key []) → begin key ≡ Done (record { fingerprint = f; length = 0 }) → f ≡ fingerprint key []
+begun : (key f : ℕ) → begin (keyOf key) ≡ Done (markOf key []) → begin (keyOf key) ≡ Done (record { fingerprint = f; length = 0 }) → f ≡ fingerprint key []
 unfolding markOf
 begun key f is b = ap (λ (x : Answer Unit Mark). valueOr (markOf key []) x .fingerprint) (sym b ∙ is)
 

@@ -1,12 +1,13 @@
 -- One call of the Bench level beside one step of the book.
-use mathlib.Core.Path.{_≡_}
+use mathlib.Core.Path.{_≡_, ap}
 use mathlib.Core.List.{List, [], _∷_, _++_}
 use Prim.Native.Nat.{ℕ, _<_}
 use lib.ListN.{length}
 use Rattle.refusals.specs.declared.Refusal.the-variants.{FinalByte}
 use Rattle.refusals.specs.Refusals.{Answer, stateOf, numberOf, Test, _⇒_, firstOf}
 use Rattle.refusals.proofs.Laws.{agree}
-use Rattle.acceptance.specs.Keys.{keyTests}
+use Rattle.acceptance.specs.Keys.{polynomialOf, keyOf, keyTests}
+use Rattle.acceptance.proofs.Laws.{whole-key}
 use Rattle.files.specs.declared.Mark.{Mark}
 use Rattle.files.specs.Files.{markOf, Part, partLength, partBits, misused, fedMark}
 use Rattle.files.proofs.Marks.{fed-true}
@@ -43,13 +44,23 @@ module _ (key : ℕ) (pos : 0 < key) (file : List ℕ) where
       (fedMark key (markOf key file) part))
       (λ e. fed-true key pos file part)
 
+  -- a call gets the key as a pair, whose polynomial is the key
+  handed : (F : ℕ → Answer Mark Mark) (b : Answer (List ℕ) (List ℕ)) → Agrees key (F key) b → Agrees key (F (polynomialOf (keyOf key))) b
+  handed F b a = rw (ap F (whole-key key pos)) a
+
   bits-agree : (part : Part) → Agrees key (step key (markOf key file) (ByBits part)) (bookStep bench key file (ByBits part))
   unfolding step feedBits bookStep bookTests written
-  bits-agree part = feed-agrees (keyTests key) part
+  bits-agree part =
+      handed (λ (q : ℕ). firstOf (keyTests (keyOf key) ++ feedTests q (markOf key file) part) (markOf key file) (fedMark q (markOf key file) part))
+      (firstOf (keyTests (keyOf key) ++ tests part) file (file ++ partBits part)) (feed-agrees (keyTests (keyOf key)) part)
 
   table-agree : (words : List ℕ) (part : Part) → Agrees key (step key (markOf key file) (ByTable words part)) (bookStep bench key file (ByTable words part))
   unfolding step feedTable bookStep bookTests written
-  table-agree words part = feed-agrees (keyTests key ++ tableTests key words) part
+  table-agree words part =
+      handed (λ (q : ℕ). firstOf (keyTests (keyOf key) ++ tableTests q words ++ feedTests q (markOf key file) part) (markOf key file)
+      (fedMark q (markOf key file) part))
+      (firstOf (keyTests (keyOf key) ++ tableTests key words ++ tests part) file (file ++ partBits part))
+      (feed-agrees (keyTests (keyOf key) ++ tableTests key words) part)
 
   pub each : (c : Call) → Agrees key (step key (markOf key file) c) (bookStep bench key file c)
   each (ByBits part) = bits-agree part

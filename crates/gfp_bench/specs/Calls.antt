@@ -5,7 +5,8 @@ use Prim.Native.Nat.{ℕ}
 use Rattle.refusals.specs.declared.Refusal.the-variants.{TableWord}
 use Rattle.refusals.specs.Refusals.{_⇒_}
 use Rattle.refusals.specs.Lowest.{GivesLowest}
-use Rattle.acceptance.specs.Keys.{keyTests}
+use Rattle.acceptance.specs.declared.Key.{Key}
+use Rattle.acceptance.specs.Keys.{polynomialOf, keyTests}
 use Rattle.files.specs.declared.Mark.{Mark}
 use Rattle.files.specs.Files.{Part}
 use Rattle.lookups.specs.Rule.{word, differs}
@@ -15,14 +16,14 @@ use Rattle.table_tests.specs.TableTests.{tableSizeTest, tableTests}
 use Rattle.tables.specs.Tables.{makeTable, testTable}
 use Rattle.marks.specs.Feeding.{begin, feedTests, feedBits, feedTable, feedHouse}
 
-pub record EachCall (key : ℕ) (m : Mark) (words : List ℕ) (part : Part) : Type 0 where
-  pub test-key : GivesLowest (1 ∷ 2 ∷ []) (keyTests key) (testKey key)
-  pub begin-mark : GivesLowest (1 ∷ 2 ∷ []) (keyTests key) (begin key)
-  pub feed : GivesLowest (1 ∷ 2 ∷ 7 ∷ 8 ∷ 19 ∷ []) (keyTests key ++ feedTests key m part) (feedBits key m part)
-  pub make-table : GivesLowest (1 ∷ 2 ∷ 5 ∷ []) (keyTests key ++ tableSizeTest words ∷ []) (makeTable key words)
-  pub test-table : GivesLowest (1 ∷ 2 ∷ 5 ∷ 6 ∷ []) (keyTests key ++ tableTests key words) (testTable key words)
-  pub feed-table : GivesLowest (1 ∷ 2 ∷ 5 ∷ 6 ∷ 7 ∷ 8 ∷ 19 ∷ []) (keyTests key ++ tableTests key words ++ feedTests key m part)
-      (feedTable key m words part)
+pub record EachCall (x : Key) (m : Mark) (words : List ℕ) (part : Part) : Type 0 where
+  pub test-key : GivesLowest (1 ∷ 2 ∷ []) (keyTests x) (testKey x)
+  pub begin-mark : GivesLowest (1 ∷ 2 ∷ []) (keyTests x) (begin x)
+  pub feed : GivesLowest (1 ∷ 2 ∷ 7 ∷ 8 ∷ 19 ∷ []) (keyTests x ++ feedTests (polynomialOf x) m part) (feedBits x m part)
+  pub make-table : GivesLowest (1 ∷ 2 ∷ 5 ∷ []) (keyTests x ++ tableSizeTest words ∷ []) (makeTable x words)
+  pub test-table : GivesLowest (1 ∷ 2 ∷ 5 ∷ 6 ∷ []) (keyTests x ++ tableTests (polynomialOf x) words) (testTable x words)
+  pub feed-table : GivesLowest (1 ∷ 2 ∷ 5 ∷ 6 ∷ 7 ∷ 8 ∷ 19 ∷ []) (keyTests x ++ tableTests (polynomialOf x) words ++ feedTests (polynomialOf x) m part)
+      (feedTable x m words part)
   -- the house key's words are 1,024, so that number 5 never applies: its test is left out
   pub feed-house : GivesLowest (1 ∷ 2 ∷ 6 ∷ 7 ∷ 8 ∷ 19 ∷ [])
-      (keyTests key ++ differs (word 8 key) 0 houseWords ⇒ TableWord ∷ feedTests key m part) (feedHouse key m part)
+      (keyTests x ++ differs (word 8 (polynomialOf x)) 0 houseWords ⇒ TableWord ∷ feedTests (polynomialOf x) m part) (feedHouse x m part)

@@ -6,6 +6,8 @@ use Prim.Native.Nat.{ℕ}
 use Rattle.lists.specs.Lists.{overlay}
 use Rattle.lists.proofs.Lists.{rising}
 use Rattle.refusals.proofs.Laws.{gives-lowest, gives-first}
+use Rattle.acceptance.specs.declared.Key.{Key}
+use Rattle.acceptance.specs.Keys.{polynomialOf}
 use Rattle.files.specs.declared.Mark.{Mark}
 use Rattle.files.specs.Files.{Part, partBits, joined, replaced}
 use Rattle.compose.specs.Composing.{joinBehind, joinInFront, replacePage}
@@ -14,22 +16,22 @@ use Rattle.sheets.specs.Layout.{newest, sheetLength, pageCount, sheetBytes, con
 use Rattle.sheets.specs.Sheets.{contentsOf, lengthFor, writeSheet, readSheet, readPages, compared, checkSheet}
 use Rattle.gfp_site.specs.Calls.{EachMarkCall, EachFileCall}
 
-pub each-mark-call : (key : ℕ) (m other : Mark) (place : ℕ) (old new : Part) → EachMarkCall key m other place old new
+pub each-mark-call : (x : Key) (m other : Mark) (place : ℕ) (old new : Part) → EachMarkCall x m other place old new
 unfolding joinBehind joinInFront replacePage rising
-each-mark-call key m other place old new =
+each-mark-call x m other place old new =
     record {
-      join-behind = gives-lowest m (joined key m other) refl refl tt;
-      join-in-front = gives-lowest m (joined key other m) refl refl tt;
-      replace-page = gives-lowest m (replaced key m place old new) refl refl tt;
+      join-behind = gives-lowest m (joined (polynomialOf x) m other) refl refl tt;
+      join-in-front = gives-lowest m (joined (polynomialOf x) other m) refl refl tt;
+      replace-page = gives-lowest m (replaced (polynomialOf x) m place old new) refl refl tt;
     }
 
-pub each-file-call : (key n s : ℕ) (file : Part) (text pattern sheet buffer words : List ℕ) → EachFileCall key n s file text pattern sheet buffer words
+pub each-file-call : (x : Key) (n s : ℕ) (file : Part) (text pattern sheet buffer words : List ℕ) → EachFileCall x n s file text pattern sheet buffer words
 unfolding search lengthFor writeSheet readSheet readPages checkSheet rising
-each-file-call key n s file text pattern sheet buffer words =
+each-file-call x n s file text pattern sheet buffer words =
     record {
-      find = gives-lowest tt (counts key text pattern) refl refl tt;
+      find = gives-lowest tt (counts (polynomialOf x) text pattern) refl refl tt;
       sheet-length = gives-lowest tt (sheetLength newest (pageCount s n)) refl refl tt;
-      write-sheet = gives-lowest buffer (overlay (sheetBytes (contentsOf (newest .version) key s (partBits file))) buffer) refl refl tt;
+      write-sheet = gives-lowest buffer (overlay (sheetBytes (contentsOf (newest .version) x s (partBits file))) buffer) refl refl tt;
       read-sheet = gives-first tt (contentsIn sheet) refl refl;
       read-pages = gives-first words (overlay (contentsIn sheet .pages) words) refl refl;
       check-file = gives-first tt (compared (contentsIn sheet) (partBits file)) refl refl;

@@ -7,14 +7,15 @@ use native.Mathlib.Omega.{arith}
 use lib.Dec.{ltb, ltb→lt}
 use lib.ListN.{length, take, replicate}
 use Rattle.refusals.specs.Refusals.{Done}
-use Rattle.sheets.specs.Layout.{bytesOf, fieldsOf, numberAt, numbersAt, version1, version3, newest, known, layoutAmong, bytesIn, sheetBytes, contentsIn}
-use Rattle.sheets.specs.Layout.{sheetLength, pagesFor}
+use Rattle.sheets.specs.Layout.{bytesOf, fieldsOf, numberAt, numbersAt, version1, version4, newest, known, layoutAmong, bytesIn, sheetBytes, contentsIn}
+use Rattle.sheets.specs.Layout.{sheetLength, pagesFor, keyNumber, keyFrom}
 use Rattle.sheets.specs.Sheets.{filled, pageFingerprints, contentsOf, writeSheet, joinedPages, someUnreduced, readSheet, readPages}
 use Rattle.sheets.proofs.Guarantee.{written-reads}
 use Rattle.lists.proofs.Lists.{all-map, every, all-by-test}
 use Rattle.gf2.specs.Polynomials.{_⊕_, halvings, degree, reduce, longDivision, rem}
+use Rattle.gf2.specs.Degrees.{monic}
 use Rattle.lists.specs.Lists.{listFrom, anyBelow, overlay}
-use Rattle.acceptance.specs.Keys.{reducible}
+use Rattle.acceptance.specs.Keys.{reducible, keyOf}
 use Rattle.files.specs.declared.Mark.{Mark}
 use Rattle.files.specs.Files.{lowBits, bits, valueFrom, value, fingerprint, markOf, asPart, whole, usedBits, partLength, partBits, misused}
 use Rattle.files.specs.Files.{fedMark, joined, replaced}
@@ -60,18 +61,18 @@ abbrev numbers : List ℕ
 numbers = 0 ∷ 5 ∷ 0 ∷ 8 ∷ 7 ∷ 0 ∷ 19 ∷ 0 ∷ 9 ∷ 10 ∷ 0 ∷ []
 
 pub the-book : run (bookStep site 0x11B) [] calls ≡ (bits (0x41 ∷ 0x00 ∷ 0x00 ∷ []), numbers)
-unfolding calls run bookStep bookTests written bench-level.bookTests bench-level.written reducible anyBelow rem longDivision reduce degree halvings _⊕_ differs
+unfolding calls run bookStep bookTests written bench-level.bookTests bench-level.written monic reducible anyBelow rem longDivision reduce degree halvings _⊕_ differs
     bits lowBits usedBits partLength partBits misused
 the-book = refl
 
 pub the-list : run (step 0x11B) (mark 0x01 0) calls ≡ (mark (fingerprint 0x11B (bits (0x41 ∷ 0x00 ∷ 0x00 ∷ []))) 24, numbers)
 unfolding calls run step bench-level.step feedBits feedTable fedMark joinBehind joinInFront joined replacePage replaced
-    reducible anyBelow fingerprint value valueFrom bits lowBits usedBits partLength partBits misused rem longDivision reduce degree halvings _⊕_ differs
+    monic reducible anyBelow fingerprint value valueFrom bits lowBits usedBits partLength partBits misused rem longDivision reduce degree halvings _⊕_ differs
 the-list = refl
 
 pub the-list-is-honest : Honest site 0x11B [] calls
 unfolding calls bookStep bookTests written bench-level.bookTests bench-level.written
-    reducible anyBelow fingerprint value valueFrom bits lowBits usedBits partLength partBits misused markOf rem longDivision reduce degree halvings _⊕_ differs
+    monic reducible anyBelow fingerprint value valueFrom bits lowBits usedBits partLength partBits misused markOf rem longDivision reduce degree halvings _⊕_ differs
 the-list-is-honest = (
   λ e. tt,
   (
@@ -96,8 +97,8 @@ the-list-is-honest = (
 )
 
 -- the three first bits of the byte 42 changed in the mark of 41 42
-pub three-bits : replacePage 0x11B (mark 0x9D 16) 1 (asPart (0x40 ∷ []) 3) (asPart (0xA0 ∷ []) 3) ≡ Done (mark 0x7D 16)
-unfolding replacePage replaced reducible anyBelow fingerprint value valueFrom bits lowBits usedBits partLength partBits misused
+pub three-bits : replacePage (keyOf 0x11B) (mark 0x9D 16) 1 (asPart (0x40 ∷ []) 3) (asPart (0xA0 ∷ []) 3) ≡ Done (mark 0x7D 16)
+unfolding replacePage replaced monic reducible anyBelow fingerprint value valueFrom bits lowBits usedBits partLength partBits misused
     rem longDivision reduce degree halvings _⊕_
 three-bits = refl
 
@@ -106,20 +107,23 @@ three-bits = refl
 abbrev two : List ℕ
 two = bits (0x41 ∷ 0x42 ∷ [])
 
--- the key 0x11B in its field; a fingerprint in its field
-abbrev keyField : List ℕ
-keyField = 0x00 ∷ 0x00 ∷ 0x00 ∷ 0x00 ∷ 0x00 ∷ 0x00 ∷ 0x01 ∷ 0x1B ∷ []
-
+-- a number below 256 in 8 bytes; the key 0x11B as a degree and a word, and as a number
 abbrev field : ℕ → List ℕ
 field f = 0x00 ∷ 0x00 ∷ 0x00 ∷ 0x00 ∷ 0x00 ∷ 0x00 ∷ 0x00 ∷ f ∷ []
 
--- what is written: version 3, the length in bits, the page as it is. 39 bytes.
-sheet : List ℕ
-sheet = 0x47 ∷ 0x46 ∷ 0x50 ∷ 0x00 ∷ 0x03 ∷ keyField ++ field 0x10 ++ 0x00 ∷ 0x10 ∷ field 0x9D ++ field 0x9D
+abbrev pairField : List ℕ
+pairField = 0x08 ∷ field 0x1B
 
-written-sheet : writeSheet 0x11B 16 (whole (0x41 ∷ 0x42 ∷ [])) (replicate 39 0) ≡ Done sheet
-unfolding sheet writeSheet overlay sheetBytes layoutAmong bytesIn fieldsOf bytesOf contentsOf pageFingerprints filled
-    reducible anyBelow fingerprint value valueFrom bits lowBits usedBits partLength partBits misused rem longDivision reduce degree halvings _⊕_
+abbrev keyField : List ℕ
+keyField = 0x00 ∷ 0x00 ∷ 0x00 ∷ 0x00 ∷ 0x00 ∷ 0x00 ∷ 0x01 ∷ 0x1B ∷ []
+
+-- what is written: version 4, the length in bits, the page as it is. 40 bytes.
+sheet : List ℕ
+sheet = 0x47 ∷ 0x46 ∷ 0x50 ∷ 0x00 ∷ 0x04 ∷ pairField ++ field 0x10 ++ 0x00 ∷ 0x10 ∷ field 0x9D ++ field 0x9D
+
+written-sheet : writeSheet (keyOf 0x11B) 16 (whole (0x41 ∷ 0x42 ∷ [])) (replicate 40 0) ≡ Done sheet
+unfolding sheet writeSheet overlay sheetBytes keyNumber layoutAmong bytesIn fieldsOf bytesOf contentsOf pageFingerprints filled
+    monic reducible anyBelow fingerprint value valueFrom bits lowBits usedBits partLength partBits misused rem longDivision reduce degree halvings _⊕_
 written-sheet = refl
 
 the-two : partBits (whole (0x41 ∷ 0x42 ∷ [])) ≡ two
@@ -127,36 +131,36 @@ the-two = whole-bits (0x41 ∷ 0x42 ∷ [])
 
 pub last-field : Route 0x11B two 0x9D
 unfolding sheet numberAt valueFrom bits lowBits
-last-field = InSheet 16 (whole (0x41 ∷ 0x42 ∷ [])) (replicate 39 0) sheet written-sheet the-two refl
+last-field = InSheet 16 (whole (0x41 ∷ 0x42 ∷ [])) (replicate 40 0) sheet written-sheet the-two refl
 
 pub page-field : Route 0x11B two 0x9D
 unfolding sheet filled numberAt valueFrom bits lowBits usedBits partLength partBits
-page-field = InPageField 16 0 (whole (0x41 ∷ 0x42 ∷ [])) (replicate 39 0) sheet written-sheet (omega arith) refl refl
+page-field = InPageField 16 0 (whole (0x41 ∷ 0x42 ∷ [])) (replicate 40 0) sheet written-sheet (omega arith) refl refl
 
-true-pages : TruePages 0x11B two sheet (contentsOf 3 0x11B 16 two)
+true-pages : TruePages 0x11B two sheet (contentsOf 4 (keyOf 0x11B) 16 two)
 unfolding sheet every contentsOf bits lowBits
 true-pages =
     record {
       bytes = all-map (λ b t. ltb→lt b 256 t) sheet (all-by-test (λ b. ltb b 256) sheet tt);
       read =
-          subst (λ (l : List ℕ). readSheet (take (sheetLength newest (pagesFor 16 (length l))) sheet) ≡ Done (contentsOf 3 0x11B 16 l)) the-two
-          (written-reads 0x11B 16 (whole (0x41 ∷ 0x42 ∷ [])) (replicate 39 0) sheet (omega arith) written-sheet);
+          subst (λ (l : List ℕ). readSheet (take (sheetLength newest (pagesFor 16 (length l))) sheet) ≡ Done (contentsOf 4 (keyOf 0x11B) 16 l)) the-two
+          (written-reads (keyOf 0x11B) 16 (whole (0x41 ∷ 0x42 ∷ [])) (replicate 40 0) sheet written-sheet);
       same-key = refl;
       same-length = refl;
       same-pages = refl;
     }
 
 pub read-9D : Route 0x11B two 0x9D
-unfolding contentsOf fingerprint value valueFrom bits lowBits rem longDivision reduce degree halvings _⊕_
-read-9D = ByReading sheet (contentsOf 3 0x11B 16 two) true-pages refl
+unfolding contentsOf monic fingerprint value valueFrom bits lowBits rem longDivision reduce degree halvings _⊕_
+read-9D = ByReading sheet (contentsOf 4 (keyOf 0x11B) 16 two) true-pages refl
 
 -- version 1 is read by its filling: document 01's sheet of 41 42, its length in bytes
 old-sheet : List ℕ
 old-sheet = 0x47 ∷ 0x46 ∷ 0x50 ∷ 0x00 ∷ 0x01 ∷ keyField ++ 0x00 ∷ 0x00 ∷ 0x00 ∷ 0x02 ∷ 0x00 ∷ 0x10 ∷ field 0xAC ++ field 0x9D
 
-old-pages : TruePages 0x11B two old-sheet (contentsOf 1 0x11B 16 two)
-unfolding old-sheet every overlay filled contentsOf pageFingerprints readSheet contentsIn known layoutAmong numbersAt numberAt
-    fingerprint value valueFrom bits lowBits joinedPages joined someUnreduced markOf reducible anyBelow rem longDivision reduce degree halvings _⊕_
+old-pages : TruePages 0x11B two old-sheet (contentsOf 1 (keyOf 0x11B) 16 two)
+unfolding old-sheet every overlay filled contentsOf pageFingerprints readSheet contentsIn keyFrom known layoutAmong numbersAt numberAt
+    fingerprint value valueFrom bits lowBits joinedPages joined someUnreduced markOf monic reducible anyBelow rem longDivision reduce degree halvings _⊕_
 old-pages =
     record {
       bytes = all-map (λ b t. ltb→lt b 256 t) old-sheet (all-by-test (λ b. ltb b 256) old-sheet tt);
@@ -167,11 +171,11 @@ old-pages =
     }
 
 pub read-AC : Route 0x11B (two ++ replicate 112 0) 0xAC
-unfolding old-sheet overlay filled contentsOf pageFingerprints readPages readSheet contentsIn known layoutAmong numbersAt numberAt
-    fingerprint value valueFrom bits lowBits joinedPages joined someUnreduced markOf reducible anyBelow rem longDivision reduce degree halvings _⊕_
-read-AC = ByReadingPages two old-sheet (0x00 ∷ []) (0xAC ∷ []) (contentsOf 1 0x11B 16 two) 0 old-pages refl (omega arith) (omega arith) refl refl
+unfolding old-sheet overlay filled contentsOf pageFingerprints readPages readSheet contentsIn keyFrom known layoutAmong numbersAt numberAt
+    fingerprint value valueFrom bits lowBits joinedPages joined someUnreduced markOf monic reducible anyBelow rem longDivision reduce degree halvings _⊕_
+read-AC = ByReadingPages two old-sheet (0x00 ∷ []) (0xAC ∷ []) (contentsOf 1 (keyOf 0x11B) 16 two) 0 old-pages refl (omega arith) (omega arith) refl refl
 
--- ---- the pages of the 17 bytes 00 to 10, the last of one byte: filled up in version 1, as it is in versions 2 and 3
+-- ---- the pages of the 17 bytes 00 to 10, the last of one byte: filled up in version 1, as it is in versions 2 to 4
 
 abbrev seventeen : List ℕ
 seventeen = bits (listFrom (λ b. b) 0 17)
@@ -180,7 +184,7 @@ pub filled-pages : pageFingerprints version1 0x11B 128 2 seventeen ≡ 0x6E ∷ 
 unfolding listFrom pageFingerprints filled fingerprint value valueFrom bits lowBits rem longDivision reduce degree halvings _⊕_
 filled-pages = refl
 
-pub own-pages : pageFingerprints version3 0x11B 128 2 seventeen ≡ 0x6E ∷ 0x0B ∷ []
+pub own-pages : pageFingerprints version4 0x11B 128 2 seventeen ≡ 0x6E ∷ 0x0B ∷ []
 unfolding listFrom pageFingerprints filled fingerprint value valueFrom bits lowBits rem longDivision reduce degree halvings _⊕_
 own-pages = refl
 
@@ -188,8 +192,15 @@ pub their-file : fingerprint 0x11B seventeen ≡ 0x45
 unfolding listFrom fingerprint value valueFrom bits lowBits rem longDivision reduce degree halvings _⊕_
 their-file = refl
 
--- ---- a key that confuses two files: 00 00 and 01 1B under 0x11B
+-- ---- keys that confuse two files at Bench confuse them here
+
+of-bench : {k : ℕ} {a b : List ℕ} {key : ℕ} → Confuses bench-level.Route k a b key → Confuses Route k a b key
+of-bench c = record { is-accepted = c .is-accepted; of-degree = c .of-degree; fingerprint = c .fingerprint; one = OfBench (c .one); other = OfBench (c .other) }
+
+-- 00 00 and 01 1B under 0x11B
 pub both-5E : Confuses Route 8 (bits (0x00 ∷ 0x00 ∷ [])) (bits (0x01 ∷ 0x1B ∷ [])) 0x11B
-both-5E =
-    let c = bench-examples.both-5E in
-    record { is-accepted = c .is-accepted; of-degree = c .of-degree; fingerprint = c .fingerprint; one = OfBench (c .one); other = OfBench (c .other) }
+both-5E = of-bench bench-examples.both-5E
+
+-- degree 64: nine bytes 00, and 01, seven times 00, 1B, under the stock key
+pub both-1B00 : Confuses Route 64 bench-examples.nine-zeros bench-examples.nine-other bench-examples.key64
+both-1B00 = of-bench bench-examples.both-1B00

@@ -8,7 +8,7 @@ use lib.Dec.{ltb, eqb}
 use lib.ListN.{length, getD, take, drop}
 use Rattle.refusals.specs.declared.Refusal.the-variants.{TooLong, MarkNotReduced, PageLengthsDiffer, PagePastEnd, FinalByte}
 use Rattle.refusals.specs.Refusals.{Answer, Done, Test, _⇒_, passes}
-use Rattle.acceptance.specs.Keys.{keyTests}
+use Rattle.acceptance.specs.Keys.{keyOf, keyTests}
 use Rattle.files.specs.declared.Mark.{Mark}
 use Rattle.files.specs.Files.{True, Bytes, unreduced, Part, partLength, partBits, misused}
 use Rattle.marks.specs.Feeding.{sumTest}
@@ -26,18 +26,18 @@ pub data Call : Type 0 where
 
 unfoldable pub step : ℕ → Mark → Call → Answer Mark Mark
 step key m (Feeding c) = bench-level.step key m c
-step key m (Behind other its) = joinBehind key m other
-step key m (InFront other its) = joinInFront key m other
-step key m (Page place old new) = replacePage key m place old new
+step key m (Behind other its) = joinBehind (keyOf key) m other
+step key m (InFront other its) = joinInFront (keyOf key) m other
+step key m (Page place old new) = replacePage (keyOf key) m place old new
 
 -- The numbers that can apply, n being the length of the book's file in bits. The mark carried along is true of the file, so that number 8
 -- is judged of a joined mark alone.
 unfoldable pub bookTests : ℕ → ℕ → Call → List Test
 bookTests key n (Feeding c) = bench-level.bookTests key n c
-bookTests key n (Behind other its) = keyTests key ++ sumTest n (other .length) ∷ unreduced key other ⇒ MarkNotReduced ∷ []
-bookTests key n (InFront other its) = keyTests key ++ sumTest n (other .length) ∷ unreduced key other ⇒ MarkNotReduced ∷ []
+bookTests key n (Behind other its) = keyTests (keyOf key) ++ sumTest n (other .length) ∷ unreduced key other ⇒ MarkNotReduced ∷ []
+bookTests key n (InFront other its) = keyTests (keyOf key) ++ sumTest n (other .length) ∷ unreduced key other ⇒ MarkNotReduced ∷ []
 bookTests key n (Page place old new) =
-    keyTests key
+    keyTests (keyOf key)
     ++ passes (n ∷ partLength old ∷ partLength new ∷ []) ⇒ TooLong
     ∷ not (eqb (partLength old) (partLength new)) ⇒ PageLengthsDiffer
     ∷ ltb n (8 * place + partLength old) ⇒ PagePastEnd
@@ -76,7 +76,7 @@ fieldAt sheet i = numberAt (pagePlace newest i) (newest .fingerprintWidth) sheet
 pub record TruePages (key : ℕ) (file sheet : List ℕ) (x : Contents) : Type 0 where
   pub bytes : Bytes sheet
   pub read : readSheet sheet ≡ Done x
-  pub same-key : x .key ≡ key
+  pub same-key : x .key ≡ keyOf key
   pub same-length : x .length ≡ length file
   pub same-pages : x .pages ≡ pagesNow x file
 
@@ -86,10 +86,10 @@ pub data Route (key : ℕ) (file : List ℕ) (f : ℕ) : Type 0 where
   OfBench : bench-level.Route key file f → Route key file f
   ByCalls : Leaves site key file f → Route key file f
   -- the last field of a written sheet
-  InSheet : (s : ℕ) (part : Part) (buffer after : List ℕ) → writeSheet key s part buffer ≡ Done after → partBits part ≡ file
+  InSheet : (s : ℕ) (part : Part) (buffer after : List ℕ) → writeSheet (keyOf key) s part buffer ≡ Done after → partBits part ≡ file
       → fieldAt after (pagesFor s (length file)) ≡ f → Route key file f
   -- the field of a page of a written sheet: the file is that page
-  InPageField : (s i : ℕ) (part : Part) (buffer after : List ℕ) → writeSheet key s part buffer ≡ Done after → i < pagesFor s (length (partBits part))
+  InPageField : (s i : ℕ) (part : Part) (buffer after : List ℕ) → writeSheet (keyOf key) s part buffer ≡ Done after → i < pagesFor s (length (partBits part))
       → file ≡ pageIn newest s (partBits part) i → fieldAt after i ≡ f → Route key file f
   -- what reading gives of a sheet with true page fingerprints: the file's fingerprint,
   ByReading : (sheet : List ℕ) (x : Contents) → TruePages key file sheet x → x .fingerprint ≡ f → Route key file f

@@ -4,7 +4,8 @@
 use mathlib.Core.List.{List, [], _∷_, _++_}
 use Prim.Native.Nat.{ℕ, _*_}
 use Rattle.refusals.specs.Lowest.{GivesLowest, GivesFirst}
-use Rattle.acceptance.specs.Keys.{keyTests}
+use Rattle.acceptance.specs.declared.Key.{Key}
+use Rattle.acceptance.specs.Keys.{polynomialOf, keyTests}
 use Rattle.files.specs.declared.Mark.{Mark}
 use Rattle.files.specs.Files.{Part}
 use Rattle.compose.specs.Composing.{joinTests, joinBehind, joinInFront, pageTests, replacePage}
@@ -13,17 +14,17 @@ use Rattle.sheets.specs.Layout.{layouts}
 use Rattle.sheets.specs.Sheets.{lengthTests, lengthFor, writeTests, writeSheet, readTests, readSheet, readPages, checkTests, checkSheet}
 
 -- of marks
-pub record EachMarkCall (key : ℕ) (m other : Mark) (place : ℕ) (old new : Part) : Type 0 where
-  pub join-behind : GivesLowest (1 ∷ 2 ∷ 7 ∷ 8 ∷ []) (joinTests key m other) (joinBehind key m other)
-  pub join-in-front : GivesLowest (1 ∷ 2 ∷ 7 ∷ 8 ∷ []) (joinTests key m other) (joinInFront key m other)
-  pub replace-page : GivesLowest (1 ∷ 2 ∷ 7 ∷ 8 ∷ 9 ∷ 10 ∷ 19 ∷ []) (keyTests key ++ pageTests key m place old new)
-      (replacePage key m place old new)
+pub record EachMarkCall (x : Key) (m other : Mark) (place : ℕ) (old new : Part) : Type 0 where
+  pub join-behind : GivesLowest (1 ∷ 2 ∷ 7 ∷ 8 ∷ []) (joinTests x m other) (joinBehind x m other)
+  pub join-in-front : GivesLowest (1 ∷ 2 ∷ 7 ∷ 8 ∷ []) (joinTests x m other) (joinInFront x m other)
+  pub replace-page : GivesLowest (1 ∷ 2 ∷ 7 ∷ 8 ∷ 9 ∷ 10 ∷ 19 ∷ []) (keyTests x ++ pageTests (polynomialOf x) m place old new)
+      (replacePage x m place old new)
 
 -- of files and sheets
-pub record EachFileCall (key n s : ℕ) (file : Part) (text pattern sheet buffer words : List ℕ) : Type 0 where
-  pub find : GivesLowest (1 ∷ 2 ∷ 7 ∷ 11 ∷ []) (searchTests key text pattern) (search key text pattern)
+pub record EachFileCall (x : Key) (n s : ℕ) (file : Part) (text pattern sheet buffer words : List ℕ) : Type 0 where
+  pub find : GivesLowest (1 ∷ 2 ∷ 7 ∷ 11 ∷ []) (searchTests x text pattern) (search x text pattern)
   pub sheet-length : GivesLowest (7 ∷ 12 ∷ []) (lengthTests (8 * n) s) (lengthFor n s)
-  pub write-sheet : GivesLowest (1 ∷ 2 ∷ 7 ∷ 12 ∷ 13 ∷ 19 ∷ []) (writeTests key s file buffer) (writeSheet key s file buffer)
+  pub write-sheet : GivesLowest (1 ∷ 2 ∷ 7 ∷ 12 ∷ 13 ∷ 19 ∷ []) (writeTests x s file buffer) (writeSheet x s file buffer)
   pub read-sheet : GivesFirst (14 ∷ 1 ∷ 2 ∷ 12 ∷ 14 ∷ []) (readTests layouts sheet) (readSheet sheet)
   pub read-pages : GivesFirst (14 ∷ 1 ∷ 2 ∷ 12 ∷ 14 ∷ []) (readTests layouts sheet) (readPages sheet words)
   pub check-file : GivesFirst (14 ∷ 1 ∷ 2 ∷ 12 ∷ 14 ∷ 7 ∷ 19 ∷ []) (checkTests sheet file) (checkSheet sheet file)

@@ -11,9 +11,9 @@ use Rattle.sheets.specs.Sheets.{Outcome, Same, Page, OtherLength}
 abbrev pub countsIn : Counts → List ℕ
 countsIn c = c .places ∷ c .alarms ∷ []
 
--- of a sheet: the version, the key, the file's length in bits, the page size, the number of pages, the file's fingerprint
+-- of a sheet: the version, the key's degree and word, the file's length in bits, the page size, the number of pages, the file's fingerprint
 abbrev pub sheetIn : Contents → List ℕ
-sheetIn x = x .version ∷ x .key ∷ x .length ∷ x .pageSize ∷ length (x .pages) ∷ x .fingerprint ∷ []
+sheetIn x = x .version ∷ x .key .degree ∷ x .key .word ∷ x .length ∷ x .pageSize ∷ length (x .pages) ∷ x .fingerprint ∷ []
 
 -- of a check: 0 for same, 1 for a page, 2 for another length; and the page, or 0
 abbrev pub outcomeIn : Outcome → List ℕ

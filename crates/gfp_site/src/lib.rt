@@ -4,12 +4,13 @@ ghost use mathlib.Core.Path.{_≡_};
 ghost use mathlib.Core.List.{[], _∷_};
 ghost use Rattle.refusals.specs.Refusals.{numberOf, stateOf, valueOr};
 ghost use Rattle.files.specs.Files.{asPart};
-ghost use Rattle.places.specs.Places.{markAt, heldAfter};
+ghost use Rattle.places.specs.Places.{keyAt, markAt, heldAfter};
 ghost use Rattle.compose.specs.Composing.{joinBehind, joinInFront, replacePage};
 ghost use Rattle.search.specs.Searching.{search, placesAfter};
 ghost use Rattle.sheets.specs.Layout.{contentsIn};
 ghost use Rattle.sheets.specs.Sheets.{writeSheet, readSheet, readPages, checkSheet, lengthFor};
 ghost use Rattle.gfp_site.specs.Places.{countsIn, sheetIn, outcomeIn, rangeIn};
+use acceptance::Key;
 use files::Mark;
 use marks::Running;
 use search::Searched;
@@ -22,17 +23,19 @@ use sheets::SheetLength;
 // Numbers 1, 2, 7, 8.
 #[no_mangle]
 pub extern "C" fn gfp_join_behind(
-    key: u64,
+    degree: u32,
+    word: u64,
     fingerprint: &mut u64,
     bits: &mut u64,
     other_fingerprint: u64,
     other_bits: u64,
 ) -> u32
     ensures { λ r. ⌜
-        (r ≡ numberOf (joinBehind key (markAt (now (fingerprint .entry)) (now (bits .entry))) (markAt «other_fingerprint» «other_bits»)))
-        × (markAt (now (fingerprint .exit)) (now (bits .exit)) ≡ stateOf (joinBehind key (markAt (now (fingerprint .entry)) (now (bits .entry))) (markAt «other_fingerprint» «other_bits»)))
+        (r ≡ numberOf (joinBehind (keyAt degree word) (markAt (now (fingerprint .entry)) (now (bits .entry))) (markAt «other_fingerprint» «other_bits»)))
+        × (markAt (now (fingerprint .exit)) (now (bits .exit)) ≡ stateOf (joinBehind (keyAt degree word) (markAt (now (fingerprint .entry)) (now (bits .entry))) (markAt «other_fingerprint» «other_bits»)))
         ⌝ }
 {
+    let key = Key { degree, word };
     let m = Running {
         key: key,
         fingerprint: *fingerprint,
@@ -48,17 +51,19 @@ pub extern "C" fn gfp_join_behind(
 // The file of the mark (other_fingerprint, other_bits) goes in front; lengths are in bits. Numbers 1, 2, 7, 8.
 #[no_mangle]
 pub extern "C" fn gfp_join_in_front(
-    key: u64,
+    degree: u32,
+    word: u64,
     fingerprint: &mut u64,
     bits: &mut u64,
     other_fingerprint: u64,
     other_bits: u64,
 ) -> u32
     ensures { λ r. ⌜
-        (r ≡ numberOf (joinInFront key (markAt (now (fingerprint .entry)) (now (bits .entry))) (markAt «other_fingerprint» «other_bits»)))
-        × (markAt (now (fingerprint .exit)) (now (bits .exit)) ≡ stateOf (joinInFront key (markAt (now (fingerprint .entry)) (now (bits .entry))) (markAt «other_fingerprint» «other_bits»)))
+        (r ≡ numberOf (joinInFront (keyAt degree word) (markAt (now (fingerprint .entry)) (now (bits .entry))) (markAt «other_fingerprint» «other_bits»)))
+        × (markAt (now (fingerprint .exit)) (now (bits .exit)) ≡ stateOf (joinInFront (keyAt degree word) (markAt (now (fingerprint .entry)) (now (bits .entry))) (markAt «other_fingerprint» «other_bits»)))
         ⌝ }
 {
+    let key = Key { degree, word };
     let m = Running {
         key: key,
         fingerprint: *fingerprint,
@@ -75,7 +80,8 @@ pub extern "C" fn gfp_join_in_front(
 // Numbers 1, 2, 7, 8, 9, 10, 19.
 #[no_mangle]
 pub extern "C" fn gfp_replace_page(
-    key: u64,
+    degree: u32,
+    word: u64,
     fingerprint: &mut u64,
     bits: &mut u64,
     place: u64,
@@ -85,12 +91,13 @@ pub extern "C" fn gfp_replace_page(
     new_used: u32,
 ) -> u32
     ensures { λ r. ⌜
-        (r ≡ numberOf (replacePage key (markAt (now (fingerprint .entry)) (now (bits .entry))) place
+        (r ≡ numberOf (replacePage (keyAt degree word) (markAt (now (fingerprint .entry)) (now (bits .entry))) place
         (asPart (now («old_page» .entry)) «old_used») (asPart (now («new_page» .entry)) «new_used»)))
-        × (markAt (now (fingerprint .exit)) (now (bits .exit)) ≡ stateOf (replacePage key (markAt (now (fingerprint .entry)) (now (bits .entry))) place
+        × (markAt (now (fingerprint .exit)) (now (bits .exit)) ≡ stateOf (replacePage (keyAt degree word) (markAt (now (fingerprint .entry)) (now (bits .entry))) place
         (asPart (now («old_page» .entry)) «old_used») (asPart (now («new_page» .entry)) «new_used»)))
         ⌝ }
 {
+    let key = Key { degree, word };
     let m = Running {
         key: key,
         fingerprint: *fingerprint,
@@ -107,7 +114,8 @@ pub extern "C" fn gfp_replace_page(
 // Numbers 1, 2, 7, 11.
 #[no_mangle]
 pub extern "C" fn gfp_search(
-    key: u64,
+    degree: u32,
+    word: u64,
     text: &[u8],
     pattern: &[u8],
     places: &mut [u32],
@@ -115,12 +123,13 @@ pub extern "C" fn gfp_search(
     alarms: &mut u32,
 ) -> u32
     ensures { λ r. ⌜
-        (r ≡ numberOf (search key (now (text .entry)) (now (pattern .entry))))
-        × (now (places .exit) ≡ placesAfter key (now (text .entry)) (now (pattern .entry)) (now (places .entry)))
+        (r ≡ numberOf (search (keyAt degree word) (now (text .entry)) (now (pattern .entry))))
+        × (now (places .exit) ≡ placesAfter (keyAt degree word) (now (text .entry)) (now (pattern .entry)) (now (places .entry)))
         × (now (count .exit) ∷ now (alarms .exit) ∷ []
-        ≡ heldAfter countsIn (now (count .entry) ∷ now (alarms .entry) ∷ []) (search key (now (text .entry)) (now (pattern .entry))))
+        ≡ heldAfter countsIn (now (count .entry) ∷ now (alarms .entry) ∷ []) (search (keyAt degree word) (now (text .entry)) (now (pattern .entry))))
         ⌝ }
 {
+    let key = Key { degree, word };
     match search::search(key, text, pattern, places) {
         Searched::Found(c) => {
             *count = c.places;
@@ -135,27 +144,30 @@ pub extern "C" fn gfp_search(
 // its final byte. Numbers 1, 2, 7, 12, 13, 19.
 #[no_mangle]
 pub extern "C" fn gfp_write_sheet(
-    key: u64,
+    degree: u32,
+    word: u64,
     page_size: u64,
     file: &[u8],
     used: u32,
     sheet: &mut [u8],
 ) -> u32
     ensures { λ r. ⌜
-        (r ≡ numberOf (writeSheet key «page_size» (asPart (now (file .entry)) used) (now (sheet .entry))))
-        × (now (sheet .exit) ≡ stateOf (writeSheet key «page_size» (asPart (now (file .entry)) used) (now (sheet .entry))))
+        (r ≡ numberOf (writeSheet (keyAt degree word) «page_size» (asPart (now (file .entry)) used) (now (sheet .entry))))
+        × (now (sheet .exit) ≡ stateOf (writeSheet (keyAt degree word) «page_size» (asPart (now (file .entry)) used) (now (sheet .entry))))
         ⌝ }
 {
+    let key = Key { degree, word };
     refusals::number_of(sheet_writing::write(key, page_size, file, used, sheet))
 }
 
-// The numbers of a sheet into six places; the file's length in bits. Numbers 14 (size, letters, version, least size, limit of lengths), 1, 2, 12,
+// The numbers of a sheet into seven places; the file's length in bits. Numbers 14 (size, letters, version, least size, limit of lengths), 1, 2, 12,
 // 14 (total, fingerprints, joining), in this order.
 #[no_mangle]
 pub extern "C" fn gfp_read_sheet(
     sheet: &[u8],
     version: &mut u32,
-    key: &mut u64,
+    degree: &mut u32,
+    word: &mut u64,
     bits: &mut u64,
     page_size: &mut u64,
     pages: &mut u64,
@@ -163,16 +175,18 @@ pub extern "C" fn gfp_read_sheet(
 ) -> u32
     ensures { λ r. ⌜
         (r ≡ numberOf (readSheet (now (sheet .entry))))
-        × (now (version .exit) ∷ now (key .exit) ∷ now (bits .exit) ∷ now («page_size» .exit) ∷ now (pages .exit) ∷ now (fingerprint .exit) ∷ []
+        × (now (version .exit) ∷ now (degree .exit) ∷ now (word .exit) ∷ now (bits .exit) ∷ now («page_size» .exit) ∷ now (pages .exit) ∷ now (fingerprint .exit) ∷ []
         ≡ heldAfter sheetIn
-        (now (version .entry) ∷ now (key .entry) ∷ now (bits .entry) ∷ now («page_size» .entry) ∷ now (pages .entry) ∷ now (fingerprint .entry) ∷ [])
+        (now (version .entry) ∷ now (degree .entry) ∷ now (word .entry) ∷ now (bits .entry) ∷ now («page_size» .entry) ∷ now (pages .entry) ∷ now (fingerprint .entry) ∷ [])
         (readSheet (now (sheet .entry))))
         ⌝ }
 {
     match sheet_reading::read(sheet) {
         Reading::Sheet(x) => {
+            let key = x.key;
             *version = x.version as u32;
-            *key = x.key;
+            *degree = key.degree;
+            *word = key.word;
             *bits = x.length;
             *page_size = x.size;
             *pages = x.pages;

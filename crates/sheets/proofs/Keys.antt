@@ -1,5 +1,5 @@
 -- Laws of the key in its field: what is written reads back and what is read is written so, as a number and as a pair.
-use mathlib.Core.Path.{_≡_, refl, sym, ap, ap₂, _∙_}
+use mathlib.Core.Path.{_≡_, sym, ap, ap₂, _∙_}
 use mathlib.Core.Bool.{Bool, true, false, cond, true≢false}
 use mathlib.Core.List.{List}
 use Prim.Native.Nat.{ℕ, zero, suc, _+_, _*_, _/_, _%_, _^_, _≤_, _<_}
@@ -10,7 +10,7 @@ use lib.Dec.{lit<}
 use lib.ListN.{length}
 use lib.Pow.{pow-mono, pow-pos}
 use lib.Seq.{sets}
-use Rattle.gf2.specs.Polynomials.{halvings, degree}
+use Rattle.gf2.specs.Polynomials.{degree}
 use Rattle.gf2.specs.Degrees.{monic}
 use Rattle.gf2.proofs.Monics.{word-degree}
 use Rattle.acceptance.specs.declared.Key.{Key}
@@ -71,13 +71,6 @@ pub degree-held : (b : Bool) (n : ℕ) → outside (keyFrom b n) ≡ false → n
 unfolding keyFrom
 degree-held true n h l = in-range (record { degree = n / 2 ^ 64; word = n % 2 ^ 64 }) h .1
 degree-held false n h l = omega (arith, word-degree n (some n h) l)
-
--- the numbers below 2
-pub key-none : (n : ℕ) → n < 2 → keyOf n ≡ record { degree = 0; word = 0 }
-unfolding degree halvings
-key-none zero l = refl
-key-none (suc zero) l = refl
-key-none (suc (suc n)) l = absurd (omega arith)
 
 -- ---- a pair, byte by byte
 

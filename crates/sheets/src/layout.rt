@@ -7,7 +7,6 @@ ghost use mathlib.Core.Bool.{true, false, not};
 ghost use Prim.Native.Nat.{_≤_, _<_, _^_};
 ghost use lib.ListN.{length};
 ghost use lib.Seq.{sets};
-ghost use Rattle.acceptance.specs.Keys.{keyOf};
 ghost use Rattle.sheets.specs.Layout.{numberAt, layouts, known, layoutOf, fieldWidths, pagePlace, sheetLength, headOf, bytesIn, keyIn, lengthIn};
 ghost use Rattle.sheets.specs.Sheets.{headWrong};
 ghost use Rattle.sheets.specs.Parts.{LaidOut, HeadOf, fingerprintsPart, headOnly};
@@ -119,20 +118,6 @@ pub struct Head {
     pub size: u64,
 }
 
-// A number as the key that its polynomial is handed in as.
-fn key_of(n: u64) -> Key
-    ensures { λ r. ⌜ r ≡ keyOf n ⌝ }
-{
-    if n < 2 {
-        return Key { degree: 0, word: 0 };
-    }
-    let p = gf2::modulus_of(n);
-    Key {
-        degree: p.degree,
-        word: p.low,
-    }
-}
-
 // The key, by the fields of a version.
 fn key_in(sheet: &[u8], version: u64) -> Key
     requires { ⌜ pagePlace (layoutOf version) 0 ≤ length (now sheet) ⌝ }
@@ -144,7 +129,7 @@ fn key_in(sheet: &[u8], version: u64) -> Key
             word: fields::number_at(sheet, WORD_PLACE, 8),
         };
     }
-    key_of(fields::number_at(sheet, KEY_PLACE, 8))
+    acceptance::key_of(fields::number_at(sheet, KEY_PLACE, 8))
 }
 
 // The file's length in bits, by the fields of a version.

@@ -4,7 +4,7 @@ use Rattle.refusals.specs.Refusals.{numberOf}
 use Rattle.marks.specs.declared.Begun.{Begun}
 use Rattle.marks.specs.Feeding.{begin}
 use Rattle.marks.specs.Answers.{begun}
-use Rattle.places.specs.Places.{markAt}
+use Rattle.places.specs.Places.{keyAt, markAt}
 use Rattle.places.specs.Storing.{markOr}
 use Rattle.places.proofs.Answers.{begun-number, begun-value}
 use borrow.Author.Needs.{needs}
@@ -27,10 +27,10 @@ returns c =
     let s = known-told→start c in
     let e = sym (c .before .m .given .1) in
     let h = c .before .before .before .begin .ensures in (
-      ap (λ (x : Begun). numberOf (begun x)) e ∙ ap numberOf h ∙ begun-number (s .args .key) (begin (s .args .key)),
+      ap (λ (x : Begun). numberOf (begun x)) e ∙ ap numberOf h ∙ begun-number (keyAt (s .args .degree) (s .args .word)) (begin (keyAt (s .args .degree) (s .args .word))),
       ap (λ (x : Begun). markOr (markAt (s .args .fingerprint .now) (s .args .bits .now)) (begun x)) e
           ∙ ap (markOr (markAt (s .args .fingerprint .now) (s .args .bits .now))) h
-          ∙ begun-value (s .args .key) (markAt (s .args .fingerprint .now) (s .args .bits .now)) (begin (s .args .key)),
+          ∙ begun-value (keyAt (s .args .degree) (s .args .word)) (markAt (s .args .fingerprint .now) (s .args .bits .now)) (begin (keyAt (s .args .degree) (s .args .word))),
     )
 
 returns-2 : tie.Need-returns-2
@@ -38,10 +38,10 @@ returns-2 c =
     let s = r→start (c .before .before) in
     let e = sym (c .before .before .r .given .1) in
     let h = number→begin c .begin .ensures in (
-      c .number .ensures ∙ ap (λ (x : Begun). numberOf (begun x)) e ∙ ap numberOf h ∙ begun-number (s .args .key) (begin (s .args .key)),
+      c .number .ensures ∙ ap (λ (x : Begun). numberOf (begun x)) e ∙ ap numberOf h ∙ begun-number (keyAt (s .args .degree) (s .args .word)) (begin (keyAt (s .args .degree) (s .args .word))),
       ap (λ (x : Begun). markOr (markAt (s .args .fingerprint .now) (s .args .bits .now)) (begun x)) e
           ∙ ap (markOr (markAt (s .args .fingerprint .now) (s .args .bits .now))) h
-          ∙ begun-value (s .args .key) (markAt (s .args .fingerprint .now) (s .args .bits .now)) (begin (s .args .key)),
+          ∙ begun-value (keyAt (s .args .degree) (s .args .word)) (markAt (s .args .fingerprint .now) (s .args .bits .now)) (begin (keyAt (s .args .degree) (s .args .word))),
     )
 
 pub gfp-begin-spec : {M : Type 1} → statement M

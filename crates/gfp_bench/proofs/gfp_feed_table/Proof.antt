@@ -5,12 +5,13 @@ use Prim.Native.Nat.{ℕ}
 use borrow.Author.Needs.{needs}
 use Rattle.refusals.specs.Refusals.{stateOf, valueOr}
 use Rattle.refusals.proofs.Replies.{first-keeps}
-use Rattle.acceptance.specs.Keys.{keyTests}
+use Rattle.acceptance.specs.declared.Key.{Key}
+use Rattle.acceptance.specs.Keys.{polynomialOf, keyTests}
 use Rattle.files.specs.declared.Mark.{Mark}
 use Rattle.files.specs.Files.{Part, asPart, fedMark}
 use Rattle.table_tests.specs.TableTests.{tableTests}
 use Rattle.marks.specs.Feeding.{feedTests, feedTable}
-use Rattle.places.specs.Places.{markAt}
+use Rattle.places.specs.Places.{keyAt, markAt}
 use Rattle.places.proofs.Answers.{stored}
 use Rattle.gfp_bench.proofs.gfp_feed_table.Statement.{statement}
 use Rattle.gfp_bench.proofs.gfp_feed_table.Tie as tie
@@ -24,16 +25,17 @@ abbrev feed-table→start : tie.After-feed-table → tie.Start
 feed-table→start c = shared-slice-known2→start (c .before .before .before)
 
 -- on refusal the state is the mark that was handed in
-keeps : (key : ℕ) (m : Mark) (words : List ℕ) (part : Part) → valueOr m (feedTable key m words part) ≡ stateOf (feedTable key m words part)
+keeps : (x : Key) (m : Mark) (words : List ℕ) (part : Part) → valueOr m (feedTable x m words part) ≡ stateOf (feedTable x m words part)
 unfolding feedTable
-keeps key m words part = first-keeps (keyTests key ++ tableTests key words ++ feedTests key m part) m (fedMark key m part)
+keeps x m words part = first-keeps (keyTests x ++ tableTests (polynomialOf x) words ++ feedTests (polynomialOf x) m part) m (fedMark (polynomialOf x) m part)
 
 returns : tie.Need-returns
 returns c =
     let s = feed-table→start (c .before .before .before) .args in
+    let x = keyAt (s .degree) (s .word) in
     let m = markAt (s .fingerprint .now) (s .bits .now) in
     let part = asPart (s .part .now) (s .used) in
-    stored (s .key) m (feedTable (s .key) m (s .words .now) part) _ _ _ (keeps (s .key) m (s .words .now) part)
+    stored x m (feedTable x m (s .words .now) part) _ _ _ (keeps x m (s .words .now) part)
     (c .before .before .before .feed-table .ensures) (c .store .ensures)
 
 pub gfp-feed-table-spec : {M : Type 1} → statement M

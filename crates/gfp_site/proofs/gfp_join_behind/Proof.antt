@@ -4,10 +4,12 @@ use Prim.Native.Nat.{ℕ}
 use borrow.Author.Needs.{needs}
 use Rattle.refusals.specs.Refusals.{stateOf, valueOr}
 use Rattle.refusals.proofs.Replies.{first-keeps}
+use Rattle.acceptance.specs.declared.Key.{Key}
+use Rattle.acceptance.specs.Keys.{polynomialOf}
 use Rattle.files.specs.declared.Mark.{Mark}
 use Rattle.files.specs.Files.{joined}
 use Rattle.compose.specs.Composing.{joinTests, joinBehind}
-use Rattle.places.specs.Places.{markAt}
+use Rattle.places.specs.Places.{keyAt, markAt}
 use Rattle.places.proofs.Answers.{stored}
 use Rattle.gfp_site.proofs.gfp_join_behind.Statement.{statement}
 use Rattle.gfp_site.proofs.gfp_join_behind.Tie as tie
@@ -18,16 +20,17 @@ abbrev join-behind→start : tie.After-join-behind → tie.Start
 join-behind→start c = c .before .before .before
 
 -- on refusal the state is the mark that was handed in
-keeps : (key : ℕ) (m other : Mark) → valueOr m (joinBehind key m other) ≡ stateOf (joinBehind key m other)
+keeps : (x : Key) (m other : Mark) → valueOr m (joinBehind x m other) ≡ stateOf (joinBehind x m other)
 unfolding joinBehind
-keeps key m other = first-keeps (joinTests key m other) m (joined key m other)
+keeps x m other = first-keeps (joinTests x m other) m (joined (polynomialOf x) m other)
 
 returns : tie.Need-returns
 returns c =
     let s = join-behind→start (c .before .before .before) .args in
+    let x = keyAt (s .degree) (s .word) in
     let m = markAt (s .fingerprint .now) (s .bits .now) in
     let other = markAt (s .other-fingerprint) (s .other-bits) in
-    stored (s .key) m (joinBehind (s .key) m other) _ _ _ (keeps (s .key) m other) (c .before .before .before .join-behind .ensures) (c .store .ensures)
+    stored x m (joinBehind x m other) _ _ _ (keeps x m other) (c .before .before .before .join-behind .ensures) (c .store .ensures)
 
 pub gfp-join-behind-spec : {M : Type 1} → statement M
 gfp-join-behind-spec = tie.close (tie.spec (λ c κs. search needs) (λ c κs. search needs) returns)

@@ -4,10 +4,12 @@ use Prim.Native.Nat.{ℕ}
 use borrow.Author.Needs.{needs}
 use Rattle.refusals.specs.Refusals.{stateOf, valueOr}
 use Rattle.refusals.proofs.Replies.{first-keeps}
+use Rattle.acceptance.specs.declared.Key.{Key}
+use Rattle.acceptance.specs.Keys.{polynomialOf}
 use Rattle.files.specs.declared.Mark.{Mark}
 use Rattle.files.specs.Files.{joined}
 use Rattle.compose.specs.Composing.{joinTests, joinInFront}
-use Rattle.places.specs.Places.{markAt}
+use Rattle.places.specs.Places.{keyAt, markAt}
 use Rattle.places.proofs.Answers.{stored}
 use Rattle.gfp_site.proofs.gfp_join_in_front.Statement.{statement}
 use Rattle.gfp_site.proofs.gfp_join_in_front.Tie as tie
@@ -18,16 +20,17 @@ abbrev join-in-front→start : tie.After-join-in-front → tie.Start
 join-in-front→start c = c .before .before .before
 
 -- on refusal the state is the mark that was handed in
-keeps : (key : ℕ) (m other : Mark) → valueOr m (joinInFront key m other) ≡ stateOf (joinInFront key m other)
+keeps : (x : Key) (m other : Mark) → valueOr m (joinInFront x m other) ≡ stateOf (joinInFront x m other)
 unfolding joinInFront
-keeps key m other = first-keeps (joinTests key m other) m (joined key other m)
+keeps x m other = first-keeps (joinTests x m other) m (joined (polynomialOf x) other m)
 
 returns : tie.Need-returns
 returns c =
     let s = join-in-front→start (c .before .before .before) .args in
+    let x = keyAt (s .degree) (s .word) in
     let m = markAt (s .fingerprint .now) (s .bits .now) in
     let other = markAt (s .other-fingerprint) (s .other-bits) in
-    stored (s .key) m (joinInFront (s .key) m other) _ _ _ (keeps (s .key) m other) (c .before .before .before .join-in-front .ensures) (c .store .ensures)
+    stored x m (joinInFront x m other) _ _ _ (keeps x m other) (c .before .before .before .join-in-front .ensures) (c .store .ensures)
 
 pub gfp-join-in-front-spec : {M : Type 1} → statement M
 gfp-join-in-front-spec = tie.close (tie.spec (λ c κs. search needs) (λ c κs. search needs) returns)

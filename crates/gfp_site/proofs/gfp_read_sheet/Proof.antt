@@ -22,12 +22,15 @@ use Rattle.gfp_site.proofs.gfp_read_sheet.Tie as tie
 abbrev read→start : tie.After-read → tie.Start
 read→start c = c .before .before
 
+abbrev x→read : tie.After-x → tie.After-read
+x→read c = c .before .before
+
 abbrev number→read : tie.After-number → tie.After-read
 number→read c = c .before .before .before .before
 
 -- the numbers of the code's sheet, in the order of the places
 abbrev numbersIn : Sheet → List ℕ
-numbersIn x = x .version ∷ x .key ∷ x .length ∷ x .size ∷ x .pages ∷ x .fingerprint ∷ []
+numbersIn x = x .version ∷ x .key .degree ∷ x .key .word ∷ x .length ∷ x .size ∷ x .pages ∷ x .fingerprint ∷ []
 
 -- the code's sheet has the numbers of the definition's
 same-number : (a : Answer Unit Contents) → numberOf (sheetRead a) ≡ numberOf a
@@ -39,7 +42,9 @@ same-places before (Done x) = refl
 same-places before (Refused r s) = refl
 
 abbrev before : tie.After-read → List ℕ
-before c = let a = read→start c .args in a .version .now ∷ a .key .now ∷ a .bits .now ∷ a .page-size .now ∷ a .pages .now ∷ a .fingerprint .now ∷ []
+before c =
+    let a = read→start c .args in
+    a .version .now ∷ a .degree .now ∷ a .word .now ∷ a .bits .now ∷ a .page-size .now ∷ a .pages .now ∷ a .fingerprint .now ∷ []
 
 -- what is told of the answer that the code has
 told : (c : tie.After-read) (o : Reading) → c .read .result ≡ o
@@ -54,14 +59,14 @@ told c o e =
 cast-version : tie.Need-cast-version
 unfolding contentsIn
 cast-version c =
-    let k = c .before .before in
-    let r = k .before .before in
+    let k = c .before .before .before in
+    let r = x→read k in
     let sheet = read→start r .args .sheet .now in
     let was = read-as sheet (k .x .given .0 .0) (ap reading (sym (k .x .given .1)) ∙ r .read .ensures) in
     omega (arith, known-small (contentsIn sheet .version) (sound sheet was .version), version-read sheet was)
 
 returns : tie.Need-returns
-returns c = told (c .before .before .before .before) _ (c .before .before .x .given .1)
+returns c = let k = c .before .before .before in told (x→read k) _ (k .x .given .1)
 
 returns-2 : tie.Need-returns-2
 returns-2 c = let t = told (number→read c) _ (c .before .before .r .given .1) in (c .number .ensures ∙ t .0, t .1)

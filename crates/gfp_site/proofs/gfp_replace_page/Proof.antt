@@ -5,11 +5,12 @@ use Prim.Native.Nat.{ℕ}
 use borrow.Author.Needs.{needs}
 use Rattle.refusals.specs.Refusals.{stateOf, valueOr}
 use Rattle.refusals.proofs.Replies.{first-keeps}
-use Rattle.acceptance.specs.Keys.{keyTests}
+use Rattle.acceptance.specs.declared.Key.{Key}
+use Rattle.acceptance.specs.Keys.{polynomialOf, keyTests}
 use Rattle.files.specs.declared.Mark.{Mark}
 use Rattle.files.specs.Files.{Part, asPart, replaced}
 use Rattle.compose.specs.Composing.{pageTests, replacePage}
-use Rattle.places.specs.Places.{markAt}
+use Rattle.places.specs.Places.{keyAt, markAt}
 use Rattle.places.proofs.Answers.{stored}
 use Rattle.gfp_site.proofs.gfp_replace_page.Statement.{statement}
 use Rattle.gfp_site.proofs.gfp_replace_page.Tie as tie
@@ -23,17 +24,18 @@ abbrev replace-page→start : tie.After-replace-page → tie.Start
 replace-page→start c = shared-slice-known2→start (c .before .before .before)
 
 -- on refusal the state is the mark that was handed in
-keeps : (key : ℕ) (m : Mark) (place : ℕ) (old new : Part) → valueOr m (replacePage key m place old new) ≡ stateOf (replacePage key m place old new)
+keeps : (x : Key) (m : Mark) (place : ℕ) (old new : Part) → valueOr m (replacePage x m place old new) ≡ stateOf (replacePage x m place old new)
 unfolding replacePage
-keeps key m place old new = first-keeps (keyTests key ++ pageTests key m place old new) m (replaced key m place old new)
+keeps x m place old new = first-keeps (keyTests x ++ pageTests (polynomialOf x) m place old new) m (replaced (polynomialOf x) m place old new)
 
 returns : tie.Need-returns
 returns c =
     let s = replace-page→start (c .before .before .before) .args in
+    let x = keyAt (s .degree) (s .word) in
     let m = markAt (s .fingerprint .now) (s .bits .now) in
     let old = asPart (s .old-page .now) (s .old-used) in
     let new = asPart (s .new-page .now) (s .new-used) in
-    stored (s .key) m (replacePage (s .key) m (s .place) old new) _ _ _ (keeps (s .key) m (s .place) old new)
+    stored x m (replacePage x m (s .place) old new) _ _ _ (keeps x m (s .place) old new)
     (c .before .before .before .replace-page .ensures) (c .store .ensures)
 
 pub gfp-replace-page-spec : {M : Type 1} → statement M
