@@ -237,12 +237,13 @@ module _ (key : Key) where
   pub begun-refused : (first : List ℕ) (r : Refusal) → Refused r tt ≡ begunUnder key (begin key) → MarkedInParts key first (marked-cases.Refused r)
   unfolding begin markFile
   begun-refused first r e =
-      let file = first ++ flatten [] in (
+      let file = first ++ flatten [] in
+      let p = polynomialOf key in (
         [],
         (
           tt,
           ap (begunUnder key)
-              (more-refused (keyTests key) (passes (8 * length file ∷ []) ⇒ TooLong ∷ []) tt tt (markOf (polynomialOf key) []) (markOf (polynomialOf key) (bits file)) r
+              (more-refused (keyTests key) (passes (8 * length file ∷ []) ⇒ TooLong ∷ []) tt tt (markOf p []) (markOf p (bits file)) r
               (go (begin key) refl e)),
         ),
       )

@@ -4,7 +4,8 @@ use mathlib.Core.Bool.{Bool, true, false, cond, _&&_, and-false}
 use mathlib.Core.List.{List, [], _∷_, _++_}
 use Prim.Native.Nat.{ℕ, zero, suc, _+_, _-_, _*_, _^_, _≤_, _<_, min}
 use lib.Pow.{pow-add, pow-mono}
-use native.Mathlib.Nat.{le-trans, le-add-right, mul-le-mul-right, zero-add, add-zero, add-assoc, zero-mul, mul-one, mul-assoc, mul-comm, add-mul, pow-zero, pow-suc, min-zero, zero-min, suc-min-suc, min-eq-left, min-eq-right}
+use native.Mathlib.Nat.{le-trans, le-add-right, mul-le-mul-right, zero-add, add-zero, add-assoc, zero-mul, mul-one, mul-assoc, mul-comm, add-mul}
+use native.Mathlib.Nat.{pow-zero, pow-suc, min-zero, zero-min, suc-min-suc, min-eq-left, min-eq-right}
 use native.Mathlib.Decide.{decLe, decLt}
 use native.Mathlib.Numerals.{add-one}
 use native.Mathlib.Omega.{arith}

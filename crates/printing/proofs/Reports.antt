@@ -97,7 +97,8 @@ printed-fingerprint input key at f a line e =
     is =
         ap (λ (l : KeyLine). printedAfter l input) line
         ∙ ap (λ (m : Answer Unit Mark). answerText (begunUnder (keyOf key) m))
-        (opened-first (open-accepted key a) (passes (8 * length (drop at input) ∷ []) ⇒ TooLong ∷ []) tt (markOf (polynomialOf (keyOf key)) (bits (drop at input))))
+        (opened-first (open-accepted key a) (passes (8 * length (drop at input) ∷ []) ⇒ TooLong ∷ []) tt
+        (markOf (polynomialOf (keyOf key)) (bits (drop at input))))
 
     go : (b : Bool) → answerText (answer b) ≡ report (record { key = keyOf key; fingerprint = f; length = length (bits (drop at input)) })
         → f ≡ fingerprint (polynomialOf (keyOf key)) (bits (drop at input))

@@ -1,4 +1,5 @@
--- Where the program stops reading, what comes behind changes nothing: without a key in 18 bytes, where the number is too large for one, and where the file is refused.
+-- Where the program stops reading, what comes behind changes nothing: without a key in 18 bytes, where the number is too large for one, and
+-- where the file is refused.
 use mathlib.Core.Path.{_≡_, refl, sym, ap, _∙_}
 use mathlib.Core.Bool.{Bool, true, false, _||_}
 use mathlib.Core.List.{List, [], _∷_, _++_}

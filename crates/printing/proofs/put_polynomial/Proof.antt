@@ -1,5 +1,5 @@
 -- `printing::put_polynomial` meets its contract: below degree 64 the polynomial is a word.
-use mathlib.Core.Path.{_≡_, sym, ap}
+use mathlib.Core.Path.{sym, ap}
 use Prim.Native.Nat.{ℕ, _+_, _<_}
 use native.Mathlib.Omega.{arith}
 use borrow.Author.Needs.{needs}

@@ -54,11 +54,13 @@ to-degree : (c : tie.After-put-decimal) → Holds (buffer c) 0 (c .put-decimal .
 unfolding ascii
 to-degree c = put-number (buffer c) 0 (ascii "key ") 10 refl (c .put-decimal .ensures .0) (c .put-decimal .ensures .1 .1)
 
-to-key : (c : tie.After-put-polynomial) → Holds (buffer (degree-at c)) 0 (c .put-polynomial .result) (c .put-polynomial .last .0) (text-key (given (degree-at c)))
+to-key : (c : tie.After-put-polynomial)
+    → Holds (buffer (degree-at c)) 0 (c .put-polynomial .result) (c .put-polynomial .last .0) (text-key (given (degree-at c)))
 unfolding ascii
 to-key c =
-    let one = degree-at c .put-decimal in
-    put-next (omega arith) (to-degree (degree-at c)) (ascii " " ++ numeral 16 (polynomialOf (given (degree-at c) .key))) (c .put-polynomial .ensures .0) (c .put-polynomial .ensures .1 .1)
+    let x = given (degree-at c) .key in
+    let p = c .put-polynomial in
+    put-next (omega arith) (to-degree (degree-at c)) (ascii " " ++ numeral 16 (polynomialOf x)) (p .ensures .0) (p .ensures .1 .1)
 
 to-bytes : (c : tie.After-put-decimal2)
     → Holds (buffer (degree-at (key-at c))) 0 (c .put-decimal2 .result) (c .put-decimal2 .last .0) (text-bytes (given (degree-at (key-at c))))
