@@ -113,7 +113,7 @@ uint32_t gfp_make_table(uint32_t degree, uint64_t word, uint64_t *words, size_t 
 uint32_t gfp_test_table(uint32_t degree, uint64_t word, const uint64_t *words, size_t words_length);
 
 /* Feeds the next part by a table: the same mark as gfp_feed, under a drawn key many times faster. All words are tested
- * first. Refusals: 1, 2, 5, 6, 7, 8, 19. Stack: 7,680 bytes. */
+ * first. Refusals: 1, 2, 5, 6, 7, 8, 19. Stack: 8,192 bytes. */
 uint32_t gfp_feed_table(uint32_t degree, uint64_t word, uint64_t *fingerprint, uint64_t *bits, const uint64_t *words,
                         size_t words_length, const uint8_t *part, size_t part_length, uint32_t used);
 
