@@ -2,18 +2,18 @@
 use mathlib.Core.Path.{_≡_, refl, sym, ap, ap₂, _∙_}
 use mathlib.Core.Bool.{true, false, _&&_, _||_, not, true≢false}
 use Prim.Native.Nat.{ℕ, zero, suc, _%_, _^_, _≤_, _<_}
-use native.Mathlib.Nat.{one-mul, le-trans, zero-lt-suc, not-suc-le-zero, lt-of-lt-of-le, mod-lt}
+use native.Mathlib.Nat.{le-trans, zero-lt-suc, not-suc-le-zero, lt-of-lt-of-le, mod-lt}
 use native.Mathlib.Decide.{decLe}
 use native.Mathlib.Omega.{arith}
 use lib.Dec.{leb, ltb, eqb}
-use lib.Pow.{pow-mono, pow-pos, low}
+use lib.Pow.{pow-mono, pow-pos}
 use borrow.Author.Tests.{leb-true, eqb-true, le-leb, eq-eqb, not-true, le-ltb, lt-ltb, lt-leb, leb-false, ltb-false}
 use Rattle.lists.proofs.Truth.{and-both, or-neither, by-cases}
 use Rattle.lists.proofs.Searches.{any-false, any-none}
 use Rattle.gf2.specs.Polynomials.{halvings, degree, rem, Divides, Irreducible}
-use Rattle.gf2.specs.Degrees.{Degree, monic}
+use Rattle.gf2.specs.Degrees.{Degree}
 use Rattle.gf2.proofs.Degrees.{degree-is, degree-from, deg-lo, deg-hi, deg-le}
-use Rattle.gf2.proofs.Monics.{monic-degree, word-degree, word-whole}
+use Rattle.gf2.proofs.Monics.{monic-degree, monic-word, word-degree, word-whole}
 use Rattle.gf2.proofs.Residues.{rem-of-dvd, dvd-of-rem-zero}
 use Rattle.gf2.proofs.Irreducibles.{irreducible, no-divisor}
 use Rattle.acceptance.specs.declared.Key.{Key}
@@ -80,11 +80,6 @@ accepted-words p = (there, back)
 
 pub accepted-pos : (p : ℕ) → accepted p ≡ true → 0 < p
 accepted-pos p e = omega (arith, accepted-iff p .0 e .2 .proper)
-
--- the coefficients below the leading one
-pub monic-word : (k w : ℕ) → w < 2 ^ k → monic k w % 2 ^ k ≡ w
-unfolding monic
-monic-word k w l = rw one-mul at (low 1 k l)
 
 key-eq : {a b : Key} → a .degree ≡ b .degree → a .word ≡ b .word → a ≡ b
 key-eq {a} {b} e d = ap₂ {C = Key} (λ (k w : ℕ). record { degree = k; word = w }) e d

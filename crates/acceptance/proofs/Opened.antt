@@ -8,17 +8,16 @@ use lib.Dec.{leb}
 use borrow.Author.Tests.{leb-false}
 use Rattle.gf2.specs.Polynomials.{degree}
 use Rattle.gf2.specs.Moduli.{polynomial, Proper}
-use Rattle.gf2.specs.Opening.{modulusOf}
 use Rattle.gf2.specs.declared.Modulus.{Modulus}
 use Rattle.refusals.specs.Refusals.{Test, firstOf}
 use Rattle.refusals.proofs.Laws.{Clear, more-clear, holds, fails}
 use Rattle.acceptance.specs.declared.Key.{Key}
-use Rattle.acceptance.specs.Keys.{accepted, polynomialOf, keyOf, keyTests}
+use Rattle.acceptance.specs.Keys.{accepted, polynomialOf, keyOf, asModulus, keyTests}
 use Rattle.acceptance.specs.Opened.{Opened}
 use Rattle.acceptance.proofs.Laws.{accepted-pos, in-range, range-degree, range-key, whole-key, accepted-range, key-iff}
 
 -- an accepted polynomial, handed in as its key
-pub open-accepted : (key : ℕ) → accepted key ≡ true → Opened (keyOf key) (modulusOf key)
+pub open-accepted : (key : ℕ) → accepted key ≡ true → Opened (keyOf key) (asModulus (keyOf key))
 open-accepted key a =
     record {
       in-range = accepted-range key a;

@@ -1,15 +1,13 @@
 -- Laws of the polynomial t^k with the coefficients c below it: the modulus as the code holds it, a degree and a word.
 use mathlib.Core.Path.{_≡_, sym, ap, _∙_}
 use Prim.Native.Nat.{ℕ, _/_, _%_, _^_, _<_}
-use native.Mathlib.Nat.{one-mul, mod-lt, div-self}
+use native.Mathlib.Nat.{one-mul, div-self}
 use native.Mathlib.Omega.{arith}
-use lib.Pow.{pow-pos, pow-lt, split}
+use lib.Pow.{pow-pos, pow-lt, split, low}
 use Rattle.gf2.specs.Polynomials.{_⊕_, degree}
 use Rattle.gf2.specs.Degrees.{Degree, monic}
-use Rattle.gf2.specs.Moduli.{polynomial, Proper}
-use Rattle.gf2.specs.Opening.{modulusOf}
 use Rattle.gf2.proofs.Sums.{⊕-append}
-use Rattle.gf2.proofs.Degrees.{degree-is, degree-eq, degree-from, deg-pos, deg-le, deg-⊕}
+use Rattle.gf2.proofs.Degrees.{degree-is, degree-eq, deg-pos, deg-le, deg-⊕}
 
 pub monic-⊕ : (k c : ℕ) → c < 2 ^ k → monic k c ≡ 2 ^ k ⊕ c
 unfolding monic
@@ -28,6 +26,11 @@ pub of-degree-one : (k c : ℕ) → 0 < k → c < 2 ^ k → 1 < monic k c
 unfolding monic
 of-degree-one k c p h = omega (arith, pow-lt {i = 0} p)
 
+-- the coefficients below t^k
+pub monic-word : (k c : ℕ) → c < 2 ^ k → monic k c % 2 ^ k ≡ c
+unfolding monic
+monic-word k c h = rw one-mul at (low 1 k h)
+
 -- every polynomial of degree k is one
 pub monic-of : (k p : ℕ) → Degree p k → monic k (p % 2 ^ k) ≡ p
 unfolding monic
@@ -38,8 +41,5 @@ monic-of k p h = simp (h, one-mul) at (split p k)
 pub word-degree : (p : ℕ) → 0 < p → p < 2 ^ 64 → degree p < 64
 word-degree p h l = deg-le p (degree p) 64 (degree-is p h) l
 
-pub word-proper : (p : ℕ) → 1 < p → p < 2 ^ 64 → Proper (modulusOf p)
-word-proper p h l = (degree-from 1 p h, omega (arith, word-degree p (omega arith) l), mod-lt p (pow-pos (degree p)))
-
-pub word-whole : (p : ℕ) → 0 < p → polynomial (modulusOf p) ≡ p
+pub word-whole : (p : ℕ) → 0 < p → monic (degree p) (p % 2 ^ degree p) ≡ p
 word-whole p h = monic-of (degree p) p (degree-is p h)

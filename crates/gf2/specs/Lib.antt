@@ -2,4 +2,3 @@ pub mod Polynomials
 pub mod Degrees
 pub mod Moduli
 pub mod Criterion
-pub mod Opening

@@ -6,7 +6,6 @@ ghost use Prim.Native.Nat.{_+_, _*_, _/_, _%_, _^_, _≤_, _<_};
 ghost use lib.Dec.{leb};
 ghost use Rattle.gf2.specs.Polynomials.{_⊗_, degree, rem};
 ghost use Rattle.gf2.specs.Moduli.{polynomial, Proper};
-ghost use Rattle.gf2.specs.Opening.{modulusOf};
 
 // A modulus: its degree, from 1 to 64, and the coefficients below t^degree, so that degree 64 fits a word.
 pub struct Modulus {
@@ -29,18 +28,6 @@ pub fn low_bits(x: u64, n: u32) -> u64
 {
     let power: u64 = 1 << n;
     x % power
-}
-
-// A polynomial of degree 1 to 63 as a modulus.
-pub fn modulus_of(p: u64) -> Modulus
-    requires { ⌜ 1 < p ⌝ }
-    ensures { λ r. ⌜ r ≡ modulusOf p ⌝ }
-{
-    let k = degree(p);
-    Modulus {
-        degree: k,
-        low: low_bits(p, k),
-    }
 }
 
 // Whether a number is a residue: of lower degree than the modulus.

@@ -20,23 +20,26 @@ use Rattle.marks.specs.Feeding.{begin, feedTests, feedBits, feedTable, feedHous
 use Rattle.gfp_bench.specs.Calls.{EachCall}
 
 module _ (x : Key) (m : Mark) (words : List ℕ) (part : Part) where
+  abbrev key : ℕ
+  key = polynomialOf x
+
   -- number 5 does not apply to the house key's words
   without-5 : feedHouse x m part
-      ≡ firstOf (keyTests x ++ differs (word 8 (polynomialOf x)) 0 houseWords ⇒ TableWord ∷ feedTests (polynomialOf x) m part) m (fedMark (polynomialOf x) m part)
+      ≡ firstOf (keyTests x ++ differs (word 8 key) 0 houseWords ⇒ TableWord ∷ feedTests key m part) m (fedMark key m part)
   unfolding feedHouse feedTable
   without-5 =
       rw (length-list (word 8 houseKey) 0 1024)
-      (skip (keyTests x) (differs (word 8 (polynomialOf x)) 0 houseWords ⇒ TableWord ∷ feedTests (polynomialOf x) m part) TableSize m (fedMark (polynomialOf x) m part))
+      (skip (keyTests x) (differs (word 8 key) 0 houseWords ⇒ TableWord ∷ feedTests key m part) TableSize m (fedMark key m part))
 
   pub each-call : EachCall x m words part
   unfolding testKey begin feedBits makeTable testTable feedTable rising
   each-call =
       record {
         test-key = gives-lowest tt (asModulus x) refl refl tt;
-        begin-mark = gives-lowest tt (markOf (polynomialOf x) []) refl refl tt;
-        feed = gives-lowest m (fedMark (polynomialOf x) m part) refl refl tt;
-        make-table = gives-lowest words (listFrom (word 8 (polynomialOf x)) 0 1024) refl refl tt;
+        begin-mark = gives-lowest tt (markOf key []) refl refl tt;
+        feed = gives-lowest m (fedMark key m part) refl refl tt;
+        make-table = gives-lowest words (listFrom (word 8 key) 0 1024) refl refl tt;
         test-table = gives-lowest tt tt refl refl tt;
-        feed-table = gives-lowest m (fedMark (polynomialOf x) m part) refl refl tt;
-        feed-house = gives-lowest m (fedMark (polynomialOf x) m part) without-5 refl tt;
+        feed-table = gives-lowest m (fedMark key m part) refl refl tt;
+        feed-house = gives-lowest m (fedMark key m part) without-5 refl tt;
       }

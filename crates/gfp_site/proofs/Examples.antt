@@ -61,8 +61,8 @@ abbrev numbers : List ℕ
 numbers = 0 ∷ 5 ∷ 0 ∷ 8 ∷ 7 ∷ 0 ∷ 19 ∷ 0 ∷ 9 ∷ 10 ∷ 0 ∷ []
 
 pub the-book : run (bookStep site 0x11B) [] calls ≡ (bits (0x41 ∷ 0x00 ∷ 0x00 ∷ []), numbers)
-unfolding calls run bookStep bookTests written bench-level.bookTests bench-level.written monic reducible anyBelow rem longDivision reduce degree halvings _⊕_ differs
-    bits lowBits usedBits partLength partBits misused
+unfolding calls run bookStep bookTests written bench-level.bookTests bench-level.written monic reducible anyBelow rem longDivision reduce degree
+    halvings _⊕_ differs bits lowBits usedBits partLength partBits misused
 the-book = refl
 
 pub the-list : run (step 0x11B) (mark 0x01 0) calls ≡ (mark (fingerprint 0x11B (bits (0x41 ∷ 0x00 ∷ 0x00 ∷ []))) 24, numbers)
@@ -72,7 +72,8 @@ the-list = refl
 
 pub the-list-is-honest : Honest site 0x11B [] calls
 unfolding calls bookStep bookTests written bench-level.bookTests bench-level.written
-    monic reducible anyBelow fingerprint value valueFrom bits lowBits usedBits partLength partBits misused markOf rem longDivision reduce degree halvings _⊕_ differs
+    monic reducible anyBelow fingerprint value valueFrom bits lowBits usedBits partLength partBits misused markOf rem longDivision reduce degree
+    halvings _⊕_ differs
 the-list-is-honest = (
   λ e. tt,
   (

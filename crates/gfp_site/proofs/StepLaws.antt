@@ -118,7 +118,8 @@ module _ (key : ℕ) (pos : 0 < key) (file : List ℕ) where
       (replaced key (markOf key file) place old new)
       (ap (λ (q : ℕ). firstOf (keyTests (keyOf key) ++ pageTests q (markOf key file) place old new) (markOf key file)
       (replaced q (markOf key file) place old new)) is-key
-      ∙ leave-out-8 key pos file (keyTests (keyOf key)) (seven ∷ []) (nine ∷ ten ∷ nineteen ∷ []) (markOf key file) (replaced key (markOf key file) place old new))
+      ∙ leave-out-8 key pos file (keyTests (keyOf key)) (seven ∷ []) (nine ∷ ten ∷ nineteen ∷ []) (markOf key file)
+      (replaced key (markOf key file) place old new))
       (λ e. replaced-is place old new (same e) (inside e) (h e))
     where
       seven : Test

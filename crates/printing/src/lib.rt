@@ -1,4 +1,5 @@
-// The text of the printing program: the key's line that it reads, and the lines that it prints.
+// The text of the printing program: the key's line that it reads, and the lines that it prints. These functions are for the project's own crates: what
+// they require, every caller proves.
 use acceptance::Key;
 use marks::Running;
 use refusals::Refusal;

@@ -25,23 +25,25 @@ number→begin c = c .before .before .before .before
 returns : tie.Need-returns
 returns c =
     let s = known-told→start c in
+    let x = keyAt (s .args .degree) (s .args .word) in
     let e = sym (c .before .m .given .1) in
     let h = c .before .before .before .begin .ensures in (
-      ap (λ (x : Begun). numberOf (begun x)) e ∙ ap numberOf h ∙ begun-number (keyAt (s .args .degree) (s .args .word)) (begin (keyAt (s .args .degree) (s .args .word))),
+      ap (λ (x : Begun). numberOf (begun x)) e ∙ ap numberOf h ∙ begun-number x (begin x),
       ap (λ (x : Begun). markOr (markAt (s .args .fingerprint .now) (s .args .bits .now)) (begun x)) e
           ∙ ap (markOr (markAt (s .args .fingerprint .now) (s .args .bits .now))) h
-          ∙ begun-value (keyAt (s .args .degree) (s .args .word)) (markAt (s .args .fingerprint .now) (s .args .bits .now)) (begin (keyAt (s .args .degree) (s .args .word))),
+          ∙ begun-value x (markAt (s .args .fingerprint .now) (s .args .bits .now)) (begin x),
     )
 
 returns-2 : tie.Need-returns-2
 returns-2 c =
     let s = r→start (c .before .before) in
+    let x = keyAt (s .args .degree) (s .args .word) in
     let e = sym (c .before .before .r .given .1) in
     let h = number→begin c .begin .ensures in (
-      c .number .ensures ∙ ap (λ (x : Begun). numberOf (begun x)) e ∙ ap numberOf h ∙ begun-number (keyAt (s .args .degree) (s .args .word)) (begin (keyAt (s .args .degree) (s .args .word))),
+      c .number .ensures ∙ ap (λ (x : Begun). numberOf (begun x)) e ∙ ap numberOf h ∙ begun-number x (begin x),
       ap (λ (x : Begun). markOr (markAt (s .args .fingerprint .now) (s .args .bits .now)) (begun x)) e
           ∙ ap (markOr (markAt (s .args .fingerprint .now) (s .args .bits .now))) h
-          ∙ begun-value (keyAt (s .args .degree) (s .args .word)) (markAt (s .args .fingerprint .now) (s .args .bits .now)) (begin (keyAt (s .args .degree) (s .args .word))),
+          ∙ begun-value x (markAt (s .args .fingerprint .now) (s .args .bits .now)) (begin x),
     )
 
 pub gfp-begin-spec : {M : Type 1} → statement M
