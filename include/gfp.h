@@ -14,11 +14,12 @@
  * aligned will do. What a call only reads (const) may overlap, as a pattern inside its text or two pages. What a call
  * writes to must not overlap anything else that is lent to the same call.
  *
- * A key is a polynomial over the field of two elements, of degree 8 to 64. It is two arguments in every declaration:
- * its degree, and the word of its coefficients below t^degree, bit i being that of t^i. No bit of the word stands at
- * t^degree or above. A key that is written as one number in hexadecimal splits so: the degree is the place of the
- * number's highest one bit, counted from 0, and the word is the number without that bit. 11b is degree 8 and word 0x1b;
- * 1000000000000001b, whose 17 digits fit into no uint64_t, is degree 64 and has its last 16 digits as the word, 0x1b.
+ * A key is a polynomial over the field of two elements, of degree 8 to 64. It is two arguments in every declaration
+ * that takes one: its degree, and the word of its coefficients below t^degree, bit i being that of t^i. No bit of the
+ * word stands at t^degree or above. A key that is written as one number in hexadecimal splits so: the degree is the
+ * place of the number's highest one bit, counted from 0, and the word is the number without that bit. 11b is degree 8
+ * and word 0x1b; 1000000000000001b, whose 17 digits fit into no uint64_t, is degree 64 and has its last 16 digits as
+ * the word, 0x1b.
  *
  * A mark is a fingerprint and a length in bits. Under a key of degree k fingerprints are below 2^k; at degree 64 every
  * uint64_t is one, so that GFP_MARK_NOT_REDUCED, and GFP_SHEET_MALFORMED for a fingerprint that is too large, cannot

@@ -5,8 +5,7 @@ use mathlib.Core.List.{List, [], _∷_}
 use Prim.Native.Nat.{ℕ, _%_, _^_}
 use lib.Dec.{leb, ltb, eqb}
 use Rattle.lists.specs.Lists.{anyBelow}
-use Rattle.gf2.specs.Polynomials.{degree, rem}
-use Rattle.gf2.specs.Degrees.{monic}
+use Rattle.gf2.specs.Polynomials.{degree, monic, rem}
 use Rattle.gf2.specs.declared.Modulus.{Modulus}
 use Rattle.refusals.specs.declared.Refusal.the-variants.{KeyRange, KeyReducible}
 use Rattle.refusals.specs.Refusals.{Test, _⇒_}

@@ -1,4 +1,5 @@
 // Joining marks and changing a page in a file's mark, without the files.
+use acceptance::Key;
 use files::Mark;
 use gf2::Modulus;
 use keys::Tested;
@@ -16,13 +17,16 @@ ghost use Rattle.files.specs.Files.{asPart, joined, replaced};
 ghost use Rattle.marks.specs.Answers.{markIn, fed, fedUnder};
 ghost use Rattle.compose.specs.Composing.{marksTests, joinTests, joinBehind, joinInFront, pageTests, replacePage};
 
-// Two marks joined, after the test of the key. The running mark m goes back where they are refused.
+// Two marks joined, after the test of the key. The running mark m goes back where they are refused. A key is copied field by field, as in `marks`.
 fn join_under(p: Modulus, m: Running, first: Mark, second: Mark) -> Fed
     requires { ⌜ Opened (m .key) p ⌝ }
     ensures { λ r. ⌜ fed r ≡ fedUnder (m .key) (firstOf (marksTests (polynomialOf (m .key)) first second) (markIn m)
         (joined (polynomialOf (m .key)) first second)) ⌝ }
 {
-    let key = m.key;
+    let key = Key {
+        degree: m.key.degree,
+        word: m.key.word,
+    };
     let f = first.fingerprint;
     let g = second.fingerprint;
     let a = first.length;
@@ -47,7 +51,11 @@ fn join_under(p: Modulus, m: Running, first: Mark, second: Mark) -> Fed
 fn join(m: Running, first: Mark, second: Mark) -> Fed
     ensures { λ r. ⌜ fed r ≡ fedUnder (m .key) (firstOf (joinTests (m .key) first second) (markIn m) (joined (polynomialOf (m .key)) first second)) ⌝ }
 {
-    match keys::test(m.key) {
+    let key = Key {
+        degree: m.key.degree,
+        word: m.key.word,
+    };
+    match keys::test(key) {
         Tested::Refused(r) => Fed::Refused(r, m),
         Tested::Accepted(p) => join_under(p, m, first, second),
     }

@@ -8,8 +8,7 @@ use native.Mathlib.Omega.{arith}
 use lib.Dec.{eqb}
 use lib.ListN.{length, getD, take, drop, length-drop}
 use lib.Pow.{shr-lt}
-use Rattle.gf2.specs.Polynomials.{_⊕_, _⊗_, rem}
-use Rattle.gf2.specs.Degrees.{monic}
+use Rattle.gf2.specs.Polynomials.{_⊕_, monic, rem, _⊗_}
 use Rattle.gf2.proofs.Sums.{⊕-self, ⊕-zero, ⊕-assoc, ⊕-swap, ⊕-shr, ⊕-shl, ⊕-append, ⊕-lt}
 use Rattle.gf2.proofs.Residues.{rem-⊕}
 use Rattle.gf2.proofs.Powers.{rem-⊗-pow}

@@ -4,8 +4,8 @@ use Prim.Native.Nat.{ℕ, _/_, _%_, _^_, _<_}
 use native.Mathlib.Nat.{one-mul, div-self}
 use native.Mathlib.Omega.{arith}
 use lib.Pow.{pow-pos, pow-lt, split, low}
-use Rattle.gf2.specs.Polynomials.{_⊕_, degree}
-use Rattle.gf2.specs.Degrees.{Degree, monic}
+use Rattle.gf2.specs.Polynomials.{_⊕_, degree, monic}
+use Rattle.gf2.specs.Degrees.{Degree}
 use Rattle.gf2.proofs.Sums.{⊕-append}
 use Rattle.gf2.proofs.Degrees.{degree-is, degree-eq, deg-pos, deg-le, deg-⊕}
 

@@ -1,16 +1,11 @@
--- For inner functions and for drawing: a reader of the other promises need not read this page. The degree as an equation, the polynomials of
--- one degree, and powers.
+-- For inner functions and for drawing: a reader of the other promises need not read this page. The degree as an equation, and powers.
 use mathlib.Core.Path.{_≡_}
-use Prim.Native.Nat.{ℕ, zero, suc, _+_, _/_, _^_}
+use Prim.Native.Nat.{ℕ, zero, suc, _/_, _^_}
 use Rattle.gf2.specs.Polynomials.{_⊗_}
 
 -- a has degree d where nothing but a 1 stands at t^d and above
 abbrev pub Degree : ℕ → ℕ → Type 0
 Degree a d = a / 2 ^ d ≡ 1
-
--- the polynomial t^k with the coefficients c below it
-unfoldable pub monic : ℕ → ℕ → ℕ
-monic k c = 2 ^ k + c
 
 -- the power a^n
 infixr 75 _⊗^_

@@ -23,6 +23,10 @@ halvings (suc n) (suc (suc a)) = suc (halvings n (suc (suc a) / 2))
 unfoldable pub degree : ℕ → ℕ
 degree a = halvings a a
 
+-- the polynomial t^k with the coefficients c below it
+unfoldable pub monic : ℕ → ℕ → ℕ
+monic k c = 2 ^ k + c
+
 -- ---- the residue modulo p: long division, the highest coefficient first
 
 -- s less p where the coefficient of t^k in s is 1

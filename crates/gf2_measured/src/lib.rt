@@ -2,8 +2,7 @@
 // benchmark, and one step under any modulus for a look at its machine code.
 ghost use mathlib.Core.Path.{_≡_};
 ghost use Prim.Native.Nat.{_+_, _-_, _*_, _/_, _%_, _^_};
-ghost use Rattle.gf2.specs.Polynomials.{_⊗_, rem};
-ghost use Rattle.gf2.specs.Degrees.{monic};
+ghost use Rattle.gf2.specs.Polynomials.{monic, rem, _⊗_};
 use gf2::Modulus;
 
 const HOUSE: Modulus = Modulus {

@@ -5,8 +5,7 @@ use mathlib.Core.List.{List, [], _∷_, _++_, append-nil}
 use Prim.Native.Nat.{ℕ}
 use native.Mathlib.Omega.{arith}
 use lib.ListN.{length, replicate, length-replicate}
-use Rattle.gf2.specs.Polynomials.{_⊕_, halvings, degree, reduce, longDivision, rem}
-use Rattle.gf2.specs.Degrees.{monic}
+use Rattle.gf2.specs.Polynomials.{_⊕_, halvings, degree, monic, reduce, longDivision, rem}
 use Rattle.lists.specs.Lists.{listFrom, anyBelow}
 use Rattle.refusals.specs.declared.Refusal.the-variants.{TableSize, TableWord, TooLong, FinalByte}
 use Rattle.refusals.specs.Refusals.{Done, Refused, _⇒_, longest}

@@ -12,8 +12,7 @@ use Rattle.sheets.specs.Layout.{sheetLength, pagesFor, keyNumber, keyFrom}
 use Rattle.sheets.specs.Sheets.{filled, pageFingerprints, contentsOf, writeSheet, joinedPages, someUnreduced, readSheet, readPages}
 use Rattle.sheets.proofs.Guarantee.{written-reads}
 use Rattle.lists.proofs.Lists.{all-map, every, all-by-test}
-use Rattle.gf2.specs.Polynomials.{_⊕_, halvings, degree, reduce, longDivision, rem}
-use Rattle.gf2.specs.Degrees.{monic}
+use Rattle.gf2.specs.Polynomials.{_⊕_, halvings, degree, monic, reduce, longDivision, rem}
 use Rattle.lists.specs.Lists.{listFrom, anyBelow, overlay}
 use Rattle.acceptance.specs.Keys.{reducible, keyOf}
 use Rattle.files.specs.declared.Mark.{Mark}

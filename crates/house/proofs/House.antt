@@ -6,7 +6,7 @@ use Prim.Native.Nat.{ℕ}
 use native.Mathlib.Omega.{arith}
 use lib.Dec.{T}
 use Rattle.lists.specs.Lists.{same}
-use Rattle.gf2.specs.Degrees.{monic}
+use Rattle.gf2.specs.Polynomials.{monic}
 use Rattle.acceptance.specs.Keys.{accepted, polynomialOf, asModulus}
 use Rattle.acceptance.specs.declared.Key.{Key}
 use Rattle.acceptance.specs.Opened.{Opened}

@@ -93,7 +93,8 @@ fn behind_looked(words: &[u64], p: Modulus, f: u64, part: &[u8], used: u32) -> u
     files::feed_end(p, looked, part, used)
 }
 
-// A part fed with no table, after the test of the key.
+// A part fed with no table, after the test of the key. Here and below a key is copied field by field: its degree and word were just stored apart, and
+// a copy of both at once would wait for that.
 fn feed_alone(p: Modulus, m: Running, part: &[u8], used: u32) -> Fed
     requires { ⌜ Opened (m .key) p ⌝ }
     ensures { λ r. ⌜ fed r ≡ fedUnder (m .key) (firstOf (feedTests (polynomialOf (m .key)) (markIn m) (asPart (now (part .entry)) used)) (markIn m)
@@ -102,7 +103,10 @@ fn feed_alone(p: Modulus, m: Running, part: &[u8], used: u32) -> Fed
     match judge(p, m, part, used) {
         Measured::Refused(r) => Fed::Refused(r, m),
         Measured::Length(total) => {
-            let key = m.key;
+            let key = Key {
+                degree: m.key.degree,
+                word: m.key.word,
+            };
             let next = behind_alone(p, m.fingerprint, part, used);
             Fed::Next(Running {
                 key: key,
@@ -122,7 +126,10 @@ fn feed_looked(p: Modulus, m: Running, words: &[u64], part: &[u8], used: u32) ->
     match judge(p, m, part, used) {
         Measured::Refused(r) => Fed::Refused(r, m),
         Measured::Length(total) => {
-            let key = m.key;
+            let key = Key {
+                degree: m.key.degree,
+                word: m.key.word,
+            };
             let looked = behind_looked(words, p, m.fingerprint, part, used);
             Fed::Next(Running {
                 key: key,
@@ -185,7 +192,11 @@ impl Running {
     pub fn feed_table(self, words: &[u64], part: &[u8], used: u32) -> Fed
         ensures { λ r. ⌜ fed r ≡ fedUnder (self .key) (feedTable (self .key) (markIn self) (now (words .entry)) (asPart (now (part .entry)) used)) ⌝ }
     {
-        match keys::test(self.key) {
+        let key = Key {
+            degree: self.key.degree,
+            word: self.key.word,
+        };
+        match keys::test(key) {
             Tested::Refused(r) => Fed::Refused(r, self),
             Tested::Accepted(p) => feed_under(p, self, words, part, used),
         }

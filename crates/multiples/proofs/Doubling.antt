@@ -13,8 +13,7 @@ use mathlib.Core.Logic.{_↔_}
 use lib.ListN.{length, getD, set}
 use lib.Pow.{pow-add, pow-mono}
 use lib.Seq.{getD-set-same, getD-set-other}
-use Rattle.gf2.specs.Polynomials.{_⊕_, _⊗_, degree, rem}
-use Rattle.gf2.specs.Degrees.{monic}
+use Rattle.gf2.specs.Polynomials.{_⊕_, degree, monic, rem, _⊗_}
 use Rattle.gf2.proofs.Sums.{⊕-comm, ⊕-assoc, ⊕-self, ⊕-eq}
 use Rattle.gf2.proofs.Products.{zero-⊗, one-⊗, dbl-⊗, ⊕-⊗}
 use Rattle.gf2.proofs.Residues.{rem-zero, rem-small, rem-⊕}

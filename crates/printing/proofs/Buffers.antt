@@ -10,7 +10,7 @@ use lib.Seq.{length-take-le, take-at, drop-append-add, drop-drop, take-length, t
 use borrow.Rule.Slice.PartMut.{midOf, putMid, post-is}
 use Rattle.io.specs.Counts.{Counts}
 use Rattle.io.specs.Digits.{digits, Fewest}
-use Rattle.gf2.specs.Degrees.{monic}
+use Rattle.gf2.specs.Polynomials.{monic}
 use Rattle.printing.specs.Printing.{numeral}
 use Rattle.printing.specs.Buffers.{putAt, PutInFront}
 use Rattle.printing.proofs.Numerals.{numeral-is, numeral-64, fewest-le}

@@ -15,7 +15,7 @@ use lib.Seq.{drop-cons, take-length, take-take, take-append-le, take-append-seam
 use borrow.Author.Tests.{ltb-true, lt-ltb, le-ltb, le-leb, lt-leb}
 use Rattle.bytes.specs.Bytes.{indexOf, indexAfter, slice}
 use Rattle.lists.proofs.Truth.{and-both}
-use Rattle.gf2.specs.Degrees.{monic}
+use Rattle.gf2.specs.Polynomials.{monic}
 use Rattle.acceptance.specs.declared.Key.{Key}
 use Rattle.acceptance.specs.Keys.{keyOf, outside}
 use Rattle.acceptance.proofs.Laws.{in-range, within-range, range-key}

@@ -8,7 +8,7 @@ use native.Mathlib.Decide.{decLt}
 use native.Mathlib.Omega.{arith}
 use borrow.Author.Tests.{lt-ltb, le-ltb}
 use Rattle.io.specs.Digits.{glyph, digits, Fewest}
-use Rattle.gf2.specs.Degrees.{monic}
+use Rattle.gf2.specs.Polynomials.{monic}
 use Rattle.gf2.proofs.Steps.{less-one}
 use Rattle.printing.specs.Printing.{digitsOf, numeral}
 

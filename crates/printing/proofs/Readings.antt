@@ -4,8 +4,7 @@ use mathlib.Core.List.{List, _++_}
 use Prim.Native.Nat.{ℕ}
 use native.Mathlib.Omega.{arith}
 use Rattle.bytes.specs.Bytes.{indexOf, indexAfter}
-use Rattle.gf2.specs.Polynomials.{_⊕_, degree, halvings, rem, longDivision, reduce}
-use Rattle.gf2.specs.Degrees.{monic}
+use Rattle.gf2.specs.Polynomials.{_⊕_, halvings, degree, monic, reduce, longDivision, rem}
 use Rattle.lists.specs.Lists.{anyBelow}
 use Rattle.acceptance.specs.Keys.{reducible, keyOf}
 use Rattle.files.specs.Files.{bits, lowBits, value, valueFrom, fingerprint, markOf}

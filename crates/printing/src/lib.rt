@@ -8,7 +8,7 @@ ghost use mathlib.Core.Bool.{true, false};
 ghost use Prim.Native.Nat.{_+_, _≤_};
 ghost use mathlib.Core.List.{_++_};
 ghost use lib.ListN.{length};
-ghost use Rattle.gf2.specs.Degrees.{monic};
+ghost use Rattle.gf2.specs.Polynomials.{monic};
 ghost use Rattle.acceptance.specs.Keys.{polynomialOf, outside};
 ghost use Rattle.printing.specs.Printing.{digit, allDigits, hexFrom, lineOf, keyLine, numeral, report, refused, noKey};
 ghost use Rattle.printing.specs.Buffers.{putAt, PutInFront};

@@ -2,9 +2,8 @@
 use mathlib.Core.Path.{_≡_, refl}
 use mathlib.Core.List.{[], _∷_}
 use Rattle.lists.specs.Lists.{passing, same, anyBelow}
-use Rattle.gf2.specs.Polynomials.{_⊕_, halvings, degree, reduce, longDivision, rem}
+use Rattle.gf2.specs.Polynomials.{_⊕_, halvings, degree, monic, reduce, longDivision, rem}
 use Rattle.refusals.specs.Refusals.{Done}
-use Rattle.gf2.specs.Degrees.{monic}
 use Rattle.acceptance.specs.Keys.{reducible, keyOf}
 use Rattle.files.specs.Files.{lowBits, bits, valueFrom, value, fingerprint}
 use Rattle.search.specs.Searching.{windows, isPlace, isAlarm, places, alarms, counts, search}

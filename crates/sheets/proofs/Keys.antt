@@ -10,8 +10,7 @@ use lib.Dec.{lit<}
 use lib.ListN.{length}
 use lib.Pow.{pow-mono, pow-pos}
 use lib.Seq.{sets}
-use Rattle.gf2.specs.Polynomials.{degree}
-use Rattle.gf2.specs.Degrees.{monic}
+use Rattle.gf2.specs.Polynomials.{degree, monic}
 use Rattle.gf2.proofs.Monics.{word-degree}
 use Rattle.acceptance.specs.declared.Key.{Key}
 use Rattle.acceptance.specs.Keys.{polynomialOf, keyOf, outside}

@@ -20,9 +20,9 @@ use Rattle.lists.proofs.Truth.{or-neither}
 use Rattle.acceptance.proofs.Laws.{accepted-iff, range-key, key-iff}
 use Rattle.files.specs.Files.{Bytes, fingerprint, markOf}
 use Rattle.sheets.specs.Layout.{numberAt, letters, lettersWidth, versionIn, Layout, layouts, known, layoutOf}
-use Rattle.sheets.specs.Layout.{pagePlace, sheetLength, pagesFor, highest, Contents, sheetBytes, fieldIn, keyIn, lengthIn, pagesIn, contentsIn}
+use Rattle.sheets.specs.Layout.{pagePlace, sheetLength, pagesFor, Contents, sheetBytes, fieldIn, keyIn, lengthIn, pagesIn, contentsIn}
 use Rattle.sheets.specs.Sheets.{pageFingerprints, contentsOf, joinedPages, someUnreduced, pagesJoined, fileFilled, headWrong, readTests}
-use Rattle.sheets.specs.Claims.{SoundContents, WellFormed}
+use Rattle.sheets.specs.Claims.{highest, SoundContents, WellFormed}
 use Rattle.sheets.proofs.Numbers.{number-lt, length-numbersAt}
 use Rattle.sheets.proofs.Keys.{key-pos, keyWidth, key-narrow, key-fits, key-back, number-back, degree-held}
 use Rattle.sheets.proofs.Versions.{widths-are, three-wide, eight-wide, unit-some, length-fits, length-from, least-needed, known-small}

@@ -2,7 +2,7 @@
 -- check's answer means, and that a change inside k neighbouring bits is found.
 use mathlib.Core.Path.{_≡_}
 use mathlib.Core.Logic.{_≢_, _↔_}
-use mathlib.Core.Bool.{true, false}
+use mathlib.Core.Bool.{true, false, cond}
 use mathlib.Core.List.{List, [], _∷_, _++_}
 use Prim.Native.Nat.{ℕ, _-_, _*_, _%_, _^_, _≤_, _<_}
 use lib.ListN.{length, getD, take, drop}
@@ -15,7 +15,7 @@ use Rattle.acceptance.specs.Keys.{accepted, polynomialOf, keyOf, outside}
 use Rattle.files.specs.Files.{Bits, Bytes, fingerprint, markOf, Part, partBits, misused}
 use Rattle.files.specs.Bursts.{Burst}
 use Rattle.sheets.specs.Layout.{bytesOf, numberAt, versionIn, Layout, version1, version2, version3, version4, newest, layouts, known, layoutOf}
-use Rattle.sheets.specs.Layout.{pagePlace, sheetLength, pagesFor, keyNumber, highest, Contents, sheetBytes, contentsIn}
+use Rattle.sheets.specs.Layout.{pagePlace, sheetLength, pagesFor, keyNumber, Contents, sheetBytes, contentsIn}
 use Rattle.sheets.specs.Sheets.{contentsOf, pagesJoined, fileFilled, writeSheet, readTests, readSheet, readPages, Same, Page, OtherLength}
 use Rattle.sheets.specs.Sheets.{pagesNow, compared, checkSheet}
 
@@ -24,6 +24,10 @@ use Rattle.sheets.specs.Sheets.{pagesNow, compared, checkSheet}
 -- version 4 holds a key as a byte of its degree and its word in 8 bytes
 abbrev pub PairHeld : Type 0
 PairHeld = (x : Key) → x .word < 2 ^ 64 → bytesOf 9 (keyNumber (version4 .paired) x) ≡ bytesOf 1 (x .degree) ++ bytesOf 8 (x .word)
+
+-- the highest degree that the field of a version has room for
+abbrev pub highest : Layout → ℕ
+highest v = cond (v .paired) 64 63
 
 -- ---- which bytes are a sheet
 

@@ -127,10 +127,6 @@ unfoldable pub keyFrom : Bool → ℕ → Key
 keyFrom true n = record { degree = n / 2 ^ 64; word = n % 2 ^ 64 }
 keyFrom false n = keyOf n
 
--- the highest degree that the field has room for
-abbrev pub highest : Layout → ℕ
-highest v = cond (v .paired) 64 63
-
 -- ---- the numbers in a sheet, and its bytes
 
 -- the length is in bits, the page size in bytes

@@ -8,8 +8,8 @@ use native.Mathlib.Nat.{zero-add, suc-add, zero-mul, one-mul, mul-one, mul-comm,
 use native.Mathlib.Numerals.{one-add}
 use native.Mathlib.Omega.{arith}
 use lib.Pow.{pow-pos, pow-mono, pow-lt, pow-add, mod-pow-add}
-use Rattle.gf2.specs.Polynomials.{_⊕_, rem, Divides}
-use Rattle.gf2.specs.Degrees.{Degree, monic}
+use Rattle.gf2.specs.Polynomials.{_⊕_, monic, rem, Divides}
+use Rattle.gf2.specs.Degrees.{Degree}
 use Rattle.gf2.proofs.Sums.{⊕-zero, zero-⊕, ⊕-self, ⊕-assoc, ⊕-left-comm, ⊕-dbl, ⊕-shl, ⊕-lt, ⊕-append, xor}
 use Rattle.gf2.proofs.Products.{⊗-pow, ⊗-comm, shl-suc, mod-2}
 use Rattle.gf2.proofs.Degrees.{degree-eq, deg-pos}

@@ -8,8 +8,8 @@ use native.Mathlib.Nat.{le-of-eq, mul-one, pow-suc, lt-of-lt-of-le, mod-eq-of-lt
 use native.Mathlib.Omega.{arith}
 use lib.Dec.{T, eqb, eqb→eq}
 use lib.Pow.{pow-pos, pow-mono}
-use Rattle.gf2.specs.Polynomials.{_⊕_, _⊗_, degree, rem, Irreducible}
-use Rattle.gf2.specs.Degrees.{Degree, monic}
+use Rattle.gf2.specs.Polynomials.{_⊕_, degree, monic, rem, _⊗_, Irreducible}
+use Rattle.gf2.specs.Degrees.{Degree}
 use Rattle.lists.specs.Lists.{listFrom}
 use Rattle.lists.proofs.Truth.{and-left, and-right}
 use Rattle.lists.proofs.Lists.{length-list}

@@ -12,8 +12,8 @@ use lib.ListN.{length, getD}
 use borrow.Author.Tests.{not-false}
 use Rattle.lists.specs.Lists.{All}
 use Rattle.lists.specs.Searches.{firstFrom}
-use Rattle.gf2.specs.Polynomials.{_⊕_, halvings, degree, reduce, longDivision, rem, Divides, Irreducible}
-use Rattle.gf2.specs.Degrees.{Degree, monic}
+use Rattle.gf2.specs.Polynomials.{_⊕_, halvings, degree, monic, reduce, longDivision, rem, Divides, Irreducible}
+use Rattle.gf2.specs.Degrees.{Degree}
 use Rattle.lists.proofs.Truth.{and-left, and-right}
 use Rattle.lists.proofs.Lists.{every, all-by-test}
 use Rattle.lists.proofs.Searches.{none-before}

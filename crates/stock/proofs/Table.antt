@@ -6,7 +6,7 @@ use native.Mathlib.Nat.{le-refl}
 use native.Mathlib.Omega.{arith}
 use lib.Dec.{T}
 use lib.ListN.{length, getD}
-use Rattle.gf2.specs.Degrees.{monic}
+use Rattle.gf2.specs.Polynomials.{monic}
 use Rattle.gf2.proofs.Degrees.{degree-is}
 use Rattle.gf2.proofs.Monics.{monic-of}
 use Rattle.acceptance.proofs.Laws.{accepted-pos}

@@ -24,7 +24,7 @@ use Rattle.compose.proofs.join_under.Tie as tie
 -- ---- the places: from each one to an earlier one
 
 abbrev else1→start : tie.Else1 → tie.Start
-else1→start c = c .before .before .before
+else1→start c = c .before .before
 
 abbrev is-residue→else1 : tie.After-is-residue → tie.Else1
 is-residue→else1 c = c .before
@@ -66,7 +66,7 @@ second-low c =
 
 returns : tie.Need-returns
 returns c =
-    let s = c .before .before .before in
+    let s = c .before .before in
     let a = s .args in
     let long = holds _ (passes (lengths s)) (c .before .fits2 .ensures) (c .if1 .taken) in
     let key = polynomialOf (a .m .key) in

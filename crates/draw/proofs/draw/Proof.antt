@@ -8,8 +8,7 @@ use borrow.Author.Needs.{needs}
 use borrow.Author.Tests.{not-true, not-false, ltb-false, leb-false}
 use lib.Dec.{ltb, leb}
 use lib.Pow.{pow-pos}
-use Rattle.gf2.specs.Polynomials.{degree}
-use Rattle.gf2.specs.Degrees.{monic}
+use Rattle.gf2.specs.Polynomials.{degree, monic}
 use Rattle.gf2.specs.Moduli.{Proper}
 use Rattle.refusals.specs.Refusals.{Done}
 use Rattle.acceptance.specs.declared.Key.{Key}

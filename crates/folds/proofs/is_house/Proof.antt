@@ -4,7 +4,7 @@ use mathlib.Core.Bool.{false≢true}
 use Prim.Native.Nat.{ℕ}
 use native.Mathlib.Omega.{arith}
 use borrow.Author.Tests.{eqb-true}
-use Rattle.gf2.specs.Degrees.{monic}
+use Rattle.gf2.specs.Polynomials.{monic}
 use Rattle.house.specs.House.{houseKey}
 use Rattle.folds.proofs.is_house.Statement.{statement}
 use Rattle.folds.proofs.is_house.Tie as tie

@@ -5,8 +5,7 @@ use native.Mathlib.Nat.{lt-of-lt-of-le, mod-eq-of-lt}
 use lib.Pow.{pow-mono}
 use borrow.Author.Needs.{needs}
 use native.Mathlib.Omega.{arith}
-use Rattle.gf2.specs.Polynomials.{_⊕_, rem}
-use Rattle.gf2.specs.Degrees.{monic}
+use Rattle.gf2.specs.Polynomials.{_⊕_, monic, rem}
 use Rattle.gf2.proofs.Products.{mod-2}
 use Rattle.gf2.proofs.Steps.{step-is, top-bit, append-lt, bit-mul-le}
 use Rattle.gf2.proofs.step.Statement.{statement}

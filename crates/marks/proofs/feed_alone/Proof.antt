@@ -27,7 +27,7 @@ returns c =
 
 behind-alone-requires : tie.Need-behind-alone-requires
 behind-alone-requires c κs =
-    let t = c .before .before in
+    let t = c .before in
     let s = total→start t in
     let j = t .before .before .judge in
     let m = markIn (s .args .m) in (
@@ -38,7 +38,7 @@ behind-alone-requires c κs =
 
 returns-2 : tie.Need-returns-2
 returns-2 c =
-    let t = c .before .before .before in
+    let t = c .before .before in
     let s = total→start t in
     let j = t .before .before .judge in
     fed-next (s .pre) (markIn (s .args .m)) (partAt s) (j .result) (j .ensures) _ (t .total .given .1) _ (c .behind-alone .ensures)

@@ -29,7 +29,7 @@ returns c =
 
 behind-looked-requires : tie.Need-behind-looked-requires
 behind-looked-requires c κs =
-    let t = c .before .before in
+    let t = c .before in
     let s = total→start t in
     let h = s .pre .0 in
     let j = t .before .before .judge in
@@ -42,7 +42,7 @@ behind-looked-requires c κs =
 
 returns-2 : tie.Need-returns-2
 returns-2 c =
-    let t = c .before .before .before in
+    let t = c .before .before in
     let s = total→start t in
     let j = t .before .before .judge in
     fed-next (s .pre .0) (markIn (s .args .m)) (partAt s) (j .result) (j .ensures) _ (t .total .given .1) _ (c .behind-looked .ensures)

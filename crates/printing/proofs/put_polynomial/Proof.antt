@@ -3,7 +3,7 @@ use mathlib.Core.Path.{sym, ap}
 use Prim.Native.Nat.{ℕ, _+_, _<_}
 use native.Mathlib.Omega.{arith}
 use borrow.Author.Needs.{needs}
-use Rattle.gf2.specs.Degrees.{monic}
+use Rattle.gf2.specs.Polynomials.{monic}
 use Rattle.gf2.proofs.Steps.{shifted-one}
 use Rattle.acceptance.proofs.Laws.{in-range}
 use Rattle.printing.proofs.Buffers.{put-number}
