@@ -7,7 +7,7 @@ ROUNDS = 1
 
 # The main job on an embedded sample: the printing program reads a key and a file and prints the file's mark.
 run:
-	@echo 'Proving the printing program and what it stands on first: a line a crate, one to two minutes in all; nothing the next time.' >&2
+	@echo 'Proving the printing program and what it stands on first: a line a crate, two to three minutes in all; nothing the next time.' >&2
 	@tools/prove mark
 	@printf '2000000000000027\nGauge 7, offset -0.0125 m\n' | target/bin/mark
 
