@@ -1,6 +1,6 @@
 pub mod Sums
 pub mod Elimination
 pub mod Mapping
-pub mod Parts
+pub mod Turns
 pub mod Matrices
 pub mod Relations

@@ -19,7 +19,7 @@ use Rattle.gf2.proofs.Degrees.{deg-hi, deg-pos, deg-⊕}
 use Rattle.gf2.proofs.Linear.{at-bit}
 use Rattle.basis.specs.Rows.{sumOf, Independent, NoRelation, clear, addWhere}
 use Rattle.basis.proofs.Sums.{sum-additive, sum-take, sum-place}
-use Rattle.basis.proofs.Parts.{part-cons, put-part, turn-behind}
+use Rattle.basis.proofs.Turns.{part-cons, put-part, turn-behind}
 
 -- ---- a list of sums that is changed one by one, from the front
 

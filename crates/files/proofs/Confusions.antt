@@ -10,7 +10,7 @@ use lib.ListN.{length, getD, take, drop, length-take}
 use lib.Pow.{pow-mono}
 use Rattle.lists.specs.Lists.{All, Distinct}
 use Rattle.lists.proofs.Lists.{all-map}
-use Rattle.lists.proofs.Parts.{three-parts, outside, middles-length, other-middle}
+use Rattle.lists.proofs.Sublists.{three-parts, outside, middles-length, other-middle}
 use Rattle.gf2.specs.Polynomials.{_⊕_, degree, Irreducible}
 use Rattle.gf2.specs.Degrees.{Degree}
 use Rattle.gf2.proofs.Sums.{⊕-lt}

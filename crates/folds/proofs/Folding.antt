@@ -2,7 +2,7 @@
 use mathlib.Core.Path.{_≡_, refl, sym, ap, ap₂, _∙_}
 use mathlib.Core.List.{List, [], _∷_, _++_}
 use Prim.Native.Nat.{ℕ, zero, suc, _+_, _-_, _*_, _/_, _%_, _^_, _≤_, _<_}
-use native.Mathlib.Nat.{le-refl, zero-add, add-zero, add-comm, mul-assoc, mul-comm, zero-mul, mul-le-mul-right, mul-lt-mul-of-pos-right}
+use native.Mathlib.Nat.{le-refl, zero-add, add-zero, add-comm, mul-assoc, mul-comm, mul-le-mul-right, mul-lt-mul-of-pos-right}
 use native.Mathlib.Numerals.{add-one}
 use native.Mathlib.Omega.{arith}
 use lib.ListN.{length, getD, set, take, drop, replicate, take-append-drop, length-drop, length-set, drop-of-length-le}
@@ -12,7 +12,7 @@ use Rattle.gf2.proofs.Sums.{⊕-shl, ⊕-lt, ⊕-swap, xor}
 use Rattle.gf2.proofs.Products.{⊗-zero}
 use Rattle.files.specs.Files.{bits, valueFrom}
 use Rattle.files.proofs.Values.{value-append, value-byte, value-⊕, length-bits, bits-append, rem-from}
-use Rattle.lookups.proofs.Parts.{value-one}
+use Rattle.big_endian.proofs.Pieces.{value-one}
 use Rattle.folds.specs.Folds.{form, front, folded, added}
 use Rattle.folds.proofs.Forms.{spread, rem-spread}
 

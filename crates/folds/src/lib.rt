@@ -4,7 +4,7 @@
 use gf2::Modulus;
 ghost use mathlib.Core.Path.{_≡_};
 ghost use mathlib.Core.Bool.{true};
-ghost use Prim.Native.Nat.{ℕ, _+_, _-_, _*_, _^_, _≤_, _<_};
+ghost use Prim.Native.Nat.{_+_, _-_, _*_, _^_, _≤_, _<_};
 ghost use lib.ListN.{length, take, drop, replicate};
 ghost use Rattle.gf2.specs.Polynomials.{_⊕_, rem};
 ghost use Rattle.gf2.specs.Moduli.{polynomial, Proper};
@@ -229,7 +229,7 @@ pub fn fed(words: &[u64], p: Modulus, f: u64, part: &[u8]) -> u64
     if is_house(p) {
         return fed_house(f, part);
     }
-    lookups::fed(words, p, f, part)
+    table_lanes::fed(words, p, f, part)
 }
 
 // A part behind a residue with no table: bit by bit only where neither folding nor the sparse step can be had.

@@ -8,7 +8,7 @@ ghost use Rattle.files.specs.Files.{asPart};
 ghost use Rattle.tables.specs.Tables.{makeTable, testTable};
 ghost use Rattle.marks.specs.Feeding.{begin, feedBits, feedTable, feedHouse};
 ghost use Rattle.stock.specs.Stock.{stockWord};
-ghost use Rattle.places.specs.Places.{keyAt, markAt};
+ghost use Rattle.c_interface.specs.Interface.{keyAt, markAt};
 use acceptance::Key;
 use keys::Tested;
 use marks::Begun;
@@ -75,7 +75,7 @@ pub extern "C" fn gfp_feed(
         fingerprint: *fingerprint,
         length: *bits,
     };
-    places::store(m.feed(part, used), fingerprint, bits)
+    c_interface::store(m.feed(part, used), fingerprint, bits)
 }
 
 // The key's table into the lent words. Numbers 1, 2, 5.
@@ -122,7 +122,7 @@ pub extern "C" fn gfp_feed_table(
         fingerprint: *fingerprint,
         length: *bits,
     };
-    places::store(m.feed_table(words, part, used), fingerprint, bits)
+    c_interface::store(m.feed_table(words, part, used), fingerprint, bits)
 }
 
 // The next part by the house key's table, which the library holds. Numbers 1, 2, 6, 7, 8, 19.
@@ -147,5 +147,5 @@ pub extern "C" fn gfp_feed_house(
         fingerprint: *fingerprint,
         length: *bits,
     };
-    places::store(m.feed_house(part, used), fingerprint, bits)
+    c_interface::store(m.feed_house(part, used), fingerprint, bits)
 }

@@ -14,8 +14,8 @@ use Rattle.files.specs.Files.{fingerprint}
 use Rattle.lists.specs.Counts.{countFrom}
 use Rattle.book.specs.Confusions.{confused}
 use Rattle.book.proofs.ConfusionLaws.{confusions-count, bursts-count}
-use Rattle.gfp_site.specs.Book.{Route}
-use Rattle.gfp_site.proofs.Guarantee as site-level
+use Rattle.site_book.specs.Book.{Route}
+use Rattle.site_book.proofs.Guarantee as site-level
 use Rattle.draw.specs.Drawing.{draw, drawnKey, elements}
 use Rattle.draw.proofs.Fairness.{key-drawn, key-degree, key-accepted, key-only, drawers-count, elements-count, keys-count}
 use Rattle.gfp_keyholder.specs.Claims.{Listed, Answered, One, Accepted, Fair, Number, Risk, ByRoutes, NoBurst}

@@ -2,7 +2,7 @@
 ghost use mathlib.Core.Path.{_≡_};
 ghost use Rattle.refusals.specs.Refusals.{numberOf, valueOr};
 ghost use Rattle.draw.specs.Drawing.{draw};
-ghost use Rattle.places.specs.Places.{keyAt};
+ghost use Rattle.c_interface.specs.Interface.{keyAt};
 use draw::Drawn;
 
 // The key that an element draws is of the degree asked for, and its word goes to the place: 0 or the refusal's number, and on refusal the place

@@ -1,3 +1,1 @@
-pub mod Book
-pub mod Calls
-pub mod Places
+pub mod Outputs

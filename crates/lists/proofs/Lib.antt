@@ -1,6 +1,6 @@
 pub mod Truth
 pub mod Lists
-pub mod Parts
+pub mod Sublists
 pub mod Counts
 pub mod Searches
 pub mod Lent

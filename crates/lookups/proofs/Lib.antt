@@ -1,4 +1,2 @@
 pub mod Rule
 pub mod Cut
-pub mod Parts
-pub mod Powers

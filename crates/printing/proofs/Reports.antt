@@ -11,7 +11,7 @@ use lib.Dec.{ltb}
 use lib.ListN.{length, getD, drop}
 use borrow.Author.Tests.{lt-ltb, le-ltb}
 use Rattle.io.specs.Digits.{glyph}
-use Rattle.lists.proofs.Parts.{behind-common, before-common}
+use Rattle.lists.proofs.Sublists.{behind-common, before-common}
 use Rattle.refusals.specs.declared.Refusal.the-variants.{TooLong}
 use Rattle.refusals.specs.Refusals.{Answer, _⇒_, firstOf, passes}
 use Rattle.acceptance.specs.declared.Key.{Key}

@@ -16,12 +16,13 @@ use Rattle.acceptance.specs.Keys.{polynomialOf}
 use Rattle.files.specs.Files.{Part, partLength, partBits, misused, bytesFor}
 use Rattle.files.proofs.Parts.{part-length, part-bytes}
 use Rattle.sheets.specs.declared.Sheet.{Sheet}
-use Rattle.sheets.specs.Layout.{numbersAt, versionIn, layouts, layoutOf, sheetLength, pageCount, pagesFor, Contents, fieldIn, contentsIn}
+use Rattle.big_endian.specs.Numbers.{numbersAt}
+use Rattle.sheets.specs.Layout.{versionIn, layouts, layoutOf, sheetLength, pageCount, pagesFor, Contents, fieldIn, contentsIn}
 use Rattle.sheets.specs.Sheets.{pageFingerprints, contentsOf, readTests, readSheet, Page, OtherLength, firstChange, compared, checkSheet}
 use Rattle.sheets.specs.Answers.{sheetRead}
 use Rattle.sheets.specs.Sheets.{Outcome, headWrong, checkTests}
 use Rattle.sheets.specs.Answers.{FromTo, rangeOf, changedRange}
-use Rattle.sheets.specs.Parts.{ReadAs, comparison, ranged, fingerprintsPart}
+use Rattle.sheets.specs.Inner.{ReadAs, comparison, ranged, fingerprintsPart}
 use Rattle.refusals.proofs.Laws.{Clear, done-clear, more-refused, more-clear, first-true, first-false}
 use Rattle.sheets.proofs.Parts.{pages-held}
 use Rattle.sheets.proofs.Known.{pages-in, refused-inv, tests-clear, total}

@@ -5,14 +5,12 @@ use sheets::Changed;
 use sheets::Checked;
 use sheets::Reading;
 use sheets::Sheet;
-use sheets::fields;
-use sheets::layout;
 ghost use mathlib.Core.Path.{_≡_};
 ghost use Rattle.files.specs.Files.{asPart};
 ghost use Rattle.sheets.specs.Sheets.{checkSheet};
 ghost use Rattle.sheets.specs.Answers.{changedRange};
 ghost use Rattle.sheets.specs.Answers.{checkAnswer, changeAnswer};
-ghost use Rattle.sheets.specs.Parts.{ReadAs, comparison, NoPage, WithoutPage};
+ghost use Rattle.sheets.specs.Inner.{ReadAs, comparison, NoPage, WithoutPage};
 
 // A file against a sheet that was read as x. Numbers 7, 19.
 fn compare(sheet: &[u8], x: Sheet, file: &[u8], used: u32) -> Checked
@@ -36,10 +34,10 @@ fn compare(sheet: &[u8], x: Sheet, file: &[u8], used: u32) -> Checked
         degree: key.degree,
         low: key.word,
     };
-    let pages = layout::page_fields(sheet, x.version);
+    let pages = sheet_layout::page_fields(sheet, x.version);
     let mut none = [0u8; 0];
     let same = sheet_pass::over_pages(&mut none, pages, p, size, x.version, file, used) as u64;
-    if same < fields::page_count(x.size, n) {
+    if same < sheet_layout::page_count(x.size, n) {
         return Checked::Page(same as u32);
     }
     Checked::Same
@@ -78,7 +76,7 @@ pub fn first_changed_range(sheet: &[u8], file: &[u8], used: u32) -> Changed
     let Checked::Page(i) = answer else {
         return without_page(answer);
     };
-    let size = layout::read_head(sheet).size;
+    let size = sheet_layout::read_head(sheet).size;
     let n = file.len() as u64;
     let from = i as u64 * size;
     let end = from + size;

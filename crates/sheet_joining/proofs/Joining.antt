@@ -26,9 +26,10 @@ use Rattle.files.proofs.Marks.{empty-mark}
 use Rattle.lookups.specs.Groups.{looked}
 use Rattle.shifts.specs.Shifts.{Shifts}
 use Rattle.shifts.proofs.Products.{joined-by-table}
-use Rattle.sheets.specs.Layout.{numberAt, numbersAt, Layout}
+use Rattle.big_endian.specs.Numbers.{numberAt, numbersAt}
+use Rattle.sheets.specs.Layout.{Layout}
 use Rattle.sheets.specs.Sheets.{someUnreduced, pageLength, joinedPages}
-use Rattle.sheets.proofs.Numbers.{numbers-next, numbers-done, numbers-append, length-numbersAt}
+use Rattle.big_endian.proofs.Numbers.{numbers-next, numbers-done, numbers-append, length-numbersAt}
 use Rattle.sheet_joining.specs.declared.Joined.{Joined}
 use Rattle.sheet_joining.specs.declared.Lanes.{Lanes}
 use Rattle.sheet_joining.specs.Joining.{chained, looping, BitsOf, LanesJoined, RunJoined, LastJoined, PagesJoined}

@@ -10,7 +10,8 @@ use lib.ListN.{getD}
 use Rattle.gf2.specs.Polynomials.{_⊕_, rem}
 use Rattle.files.specs.Files.{markOf}
 use Rattle.lookups.specs.Groups.{looked}
-use Rattle.sheets.specs.Layout.{numbersAt, Layout}
+use Rattle.big_endian.specs.Numbers.{numbersAt}
+use Rattle.sheets.specs.Layout.{Layout}
 use Rattle.sheets.specs.Sheets.{someUnreduced, joinedPages}
 use Rattle.sheet_joining.specs.declared.Joined.{Joined}
 use Rattle.sheet_joining.specs.declared.Lanes.{Lanes}

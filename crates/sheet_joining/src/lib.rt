@@ -1,14 +1,13 @@
 // Page marks joined, from the fields of a sheet. These functions are for the project's own crates: what they require, every caller proves.
 use gf2::Modulus;
-use sheets::fields;
-use sheets::layout;
 ghost use mathlib.Core.Path.{_≡_};
 ghost use mathlib.Core.List.{_∷_};
 ghost use Prim.Native.Nat.{_+_, _*_, _%_, _≤_, _<_, _^_};
 ghost use lib.ListN.{length};
 ghost use Rattle.gf2.specs.Moduli.{polynomial, Proper};
 ghost use Rattle.refusals.specs.Refusals.{longest};
-ghost use Rattle.sheets.specs.Layout.{numbersAt, layoutOf, pagesFor};
+ghost use Rattle.big_endian.specs.Numbers.{numbersAt};
+ghost use Rattle.sheets.specs.Layout.{layoutOf, pagesFor};
 ghost use Rattle.sheet_joining.specs.Joining.{looping, BitsOf, LanesJoined, RunJoined, LastJoined, PagesJoined};
 
 // Marks joined, and the bits that stand in any of their fields: all fields are below 2^k exactly where these bits are.
@@ -37,7 +36,7 @@ fn join_lane(shift: &[u64], fields: &[u8], from: usize, n: u64, f: u64, before: 
     let mut place = from;
     let mut left = n;
     while 0 < left {
-        let g = lookups::eight_at(fields, place);
+        let g = big_endian::eight_at(fields, place);
         x = shifts::join(shift, x, g);
         bits = bits | g;
         place += 8;
@@ -60,10 +59,10 @@ fn join_lanes(shift: &[u64], fields: &[u8], q: u64) -> Lanes
     let mut place: usize = 0;
     let mut left = q;
     while 0 < left {
-        let e = lookups::eight_at(fields, place);
-        let f = lookups::eight_at(fields, place + lane);
-        let g = lookups::eight_at(fields, place + lane + lane);
-        let h = lookups::eight_at(fields, place + lane + lane + lane);
+        let e = big_endian::eight_at(fields, place);
+        let f = big_endian::eight_at(fields, place + lane);
+        let g = big_endian::eight_at(fields, place + lane + lane);
+        let h = big_endian::eight_at(fields, place + lane + lane + lane);
         a = shifts::join(shift, a, e);
         b = shifts::join(shift, b, f);
         c = shifts::join(shift, c, g);
@@ -101,9 +100,9 @@ fn join_run(fields: &[u8], p: Modulus, size: u64, n: u64) -> Joined
     let x = join_lanes(&shift, fields, q);
     let t = gf2::power_of_t(p, 8 * size * q);
     let k = p.degree;
-    let ab = lookups::times_plus(p, low_part(x.a, k), t, x.b);
-    let abc = lookups::times_plus(p, low_part(ab, k), t, x.c);
-    let abcd = lookups::times_plus(p, low_part(abc, k), t, x.d);
+    let ab = table_lanes::times_plus(p, low_part(x.a, k), t, x.b);
+    let abc = table_lanes::times_plus(p, low_part(ab, k), t, x.c);
+    let abcd = table_lanes::times_plus(p, low_part(abc, k), t, x.d);
     let from = (32 * q) as usize;
     join_lane(&shift, fields, from, n - 4 * q, abcd, x.bits)
 }
@@ -129,13 +128,13 @@ pub fn pages_joined(fields: &[u8], p: Modulus, size: u64, n: u64, version: u64) 
 {
     let page = 8 * size;
     let whole = n / page;
-    if layout::fills(version) {
-        return join_run(fields, p, size, fields::pages_for(size, n));
+    if sheet_layout::fills(version) {
+        return join_run(fields, p, size, sheet_layout::pages_for(size, n));
     }
     let x = join_run(fields, p, size, whole);
     let left = n - whole * page;
     if left == 0 {
         return x;
     }
-    join_last(p, x, lookups::eight_at(fields, (8 * whole) as usize), left)
+    join_last(p, x, big_endian::eight_at(fields, (8 * whole) as usize), left)
 }

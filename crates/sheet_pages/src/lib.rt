@@ -1,7 +1,6 @@
 // The fingerprints of a file's pages, by tables, or by folding under the house key. These functions are for the project's own crates: what they
 // require, every caller proves.
 use gf2::Modulus;
-use sheets::layout;
 ghost use mathlib.Core.Path.{_≡_};
 ghost use mathlib.Core.Bool.{true, false};
 ghost use Prim.Native.Nat.{_+_, _-_, _*_, _/_, _%_, _≤_, _<_, min};
@@ -71,7 +70,7 @@ fn finished(words: &[u64], p: Modulus, x: u64, rest: &[u8]) -> u64
     if rest.len() == 0 {
         return f;
     }
-    lookups::fed(words, p, f, rest)
+    table_lanes::fed(words, p, f, rest)
 }
 
 // The fingerprints of n pages that are begun: each number is reduced, and the bytes that are left of its page are fed behind it.
@@ -151,7 +150,7 @@ fn fed_front(words: &[u64], p: Modulus, front: &[u8]) -> u64
     if folds::is_house(p) {
         return folds::fed_page(1, front);
     }
-    lookups::fed(words, p, 1, front)
+    table_lanes::fed(words, p, 1, front)
 }
 
 // The fingerprint of a last page at its own length: its whole bytes, and the used bits behind them.
@@ -179,7 +178,7 @@ fn last_page(words: &[u64], x: Paging, page: &[u8]) -> u64
         (pageOf (layoutOf (x .version)) (8 * x .size) (partBits (asPart (now (page .entry)) (x .used)))) ⌝ }
 {
     let own = fed_last(words, x.p, page, x.used);
-    if layout::fills(x.version) {
+    if sheet_layout::fills(x.version) {
         let bits = 8 * (x.size as u64);
         return files::with_zeros(x.p, own, bits - files::part_length(page, x.used));
     }

@@ -6,10 +6,10 @@ use native.Mathlib.Nat.{zero-add}
 use native.Mathlib.Omega.{arith}
 use lib.ListN.{length, take, drop, length-append, length-drop, take-append-drop}
 use lib.Seq.{sets, drop-drop, length-take-le, take-add, take-take, take-length}
-use Rattle.sheets.specs.Layout.{fieldsOf, numbersAt}
+use Rattle.big_endian.specs.Numbers.{fieldsOf, numbersAt}
 use Rattle.sheets.specs.Sheets.{Same, Page, firstChange}
-use Rattle.sheets.specs.Parts.{agreeing}
-use Rattle.sheets.proofs.Numbers.{length-fieldsOf, length-numbersAt, numbers-append, fields-append, sets-behind}
+use Rattle.sheets.specs.Inner.{agreeing}
+use Rattle.big_endian.proofs.Numbers.{length-fieldsOf, length-numbersAt, numbers-append, fields-append, sets-behind}
 use Rattle.sheets.proofs.Changes.{agree-le, agree-all, agree-here, agree-further, changed-at, changed-nowhere}
 use Rattle.sheet_pass.specs.Passes.{expected, Passed}
 

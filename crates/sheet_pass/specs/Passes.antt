@@ -4,8 +4,8 @@ use mathlib.Core.List.{List, [], _∷_}
 use Prim.Native.Nat.{ℕ, _≤_, _<_}
 use lib.ListN.{length, take}
 use lib.Seq.{sets}
-use Rattle.sheets.specs.Layout.{fieldsOf, numbersAt}
-use Rattle.sheets.specs.Parts.{agreeing}
+use Rattle.big_endian.specs.Numbers.{fieldsOf, numbersAt}
+use Rattle.sheets.specs.Inner.{agreeing}
 
 -- a part of memory that is lent has at least n bytes, or none where none is lent
 abbrev pub Room : ℕ → List ℕ → Type 0

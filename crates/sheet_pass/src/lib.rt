@@ -2,7 +2,6 @@
 // functions are for the project's own crates: what they require, every caller proves.
 use gf2::Modulus;
 use sheet_pages::Paging;
-use sheets::fields;
 ghost use mathlib.Core.Path.{_≡_};
 ghost use mathlib.Core.Bool.{false};
 ghost use Prim.Native.Nat.{_+_, _*_, _≤_, _<_, _^_};
@@ -10,9 +9,10 @@ ghost use lib.ListN.{length};
 ghost use lib.Seq.{sets};
 ghost use Rattle.gf2.specs.Moduli.{polynomial, Proper};
 ghost use Rattle.files.specs.Files.{asPart, partBits, misused};
-ghost use Rattle.sheets.specs.Layout.{fieldsOf, layoutOf, pageCount};
+ghost use Rattle.big_endian.specs.Numbers.{fieldsOf};
+ghost use Rattle.sheets.specs.Layout.{layoutOf, pageCount};
 ghost use Rattle.sheets.specs.Sheets.{pageFingerprints};
-ghost use Rattle.sheets.specs.Parts.{agreeing};
+ghost use Rattle.sheets.specs.Inner.{agreeing};
 ghost use Rattle.sheet_pages.specs.Blocks.{PageTables};
 ghost use Rattle.sheet_pass.specs.Passes.{Room, expected, Passed};
 
@@ -27,7 +27,7 @@ fn agreeing(known: &[u8], from: usize, marks: &[u64]) -> usize
     let mut place = from;
     let mut i: usize = 0;
     while i < marks.len() {
-        if lookups::eight_at(known, place) != marks[i] {
+        if big_endian::eight_at(known, place) != marks[i] {
             return i;
         }
         place += 8;
@@ -47,7 +47,7 @@ fn put_fields(out: &mut [u8], from: usize, marks: &[u64])
     let mut place = from;
     let mut i: usize = 0;
     while i < marks.len() {
-        fields::put(out, place, 8, marks[i]);
+        big_endian::put(out, place, 8, marks[i]);
         place += 8;
         i += 1;
     }

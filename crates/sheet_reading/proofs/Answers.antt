@@ -20,12 +20,14 @@ use Rattle.keys.specs.Testing.{testKey}
 use Rattle.keys.specs.Answers.{tested}
 use Rattle.keys.proofs.Laws.{refused}
 use Rattle.sheets.specs.declared.Sheet.{Sheet}
-use Rattle.sheets.specs.declared.layout.Head.{Head}
-use Rattle.sheets.specs.Layout.{numberAt, versionIn, Layout, layouts, layoutOf, pagePlace, sheetLength, pagesFor, Contents, fieldIn, keyIn, pagesIn, contentsIn}
+use Rattle.sheet_layout.specs.declared.Head.{Head}
+use Rattle.big_endian.specs.Numbers.{numberAt}
+use Rattle.sheets.specs.Layout.{versionIn, Layout, layouts, layoutOf, pagePlace, sheetLength, pagesFor, Contents, fieldIn, keyIn, pagesIn, contentsIn}
 use Rattle.sheets.specs.Sheets.{someUnreduced, pagesJoined, fileFilled, pageSizeTest, headWrong, bodyWrong, readSheet}
 use Rattle.sheets.specs.Answers.{numbersOf}
-use Rattle.sheets.specs.Parts.{HeadOf, readBody}
-use Rattle.sheets.proofs.Numbers.{length-numbersAt}
+use Rattle.sheet_layout.specs.Heads.{HeadOf}
+use Rattle.sheets.specs.Inner.{readBody}
+use Rattle.big_endian.proofs.Numbers.{length-numbersAt}
 use Rattle.sheets.proofs.Versions.{eight-wide}
 use Rattle.refusals.proofs.Laws.{first-true, first-false}
 use Rattle.sheets.proofs.Sound.{neither}

@@ -15,11 +15,13 @@ use Rattle.acceptance.specs.Keys.{polynomialOf}
 use Rattle.acceptance.specs.Opened.{Opened}
 use Rattle.acceptance.proofs.Opened.{opened-degree, opened-whole}
 use Rattle.files.specs.Files.{markOf}
-use Rattle.sheets.specs.declared.layout.Head.{Head}
-use Rattle.sheets.specs.Layout.{numberAt, numbersAt, Layout, layoutOf, pagePlace, sheetLength, pageCount, pagesFor, contentsIn}
+use Rattle.sheet_layout.specs.declared.Head.{Head}
+use Rattle.big_endian.specs.Numbers.{numberAt, numbersAt}
+use Rattle.sheets.specs.Layout.{Layout, layoutOf, pagePlace, sheetLength, pageCount, pagesFor, contentsIn}
 use Rattle.sheets.specs.Sheets.{bodyWrong, someUnreduced, joinedPages}
-use Rattle.sheets.specs.Parts.{zerosBehind, HeadOf, fingerprintsPart}
-use Rattle.sheets.proofs.Numbers.{length-numbersAt, numbers-of-part}
+use Rattle.sheet_layout.specs.Heads.{HeadOf}
+use Rattle.sheets.specs.Inner.{zerosBehind, fingerprintsPart}
+use Rattle.big_endian.proofs.Numbers.{length-numbersAt, numbers-of-part}
 use Rattle.sheets.proofs.Versions.{eight-wide}
 use Rattle.sheets.proofs.Pages.{pages-count, zeros-are}
 use Rattle.sheet_joining.specs.Joining.{BitsOf}

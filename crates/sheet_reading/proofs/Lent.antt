@@ -9,8 +9,8 @@ use lib.ListN.{length, set, take, drop, drop-of-length-le}
 use lib.Seq.{take-all, take-append-seam}
 use Rattle.lists.specs.Lists.{overlay}
 use Rattle.lists.proofs.Lists.{written-next}
-use Rattle.sheets.specs.Layout.{numberAt, numbersAt}
-use Rattle.sheets.proofs.Numbers.{length-numbersAt, numbers-append, numbers-last}
+use Rattle.big_endian.specs.Numbers.{numberAt, numbersAt}
+use Rattle.big_endian.proofs.Numbers.{length-numbersAt, numbers-append, numbers-last}
 
 -- one field more
 pub lent-next : (fields before lent : List ℕ) (i v : ℕ) → lent ≡ numbersAt 0 8 i fields ++ drop i before → i < length before → v ≡ numberAt (8 * i) 8 fields

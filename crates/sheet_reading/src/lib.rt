@@ -5,20 +5,19 @@ use refusals::Refusal;
 use refusals::Reply;
 use sheets::Reading;
 use sheets::Sheet;
-use sheets::fields;
-use sheets::layout;
-use sheets::layout::Head;
+use sheet_layout::Head;
 ghost use mathlib.Core.Path.{_≡_};
 ghost use mathlib.Core.List.{_++_};
 ghost use Prim.Native.Nat.{_+_, _*_, _≤_, min};
 ghost use lib.ListN.{length, drop};
 ghost use Rattle.refusals.specs.Answers.{reply};
 ghost use Rattle.acceptance.specs.Opened.{Opened};
-ghost use Rattle.sheets.specs.Layout.{numbersAt};
+ghost use Rattle.big_endian.specs.Numbers.{numbersAt};
 ghost use Rattle.sheets.specs.Sheets.{readSheet, readPages};
 ghost use Rattle.sheets.specs.Answers.{sheetRead};
 ghost use Rattle.sheets.specs.Answers.{reading};
-ghost use Rattle.sheets.specs.Parts.{HeadOf, readBody};
+ghost use Rattle.sheet_layout.specs.Heads.{HeadOf};
+ghost use Rattle.sheets.specs.Inner.{readBody};
 
 mod wellformed;
 
@@ -27,13 +26,13 @@ fn read_under(p: Modulus, sheet: &[u8], head: Head) -> Reading
     requires { ⌜ HeadOf (now sheet) head × Opened (head .key) p ⌝ }
     ensures { λ r. ⌜ reading r ≡ sheetRead (readBody (now (sheet .entry))) ⌝ }
 {
-    if !fields::size_right(head.size) {
+    if !sheet_layout::size_right(head.size) {
         return Reading::Refused(Refusal::PageSize);
     }
     if !wellformed::body_right(sheet, head, p) {
         return Reading::Refused(Refusal::SheetMalformed);
     }
-    let count = fields::pages_for(head.size, head.length);
+    let count = sheet_layout::pages_for(head.size, head.length);
     let key = head.key;
     Reading::Sheet(Sheet {
         version: head.version,
@@ -41,7 +40,7 @@ fn read_under(p: Modulus, sheet: &[u8], head: Head) -> Reading
         length: head.length,
         size: head.size,
         pages: count,
-        fingerprint: layout::fingerprint_at(sheet, head.version, count),
+        fingerprint: sheet_layout::fingerprint_at(sheet, head.version, count),
     })
 }
 
@@ -49,10 +48,10 @@ fn read_under(p: Modulus, sheet: &[u8], head: Head) -> Reading
 pub fn read(sheet: &[u8]) -> Reading
     ensures { λ r. ⌜ reading r ≡ sheetRead (readSheet (now (sheet .entry))) ⌝ }
 {
-    if !layout::head_right(sheet) {
+    if !sheet_layout::head_right(sheet) {
         return Reading::Refused(Refusal::SheetMalformed);
     }
-    let head = layout::read_head(sheet);
+    let head = sheet_layout::read_head(sheet);
     let key = head.key;
     match keys::test(key) {
         Tested::Refused(r) => Reading::Refused(r),
@@ -75,7 +74,7 @@ fn copy_fields(lent: &mut [u64], fields: &[u8], n: usize)
     let mut place: usize = 0;
     let mut i: usize = 0;
     while i < n {
-        lent[i] = lookups::eight_at(fields, place);
+        lent[i] = big_endian::eight_at(fields, place);
         place += 8;
         i += 1;
     }
@@ -90,7 +89,7 @@ pub fn read_pages(sheet: &[u8], lent: &mut [u64]) -> Reply
         Reading::Refused(r) => Reply::Refused(r),
         Reading::Sheet(x) => {
             let n = least(x.pages, lent.len());
-            copy_fields(lent, layout::page_fields(sheet, x.version), n);
+            copy_fields(lent, sheet_layout::page_fields(sheet, x.version), n);
             Reply::Done
         }
     }

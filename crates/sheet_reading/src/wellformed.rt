@@ -7,19 +7,18 @@ ghost use Rattle.refusals.specs.Refusals.{longest};
 ghost use Rattle.acceptance.specs.Opened.{Opened};
 ghost use Rattle.sheets.specs.Layout.{layoutOf, contentsIn};
 ghost use Rattle.sheets.specs.Sheets.{bodyWrong};
-ghost use Rattle.sheets.specs.Parts.{zerosBehind, HeadOf};
+ghost use Rattle.sheet_layout.specs.Heads.{HeadOf};
+ghost use Rattle.sheets.specs.Inner.{zerosBehind};
 use gf2::Modulus;
-use sheets::fields;
-use sheets::layout;
-use sheets::layout::Head;
+use sheet_layout::Head;
 
 // How many zeros the pages of a file of n bits have behind it.
 fn zeros_behind(version: u64, size: u64, n: u64) -> u64
     requires { ⌜ (16 ≤ size) × (size ≤ 4096) × (n ≤ longest) ⌝ }
     ensures { λ r. ⌜ r ≡ zerosBehind (layoutOf version) (8 * size) n ⌝ }
 {
-    if layout::fills(version) {
-        return fields::pages_for(size, n) * (8 * size) - n;
+    if sheet_layout::fills(version) {
+        return sheet_layout::pages_for(size, n) * (8 * size) - n;
     }
     0
 }
@@ -32,13 +31,13 @@ pub fn body_right(sheet: &[u8], head: Head, p: Modulus) -> bool
     let version = head.version;
     let size = head.size;
     let n = head.length;
-    let count = fields::pages_for(size, n);
-    if sheet.len() as u64 != layout::sheet_length(version, count) {
+    let count = sheet_layout::pages_for(size, n);
+    if sheet.len() as u64 != sheet_layout::sheet_length(version, count) {
         return false;
     }
-    let pages = layout::page_fields(sheet, version);
+    let pages = sheet_layout::page_fields(sheet, version);
     let joined = sheet_joining::pages_joined(pages, p, size, n, version);
-    let file = layout::fingerprint_at(sheet, version, count);
+    let file = sheet_layout::fingerprint_at(sheet, version, count);
     if !gf2::is_residue(p, joined.bits | file) {
         return false;
     }

@@ -12,10 +12,12 @@ use Rattle.gf2.specs.Moduli.{polynomial, Proper}
 use Rattle.gf2.specs.declared.Modulus.{Modulus}
 use Rattle.lists.proofs.Lists.{all-map}
 use Rattle.gf2.proofs.Monics.{monic-pos, monic-degree}
-use Rattle.sheets.specs.Layout.{bytesOf, fieldsOf, numbersAt, Layout, layoutOf, fieldWidths, pagePlace, sheetLength}
-use Rattle.sheets.specs.Layout.{Contents, headOf, bytesIn, sheetBytes}
+use Rattle.big_endian.specs.Numbers.{bytesOf, fieldsOf, numbersAt}
+use Rattle.sheets.specs.Layout.{Layout, layoutOf, fieldWidths, pagePlace, sheetLength}
+use Rattle.big_endian.specs.Numbers.{bytesIn}
+use Rattle.sheets.specs.Layout.{Contents, headOf, sheetBytes}
 use Rattle.sheets.specs.Sheets.{pageFingerprints}
-use Rattle.sheets.proofs.Numbers.{length-bytesOf, length-fieldsOf, sets-front, numbers-stored}
+use Rattle.big_endian.proofs.Numbers.{length-bytesOf, length-fieldsOf, sets-front, numbers-stored}
 use Rattle.sheets.proofs.Versions.{eight-wide, place-first, length-from}
 use Rattle.sheets.proofs.Layouts.{length-fields}
 use Rattle.sheets.proofs.Pages.{length-pages, fingerprints-lt}

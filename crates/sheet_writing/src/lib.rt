@@ -5,9 +5,7 @@ use keys::Tested;
 use refusals::Refusal;
 use refusals::Reply;
 use sheets::SheetLength;
-use sheets::fields;
-use sheets::layout;
-use sheets::layout::Head;
+use sheet_layout::Head;
 ghost use mathlib.Core.Path.{_≡_};
 ghost use mathlib.Core.Bool.{false};
 ghost use mathlib.Core.List.{_++_};
@@ -18,7 +16,8 @@ ghost use Rattle.gf2.specs.Moduli.{polynomial, Proper};
 ghost use Rattle.refusals.specs.Answers.{reply};
 ghost use Rattle.acceptance.specs.Opened.{Opened};
 ghost use Rattle.files.specs.Files.{fingerprint, asPart, partBits, misused};
-ghost use Rattle.sheets.specs.Layout.{bytesOf, fieldsOf, numbersAt, newest, layoutOf, sheetLength, pageCount, sheetBytes};
+ghost use Rattle.big_endian.specs.Numbers.{bytesOf, fieldsOf, numbersAt};
+ghost use Rattle.sheets.specs.Layout.{newest, layoutOf, sheetLength, pageCount, sheetBytes};
 ghost use Rattle.sheets.specs.Sheets.{pageFingerprints, contentsOf, lengthFor, writeSheet};
 ghost use Rattle.sheets.specs.Answers.{lengthAnswer};
 
@@ -31,7 +30,7 @@ fn file_mark(fields: &[u8], p: Modulus, size: u64, file: &[u8], used: u32) -> u6
     ensures { λ r. ⌜ r ≡ fingerprint (polynomial p) (partBits (asPart (now (file .entry)) used)) ⌝ }
 {
     let n = files::part_length(file, used);
-    sheet_joining::pages_joined(fields, p, size, n, layout::NEWEST).mark
+    sheet_joining::pages_joined(fields, p, size, n, sheet_layout::NEWEST).mark
 }
 
 // Writes all fingerprints: the pages', and the file's behind them.
@@ -44,10 +43,10 @@ fn put_fingerprints(fields: &mut [u8], p: Modulus, size: u64, file: &[u8], used:
         ++ bytesOf 8 (fingerprint (polynomial p) (partBits (asPart (now (file .entry)) used)))) ⌝ }
 {
     let none = [0u8; 0];
-    sheet_pass::over_pages(fields, &none, p, size as usize, layout::NEWEST, file, used);
+    sheet_pass::over_pages(fields, &none, p, size as usize, sheet_layout::NEWEST, file, used);
     let f = file_mark(fields, p, size, file, used);
-    let count = fields::page_count(size, file.len() as u64);
-    fields::put(fields, (8 * count) as usize, 8, f);
+    let count = sheet_layout::page_count(size, file.len() as u64);
+    big_endian::put(fields, (8 * count) as usize, 8, f);
 }
 
 // Writes the sheet; the buffer's further bytes keep their value.
@@ -59,13 +58,13 @@ fn put_sheet(buffer: &mut [u8], key: Key, p: Modulus, size: u64, file: &[u8], us
         ++ drop (sheetLength (layoutOf (newest .version)) (pageCount size (length (now (file .entry))))) (now (buffer .entry)) ⌝ }
 {
     let head = Head {
-        version: layout::NEWEST,
+        version: sheet_layout::NEWEST,
         key: key,
         length: files::part_length(file, used),
         size: size,
     };
-    layout::put_head(buffer, head);
-    let from = layout::pages_place(layout::NEWEST);
+    sheet_layout::put_head(buffer, head);
+    let from = sheet_layout::pages_place(sheet_layout::NEWEST);
     put_fingerprints(&mut buffer[from..], p, size, file, used);
 }
 
@@ -76,10 +75,10 @@ pub fn length(n: u64, size: u64) -> SheetLength
     if !refusals::bytes_fit(n) {
         return SheetLength::Refused(Refusal::TooLong);
     }
-    if !fields::size_right(size) {
+    if !sheet_layout::size_right(size) {
         return SheetLength::Refused(Refusal::PageSize);
     }
-    SheetLength::Bytes(layout::sheet_length(layout::NEWEST, fields::page_count(size, n)))
+    SheetLength::Bytes(sheet_layout::sheet_length(sheet_layout::NEWEST, sheet_layout::page_count(size, n)))
 }
 
 // Writes the sheet of a file under an opened key. Numbers 7, 12, 13, 19.

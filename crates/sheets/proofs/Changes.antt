@@ -9,10 +9,10 @@ use native.Mathlib.Omega.{arith}
 use lib.ListN.{length, getD, drop, drop-of-length-le}
 use borrow.Author.Tests.{eq-eqb, ne-eqb}
 use Rattle.lists.proofs.Lists.{drop-next}
-use Rattle.sheets.specs.Layout.{numberAt, numbersAt}
+use Rattle.big_endian.specs.Numbers.{numberAt, numbersAt}
 use Rattle.sheets.specs.Claims.{First}
-use Rattle.sheets.specs.Parts.{agreeing}
-use Rattle.sheets.proofs.Numbers.{numbers-next}
+use Rattle.sheets.specs.Inner.{agreeing}
+use Rattle.big_endian.proofs.Numbers.{numbers-next}
 use Rattle.sheets.specs.Sheets.{Same, Page, OtherLength, firstChange}
 
 pub page-inj : {i j : ℕ} → Page i ≡ Page j → i ≡ j

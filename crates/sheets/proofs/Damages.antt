@@ -24,7 +24,7 @@ use Rattle.files.proofs.Bursts.{part-burst}
 use Rattle.files.proofs.Parts.{part-bits-are}
 use Rattle.sheets.specs.Layout.{Layout, layoutOf, pageCount, pagesFor, Contents, sheetBytes}
 use Rattle.sheets.specs.Sheets.{filled, pageOf, pageFingerprints, contentsOf, joinedPages, Same, pagesNow, compared, checkSheet}
-use Rattle.sheets.specs.Parts.{zerosBehind}
+use Rattle.sheets.specs.Inner.{zerosBehind}
 use Rattle.sheets.specs.Claims.{SoundContents, WellFormed, First, FirstAltered, SomeAltered, BurstFound, NoBurstSame}
 use Rattle.sheets.proofs.Keys.{key-pos}
 use Rattle.sheets.proofs.Pages.{pages-count, count-le, length-pages, page-at, fingerprint-lt, with-zeros, pages-joined-print, zeros-are}

@@ -22,13 +22,14 @@ use Rattle.lists.proofs.Truth.{or-neither}
 use Rattle.acceptance.specs.declared.Key.{Key}
 use Rattle.acceptance.specs.Keys.{polynomialOf}
 use Rattle.acceptance.proofs.Laws.{in-range, key-iff}
-use Rattle.sheets.specs.Layout.{numberAt, versionIn, Layout, version1, version2, version3, newest, layouts, known, layoutOf}
+use Rattle.big_endian.specs.Numbers.{numberAt}
+use Rattle.sheets.specs.Layout.{versionIn, Layout, version1, version2, version3, newest, layouts, known, layoutOf}
 use Rattle.sheets.specs.Layout.{pagePlace, sheetLength, pageCount, pagesFor, Contents, sheetBytes, contentsIn}
 use Rattle.sheets.specs.Sheets.{pageFingerprints, contentsOf, joinedPages, writeTests, writeSheet, readTests, readSheet, readPages, Page}
 use Rattle.sheets.specs.Claims.{highest, SoundContents, WellFormed, First, ReadIff, OtherVersion, PagesGiven, WrittenReads, WrittenFingerprint}
 use Rattle.sheets.specs.Claims.{OlderRefuses}
 use Rattle.sheets.specs.Claims.{Checks, OtherLengthTold, PagesGiveFile, OwnCompared, FilledCompared, PageIff, SameIff}
-use Rattle.sheets.specs.Parts.{zerosBehind}
+use Rattle.sheets.specs.Inner.{zerosBehind}
 use Rattle.sheets.specs.Sheets.{firstChange, pagesNow, compared, checkTests, checkSheet}
 use Rattle.sheets.proofs.Keys.{key-pos}
 use Rattle.sheets.proofs.Versions.{newest-is, newest-known}

@@ -15,9 +15,10 @@ use Rattle.gf2.proofs.Monics.{word-degree}
 use Rattle.acceptance.specs.declared.Key.{Key}
 use Rattle.acceptance.specs.Keys.{polynomialOf, keyOf, outside}
 use Rattle.acceptance.proofs.Laws.{in-range, range-key, whole-key, word-outside}
-use Rattle.sheets.specs.Layout.{bytesOf, numberAt, Layout, keyNumber, keyFrom}
+use Rattle.big_endian.specs.Numbers.{bytesOf, numberAt}
+use Rattle.sheets.specs.Layout.{Layout, keyNumber, keyFrom}
 use Rattle.sheets.specs.Claims.{PairHeld}
-use Rattle.sheets.proofs.Numbers.{length-bytesOf, bytes-first, number-first, number-lt, sets-behind}
+use Rattle.big_endian.proofs.Numbers.{length-bytesOf, bytes-first, number-first, number-lt, sets-behind}
 
 pub key-pos : (x : Key) → 0 < polynomialOf x
 unfolding monic

@@ -9,12 +9,13 @@ use Rattle.refusals.specs.declared.Refusal.{Refusal}
 use Rattle.refusals.proofs.Laws.{Clear, clear-done, done-clear, more-refused}
 use Rattle.refusals.specs.Refusals.{Answer, Done, Refused, Test, firstOf}
 use Rattle.sheets.specs.declared.Sheet.{Sheet}
-use Rattle.sheets.specs.Layout.{numbersAt, versionIn, layouts, layoutOf, pagePlace, sheetLength, Contents, pagesIn, contentsIn}
+use Rattle.big_endian.specs.Numbers.{numbersAt}
+use Rattle.sheets.specs.Layout.{versionIn, layouts, layoutOf, pagePlace, sheetLength, Contents, pagesIn, contentsIn}
 use Rattle.sheets.specs.Sheets.{readTests, readSheet, readPages}
 use Rattle.sheets.specs.Answers.{numbersOf, sheetRead}
 use Rattle.sheets.specs.Claims.{SoundContents}
-use Rattle.sheets.specs.Parts.{ReadAs, fingerprintsPart}
-use Rattle.sheets.proofs.Numbers.{length-numbersAt, numbers-of-part}
+use Rattle.sheets.specs.Inner.{ReadAs, fingerprintsPart}
+use Rattle.big_endian.proofs.Numbers.{length-numbersAt, numbers-of-part}
 use Rattle.sheets.proofs.Versions.{eight-wide}
 use Rattle.sheets.proofs.Sound.{clear-total, clear-contents}
 

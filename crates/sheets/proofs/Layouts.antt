@@ -9,12 +9,13 @@ use lib.Seq.{take-add, take-all, drop-drop}
 use Rattle.lists.specs.Lists.{All}
 use Rattle.acceptance.specs.declared.Key.{Key}
 use Rattle.files.specs.Files.{Bytes}
-use Rattle.sheets.specs.Layout.{bytesOf, fieldsOf, numberAt, numbersAt}
+use Rattle.big_endian.specs.Numbers.{bytesOf, fieldsOf, numberAt, numbersAt}
 use Rattle.sheets.specs.Layout.{letters, versionIn, Layout, layoutOf, width, fieldWidths, pagePlace, sheetLength, pagesFor}
-use Rattle.sheets.specs.Layout.{keyNumber, keyFrom, Contents, headOf, bytesIn}
+use Rattle.big_endian.specs.Numbers.{bytesIn}
+use Rattle.sheets.specs.Layout.{keyNumber, keyFrom, Contents, headOf}
 use Rattle.sheets.specs.Layout.{sheetBytes, fieldIn, keyIn, lengthIn, pagesIn, contentsIn}
 use Rattle.sheets.proofs.Versions.{place-first}
-use Rattle.sheets.proofs.Numbers.{length-bytesOf, length-fieldsOf, number-seam, number-behind, numbers-seam, bytes-number, fields-numbers}
+use Rattle.big_endian.proofs.Numbers.{length-bytesOf, length-fieldsOf, number-seam, number-behind, numbers-seam, bytes-number, fields-numbers}
 
 pub contents-eq : {v v' n n' s s' f f' : ℕ} {k k' : Key} {g g' : List ℕ} → v ≡ v' → k ≡ k' → n ≡ n' → s ≡ s' → g ≡ g' → f ≡ f'
     → _≡_ {A = Contents} (record { version = v; key = k; length = n; pageSize = s; pages = g; fingerprint = f })

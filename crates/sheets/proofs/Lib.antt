@@ -1,4 +1,3 @@
-pub mod Numbers
 pub mod Keys
 pub mod Versions
 pub mod Layouts

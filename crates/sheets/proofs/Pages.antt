@@ -22,7 +22,7 @@ use Rattle.files.proofs.Parts.{part-bytes}
 use Rattle.files.proofs.Marks.{fed, joined-true}
 use Rattle.sheets.specs.Layout.{Layout, pageCount, pagesFor}
 use Rattle.sheets.specs.Sheets.{filled, pageOf, pageFingerprints, pageLength, joinedPages}
-use Rattle.sheets.specs.Parts.{zerosBehind}
+use Rattle.sheets.specs.Inner.{zerosBehind}
 
 -- ---- the number of pages
 

@@ -12,10 +12,11 @@ use Rattle.refusals.proofs.Laws.{done-clear, done-eq}
 use Rattle.acceptance.specs.declared.Key.{Key}
 use Rattle.acceptance.specs.Keys.{polynomialOf}
 use Rattle.files.specs.Files.{Bytes, bits, valueFrom, fingerprint, Part, partBits}
-use Rattle.sheets.specs.Layout.{numberAt, versionIn, Layout, newest, layouts, layoutOf, pagePlace, sheetLength, pagesFor, pagesIn, Contents, contentsIn}
+use Rattle.big_endian.specs.Numbers.{numberAt}
+use Rattle.sheets.specs.Layout.{versionIn, Layout, newest, layouts, layoutOf, pagePlace, sheetLength, pagesFor, pagesIn, Contents, contentsIn}
 use Rattle.sheets.specs.Sheets.{pageOf, contentsOf, writeSheet, readTests, readSheet, readPages, pagesNow}
 use Rattle.sheets.specs.Claims.{WellFormed}
-use Rattle.sheets.proofs.Numbers.{numbers-one}
+use Rattle.big_endian.proofs.Numbers.{numbers-one}
 use Rattle.sheets.proofs.Versions.{newest-is}
 use Rattle.sheets.proofs.Pages.{length-pages, page-at}
 use Rattle.sheets.proofs.Sound.{clear-sound}

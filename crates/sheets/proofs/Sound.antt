@@ -19,11 +19,12 @@ use Rattle.acceptance.specs.Keys.{accepted, polynomialOf, outside}
 use Rattle.lists.proofs.Truth.{or-neither}
 use Rattle.acceptance.proofs.Laws.{accepted-iff, range-key, key-iff}
 use Rattle.files.specs.Files.{Bytes, fingerprint, markOf}
-use Rattle.sheets.specs.Layout.{numberAt, letters, lettersWidth, versionIn, Layout, layouts, known, layoutOf}
+use Rattle.big_endian.specs.Numbers.{numberAt}
+use Rattle.sheets.specs.Layout.{letters, lettersWidth, versionIn, Layout, layouts, known, layoutOf}
 use Rattle.sheets.specs.Layout.{pagePlace, sheetLength, pagesFor, Contents, sheetBytes, fieldIn, keyIn, lengthIn, pagesIn, contentsIn}
 use Rattle.sheets.specs.Sheets.{pageFingerprints, contentsOf, joinedPages, someUnreduced, pagesJoined, fileFilled, headWrong, readTests}
 use Rattle.sheets.specs.Claims.{highest, SoundContents, WellFormed}
-use Rattle.sheets.proofs.Numbers.{number-lt, length-numbersAt}
+use Rattle.big_endian.proofs.Numbers.{number-lt, length-numbersAt}
 use Rattle.sheets.proofs.Keys.{key-pos, keyWidth, key-narrow, key-fits, key-back, number-back, degree-held}
 use Rattle.sheets.proofs.Versions.{widths-are, three-wide, eight-wide, unit-some, length-fits, length-from, least-needed, known-small}
 use Rattle.sheets.proofs.Layouts.{Fits, length-sheet, field-back, version-back, length-back, read-back, write-back}

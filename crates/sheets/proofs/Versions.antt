@@ -1,8 +1,8 @@
 -- Laws of the versions: what the layouts that are read have in common.
-use mathlib.Core.Path.{_≡_, refl, sym, ap, ap₂, _∙_}
+use mathlib.Core.Path.{_≡_, refl, sym, ap}
 use mathlib.Core.Logic.{_≢_}
-use mathlib.Core.Bool.{Bool, true, false, cond, false≢true}
-use mathlib.Core.List.{List, [], _∷_}
+use mathlib.Core.Bool.{true, false≢true}
+use mathlib.Core.List.{[], _∷_}
 use Prim.Native.Nat.{ℕ, _+_, _*_, _/_, _^_, _≤_, _<_}
 use native.Mathlib.Nat.{mul-zero, add-zero, div-lt-iff-lt-mul}
 use native.Mathlib.Decide.{ℕ-discrete}
@@ -11,13 +11,9 @@ use lib.Dec.{lit<}
 use lib.ListN.{length, getD}
 use borrow.Author.Tests.{ne-eqb}
 use Rattle.refusals.specs.Refusals.{longest}
-use Rattle.acceptance.specs.declared.Key.{Key}
-use Rattle.acceptance.specs.Keys.{keyOf}
-use Rattle.sheets.specs.Layout.{numberAt, Layout, version1, version2, version3, version4, newest, layouts, known, layoutAmong, layoutOf}
-use Rattle.sheets.specs.Layout.{width, fieldWidths, pagePlace, sheetLength, keyFrom, fieldIn, keyIn, lengthIn}
-use Rattle.sheets.specs.declared.layout.Fields.{Fields}
-use Rattle.sheets.specs.Parts.{LaidOut}
-use Rattle.sheets.proofs.Keys.{keyWidth, pair-read, number-read}
+use Rattle.sheets.specs.Layout.{Layout, version1, version2, version3, version4, newest, layouts, known, layoutAmong, layoutOf}
+use Rattle.sheets.specs.Layout.{width, fieldWidths, pagePlace, sheetLength}
+use Rattle.sheets.proofs.Keys.{keyWidth}
 
 -- versions 1, 2, 3, and every other number
 pub first-is : (n : ℕ) → n ≡ 1 → layoutOf n ≡ version1
@@ -108,32 +104,3 @@ known-small n e = go (ℕ-discrete 1 n) (ℕ-discrete 2 n) (ℕ-discrete 3 n) (�
     go (no a) (no b) (yes c) d = rw (← c) (lit< tt)
     go (no a) (no b) (no c) (yes d) = rw (← d) (lit< tt)
     go (no a) (no b) (no c) (no d) = absurd (false≢true (rw (ne-eqb 1 n a, ne-eqb 2 n b, ne-eqb 3 n c, ne-eqb 4 n d) at e))
-
--- ---- a layout as the code has it
-
-module _ {v : Layout} {r : Fields} (h : LaidOut v r) where
-  pub place-laid : pagePlace v 0 ≡ 5 + r .key + r .length + r .size
-  place-laid = rw (h .widths, h .fingerprints) (omega arith)
-
-  -- the key's width, and its field, by its form
-  pub key-wide : (b : Bool) → r .paired ≡ b → r .key ≡ cond b 9 8
-  key-wide b e = h .key-width ∙ ap (λ (c : Bool). cond c 9 8) e
-
-  key-laid : (sheet : List ℕ) (b : Bool) → r .paired ≡ b → fieldIn v 2 sheet ≡ numberAt 5 (cond b 9 8) sheet
-  key-laid sheet b e = rw (h .widths) (ap (λ (w : ℕ). numberAt 5 w sheet) (key-wide b e))
-
-  pub pair-laid : (sheet : List ℕ) → r .paired ≡ true → 14 ≤ length sheet
-      → _≡_ {A = Key} (record { degree = numberAt 5 1 sheet; word = numberAt 6 8 sheet }) (keyIn v sheet)
-  pair-laid sheet e l = pair-read (v .paired) 5 sheet (h .paired ∙ e) l ∙ ap (keyFrom (v .paired)) (sym (key-laid sheet true e))
-
-  pub number-laid : (sheet : List ℕ) → r .paired ≡ false → keyOf (numberAt 5 8 sheet) ≡ keyIn v sheet
-  number-laid sheet e = number-read (v .paired) (numberAt 5 8 sheet) (h .paired ∙ e) ∙ ap (keyFrom (v .paired)) (sym (key-laid sheet false e))
-
-  pub length-laid : (sheet : List ℕ) → lengthIn v sheet ≡ r .unit * numberAt (5 + r .key) (r .length) sheet
-  length-laid sheet = ap₂ (λ (u x : ℕ). u * x) (h .unit) field
-    where
-      field : fieldIn v 3 sheet ≡ numberAt (5 + r .key) (r .length) sheet
-      field = rw (h .widths) (ap (λ (n : ℕ). numberAt n (r .length) sheet) (omega arith))
-
-  pub size-laid : (sheet : List ℕ) → fieldIn v 4 sheet ≡ numberAt (5 + r .key + r .length) (r .size) sheet
-  size-laid sheet = rw (h .widths) (ap (λ (n : ℕ). numberAt n (r .size) sheet) (omega arith))

@@ -14,7 +14,8 @@ use Rattle.acceptance.specs.declared.Key.{Key}
 use Rattle.acceptance.specs.Keys.{accepted, polynomialOf, keyOf, outside}
 use Rattle.files.specs.Files.{Bits, Bytes, fingerprint, markOf, Part, partBits, misused}
 use Rattle.files.specs.Bursts.{Burst}
-use Rattle.sheets.specs.Layout.{bytesOf, numberAt, versionIn, Layout, version1, version2, version3, version4, newest, layouts, known, layoutOf}
+use Rattle.big_endian.specs.Numbers.{bytesOf, numberAt}
+use Rattle.sheets.specs.Layout.{versionIn, Layout, version1, version2, version3, version4, newest, layouts, known, layoutOf}
 use Rattle.sheets.specs.Layout.{pagePlace, sheetLength, pagesFor, keyNumber, Contents, sheetBytes, contentsIn}
 use Rattle.sheets.specs.Sheets.{contentsOf, pagesJoined, fileFilled, writeSheet, readTests, readSheet, readPages, Same, Page, OtherLength}
 use Rattle.sheets.specs.Sheets.{pagesNow, compared, checkSheet}

@@ -3,33 +3,13 @@
 -- taken.
 use mathlib.Core.Bool.{Bool, true, false, cond, _||_}
 use mathlib.Core.List.{List, [], _∷_, _++_}
-use Prim.Native.Nat.{ℕ, zero, suc, _+_, _-_, _*_, _/_, _%_, _^_}
+use Prim.Native.Nat.{ℕ, _+_, _-_, _*_, _/_, _%_, _^_}
 use lib.Dec.{eqb}
-use lib.ListN.{getD, take, drop}
+use lib.ListN.{getD, take}
 use Rattle.acceptance.specs.declared.Key.{Key}
 use Rattle.acceptance.specs.Keys.{polynomialOf, keyOf}
-use Rattle.files.specs.Files.{bits, valueFrom, bytesFor}
-
--- ---- numbers as bytes, the high byte first
-
--- the w low bytes of a number
-unfoldable pub bytesOf : ℕ → ℕ → List ℕ
-bytesOf zero x = []
-bytesOf (suc w) x = x / 2 ^ (8 * w) % 256 ∷ bytesOf w x
-
--- each number of a list in w bytes
-unfoldable pub fieldsOf : ℕ → List ℕ → List ℕ
-fieldsOf w [] = []
-fieldsOf w (x ∷ xs) = bytesOf w x ++ fieldsOf w xs
-
--- the number in w bytes at a place
-unfoldable pub numberAt : ℕ → ℕ → List ℕ → ℕ
-numberAt place w l = valueFrom 0 (bits (take w (drop place l)))
-
--- the c numbers, of w bytes each, from a place on
-unfoldable pub numbersAt : ℕ → ℕ → ℕ → List ℕ → List ℕ
-numbersAt place w zero l = []
-numbersAt place w (suc c) l = numberAt place w l ∷ numbersAt (place + w) w c l
+use Rattle.files.specs.Files.{bytesFor}
+use Rattle.big_endian.specs.Numbers.{bytesOf, fieldsOf, numberAt, numbersAt, bytesIn}
 
 -- ---- the front of every sheet, whatever its version: the letters GFP, which are the bytes 47 46 50, and the version's number
 
@@ -143,11 +123,6 @@ abbrev pub headOf : Contents → List ℕ
 headOf x =
     let v = layoutOf (x .version) in
     letters ∷ x .version ∷ keyNumber (v .paired) (x .key) ∷ x .length / v .lengthUnit ∷ x .pageSize ∷ []
-
--- numbers one behind the other, each in its width
-unfoldable pub bytesIn : List ℕ → List ℕ → List ℕ
-bytesIn [] xs = []
-bytesIn (w ∷ ws) xs = bytesOf w (getD xs 0 0) ++ bytesIn ws (drop 1 xs)
 
 unfoldable pub sheetBytes : Contents → List ℕ
 sheetBytes x =

@@ -2,4 +2,4 @@ pub mod Layout
 pub mod Sheets
 pub mod Claims
 pub mod Answers
-pub mod Parts
+pub mod Inner

@@ -13,7 +13,8 @@ use Rattle.acceptance.specs.declared.Key.{Key}
 use Rattle.acceptance.specs.Keys.{polynomialOf, keyTests}
 use Rattle.files.specs.declared.Mark.{Mark}
 use Rattle.files.specs.Files.{fingerprint, markOf, Part, partLength, partBits, misused, joined}
-use Rattle.sheets.specs.Layout.{numberAt, letters, lettersWidth, versionIn, Layout, newest, layouts, known, layoutOf}
+use Rattle.big_endian.specs.Numbers.{numberAt}
+use Rattle.sheets.specs.Layout.{letters, lettersWidth, versionIn, Layout, newest, layouts, known, layoutOf}
 use Rattle.sheets.specs.Layout.{sheetLength, pageCount, pagesFor, Contents, sheetBytes, lengthIn, contentsIn}
 
 -- ---- the pages of a file, of s bits each or what the file has left

@@ -1,11 +1,7 @@
-// Page sheets: the layout of their bytes and the answers of the calls. The definitions are in specs/, their laws in proofs/. The calls are in
-// the crates sheet_writing, sheet_reading and sheet_checking. The functions here are for the project's own crates: what they require, every
-// caller proves.
+// Page sheets: the answers of the calls. The definitions are in specs/, their laws in proofs/; the layout in code is in the crate sheet_layout, and
+// the calls are in the crates sheet_writing, sheet_reading and sheet_checking.
 use acceptance::Key;
 use refusals::Refusal;
-
-pub mod fields;
-pub mod layout;
 
 // The numbers of a sheet: its version, its key, the file's length in bits, the page size in bytes, the number of pages and the file's
 // fingerprint.

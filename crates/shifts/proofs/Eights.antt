@@ -15,7 +15,7 @@ use Rattle.gf2.proofs.Steps.{residue-word}
 use Rattle.files.specs.Files.{bits, valueFrom}
 use Rattle.files.proofs.Values.{rem-from}
 use Rattle.lookups.specs.Groups.{looked}
-use Rattle.lookups.proofs.Parts.{fed-piece, value-piece-lt}
+use Rattle.big_endian.proofs.Pieces.{fed-piece, value-piece-lt}
 use Rattle.shifts.specs.Shifts.{Shifts, FedEights}
 use Rattle.shifts.proofs.Products.{shifted, word-one}
 

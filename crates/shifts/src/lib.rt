@@ -54,12 +54,12 @@ pub fn feed_eights(words: &[u64], q: &[u8], r: &[u8]) -> TwoLanes
     requires { ⌜ (length (now words) ≡ 2048) × (8 ≤ length (now q)) × (length (now q) % 8 ≡ 0) × (length (now r) ≡ length (now q)) ⌝ }
     ensures { λ x. ⌜ FedEights (now (words .entry)) (now (q .entry)) (x .a) × FedEights (now (words .entry)) (now (r .entry)) (x .b) ⌝ }
 {
-    let mut a = words[1] ^ lookups::eight_at(q, 0);
-    let mut b = words[1] ^ lookups::eight_at(r, 0);
+    let mut a = words[1] ^ big_endian::eight_at(q, 0);
+    let mut b = words[1] ^ big_endian::eight_at(r, 0);
     let mut i: usize = 8;
     while i < q.len() {
-        a = times(words, a) ^ lookups::eight_at(q, i);
-        b = times(words, b) ^ lookups::eight_at(r, i);
+        a = times(words, a) ^ big_endian::eight_at(q, i);
+        b = times(words, b) ^ big_endian::eight_at(r, i);
         i += 8;
     }
     TwoLanes { a, b }

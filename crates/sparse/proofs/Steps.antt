@@ -17,7 +17,7 @@ use Rattle.gf2.proofs.Monics.{monic-pos}
 use Rattle.gf2.proofs.Steps.{residue-split, residue-top, residue-small}
 use Rattle.files.specs.Files.{bits, valueFrom}
 use Rattle.lookups.proofs.Cut.{above, below, top-lt}
-use Rattle.lookups.proofs.Parts.{value-piece-lt, value-join}
+use Rattle.big_endian.proofs.Pieces.{value-piece-lt, value-join}
 use Rattle.sparse.specs.Sparse.{Sparse}
 
 -- of eight bytes as one number the first n

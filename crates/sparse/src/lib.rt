@@ -54,7 +54,7 @@ fn feed_ones(p: Modulus, f: u64, part: &[u8], from: usize) -> u64
     let mut x = f;
     let mut i = from;
     while i < part.len() {
-        x = behind(p, 1, x, lookups::byte_at(part, i) as u64);
+        x = behind(p, 1, x, big_endian::byte_at(part, i) as u64);
         i += 1;
     }
     x
@@ -70,7 +70,7 @@ pub fn fed(p: Modulus, n: u32, f: u64, part: &[u8]) -> u64
     let mut x = f;
     let mut i: usize = 0;
     while 8 <= part.len() - i {
-        let eight = lookups::eight_at(part, i);
+        let eight = big_endian::eight_at(part, i);
         x = behind(p, n, x, eight >> spare);
         i += bytes;
     }

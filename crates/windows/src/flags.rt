@@ -1,6 +1,6 @@
 // Which windows have the pattern's residue: a flag for each window of a block.
 use super::rolling::Setup;
-use lookups::Lanes;
+use table_lanes::Lanes;
 ghost use mathlib.Core.Path.{_≡_};
 ghost use mathlib.Core.Bool.{false};
 ghost use Prim.Native.Nat.{_+_, _≤_, _<_};

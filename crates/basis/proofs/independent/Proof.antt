@@ -2,13 +2,13 @@
 use mathlib.Core.Path.{_≡_, refl, sym, _∙_}
 use mathlib.Core.Bool.{false≢true}
 use mathlib.Core.Logic.{_↔_}
-use Prim.Native.Nat.{ℕ, _+_, _-_, _≤_, _<_}
+use Prim.Native.Nat.{_-_, _≤_}
 use native.Mathlib.Omega.{arith}
 use borrow.Author.Tests.{lt-ltb, ltb-true}
 use lib.ListN.{length, take, getD}
 use lib.Seq.{take-length, length-take-le, length-front}
 use Rattle.basis.specs.Rows.{Independent, clear}
-use Rattle.basis.proofs.Parts.{last-zero, next-zero, turn-before, only-row}
+use Rattle.basis.proofs.Turns.{last-zero, next-zero, turn-before, only-row}
 use Rattle.basis.proofs.Elimination.{no-rows}
 use Rattle.basis.proofs.independent.Statement.{statement}
 use Rattle.basis.proofs.independent.Tie as tie

@@ -6,7 +6,7 @@ use native.Mathlib.Omega.{arith}
 use lib.ListN.{length, take, drop, length-drop}
 use lib.Seq.{drop-drop, length-take-le}
 use borrow.Rule.Slice.PartMut.{putMid, same-len-mid}
-use Rattle.lists.proofs.Parts.{put-last}
+use Rattle.lists.proofs.Sublists.{put-last}
 use Rattle.gf2.specs.Polynomials.{rem}
 use Rattle.files.specs.Files.{bits, valueFrom}
 use Rattle.house.specs.House.{houseKey}

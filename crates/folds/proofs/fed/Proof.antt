@@ -1,6 +1,6 @@
 -- `fed` meets its contract: under the house key the table is not needed.
-use mathlib.Core.Path.{_≡_, sym, ap, _∙_}
-use Prim.Native.Nat.{ℕ, _^_}
+use mathlib.Core.Path.{sym, ap, _∙_}
+use Prim.Native.Nat.{ℕ}
 use Rattle.gf2.specs.Polynomials.{rem}
 use Rattle.files.specs.Files.{bits, valueFrom}
 use borrow.Author.Needs.{needs}

@@ -1,6 +1,6 @@
 -- `fed_alone` meets its contract, by each of the three ways.
-use mathlib.Core.Path.{_≡_, sym, ap, _∙_}
-use Prim.Native.Nat.{ℕ, _^_}
+use mathlib.Core.Path.{sym, ap, _∙_}
+use Prim.Native.Nat.{ℕ}
 use native.Mathlib.Omega.{arith}
 use Rattle.gf2.specs.Polynomials.{rem}
 use Rattle.files.specs.Files.{bits, valueFrom}

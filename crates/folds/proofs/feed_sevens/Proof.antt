@@ -1,8 +1,6 @@
 -- `feed_sevens` meets its contract: under the house key seven bytes come in at a time.
-use mathlib.Core.Path.{refl}
 use native.Mathlib.Omega.{arith}
 use Rattle.gf2.specs.Polynomials.{monic}
-use borrow.Author.Needs.{needs}
 use Rattle.folds.proofs.feed_sevens.Statement.{statement}
 use Rattle.folds.proofs.feed_sevens.Tie as tie
 

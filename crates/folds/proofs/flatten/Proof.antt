@@ -1,5 +1,5 @@
 -- `flatten` meets its contract: the parts that stand at lower places are added at the end, none of them changed before it is added.
-use mathlib.Core.Path.{_≡_, sym, ap, ap₂, _∙_}
+use mathlib.Core.Path.{_≡_, ap₂, _∙_}
 use mathlib.Core.List.{List}
 use Prim.Native.Nat.{ℕ, _+_, _*_}
 use native.Mathlib.Nat.{zero-add, zero-mul, one-mul}

@@ -5,7 +5,7 @@ use Prim.Native.Nat.{ℕ, _+_, _-_, _*_, _≤_}
 use native.Mathlib.Omega.{arith}
 use lib.ListN.{length, take, drop, replicate, length-drop}
 use borrow.Rule.Slice.PartMut.{putMid, same-len-mid}
-use Rattle.lists.proofs.Parts.{put-last}
+use Rattle.lists.proofs.Sublists.{put-last}
 use Rattle.gf2.specs.Polynomials.{rem}
 use Rattle.files.specs.Files.{bits, valueFrom}
 use Rattle.house.specs.House.{houseKey}

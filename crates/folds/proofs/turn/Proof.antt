@@ -1,6 +1,5 @@
 -- `turn` meets its contract: only the last 61 words matter.
 use mathlib.Core.Path.{ap, _∙_}
-use native.Mathlib.Omega.{arith}
 use lib.ListN.{length, drop}
 use Rattle.gf2.specs.Polynomials.{rem}
 use Rattle.house.specs.House.{houseKey}

@@ -4,9 +4,9 @@ use Rattle.refusals.specs.Refusals.{numberOf}
 use Rattle.marks.specs.declared.Begun.{Begun}
 use Rattle.marks.specs.Feeding.{begin}
 use Rattle.marks.specs.Answers.{begun}
-use Rattle.places.specs.Places.{keyAt, markAt}
-use Rattle.places.specs.Storing.{markOr}
-use Rattle.places.proofs.Answers.{begun-number, begun-value}
+use Rattle.c_interface.specs.Interface.{keyAt, markAt}
+use Rattle.c_interface.specs.Storing.{markOr}
+use Rattle.c_interface.proofs.Answers.{begun-number, begun-value}
 use borrow.Author.Needs.{needs}
 use Rattle.gfp_bench.proofs.gfp_begin.Statement.{statement}
 use Rattle.gfp_bench.proofs.gfp_begin.Tie as tie

@@ -9,8 +9,8 @@ use Rattle.acceptance.specs.Keys.{polynomialOf, keyTests}
 use Rattle.files.specs.declared.Mark.{Mark}
 use Rattle.files.specs.Files.{Part, asPart, fedMark}
 use Rattle.marks.specs.Feeding.{feedTests, feedBits}
-use Rattle.places.specs.Places.{keyAt, markAt}
-use Rattle.places.proofs.Answers.{stored}
+use Rattle.c_interface.specs.Interface.{keyAt, markAt}
+use Rattle.c_interface.proofs.Answers.{stored}
 use Rattle.gfp_bench.proofs.gfp_feed.Statement.{statement}
 use Rattle.gfp_bench.proofs.gfp_feed.Tie as tie
 

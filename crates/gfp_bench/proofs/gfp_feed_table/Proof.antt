@@ -11,8 +11,8 @@ use Rattle.files.specs.declared.Mark.{Mark}
 use Rattle.files.specs.Files.{Part, asPart, fedMark}
 use Rattle.table_tests.specs.TableTests.{tableTests}
 use Rattle.marks.specs.Feeding.{feedTests, feedTable}
-use Rattle.places.specs.Places.{keyAt, markAt}
-use Rattle.places.proofs.Answers.{stored}
+use Rattle.c_interface.specs.Interface.{keyAt, markAt}
+use Rattle.c_interface.proofs.Answers.{stored}
 use Rattle.gfp_bench.proofs.gfp_feed_table.Statement.{statement}
 use Rattle.gfp_bench.proofs.gfp_feed_table.Tie as tie
 

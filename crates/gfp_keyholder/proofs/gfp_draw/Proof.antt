@@ -8,7 +8,7 @@ use Rattle.draw.specs.declared.Drawn.{Drawn}
 use Rattle.draw.specs.Drawing.{draw}
 use Rattle.draw.specs.Answers.{answer}
 use Rattle.draw.proofs.Fairness.{answered-degree}
-use Rattle.places.specs.Places.{keyAt}
+use Rattle.c_interface.specs.Interface.{keyAt}
 use Rattle.gfp_keyholder.proofs.gfp_draw.Statement.{statement}
 use Rattle.gfp_keyholder.proofs.gfp_draw.Tie as tie
 

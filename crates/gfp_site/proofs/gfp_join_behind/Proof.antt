@@ -1,6 +1,5 @@
 -- The answer, stored: on refusal nothing is written, and the state is the mark that was handed in.
 use mathlib.Core.Path.{_≡_}
-use Prim.Native.Nat.{ℕ}
 use borrow.Author.Needs.{needs}
 use Rattle.refusals.specs.Refusals.{stateOf, valueOr}
 use Rattle.refusals.proofs.Replies.{first-keeps}
@@ -9,8 +8,8 @@ use Rattle.acceptance.specs.Keys.{polynomialOf}
 use Rattle.files.specs.declared.Mark.{Mark}
 use Rattle.files.specs.Files.{joined}
 use Rattle.compose.specs.Composing.{joinTests, joinBehind}
-use Rattle.places.specs.Places.{keyAt, markAt}
-use Rattle.places.proofs.Answers.{stored}
+use Rattle.c_interface.specs.Interface.{keyAt, markAt}
+use Rattle.c_interface.proofs.Answers.{stored}
 use Rattle.gfp_site.proofs.gfp_join_behind.Statement.{statement}
 use Rattle.gfp_site.proofs.gfp_join_behind.Tie as tie
 

@@ -10,8 +10,8 @@ use Rattle.acceptance.specs.Keys.{polynomialOf, keyTests}
 use Rattle.files.specs.declared.Mark.{Mark}
 use Rattle.files.specs.Files.{Part, asPart, replaced}
 use Rattle.compose.specs.Composing.{pageTests, replacePage}
-use Rattle.places.specs.Places.{keyAt, markAt}
-use Rattle.places.proofs.Answers.{stored}
+use Rattle.c_interface.specs.Interface.{keyAt, markAt}
+use Rattle.c_interface.proofs.Answers.{stored}
 use Rattle.gfp_site.proofs.gfp_replace_page.Statement.{statement}
 use Rattle.gfp_site.proofs.gfp_replace_page.Tie as tie
 

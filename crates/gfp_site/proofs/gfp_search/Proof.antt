@@ -4,8 +4,8 @@ use mathlib.Core.List.{[], _∷_}
 use Rattle.refusals.specs.Refusals.{numberOf}
 use Rattle.search.specs.declared.Searched.{Searched}
 use Rattle.search.specs.Answers.{searched}
-use Rattle.places.specs.Places.{heldAfter}
-use Rattle.gfp_site.specs.Places.{countsIn}
+use Rattle.c_interface.specs.Interface.{heldAfter}
+use Rattle.gfp_site.specs.Outputs.{countsIn}
 use borrow.Author.Needs.{needs}
 use Rattle.gfp_site.proofs.gfp_search.Statement.{statement}
 use Rattle.gfp_site.proofs.gfp_search.Tie as tie

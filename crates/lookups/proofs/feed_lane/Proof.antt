@@ -6,7 +6,7 @@ use lib.ListN.{length, drop}
 use Rattle.gf2.specs.Polynomials.{rem}
 use Rattle.gf2.specs.Moduli.{polynomial}
 use Rattle.files.specs.Files.{bits, valueFrom}
-use Rattle.lookups.proofs.Parts.{Going, going-first, going-four}
+use Rattle.big_endian.proofs.Pieces.{Going, going-first, going-four}
 use Rattle.lookups.proofs.feed_lane.Statement.{statement}
 use Rattle.lookups.proofs.feed_lane.Tie as tie
 

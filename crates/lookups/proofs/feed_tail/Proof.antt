@@ -4,7 +4,7 @@ use Prim.Native.Nat.{_-_, _≤_}
 use native.Mathlib.Omega.{arith}
 use lib.ListN.{length}
 use Rattle.lookups.proofs.Rule.{first-row}
-use Rattle.lookups.proofs.Parts.{Going, going-one, going-all}
+use Rattle.big_endian.proofs.Pieces.{Going, going-one, going-all}
 use Rattle.lookups.proofs.feed_tail.Statement.{statement}
 use Rattle.lookups.proofs.feed_tail.Tie as tie
 

@@ -10,7 +10,7 @@ use Rattle.printing.specs.declared.KeyLine.the-variants.{Key}
 use Rattle.printing.specs.Printing.{keyLine}
 use Rattle.printing.proofs.Laws.{key-within}
 use Rattle.mark.specs.Marking.{MarkedInParts}
-use Rattle.mark.proofs.Parts.{from, none-printed, large-printed, marked-printed, marked-range, gives}
+use Rattle.mark.proofs.Reads.{from, none-printed, large-printed, marked-printed, marked-range, gives}
 use Rattle.mark.proofs.answer.Statement.{statement}
 use Rattle.mark.proofs.answer.Tie as tie
 

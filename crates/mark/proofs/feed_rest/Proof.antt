@@ -3,7 +3,7 @@ use mathlib.Core.Path.{_≡_}
 use mathlib.Core.List.{[]}
 use lib.ListN.{length}
 use borrow.Author.Needs.{needs}
-use Rattle.mark.proofs.Parts.{SoFar, at-first, turn-next, turn-refused, at-end}
+use Rattle.mark.proofs.Reads.{SoFar, at-first, turn-next, turn-refused, at-end}
 use Rattle.mark.proofs.feed_rest.Statement.{statement}
 use Rattle.mark.proofs.feed_rest.Tie as tie
 

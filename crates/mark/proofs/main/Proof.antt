@@ -2,7 +2,7 @@
 use borrow.Author.Needs.{needs}
 use Rattle.io.specs.Counts.{Counts}
 use Rattle.mark.proofs.Answers.{filled}
-use Rattle.mark.proofs.Parts.{text-counts}
+use Rattle.mark.proofs.Reads.{text-counts}
 use Rattle.mark.proofs.main.Statement.{statement}
 use Rattle.mark.proofs.main.Tie as tie
 

@@ -6,7 +6,7 @@ use Rattle.refusals.specs.Refusals.{Done}
 use Rattle.refusals.specs.Answers.{reply}
 use Rattle.marks.specs.Feeding.{begin}
 use Rattle.marks.specs.Answers.{begun, begunUnder, fed}
-use Rattle.mark.proofs.Parts.{begun-refused, made-always, first-refused, rest-marked}
+use Rattle.mark.proofs.Reads.{begun-refused, made-always, first-refused, rest-marked}
 use Rattle.mark.proofs.mark_file.Statement.{statement}
 use Rattle.mark.proofs.mark_file.Tie as tie
 

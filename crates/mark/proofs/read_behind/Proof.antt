@@ -5,7 +5,7 @@ use lib.ListN.{length}
 use borrow.Rule.Slice.PartMut.{take-put}
 use borrow.Author.Needs.{needs}
 use Rattle.mark.specs.Reading.{InFront}
-use Rattle.lists.proofs.Parts.{put-last}
+use Rattle.lists.proofs.Sublists.{put-last}
 use Rattle.mark.proofs.read_behind.Statement.{statement}
 use Rattle.mark.proofs.read_behind.Tie as tie
 

@@ -2,7 +2,7 @@
 use mathlib.Core.Path.{sym, ap, _∙_}
 use Rattle.files.specs.Files.{asPart}
 use Rattle.sheets.specs.Answers.{reading}
-use Rattle.sheets.specs.Parts.{ReadAs}
+use Rattle.sheets.specs.Inner.{ReadAs}
 use Rattle.sheets.proofs.Known.{read-as}
 use Rattle.sheet_checking.proofs.Laws.{check-refused, check-done}
 use borrow.Author.Needs.{needs}

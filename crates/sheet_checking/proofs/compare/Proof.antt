@@ -10,10 +10,11 @@ use Rattle.acceptance.specs.Keys.{polynomialOf, asModulus}
 use Rattle.acceptance.specs.Opened.{Opened}
 use Rattle.acceptance.proofs.Opened.{opened-proper, opened-eight}
 use Rattle.files.specs.Files.{Part, asPart, partLength, partBits, misused}
-use Rattle.sheets.specs.Layout.{numbersAt, Layout, layoutOf, pagePlace, sheetLength, pageCount, contentsIn}
+use Rattle.big_endian.specs.Numbers.{numbersAt}
+use Rattle.sheets.specs.Layout.{Layout, layoutOf, pagePlace, sheetLength, pageCount, contentsIn}
 use Rattle.sheets.specs.Sheets.{pageFingerprints, firstChange}
 use Rattle.sheets.specs.Claims.{SoundContents}
-use Rattle.sheets.specs.Parts.{comparison}
+use Rattle.sheets.specs.Inner.{comparison}
 use Rattle.sheets.proofs.Known.{sound}
 use Rattle.sheets.proofs.Versions.{length-from}
 use Rattle.sheets.proofs.Pages.{length-pages, count-few}

@@ -14,7 +14,7 @@ use Rattle.sheets.specs.declared.Checked.the-variants as cases
 use Rattle.sheets.specs.Layout.{contentsIn}
 use Rattle.sheets.specs.Sheets.{Page, checkSheet}
 use Rattle.sheets.specs.Answers.{checkAnswer}
-use Rattle.sheets.specs.Parts.{NoPage, ranged}
+use Rattle.sheets.specs.Inner.{NoPage, ranged}
 use Rattle.sheet_checking.proofs.Laws.{changed-by-check, named-head, named-range, range-fits}
 use borrow.Author.Needs.{needs}
 use Rattle.sheet_checking.proofs.first_changed_range.Statement.{statement}

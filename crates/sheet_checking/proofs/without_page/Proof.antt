@@ -12,7 +12,7 @@ use Rattle.sheets.specs.declared.Checked.the-variants as cases
 use Rattle.sheets.specs.Layout.{Contents}
 use Rattle.sheets.specs.Answers.{NotAsLong}
 use Rattle.sheets.specs.Answers.{checkAnswer}
-use Rattle.sheets.specs.Parts.{NoPage, ranged}
+use Rattle.sheets.specs.Inner.{NoPage, ranged}
 use borrow.Author.Needs.{needs}
 use Rattle.sheet_checking.proofs.without_page.Statement.{statement}
 use Rattle.sheet_checking.proofs.without_page.Tie as tie

@@ -4,9 +4,9 @@ use mathlib.Core.List.{_∷_}
 use Prim.Native.Nat.{ℕ, _+_, _-_, _*_, _≤_}
 use native.Mathlib.Omega.{arith}
 use lib.ListN.{length}
-use Rattle.sheets.specs.Layout.{numberAt, numbersAt}
+use Rattle.big_endian.specs.Numbers.{numberAt, numbersAt}
 use Rattle.sheets.specs.Sheets.{someUnreduced}
-use Rattle.sheets.proofs.Numbers.{numbers-done}
+use Rattle.big_endian.proofs.Numbers.{numbers-done}
 use Rattle.sheet_joining.specs.Joining.{looping}
 use Rattle.sheet_joining.proofs.Joining.{looping-next, looping-done, bits-next, bits-done}
 use Rattle.sheet_joining.proofs.join_lane.Statement.{statement}

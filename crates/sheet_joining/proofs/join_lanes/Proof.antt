@@ -6,7 +6,7 @@ use native.Mathlib.Omega.{arith}
 use lib.ListN.{length, getD}
 use Rattle.gf2.specs.Polynomials.{_⊕_}
 use Rattle.lookups.specs.Groups.{looked}
-use Rattle.sheets.specs.Layout.{numberAt, numbersAt}
+use Rattle.big_endian.specs.Numbers.{numberAt, numbersAt}
 use Rattle.sheets.specs.Sheets.{someUnreduced}
 use Rattle.sheet_joining.specs.Joining.{looping}
 use Rattle.sheet_joining.proofs.Joining.{looping-next, looping-done, fourLanes, bits-four, bits-four-done}

@@ -2,7 +2,8 @@
 use mathlib.Core.Path.{_≡_, sym, _∙_}
 use Prim.Native.Nat.{ℕ, _+_, _-_, _*_, _/_, _^_, _≤_, _<_}
 use native.Mathlib.Omega.{arith}
-use Rattle.sheets.specs.Layout.{numberAt, layoutOf, pageCount, pagesFor}
+use Rattle.big_endian.specs.Numbers.{numberAt}
+use Rattle.sheets.specs.Layout.{layoutOf, pageCount, pagesFor}
 use Rattle.sheets.proofs.Pages.{pages-count, count-small, count-whole, count-exact, count-more, whole-fits, last-short}
 use Rattle.sheet_joining.proofs.Joining.{filled-counts, whole-counts, run-joined, last-joined}
 use borrow.Author.Needs.{needs}

@@ -5,8 +5,8 @@ use Prim.Native.Nat.{ℕ, _+_, _-_, _*_, _≤_}
 use native.Mathlib.Nat.{zero-add, sub-zero}
 use native.Mathlib.Omega.{arith}
 use lib.ListN.{length, drop}
-use Rattle.sheets.specs.Layout.{numberAt, numbersAt}
-use Rattle.sheets.specs.Parts.{agreeing}
+use Rattle.big_endian.specs.Numbers.{numberAt, numbersAt}
+use Rattle.sheets.specs.Inner.{agreeing}
 use Rattle.sheets.proofs.Changes.{agree-all, agree-on, agree-off, agree-end}
 use Rattle.sheet_pass.specs.Passes.{expected}
 use Rattle.sheet_pass.proofs.Passes.{expected-known, expected-none}

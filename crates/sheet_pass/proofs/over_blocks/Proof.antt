@@ -9,9 +9,10 @@ use lib.Seq.{sets, length-take-le}
 use Rattle.gf2.specs.Moduli.{polynomial}
 use Rattle.files.specs.Files.{Part, asPart, partBits, misused}
 use Rattle.files.proofs.Parts.{rest-misused}
-use Rattle.sheets.specs.Layout.{fieldsOf, Layout, layoutOf, pageCount}
+use Rattle.big_endian.specs.Numbers.{fieldsOf}
+use Rattle.sheets.specs.Layout.{Layout, layoutOf, pageCount}
 use Rattle.sheets.specs.Sheets.{pageFingerprints}
-use Rattle.sheets.specs.Parts.{agreeing}
+use Rattle.sheets.specs.Inner.{agreeing}
 use Rattle.sheets.proofs.Pages.{length-pages, page-begins, count-few, count-reached, all-left}
 use Rattle.sheets.proofs.Changes.{agree-le}
 use Rattle.sheet_pass.specs.Passes.{expected}

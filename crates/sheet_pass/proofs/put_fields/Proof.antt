@@ -6,8 +6,8 @@ use native.Mathlib.Omega.{arith}
 use lib.ListN.{length, getD, drop, drop-of-length-le}
 use lib.Seq.{sets}
 use Rattle.lists.proofs.Lists.{drop-next}
-use Rattle.sheets.specs.Layout.{fieldsOf}
-use Rattle.sheets.proofs.Numbers.{fields-behind}
+use Rattle.big_endian.specs.Numbers.{fieldsOf}
+use Rattle.big_endian.proofs.Numbers.{fields-behind}
 use Rattle.sheet_pass.proofs.Passes.{sets-none}
 use Rattle.sheet_pass.proofs.put_fields.Statement.{statement}
 use Rattle.sheet_pass.proofs.put_fields.Tie as tie

@@ -4,7 +4,7 @@ use mathlib.Core.List.{_++_}
 use Prim.Native.Nat.{ℕ, _+_, _-_, _*_, _≤_}
 use native.Mathlib.Omega.{arith}
 use lib.ListN.{length, drop, length-set}
-use Rattle.sheets.specs.Layout.{numberAt, numbersAt}
+use Rattle.big_endian.specs.Numbers.{numberAt, numbersAt}
 use Rattle.sheet_reading.proofs.Lent.{lent-next}
 use Rattle.sheet_reading.proofs.copy_fields.Statement.{statement}
 use Rattle.sheet_reading.proofs.copy_fields.Tie as tie

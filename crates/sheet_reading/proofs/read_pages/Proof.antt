@@ -6,9 +6,10 @@ use native.Mathlib.Omega.{arith}
 use lib.ListN.{length, length-drop}
 use Rattle.lists.specs.Lists.{overlay}
 use Rattle.refusals.specs.Refusals.{Done}
-use Rattle.sheets.specs.Layout.{numbersAt, versionIn, Layout, layoutOf, pagePlace, pagesIn}
+use Rattle.big_endian.specs.Numbers.{numbersAt}
+use Rattle.sheets.specs.Layout.{versionIn, Layout, layoutOf, pagePlace, pagesIn}
 use Rattle.sheets.specs.Answers.{reading}
-use Rattle.sheets.specs.Parts.{ReadAs, fingerprintsPart}
+use Rattle.sheets.specs.Inner.{ReadAs, fingerprintsPart}
 use Rattle.sheets.proofs.Versions.{length-from}
 use Rattle.sheets.proofs.Known.{pages-in, read-as, total, version-read, pages-counted, pages-refused, pages-done}
 use Rattle.sheet_reading.proofs.Lent.{lent-are}

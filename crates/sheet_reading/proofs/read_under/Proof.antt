@@ -8,7 +8,7 @@ use lib.Dec.{ltb}
 use lib.ListN.{length}
 use Rattle.refusals.specs.Refusals.{Done}
 use Rattle.refusals.proofs.Laws.{holds, fails}
-use Rattle.sheets.specs.declared.layout.Head.{Head}
+use Rattle.sheet_layout.specs.declared.Head.{Head}
 use Rattle.sheets.specs.Layout.{versionIn, Layout, layoutOf, sheetLength, pagesFor, fieldIn, pagesIn}
 use Rattle.sheets.specs.Answers.{sheetRead}
 use Rattle.sheets.proofs.Sound.{size-bounds}

@@ -10,7 +10,8 @@ use Rattle.gf2.proofs.Monics.{monic-pos, monic-degree}
 use Rattle.files.specs.declared.Mark.{Mark}
 use Rattle.files.specs.Files.{markOf, Part, asPart, partLength, partBits}
 use Rattle.files.proofs.Parts.{part-length, part-bytes}
-use Rattle.sheets.specs.Layout.{numbersAt, Layout, newest, layoutOf, pageCount, pagesFor}
+use Rattle.big_endian.specs.Numbers.{numbersAt}
+use Rattle.sheets.specs.Layout.{Layout, newest, layoutOf, pageCount, pagesFor}
 use Rattle.sheets.specs.Sheets.{pageFingerprints, joinedPages, someUnreduced}
 use Rattle.sheets.proofs.Versions.{newest-is}
 use Rattle.sheets.proofs.Pages.{pages-count, fingerprints-lt, own-joined}

@@ -8,9 +8,10 @@ use lib.ListN.{length}
 use lib.Seq.{sets}
 use Rattle.gf2.specs.Moduli.{polynomial}
 use Rattle.files.specs.Files.{fingerprint, asPart, partBits}
-use Rattle.sheets.specs.Layout.{bytesOf, fieldsOf, numbersAt, Layout, newest, layoutOf, pageCount}
+use Rattle.big_endian.specs.Numbers.{bytesOf, fieldsOf, numbersAt}
+use Rattle.sheets.specs.Layout.{Layout, newest, layoutOf, pageCount}
 use Rattle.sheets.specs.Sheets.{pageFingerprints}
-use Rattle.sheets.proofs.Numbers.{length-fieldsOf, sets-behind}
+use Rattle.big_endian.proofs.Numbers.{length-fieldsOf, sets-behind}
 use Rattle.sheets.proofs.Pages.{length-pages}
 use Rattle.sheet_pass.proofs.Passes.{pass-all}
 use Rattle.sheet_writing.proofs.Stores.{pages-stored}

@@ -11,7 +11,8 @@ use Rattle.acceptance.specs.Keys.{polynomialOf}
 use Rattle.acceptance.proofs.Opened.{opened-proper, opened-eight, opened-whole}
 use Rattle.files.specs.Files.{fingerprint, Part, asPart, partBits}
 use Rattle.files.proofs.Parts.{part-length}
-use Rattle.sheets.specs.Layout.{bytesOf, fieldsOf, letters, Layout, newest, layoutOf, fieldWidths, pageCount, pagesFor, keyNumber, bytesIn}
+use Rattle.big_endian.specs.Numbers.{bytesOf, fieldsOf, bytesIn}
+use Rattle.sheets.specs.Layout.{letters, Layout, newest, layoutOf, fieldWidths, pageCount, pagesFor, keyNumber}
 use Rattle.sheets.specs.Sheets.{pageFingerprints, contentsOf}
 use Rattle.sheets.proofs.Versions.{length-from, newest-is}
 use Rattle.sheets.proofs.Pages.{length-pages, all-left}

@@ -1,13 +1,13 @@
 -- `fed` meets its contract: x stands for f and the bytes before i.
-use mathlib.Core.Path.{_≡_, refl, ap, _∙_}
-use Prim.Native.Nat.{ℕ, _+_, _-_, _*_, _/_, _^_, _≤_, _<_}
+use mathlib.Core.Path.{_≡_, refl, _∙_}
+use Prim.Native.Nat.{ℕ, _+_, _-_, _*_, _/_, _^_, _≤_}
 use native.Mathlib.Omega.{arith}
 use native.Mathlib.Nat.{lt-of-lt-of-le}
 use lib.ListN.{length, take, drop}
 use lib.Pow.{pow-mono}
 use Rattle.gf2.specs.declared.Modulus.{Modulus}
 use Rattle.files.specs.Files.{bits, valueFrom}
-use Rattle.lookups.proofs.Parts.{piece-lt, Going, going}
+use Rattle.big_endian.proofs.Pieces.{piece-lt, Going, going}
 use Rattle.sparse.specs.Sparse.{Sparse}
 use Rattle.sparse.proofs.Steps.{first-bytes}
 use Rattle.sparse.proofs.fed.Statement.{statement}

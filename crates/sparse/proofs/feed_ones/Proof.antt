@@ -4,7 +4,7 @@ use Prim.Native.Nat.{_-_, _≤_}
 use native.Mathlib.Omega.{arith}
 use lib.ListN.{length}
 use borrow.Author.Needs.{needs}
-use Rattle.lookups.proofs.Parts.{piece-lt, Going, going, going-all}
+use Rattle.big_endian.proofs.Pieces.{piece-lt, Going, going, going-all}
 use Rattle.sparse.proofs.feed_ones.Statement.{statement}
 use Rattle.sparse.proofs.feed_ones.Tie as tie
 

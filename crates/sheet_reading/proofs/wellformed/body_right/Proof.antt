@@ -14,10 +14,11 @@ use Rattle.refusals.proofs.Laws.{holds, fails}
 use Rattle.acceptance.specs.Keys.{polynomialOf}
 use Rattle.acceptance.proofs.Opened.{opened-proper}
 use Rattle.lists.proofs.Truth.{or-neither}
-use Rattle.sheets.specs.declared.layout.Head.{Head}
-use Rattle.sheets.specs.Layout.{numberAt, numbersAt, layoutOf, pagePlace, sheetLength, pagesFor}
+use Rattle.sheet_layout.specs.declared.Head.{Head}
+use Rattle.big_endian.specs.Numbers.{numberAt, numbersAt}
+use Rattle.sheets.specs.Layout.{layoutOf, pagePlace, sheetLength, pagesFor}
 use Rattle.sheets.specs.Sheets.{someUnreduced}
-use Rattle.sheets.specs.Parts.{fingerprintsPart}
+use Rattle.sheets.specs.Inner.{fingerprintsPart}
 use Rattle.sheets.proofs.Pages.{count-small}
 use Rattle.sheets.proofs.Versions.{length-from}
 use Rattle.sheet_reading.proofs.Joining.{body-is, body-joined, bits-are, joined-are, filled-is}

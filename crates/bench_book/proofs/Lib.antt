@@ -1,0 +1,4 @@
+pub mod StepLaws
+pub mod Guarantee
+pub mod Calls
+pub mod Parts

@@ -1,0 +1,70 @@
+-- One call of the Bench level beside one step of the book.
+use mathlib.Core.Path.{_≡_, ap}
+use mathlib.Core.List.{List, [], _∷_, _++_}
+use Prim.Native.Nat.{ℕ, _<_}
+use lib.ListN.{length}
+use Rattle.refusals.specs.declared.Refusal.the-variants.{FinalByte}
+use Rattle.refusals.specs.Refusals.{Answer, stateOf, numberOf, Test, _⇒_, firstOf}
+use Rattle.refusals.proofs.Laws.{agree}
+use Rattle.acceptance.specs.Keys.{polynomialOf, keyOf, keyTests}
+use Rattle.acceptance.proofs.Laws.{whole-key}
+use Rattle.files.specs.declared.Mark.{Mark}
+use Rattle.files.specs.Files.{markOf, Part, partLength, partBits, misused, fedMark}
+use Rattle.files.proofs.Marks.{fed-true}
+use Rattle.table_tests.specs.TableTests.{tableTests}
+use Rattle.marks.specs.Feeding.{sumTest, feedTests, feedBits, feedTable}
+use Rattle.marks.proofs.Laws.{leave-out-8}
+use Rattle.book.specs.Runs.{bookStep}
+use Rattle.book.proofs.RunLaws.{Keeps}
+use Rattle.bench_book.specs.Book.{Call, ByBits, ByTable, step, bookTests, written, bench}
+
+-- the mark's side answers as the book does, and the mark is true of the book's file
+abbrev pub Agrees : ℕ → Answer Mark Mark → Answer (List ℕ) (List ℕ) → Type 0
+Agrees key s b = (stateOf s ≡ markOf key (stateOf b)) × (numberOf s ≡ numberOf b)
+
+-- where the mark's side comes down to the book's tests
+pub agrees-by : (key : ℕ) (s : Answer Mark Mark) (ts : List Test) (kept next : List ℕ) (nxt : Mark) → s ≡ firstOf ts (markOf key kept) nxt
+    → (numberOf (firstOf ts kept next) ≡ 0 → nxt ≡ markOf key next) → Agrees key s (firstOf ts kept next)
+agrees-by key s ts kept next nxt e h = rw e (agree (markOf key) ts kept next nxt h)
+
+module _ (key : ℕ) (pos : 0 < key) (file : List ℕ) where
+  -- numbers 7 and 19, as the book has them
+  abbrev tests : Part → List Test
+  tests part = sumTest (length file) (partLength part) ∷ misused part ⇒ FinalByte ∷ []
+
+  -- feeding, whatever is tested before
+  feed-agrees : (ts : List Test) (part : Part)
+      → Agrees key (firstOf (ts ++ feedTests key (markOf key file) part) (markOf key file) (fedMark key (markOf key file) part))
+      (firstOf (ts ++ tests part) file (file ++ partBits part))
+  unfolding markOf
+  feed-agrees ts part =
+      agrees-by key (firstOf (ts ++ feedTests key (markOf key file) part) (markOf key file) (fedMark key (markOf key file) part))
+      (ts ++ tests part) file (file ++ partBits part) (fedMark key (markOf key file) part)
+      (leave-out-8 key pos file ts (sumTest (length file) (partLength part) ∷ []) (misused part ⇒ FinalByte ∷ []) (markOf key file)
+      (fedMark key (markOf key file) part))
+      (λ e. fed-true key pos file part)
+
+  -- a call gets the key as a pair, whose polynomial is the key
+  handed : (F : ℕ → Answer Mark Mark) (b : Answer (List ℕ) (List ℕ)) → Agrees key (F key) b → Agrees key (F (polynomialOf (keyOf key))) b
+  handed F b a = rw (ap F (whole-key key pos)) a
+
+  bits-agree : (part : Part) → Agrees key (step key (markOf key file) (ByBits part)) (bookStep bench key file (ByBits part))
+  unfolding step feedBits bookStep bookTests written
+  bits-agree part =
+      handed (λ (q : ℕ). firstOf (keyTests (keyOf key) ++ feedTests q (markOf key file) part) (markOf key file) (fedMark q (markOf key file) part))
+      (firstOf (keyTests (keyOf key) ++ tests part) file (file ++ partBits part)) (feed-agrees (keyTests (keyOf key)) part)
+
+  table-agree : (words : List ℕ) (part : Part) → Agrees key (step key (markOf key file) (ByTable words part)) (bookStep bench key file (ByTable words part))
+  unfolding step feedTable bookStep bookTests written
+  table-agree words part =
+      handed (λ (q : ℕ). firstOf (keyTests (keyOf key) ++ tableTests q words ++ feedTests q (markOf key file) part) (markOf key file)
+      (fedMark q (markOf key file) part))
+      (firstOf (keyTests (keyOf key) ++ tableTests key words ++ tests part) file (file ++ partBits part))
+      (feed-agrees (keyTests (keyOf key) ++ tableTests key words) part)
+
+  pub each : (c : Call) → Agrees key (step key (markOf key file) c) (bookStep bench key file c)
+  each (ByBits part) = bits-agree part
+  each (ByTable words part) = table-agree words part
+
+pub keeps : (key : ℕ) → 0 < key → Keeps bench key
+keeps key pos file m c t h = rw t (each key pos file c)

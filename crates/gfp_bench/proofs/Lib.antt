@@ -1,5 +1,0 @@
-pub mod StepLaws
-pub mod Guarantee
-pub mod Calls
-pub mod Parts
-pub mod Examples

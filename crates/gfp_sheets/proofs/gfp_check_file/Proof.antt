@@ -1,0 +1,61 @@
+-- The answer of the check is told in two places; on refusal nothing is.
+use mathlib.Core.Path.{_≡_, sym, ap, _∙_}
+use mathlib.Core.List.{List, [], _∷_}
+use Prim.Native.Nat.{ℕ}
+use Rattle.refusals.specs.Refusals.{numberOf}
+use Rattle.files.specs.Files.{asPart}
+use Rattle.sheets.specs.declared.Checked.{Checked}
+use Rattle.sheets.specs.Sheets.{checkSheet}
+use Rattle.sheets.specs.Answers.{checkAnswer}
+use Rattle.c_interface.specs.Interface.{heldAfter}
+use Rattle.gfp_sheets.specs.Outputs.{outcomeIn}
+use borrow.Author.Needs.{needs}
+use Rattle.gfp_sheets.proofs.gfp_check_file.Statement.{statement}
+use Rattle.gfp_sheets.proofs.gfp_check_file.Tie as tie
+
+-- ---- the places: from each one to an earlier one
+
+abbrev check→start : tie.After-check → tie.Start
+check→start c = c .before .before .before
+
+abbrev number→check : tie.After-number → tie.After-check
+number→check c = c .before .before .before .before
+
+abbrev before : tie.After-check → List ℕ
+before c = let a = check→start c .args in a .outcome .now ∷ a .page .now ∷ []
+
+-- what is told of the answer that the code has
+told : (c : tie.After-check) (o : Checked) → c .check .result ≡ o
+    → (numberOf (checkAnswer o) ≡ numberOf (checkSheet (check→start c .args .sheet .now) (asPart (check→start c .args .file .now) (check→start c .args .used))))
+    × (heldAfter outcomeIn (before c) (checkAnswer o)
+    ≡ heldAfter outcomeIn (before c) (checkSheet (check→start c .args .sheet .now) (asPart (check→start c .args .file .now) (check→start c .args .used))))
+told c o e =
+    let h = ap checkAnswer (sym e) ∙ c .check .ensures in
+    (ap numberOf h, ap (heldAfter outcomeIn (before c)) h)
+
+returns : tie.Need-returns
+returns c = told (c .before .before) _ (c .enum-told .given .1)
+
+returns-2 : tie.Need-returns-2
+returns-2 c = told (c .before .before .before) _ (c .before .i .given .1)
+
+returns-3 : tie.Need-returns-3
+returns-3 c = told (c .before .before) _ (c .enum-told2 .given .1)
+
+returns-4 : tie.Need-returns-4
+returns-4 c = let t = told (number→check c) _ (c .before .before .r .given .1) in (c .number .ensures ∙ t .0, t .1)
+
+pub gfp-check-file-spec : {M : Type 1} → statement M
+gfp-check-file-spec =
+    tie.close
+    (tie.spec
+    (λ c κs. search needs)
+    (λ c. search needs)
+    (λ c. search needs)
+    (λ c. search needs)
+    (λ c. search needs)
+    (λ c κs. search needs)
+    returns
+    returns-2
+    returns-3
+    returns-4)

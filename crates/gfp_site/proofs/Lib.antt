@@ -1,4 +1,0 @@
-pub mod StepLaws
-pub mod Guarantee
-pub mod Calls
-pub mod Examples
