@@ -16,13 +16,11 @@ run:
 test:
 	@tools/test
 
-# The static libraries for C and Rust, made anew where a file of a crate is newer: one after the other, since two checks of one tree must not
-# run side by side.
+# The static libraries for C and Rust, one a level, made anew where a file of a crate is newer.
 libraries: target/staticlib/made
 
-target/staticlib/made: crates.txt $(shell find crates)
-	@for name in $(LIBRARIES); do rt staticlib $$name > /dev/null 2>&1 || rt staticlib $$name || exit 1; done
-	@touch $@
+target/staticlib/made: crates.txt tools/libraries $(shell find crates)
+	@tools/libraries
 
 # The libraries, the header, the Rust wrapper and the printing program, where a C or Rust project finds them.
 install: libraries

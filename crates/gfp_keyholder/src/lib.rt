@@ -1,4 +1,4 @@
-// The Keyholder level: the Site level's functions, and drawing, for C. The guarantee of the drawn keys stands in specs/ and proofs/.
+// The Keyholder level: drawing, for C. The guarantee of the drawn keys stands in the crate owner_risk.
 ghost use mathlib.Core.Path.{_≡_};
 ghost use Rattle.refusals.specs.Refusals.{numberOf, valueOr};
 ghost use Rattle.draw.specs.Drawing.{draw};

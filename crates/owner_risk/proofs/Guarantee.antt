@@ -18,7 +18,7 @@ use Rattle.site_book.specs.Book.{Route}
 use Rattle.site_book.proofs.Guarantee as site-level
 use Rattle.draw.specs.Drawing.{draw, drawnKey, elements}
 use Rattle.draw.proofs.Fairness.{key-drawn, key-degree, key-accepted, key-only, drawers-count, elements-count, keys-count}
-use Rattle.gfp_keyholder.specs.Claims.{Listed, Answered, One, Accepted, Fair, Number, Risk, ByRoutes, NoBurst}
+use Rattle.owner_risk.specs.Claims.{Listed, Answered, One, Accepted, Fair, Number, Risk, ByRoutes, NoBurst}
 
 -- ---- the key
 

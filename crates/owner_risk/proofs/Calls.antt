@@ -5,7 +5,7 @@ use Rattle.lists.proofs.Lists.{rising}
 use Rattle.refusals.proofs.Laws.{gives-lowest}
 use Rattle.acceptance.specs.Keys.{keyOf}
 use Rattle.draw.specs.Drawing.{drawnKey, draw}
-use Rattle.gfp_keyholder.specs.Calls.{EachCall}
+use Rattle.owner_risk.specs.Calls.{EachCall}
 
 pub each-call : (k e : ℕ) → EachCall k e
 unfolding draw rising
