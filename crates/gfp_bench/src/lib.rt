@@ -1,6 +1,6 @@
 // The Bench level: the functions that it sells, for C. Each answers 0 or the refusal's number; on refusal every lent place and buffer
 // keeps what it held. A key comes as its degree and the word of its coefficients below t^degree. A mark's length is in bits, and `used` counts
-// the used bits of a part's final byte. The guarantee over lists of these calls stands in specs/ and proofs/.
+// the used bits of a part's final byte. The guarantee over lists of these calls stands in the crate bench_book.
 ghost use mathlib.Core.Path.{_≡_};
 ghost use Rattle.refusals.specs.Refusals.{numberOf, stateOf, valueOr};
 ghost use Rattle.keys.specs.Testing.{testKey};

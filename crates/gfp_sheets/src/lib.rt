@@ -1,4 +1,5 @@
-// The Site level: its functions for page sheets, for C.
+// The Site level: its functions for page sheets, for C. Each answers 0 or the refusal's number; on refusal every lent place and buffer keeps what it
+// held.
 ghost use mathlib.Core.Path.{_≡_};
 ghost use mathlib.Core.List.{[], _∷_};
 ghost use Rattle.refusals.specs.Refusals.{numberOf, stateOf, valueOr};

@@ -1,5 +1,5 @@
-// The Site level: the functions that it sells beside the Bench level's, for C. Each answers 0 or the refusal's number; on refusal every
-// lent place and buffer keeps what it held. The guarantee over lists of these calls stands in specs/ and proofs/.
+// The Site level: its functions on marks and for the search, for C. Each answers 0 or the refusal's number; on refusal every lent place and buffer
+// keeps what it held. Its functions for page sheets stand in the crate gfp_sheets, the guarantee over lists of calls in the crate site_book.
 ghost use mathlib.Core.Path.{_≡_};
 ghost use mathlib.Core.List.{[], _∷_};
 ghost use Rattle.refusals.specs.Refusals.{numberOf, stateOf};
