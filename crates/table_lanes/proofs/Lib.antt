@@ -1,2 +1,2 @@
-pub mod Lanes
+pub mod Joining
 pub mod Powers

@@ -36,7 +36,7 @@ mul-x c =
     let m : 2 ^ (8 * l .n) ≤ 2 ^ 56 = pow-mono {i = 8 * l .n} {j = 56} (omega arith) in
     omega arith
 
-wide-requires : tie.Need-wide-requires Inv-loop μ-loop
+wide-requires : tie.Need-wide-byte-requires Inv-loop μ-loop
 wide-requires c κs = tt
 
 add-x : tie.Need-add-x Inv-loop μ-loop
@@ -53,8 +53,8 @@ loop-again c =
     let b : getD (a .bytes .now) (l .i) 0 < 256 = omega arith in (
       omega arith,
       omega arith,
-      load-lt (l .n) (l .x) (c .wide .result) (l .inv .2) (c .wide .ensures .1),
-      rw (e, c .wide .ensures .0) (sym (load-next (a .bytes .now) (l .i) (l .x) (a .w - l .n) (omega arith) (omega arith) b) ∙ l .inv .3),
+      load-lt (l .n) (l .x) (c .wide-byte .result) (l .inv .2) (c .wide-byte .ensures .1),
+      rw (e, c .wide-byte .ensures .0) (sym (load-next (a .bytes .now) (l .i) (l .x) (a .w - l .n) (omega arith) (omega arith) b) ∙ l .inv .3),
     )
 
 returns : tie.Need-returns Inv-loop μ-loop

@@ -10,7 +10,7 @@ use Rattle.gf2.specs.Polynomials.{rem}
 use Rattle.gf2.specs.Moduli.{polynomial}
 use Rattle.files.specs.Files.{bits, valueFrom}
 use Rattle.multiples.specs.Rows.{SameFrom}
-use Rattle.table_lanes.proofs.Lanes.{lane-length}
+use Rattle.table_lanes.proofs.Joining.{lane-length}
 use Rattle.sheet_pages.specs.Blocks.{BegunBy}
 use Rattle.sheet_pages.proofs.Blocks.{begun-two, place-fits, front-cut}
 use Rattle.sheet_pages.proofs.begin_pages.Statement.{statement}

@@ -6,7 +6,7 @@ use lib.ListN.{take, drop}
 use lib.Pow.{pow-pos}
 use Rattle.gf2.specs.Moduli.{Proper}
 use Rattle.big_endian.proofs.Pieces.{Going, going-first}
-use Rattle.table_lanes.proofs.Lanes.{lane-more, lane-fed}
+use Rattle.table_lanes.proofs.Joining.{lane-more, lane-fed}
 use Rattle.table_lanes.proofs.feed_lanes.Statement.{statement}
 use Rattle.table_lanes.proofs.feed_lanes.Tie as tie
 

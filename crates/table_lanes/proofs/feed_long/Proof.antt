@@ -11,7 +11,7 @@ use Rattle.gf2.proofs.Steps.{residue-below}
 use Rattle.files.specs.Files.{bits, valueFrom}
 use Rattle.table_lanes.specs.Lanes.{behind}
 use Rattle.lookups.proofs.Rule.{first-row}
-use Rattle.table_lanes.proofs.Lanes.{lane-joined, lane-rest}
+use Rattle.table_lanes.proofs.Joining.{lane-joined, lane-rest}
 use Rattle.table_lanes.proofs.feed_long.Statement.{statement}
 use Rattle.table_lanes.proofs.feed_long.Tie as tie
 
