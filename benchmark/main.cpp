@@ -115,6 +115,32 @@ static void joining() {
         join_under(k.key, k.name);
 }
 
+// a page in the middle of a file of 1 MiB; C feeds both pages by a table that stands ready
+static void replace_under(const Key &key, const std::string &whose) {
+    static uint64_t words[1024];
+    gfp_make_table(KEY(key), words, 1024);
+    for (size_t size : {64, 4096, 65536}) {
+        std::vector<uint8_t> from = random_bytes(size), to(from.rbegin(), from.rend());
+        const uint8_t *old_page = from.data(), *new_page = to.data();
+        uint64_t f, bits;
+        Call replace = [&] {
+            f = 5, bits = UINT64_C(8) << 20;
+            sink = gfp_replace_page(KEY(key), &f, &bits, 1 << 19, old_page, size, 8, new_page, size, 8);
+        };
+        replace(), must(sink == GFP_OK, "a page is refused");
+        auto fed = [&](const uint8_t *page) { return peer_slicing_by_4(key.degree, 1, words, page, size); };
+        compare("replace a page of " + std::to_string(size) + " bytes, " + whose, replace,
+                {{"C slicing by 4, twice", [&] { sink = fed(old_page) ^ fed(new_page); }}});
+    }
+}
+
+static void replacing() {
+    replace_under(HOUSE, "house key");
+    replace_under(drawn_key(), "drawn key, with its test");
+    for (auto &k : stock_keys())
+        replace_under(k.key, k.name);
+}
+
 static void search_under(const Key &key, const std::string &whose) {
     size_t n = 1 << 20;
     std::vector<uint8_t> random = random_bytes(n), log(n);
@@ -203,6 +229,7 @@ int main(int, char **arguments) {
     key_tests();
     tables();
     joining();
+    replacing();
     drawing();
     searching();
     sheets();
