@@ -3,4 +3,3 @@ pub mod Elimination
 pub mod Mapping
 pub mod Turns
 pub mod Matrices
-pub mod Relations

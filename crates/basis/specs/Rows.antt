@@ -25,9 +25,3 @@ Matrix L rows = (x : ℕ) → x < 2 ^ 64 → sumOf x rows ≡ L x
 -- a step of elimination: v is added to a row with a 1 in column c
 unfoldable pub clear : ℕ → ℕ → ℕ → ℕ
 clear c v r = r / 2 ^ c % 2 * v ⊕ r
-
--- the same beside the rows: w is added to the sum of each row with a 1 in column c
-unfoldable pub addWhere : ℕ → ℕ → List ℕ → List ℕ → List ℕ
-addWhere c w [] sums = sums
-addWhere c w (r ∷ rows) [] = []
-addWhere c w (r ∷ rows) (s ∷ sums) = (r / 2 ^ c % 2 * w ⊕ s) ∷ addWhere c w rows sums

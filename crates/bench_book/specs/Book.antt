@@ -11,8 +11,9 @@ use Rattle.files.specs.declared.Mark.{Mark}
 use Rattle.files.specs.Files.{bits, Part, partLength, partBits, misused}
 use Rattle.table_tests.specs.TableTests.{tableTests}
 use Rattle.marks.specs.Feeding.{sumTest, begin, feedBits, feedTable}
-use Rattle.printing.specs.declared.KeyLine.the-variants.{Key}
-use Rattle.printing.specs.Printing.{keyLine, report, printed}
+use Rattle.key_lines.specs.declared.KeyLine.the-variants.{Key}
+use Rattle.key_lines.specs.KeyLines.{keyLine}
+use Rattle.printing.specs.Printing.{report, printed}
 use Rattle.book.specs.Runs.{Level, Leaves}
 
 -- feeding, by bits or by tables. Feeding under the house key is feeding by its constant words (`feedHouse`).

@@ -63,7 +63,7 @@ fn powers(p: Modulus, e: u64) -> [u64; 64]
     let mut power: u64 = 1;
     for i in 0..64 {
         rows[i] = power;
-        power = basis::sum_of(power, &times_e);
+        power = relations::sum_of(power, &times_e);
     }
     rows
 }
@@ -73,7 +73,7 @@ fn minimal_polynomial(p: Modulus, e: u64) -> u64
     requires { ⌜ Proper p × (p .degree < 64) × Field (polynomial p) (p .degree) × (1 < e) × (e < 2 ^ p .degree) ⌝ }
     ensures { λ r. ⌜ r ≡ drawn (polynomial p) (p .degree) e ⌝ }
 {
-    basis::relation(powers(p, e), p.degree)
+    relations::relation(powers(p, e), p.degree)
 }
 
 // The key of a degree that an element draws. Numbers 3, 4.

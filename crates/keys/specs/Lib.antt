@@ -1,3 +1,2 @@
 pub mod Testing
 pub mod Answers
-pub mod Squares

@@ -8,9 +8,11 @@ use Rattle.gf2.specs.Polynomials.{_⊕_, halvings, degree, monic, reduce, longD
 use Rattle.lists.specs.Lists.{anyBelow}
 use Rattle.acceptance.specs.Keys.{reducible, keyOf}
 use Rattle.files.specs.Files.{bits, lowBits, value, valueFrom, fingerprint, markOf}
-use Rattle.printing.specs.declared.KeyLine.the-variants.{Key}
-use Rattle.printing.specs.Printing.{ascii, printed, keyLine, keyBefore, lineOf, allDigits, digit, hexFrom, digitsOf, numeral, report, refused, markFile}
-use Rattle.printing.proofs.Numerals.{numeral-is, numeral-64}
+use Rattle.key_lines.specs.declared.KeyLine.the-variants.{Key}
+use Rattle.key_lines.specs.KeyLines.{keyLine, keyBefore, lineOf, allDigits, digit, hexFrom}
+use Rattle.numerals.specs.Numerals.{digitsOf, numeral}
+use Rattle.printing.specs.Printing.{ascii, printed, report, refused, markFile}
+use Rattle.numerals.proofs.Numerals.{numeral-is, numeral-64}
 
 pub example : printed (ascii "11b\nAB") ≡ ascii "key 8 11b\nbytes 2\nmark 9d\n"
 unfolding ascii printed keyLine keyBefore lineOf allDigits digit hexFrom digitsOf numeral report markFile

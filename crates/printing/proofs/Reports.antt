@@ -22,10 +22,12 @@ use Rattle.files.specs.declared.Mark.{Mark}
 use Rattle.files.specs.Files.{bits, fingerprint, markOf}
 use Rattle.marks.specs.declared.Running.{Running}
 use Rattle.marks.specs.Answers.{begunUnder}
-use Rattle.printing.specs.declared.KeyLine.{KeyLine}
-use Rattle.printing.specs.declared.KeyLine.the-variants as line-cases
-use Rattle.printing.specs.Printing.{digit, hexFrom, ascii, digitsOf, numeral, keyLine, report, refused, answerText, markFile, printedAfter, printed}
-use Rattle.printing.proofs.Laws.{digit-decimal, digit-letter}
+use Rattle.key_lines.specs.declared.KeyLine.{KeyLine}
+use Rattle.key_lines.specs.declared.KeyLine.the-variants as line-cases
+use Rattle.key_lines.specs.KeyLines.{digit, hexFrom, keyLine}
+use Rattle.numerals.specs.Numerals.{digitsOf, numeral}
+use Rattle.printing.specs.Printing.{ascii, report, refused, answerText, markFile, printedAfter, printed}
+use Rattle.key_lines.proofs.Laws.{digit-decimal, digit-letter}
 
 -- ---- a numeral in base 16 reads back
 

@@ -18,10 +18,11 @@ use Rattle.files.specs.declared.Mark.{Mark}
 use Rattle.files.specs.Files.{bits, markOf}
 use Rattle.marks.specs.declared.Running.{Running}
 use Rattle.marks.specs.Answers.{begunUnder}
-use Rattle.printing.specs.declared.KeyLine.{KeyLine}
-use Rattle.printing.specs.declared.KeyLine.the-variants as line-cases
-use Rattle.printing.specs.Printing.{keyLine, answerText, markFile, printedAfter, printed}
-use Rattle.printing.proofs.Laws.{key-within, key-stays, large-stays, head-decides}
+use Rattle.key_lines.specs.declared.KeyLine.{KeyLine}
+use Rattle.key_lines.specs.declared.KeyLine.the-variants as line-cases
+use Rattle.key_lines.specs.KeyLines.{keyLine}
+use Rattle.printing.specs.Printing.{answerText, markFile, printedAfter, printed}
+use Rattle.key_lines.proofs.Laws.{key-within, key-stays, large-stays, head-decides}
 
 pub none-settled : (input more : List ℕ) → 18 ≤ length input → keyLine input ≡ line-cases.NoKey → printed (input ++ more) ≡ printed input
 unfolding printed

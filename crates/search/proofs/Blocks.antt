@@ -7,20 +7,22 @@ use native.Mathlib.Nat.{zero-add}
 use native.Mathlib.Omega.{arith}
 use borrow.Author.Tests.{eq-eqb}
 use lib.Dec.{eqb}
-use lib.ListN.{length, getD, set}
+use lib.ListN.{length, getD}
 use lib.Seq.{sets}
 use Rattle.lists.specs.Lists.{passing, overlay}
 use Rattle.lists.proofs.Lent.{overlay-sets}
 use Rattle.files.specs.Files.{bits, fingerprint}
+use Rattle.comparing.specs.declared.Tally.{Tally}
 use Rattle.search.specs.declared.Counts.{Counts}
-use Rattle.windows.specs.declared.rolling.Setup.{Setup}
+use Rattle.rolling.specs.declared.Setup.{Setup}
 use Rattle.search.specs.Searching.{windows, isPlace, isAlarm, places, alarms, counts}
-use Rattle.windows.specs.Rolling.{window, residue, keyOf, Filled, hit}
-use Rattle.windows.proofs.Windows.{window-length}
-use Rattle.search.specs.Flagged.{NextFlagged, flaggedPlace, flaggedAlarm, flaggedPlaces, flaggedAlarms}
-use Rattle.search.proofs.Comparing.{same-is, unflagged-place, unflagged-alarm, flagged-place, flagged-alarm}
-use Rattle.windows.proofs.Residues.{without-one}
-use Rattle.search.proofs.Numbers.{passing-same, Tally, tally-skip, tally-place, tally-alarm}
+use Rattle.rolling.specs.Rolling.{window, residue, keyOf}
+use Rattle.windows.specs.Flags.{Filled, hit}
+use Rattle.rolling.proofs.Windows.{window-length}
+use Rattle.comparing.specs.Flagged.{flaggedPlace, flaggedAlarm, flaggedPlaces, flaggedAlarms}
+use Rattle.comparing.proofs.Comparing.{same-is}
+use Rattle.rolling.proofs.Residues.{without-one}
+use Rattle.comparing.proofs.Numbers.{passing-same}
 
 -- the window has the pattern's fingerprint
 unfoldable alike : ℕ → List ℕ → List ℕ → ℕ → Bool
@@ -50,7 +52,7 @@ module _ (s : Setup) (text pattern : List ℕ) (from size : ℕ) (flags : List B
       (sym (without-one pos (window (length pattern) text i) pattern (window-length (length pattern) text i (omega arith))))
 
   pub flagged-places : flaggedPlaces flags text pattern from size ≡ passing (isPlace text pattern) (0 + from) size
-  unfolding flaggedPlace
+  unfolding flaggedPlace isPlace window
   flagged-places =
       rw (zero-add from)
       (passing-same (flaggedPlace flags text pattern from) (isPlace text pattern) from size
@@ -58,43 +60,18 @@ module _ (s : Setup) (text pattern : List ℕ) (from size : ℕ) (flags : List B
       ∙ and-implied (alike (keyOf s) text pattern i) (isPlace text pattern i) (place-alike (keyOf s) text pattern i)))
 
   pub flagged-alarms : flaggedAlarms flags text pattern from size ≡ passing (isAlarm (keyOf s) text pattern) (0 + from) size
-  unfolding flaggedAlarm isAlarm alike window
+  unfolding flaggedAlarm isAlarm isPlace alike window
   flagged-alarms =
       rw (zero-add from)
       (passing-same (flaggedAlarm flags text pattern from) (isAlarm (keyOf s) text pattern) from size
       (λ i l h. ap (λ (b : Bool). b && not (isPlace text pattern i)) (flag-alike i l h)))
 
--- ---- a count under way over the flagged windows, one turn: the window at i is flagged, and `next` is the flagged one behind it
-
-module _ (flags : List Bool) (text pattern : List ℕ) (from size : ℕ) where
-  abbrev pub Counted : List ℕ → ℕ → ℕ → List ℕ → ℕ → ℕ → ℕ → Type 0
-  Counted = Tally (flaggedPlace flags text pattern from) (flaggedAlarm flags text pattern from) from size
-
-  module _ {words₀ words : List ℕ} {p₀ a₀ p a i : ℕ} (t : Counted words₀ p₀ a₀ words p a i) where
-    -- windows without a flag are passed over
-    pub skipped : (next : ℕ) → NextFlagged flags i size next → Counted words₀ p₀ a₀ words p a next
-    skipped next f =
-        tally-skip t next (f .low) (f .high)
-        (λ j l h. (unflagged-place flags text pattern from j (f .none j l h), unflagged-alarm flags text pattern from j (f .none j l h)))
-
-  module _ {words₀ words : List ℕ} {p₀ a₀ p a i : ℕ} (t : Counted words₀ p₀ a₀ words p a i) (l : i < size) (flag : getD flags i false ≡ true)
-      (next b : ℕ) (eb : b ≡ a)
-      (f : NextFlagged flags (i + 1) size next) where
-    pub place-next : (after : List ℕ) → after ≡ set words p (from + i) → isPlace text pattern (from + i) ≡ true → Counted words₀ p₀ a₀ after (p + 1) b next
-    place-next after e z =
-        rw (e, eb)
-        (skipped (tally-place t l (flagged-place flags text pattern from i true flag z) (flagged-alarm flags text pattern from i true flag z)) next f)
-
-    pub alarm-next : isPlace text pattern (from + i) ≡ false → Counted words₀ p₀ a₀ words p (b + 1) next
-    alarm-next z =
-        rw eb (skipped (tally-alarm t l (flagged-place flags text pattern from i false flag z) (flagged-alarm flags text pattern from i false flag z)) next f)
-
 -- what was found of all windows is what the call answers
-pub all-found : (p : ℕ) (text pattern words₀ words : List ℕ) (found : Counts) (n : ℕ) → n ≡ windows text pattern
+pub all-found : (p : ℕ) (text pattern words₀ words : List ℕ) (found : Tally) (n : ℕ) → n ≡ windows text pattern
     → (found .places ≡ 0 + length (passing (isPlace text pattern) 0 n))
     × (found .alarms ≡ 0 + length (passing (isAlarm p text pattern) 0 n))
     × (words ≡ sets words₀ 0 (passing (isPlace text pattern) 0 n))
-    → (found ≡ counts p text pattern) × (words ≡ overlay (places text pattern) words₀)
+    → (record { places = found .places; alarms = found .alarms } ≡ counts p text pattern) × (words ≡ overlay (places text pattern) words₀)
 unfolding counts places alarms
 all-found p text pattern words₀ words found n e (ep, ea, ew) = (
   ap₂ {C = Counts} (λ (x y : ℕ). record { places = x; alarms = y })

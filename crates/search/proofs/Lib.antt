@@ -1,5 +1,3 @@
-pub mod Comparing
-pub mod Numbers
 pub mod Blocks
 pub mod Calls
 pub mod Places

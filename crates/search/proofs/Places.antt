@@ -16,7 +16,7 @@ use Rattle.lists.proofs.Truth.{and-both, by-cases}
 use Rattle.files.specs.Files.{bits, fingerprint}
 use Rattle.search.specs.Searching.{windows, isPlace, isAlarm, places, alarms}
 use Rattle.search.specs.Claims.{In, Rising, PlacesIff, PlacesRising, AlarmsIff, AlarmsRising}
-use Rattle.search.proofs.Comparing.{same-is, same-refl}
+use Rattle.comparing.proofs.Comparing.{same-is, same-refl}
 
 -- what holds of every entry holds of one
 entry : (P : ℕ → Type 0) (i : ℕ) (ns : List ℕ) → All P ns → In i ns → P i

@@ -1,4 +1,3 @@
 pub mod Searching
 pub mod Claims
 pub mod Answers
-pub mod Flagged

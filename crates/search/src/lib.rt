@@ -1,21 +1,17 @@
 // The search for a pattern in a text by a rolling fingerprint.
 use acceptance::Key;
+use comparing::Tally;
 use gf2::Modulus;
 use keys::Tested;
 use refusals::Refusal;
-use windows::flags;
-use windows::rolling;
-use windows::rolling::Setup;
-
-mod compare; // the bytes of windows against the pattern's
-
+use rolling::Setup;
 ghost use mathlib.Core.Path.{_≡_};
 ghost use Prim.Native.Nat.{_*_, _≤_, _<_};
 ghost use lib.ListN.{length};
 ghost use Rattle.lists.specs.Lists.{overlay};
 ghost use Rattle.gf2.specs.Moduli.{polynomial, Proper};
 ghost use Rattle.refusals.specs.Refusals.{firstOf, stateOf, longest};
-ghost use Rattle.windows.specs.Rolling.{residue, keyOf, ResidueAt, Ready};
+ghost use Rattle.rolling.specs.Rolling.{residue, keyOf, ResidueAt, Ready};
 ghost use Rattle.search.specs.Searching.{places as placesOf, counts, textTests, search, placesAfter};
 ghost use Rattle.search.specs.Answers.{searched};
 
@@ -52,19 +48,22 @@ fn search_blocks(
 {
     let mut flags: [bool; 1024] = [false; 1024];
     let windows = text.len() - pattern.len() + 1;
-    let mut found = Counts {
+    let mut found = Tally {
         places: 0,
         alarms: 0,
     };
     let mut g = first;
     let mut from: usize = 0;
     while from < windows {
-        let b = flags::flag_block(s, reduce, outgoing, text, from, g, &mut flags);
-        found = compare::compare(text, pattern, &flags, from, b.size, found, places);
+        let b = windows::flag_block(s, reduce, outgoing, text, from, g, &mut flags);
+        found = comparing::compare(text, pattern, &flags, from, b.size, found, places);
         from += b.size;
         g = b.next;
     }
-    found
+    Counts {
+        places: found.places,
+        alarms: found.alarms,
+    }
 }
 
 // The search proper, under a modulus: its tables, and the residues to begin with.

@@ -7,7 +7,7 @@ use native.Mathlib.Decide.{ℕ-discrete, decLt}
 use native.Mathlib.Omega.{arith}
 use lib.ListN.{length, getD, set, length-set}
 use lib.Seq.{getD-set-same, getD-set-other}
-use Rattle.windows.specs.Rolling.{Filled}
+use Rattle.windows.specs.Flags.{Filled}
 
 -- ---- entries that follow a rule
 

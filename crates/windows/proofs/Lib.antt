@@ -1,3 +1,2 @@
-pub mod Windows
-pub mod Residues
 pub mod Filling
+pub mod Flags

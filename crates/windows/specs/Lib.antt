@@ -1,1 +1,1 @@
-pub mod Rolling
+pub mod Flags

@@ -6,11 +6,11 @@ use native.Mathlib.Omega.{arith}
 use lib.ListN.{length, drop}
 use borrow.Author.Needs.{needs}
 use Rattle.refusals.specs.Refusals.{Done, Refused}
-use Rattle.printing.specs.declared.KeyLine.the-variants.{Key}
-use Rattle.printing.specs.Printing.{keyLine}
-use Rattle.printing.proofs.Laws.{key-within}
-use Rattle.mark.specs.Marking.{MarkedInParts}
-use Rattle.mark.proofs.Reads.{from, none-printed, large-printed, marked-printed, marked-range, gives}
+use Rattle.key_lines.specs.declared.KeyLine.the-variants.{Key}
+use Rattle.key_lines.specs.KeyLines.{keyLine}
+use Rattle.key_lines.proofs.Laws.{key-within}
+use Rattle.input_feeding.specs.Marking.{MarkedInParts}
+use Rattle.mark.proofs.Texts.{from, none-printed, large-printed, marked-printed, marked-range, gives}
 use Rattle.mark.proofs.answer.Statement.{statement}
 use Rattle.mark.proofs.answer.Tie as tie
 

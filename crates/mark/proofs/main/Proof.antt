@@ -1,8 +1,8 @@
 -- `mark::main` meets its contract: the counts lie within their buffers.
 use borrow.Author.Needs.{needs}
 use Rattle.io.specs.Counts.{Counts}
-use Rattle.mark.proofs.Answers.{filled}
-use Rattle.mark.proofs.Reads.{text-counts}
+use Rattle.input_reading.proofs.Answers.{filled}
+use Rattle.mark.proofs.Texts.{text-counts}
 use Rattle.mark.proofs.main.Statement.{statement}
 use Rattle.mark.proofs.main.Tie as tie
 

@@ -2,7 +2,7 @@
 use native.Mathlib.Omega.{arith}
 use borrow.Author.Needs.{needs}
 use Rattle.printing.specs.Printing.{ascii, noKey}
-use Rattle.printing.proofs.Buffers.{Holds, whole}
+use Rattle.numerals.proofs.Buffers.{Holds, whole}
 use Rattle.printing.proofs.no_key.Statement.{statement}
 use Rattle.printing.proofs.no_key.Tie as tie
 

@@ -2,7 +2,7 @@
 use native.Mathlib.Omega.{arith}
 use borrow.Author.Needs.{needs}
 use Rattle.printing.specs.Printing.{ascii, refused}
-use Rattle.printing.proofs.Buffers.{put-number, put-next, whole}
+use Rattle.numerals.proofs.Buffers.{put-number, put-next, whole}
 use Rattle.printing.proofs.refusal.Statement.{statement}
 use Rattle.printing.proofs.refusal.Tie as tie
 

@@ -6,8 +6,9 @@ use native.Mathlib.Omega.{arith}
 use borrow.Author.Needs.{needs}
 use Rattle.acceptance.specs.Keys.{polynomialOf}
 use Rattle.marks.specs.declared.Running.{Running}
-use Rattle.printing.specs.Printing.{ascii, numeral, report}
-use Rattle.printing.proofs.Buffers.{Holds, put-number, put-next, whole}
+use Rattle.numerals.specs.Numerals.{numeral}
+use Rattle.printing.specs.Printing.{ascii, report}
+use Rattle.numerals.proofs.Buffers.{Holds, put-number, put-next, whole}
 use Rattle.printing.proofs.report.Statement.{statement}
 use Rattle.printing.proofs.report.Tie as tie
 

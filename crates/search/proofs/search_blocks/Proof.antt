@@ -8,8 +8,8 @@ use lib.ListN.{length}
 use lib.Seq.{sets}
 use Rattle.gf2.proofs.Monics.{monic-pos}
 use Rattle.search.specs.Searching.{windows, isPlace, isAlarm}
-use Rattle.windows.specs.Rolling.{keyOf, ResidueAt}
-use Rattle.search.proofs.Numbers.{Tally, tally-begin, tally-block, tally-end, tally-length, passing-length}
+use Rattle.rolling.specs.Rolling.{keyOf, ResidueAt}
+use Rattle.comparing.proofs.Numbers.{Tally, tally-begin, tally-block, tally-end, tally-length, passing-length}
 use Rattle.search.proofs.Blocks.{flagged-places, flagged-alarms, all-found}
 use Rattle.search.proofs.search_blocks.Statement.{statement}
 use Rattle.search.proofs.search_blocks.Tie as tie

@@ -5,7 +5,7 @@ use native.Mathlib.Omega.{arith}
 use borrow.Author.Needs.{needs}
 use lib.ListN.{length}
 use Rattle.gf2.proofs.Steps.{residue-below}
-use Rattle.windows.proofs.Residues.{multiples-of, one-row}
+use Rattle.rolling.proofs.Residues.{multiples-of, one-row}
 use Rattle.search.proofs.search_text.Statement.{statement}
 use Rattle.search.proofs.search_text.Tie as tie
 

@@ -1,0 +1,297 @@
+-- The parts that the program reads: feeding them one after another marks the file that they make.
+use mathlib.Core.Path.{_≡_, refl, sym, ap, subst, _∙_}
+use mathlib.Core.List.{List, [], _∷_, _++_, flatten, append-assoc, append-nil}
+use Prim.Native.Nat.{ℕ, _+_, _-_, _*_, _≤_, _<_}
+use native.Mathlib.Decide.{decLe}
+use native.Mathlib.Omega.{arith}
+use lib.ListN.{length, take, length-append}
+use borrow.Author.Tests.{lt-ltb, le-ltb}
+use Rattle.io.specs.Counts.{Counts}
+use Rattle.lists.specs.Lists.{listFrom}
+use Rattle.refusals.specs.declared.Refusal.{Refusal}
+use Rattle.refusals.specs.declared.Refusal.the-variants.{TooLong, MarkNotReduced, FinalByte}
+use Rattle.refusals.specs.Refusals.{Answer, Done, Refused, _⇒_, firstOf, passes, longest}
+use Rattle.refusals.proofs.Laws.{Clear, clear-done, done-clear, more-clear, more-refused, first-true}
+use Rattle.refusals.proofs.Lengths.{sum-passes, sum-fits}
+use Rattle.acceptance.specs.declared.Key.{Key}
+use Rattle.acceptance.specs.Keys.{polynomialOf, keyTests}
+use Rattle.acceptance.proofs.Laws.{accepted-pos, key-iff}
+use Rattle.files.specs.declared.Mark.{Mark}
+use Rattle.files.specs.Files.{bits, markOf, Part, whole, partLength, partBits, misused, unreduced, fedMark}
+use Rattle.files.proofs.Values.{length-bits, bits-append}
+use Rattle.files.proofs.Marks.{true-reduced, fed-true}
+use Rattle.files.proofs.Parts.{whole-long, whole-bits, whole-used}
+use Rattle.lookups.specs.Rule.{word}
+use Rattle.tables.specs.Tables.{makeTable}
+use Rattle.table_tests.specs.TableTests.{tableSizeTest, tableTests}
+use Rattle.table_tests.proofs.Laws.{size-passed, clear-table}
+use Rattle.marks.specs.declared.Running.{Running}
+use Rattle.marks.specs.declared.Fed.{Fed}
+use Rattle.marks.specs.declared.Fed.the-variants as fed-cases
+use Rattle.marks.specs.Feeding.{feedTests, begin, feedTable}
+use Rattle.marks.specs.Answers.{markIn, running, fed, begunUnder, fedUnder}
+use Rattle.printing.specs.Printing.{markFile}
+use Rattle.input_feeding.specs.declared.Marked.{Marked}
+use Rattle.input_feeding.specs.declared.Marked.the-variants as marked-cases
+use Rattle.input_feeding.specs.declared.Step.{Step}
+use Rattle.input_feeding.specs.declared.Step.the-variants as step-cases
+use Rattle.input_feeding.specs.Turns.{Stepped, NonEmpty}
+use Rattle.input_feeding.specs.Marking.{feeds, stateless, Gives, FedInParts, MarkedInParts}
+
+-- ---- one feed, in code
+
+module _ (key : Key) where
+  pub fed-next : (a : Answer Mark Mark) (next : Running) → Done next ≡ fedUnder key a → (next .key ≡ key) × (a ≡ Done (markIn next))
+  fed-next (Done m) next e = let is : next ≡ running key m = cc in (ap (λ (x : Running). x .key) is, ap (λ (x : Running). Done (markIn x)) (sym is))
+  fed-next (Refused r m) next e = absurd (apart e)
+    where
+      apart : Done next ≡ fedUnder key (Refused r m) → ⊥
+      apart e = let z : _≡_ {A = ℕ} 0 1 = cc in omega arith
+
+  pub fed-refused : (a : Answer Mark Mark) (r : Refusal) (kept : Running) → Refused r kept ≡ fedUnder key a → stateless a ≡ Refused r tt
+  fed-refused (Done m) r kept e = cc
+  fed-refused (Refused q m) r kept e = cc
+
+-- ---- feeds one after another
+
+module _ (key : Key) (words : List ℕ) where
+  stopped : (r : Refusal) (m : Mark) (parts : List (List ℕ)) → feeds key words (Refused r m) parts ≡ Refused r m
+  stopped r m [] = refl
+  stopped r m (part ∷ parts) = refl
+
+  feeds-append : (a : Answer Mark Mark) (xs ys : List (List ℕ)) → feeds key words a (xs ++ ys) ≡ feeds key words (feeds key words a xs) ys
+  feeds-append a [] ys = refl
+  feeds-append (Done m) (x ∷ xs) ys = feeds-append (feedTable key m words (whole x)) xs ys
+  feeds-append (Refused r m) (x ∷ xs) ys = sym (stopped r m ys)
+
+nonempty-append : (xs ys : List (List ℕ)) → NonEmpty xs → NonEmpty ys → NonEmpty (xs ++ ys)
+nonempty-append [] ys p q = q
+nonempty-append (x ∷ xs) ys p q = (p .0, nonempty-append xs ys (p .1) q)
+
+-- what the turns have made of a running mark so far: the parts that were read are fed to it
+abbrev pub SoFar : Running → List ℕ → Running → Type 0
+SoFar start words m =
+    (m .key ≡ start .key) × ((parts : List (List ℕ)) × (NonEmpty parts × (feeds (start .key) words (Done (markIn start)) parts ≡ Done (markIn m))))
+
+pub at-first : (start : Running) (words : List ℕ) → SoFar start words start
+at-first start words = (refl, ([], (tt, refl)))
+
+module _ (start : Running) (words : List ℕ) (m : Running) (s : SoFar start words m) where
+  -- one part more
+  one-more : (part : List ℕ) → feeds (start .key) words (Done (markIn start)) (s .1 .0 ++ part ∷ []) ≡ feedTable (m .key) (markIn m) words (whole part)
+  one-more part =
+      feeds-append (start .key) words (Done (markIn start)) (s .1 .0) (part ∷ [])
+      ∙ ap (λ (a : Answer Mark Mark). feeds (start .key) words a (part ∷ [])) (s .1 .1 .1)
+      ∙ ap (λ (k : Key). feedTable k (markIn m) words (whole part)) (sym (s .0))
+
+  pub next-turn : (part : List ℕ) (next : Running) → 0 < length part
+      → Done next ≡ fedUnder (m .key) (feedTable (m .key) (markIn m) words (whole part)) → SoFar start words next
+  next-turn part next p e =
+      let h = fed-next (m .key) (feedTable (m .key) (markIn m) words (whole part)) next e in
+      (h .0 ∙ s .0, (s .1 .0 ++ part ∷ [], (nonempty-append (s .1 .0) (part ∷ []) (s .1 .1 .0) (p, tt), one-more part ∙ h .1)))
+
+  pub last-turn : (part : List ℕ) (r : Refusal) (kept : Running) → 0 < length part
+      → Refused r kept ≡ fedUnder (m .key) (feedTable (m .key) (markIn m) words (whole part)) → FedInParts start words (marked-cases.Refused r)
+  last-turn part r kept p e = (
+    s .1 .0 ++ part ∷ [],
+    (
+      nonempty-append (s .1 .0) (part ∷ []) (s .1 .1 .0) (p, tt),
+      ap (begunUnder (start .key)) (ap stateless (one-more part) ∙ fed-refused (m .key) (feedTable (m .key) (markIn m) words (whole part)) r kept e),
+    ),
+  )
+
+  pub at-end : FedInParts start words (marked-cases.Done m)
+  at-end = (
+    s .1 .0,
+    (
+      s .1 .1 .0,
+      ap (λ (a : Answer Mark Mark). begunUnder (start .key) (stateless a)) (s .1 .1 .1)
+          ∙ ap (λ (k : Key). Done (running k (markIn m))) (sym (s .0)),
+    ),
+  )
+
+-- one turn of the code
+module _ (start : Running) (words : List ℕ) (m : Running) (s : SoFar start words m) (buffer : List ℕ) (step : Step) (n : ℕ) (f : Fed)
+    (h : Stepped m words buffer step) (is : step ≡ step-cases.Fed n f) where
+  turned : ((0 < n) × Counts n buffer) × (fed f ≡ fedUnder (m .key) (feedTable (m .key) (markIn m) words (whole (take n buffer))))
+  turned = subst (λ (x : Step). Stepped m words buffer x) is h
+
+  some-bytes : 0 < length (take n buffer)
+  some-bytes = omega (arith, turned .0 .0, turned .0 .1 .1)
+
+  pub turn-next : (next : Running) → f ≡ fed-cases.Next next → SoFar start words next
+  turn-next next e = next-turn start words m s (take n buffer) next some-bytes (ap fed (sym e) ∙ turned .1)
+
+  pub turn-refused : (r : Refusal) (kept : Running) → f ≡ fed-cases.Refused r kept → FedInParts start words (marked-cases.Refused r)
+  turn-refused r kept e = last-turn start words m s (take n buffer) r kept some-bytes (ap fed (sym e) ∙ turned .1)
+
+-- ---- feeding the parts is marking the file
+
+module _ (x : Key) (h : Clear (keyTests x)) where
+  abbrev key : ℕ
+  key = polynomialOf x
+
+  pos : 0 < key
+  pos = accepted-pos (polynomialOf x) (key-iff x .0 (h .0, h .1 .0) .0)
+
+  -- the table that is made passes its tests
+  table : List ℕ
+  table = listFrom (word 8 key) 0 1024
+
+  made : (blank : List ℕ) → length blank ≡ 1024 → makeTable x blank ≡ Done table
+  unfolding table makeTable
+  made blank e =
+      more-clear (keyTests x) (tableSizeTest blank ∷ []) blank (listFrom (word 8 key) 0 1024) h
+      ∙ size-passed blank [] blank (listFrom (word 8 key) 0 1024) e
+
+  tested : (m : Mark) (part : Part) → feedTable x m table part ≡ firstOf (feedTests key m part) m (fedMark key m part)
+  unfolding table feedTable
+  tested m part =
+      let words = listFrom (word 8 key) 0 1024 in
+      more-clear (keyTests x) (tableTests key words ++ feedTests key m part) m (fedMark key m part) h
+      ∙ more-clear (tableTests key words) (feedTests key m part) m (fedMark key m part) (clear-table words key refl)
+
+  -- whole bytes behind whole bytes
+  module _ (file part : List ℕ) where
+    abbrev before : Mark
+    before = markOf key (bits file)
+
+    both-long : length (bits file) + partLength (whole part) ≡ 8 * length (file ++ part)
+    both-long = omega (arith, length-bits file, whole-long part, length-append file part)
+
+    both-bits : bits file ++ partBits (whole part) ≡ bits (file ++ part)
+    both-bits = ap (λ (l : List ℕ). bits file ++ l) (whole-bits part) ∙ sym (bits-append file part)
+
+    feed-goes : 8 * length (file ++ part) ≤ longest → feedTable x before table (whole part) ≡ Done (markOf key (bits (file ++ part)))
+    unfolding markOf
+    feed-goes l =
+        tested before (whole part)
+        ∙ clear-done (feedTests key before (whole part)) before (fedMark key before (whole part))
+        (sum-fits (length (bits file)) (partLength (whole part)) (omega (arith, both-long)), (true-reduced key pos (bits file), (whole-used part, tt)))
+        ∙ ap Done (fed-true key pos (bits file) (whole part) ∙ ap (markOf key) both-bits)
+
+    feed-stops : longest < 8 * length (file ++ part) → feedTable x before table (whole part) ≡ Refused TooLong before
+    unfolding markOf
+    feed-stops l =
+        tested before (whole part)
+        ∙ first-true _ TooLong (unreduced key before ⇒ MarkNotReduced ∷ misused (whole part) ⇒ FinalByte ∷ []) before (fedMark key before (whole part))
+        (sum-passes (length (bits file)) (partLength (whole part)) (omega (arith, both-long)))
+
+  -- number 7 of a whole file
+  abbrev judged : List ℕ → Answer Unit Mark
+  judged file = firstOf (passes (8 * length file ∷ []) ⇒ TooLong ∷ []) tt (markOf key (bits file))
+
+  short : (file : List ℕ) → 8 * length file ≤ longest → judged file ≡ Done (markOf key (bits file))
+  short file l = rw (le-ltb longest (8 * length file) l)
+
+  long : (file : List ℕ) → longest < 8 * length file → judged file ≡ Refused TooLong tt
+  long file l = rw (lt-ltb longest (8 * length file) l)
+
+  feed-one : (file part : List ℕ) (parts : List (List ℕ)) → Dec (8 * length (file ++ part) ≤ longest)
+      → (8 * length (file ++ part) ≤ longest
+      → stateless (feeds x table (Done (markOf key (bits (file ++ part)))) parts) ≡ judged (file ++ part ++ flatten parts))
+      → stateless (feeds x table (feedTable x (markOf key (bits file)) table (whole part)) parts) ≡ judged (file ++ (part ++ flatten parts))
+  feed-one file part parts (yes l) ih =
+      ap (λ (a : Answer Mark Mark). stateless (feeds x table a parts)) (feed-goes file part l)
+      ∙ ih l
+      ∙ ap judged (append-assoc file part (flatten parts))
+  feed-one file part parts (no l) ih =
+      let all = length-append file (part ++ flatten parts) in
+      ap (λ (a : Answer Mark Mark). stateless (feeds x table a parts)) (feed-stops file part (omega arith))
+      ∙ ap stateless (stopped x table TooLong (markOf key (bits file)) parts)
+      ∙ sym (long (file ++ (part ++ flatten parts)) (omega (arith, all, length-append part (flatten parts), length-append file part)))
+
+  feeds-judged : (file : List ℕ) (parts : List (List ℕ)) → 8 * length file ≤ longest
+      → stateless (feeds x table (Done (markOf key (bits file))) parts) ≡ judged (file ++ flatten parts)
+  unfolding flatten
+  feeds-judged file [] l = sym (ap judged (append-nil file) ∙ short file l)
+  feeds-judged file (part ∷ parts) l =
+      feed-one file part parts (decLe (8 * length (file ++ part)) longest) (λ m. feeds-judged (file ++ part) parts m)
+
+  feeds-marked : (parts : List (List ℕ))
+      → begunUnder x (stateless (feeds x table (Done (markOf key [])) parts)) ≡ markFile x (flatten parts)
+  unfolding markFile bits
+  feeds-marked parts =
+      ap (begunUnder x) (feeds-judged [] parts (omega arith))
+      ∙ sym
+      (ap (begunUnder x)
+      (more-clear (keyTests x) (passes (8 * length (flatten parts) ∷ []) ⇒ TooLong ∷ []) tt (markOf key (bits (flatten parts))) h))
+
+-- ---- the calls of `mark_file`, one after another
+
+pub done-refused : {S A : Type 0} {a : A} {r : Refusal} {s : S} → _≡_ {A = Answer S A} (Done a) (Refused r s) → ⊥
+done-refused e = let z : _≡_ {A = ℕ} 0 1 = cc in omega arith
+
+module _ (key : Key) where
+  -- a key that is refused
+  pub begun-refused : (first : List ℕ) (r : Refusal) → Refused r tt ≡ begunUnder key (begin key) → MarkedInParts key first (marked-cases.Refused r)
+  unfolding begin markFile
+  begun-refused first r e =
+      let file = first ++ flatten [] in
+      let p = polynomialOf key in (
+        [],
+        (
+          tt,
+          ap (begunUnder key)
+              (more-refused (keyTests key) (passes (8 * length file ∷ []) ⇒ TooLong ∷ []) tt tt (markOf p []) (markOf p (bits file)) r
+              (go (begin key) refl e)),
+        ),
+      )
+    where
+      go : (a : Answer Unit Mark) → begin key ≡ a → Refused r tt ≡ begunUnder key a → begin key ≡ Refused r tt
+      go (Done m) t u = absurd (done-refused (sym u))
+      go (Refused q s) t u = t ∙ cc
+
+  -- a key that is accepted
+  pub begun-clear : (m : Running) → Done m ≡ begunUnder key (begin key) → Clear (keyTests key) × (m ≡ running key (markOf (polynomialOf key) []))
+  unfolding begin
+  begun-clear m e = go (begin key) refl e
+    where
+      go : (a : Answer Unit Mark) → begin key ≡ a → Done m ≡ begunUnder key a → Clear (keyTests key) × (m ≡ running key (markOf (polynomialOf key) []))
+      go (Done x) t u =
+          let d = done-clear (keyTests key) tt (markOf (polynomialOf key) []) x t in
+          let is : m ≡ running key x = cc in
+          (d .0, is ∙ ap (running key) (sym (d .1)))
+      go (Refused q s) t u = absurd (done-refused u)
+
+  module _ (first : List ℕ) (m : Running) (begun-is : Done m ≡ begunUnder key (begin key)) (blank words : List ℕ) where
+    clear : Clear (keyTests key)
+    clear = begun-clear m begun-is .0
+
+    pub made-always : (r : Refusal) → Refused r words ≡ makeTable key blank → 1024 ≡ length blank → ⊥
+    made-always r e size = done-refused (sym (e ∙ made key clear blank (sym size)))
+
+    module _ (e : Done words ≡ makeTable key blank) (size : 1024 ≡ length blank) where
+      table-words : words ≡ table key clear
+      table-words = let d : _≡_ {A = Answer (List ℕ) (List ℕ)} (Done words) (Done (table key clear)) = e ∙ made key clear blank (sym size) in cc
+
+      -- the first bytes and the parts behind them, fed by the table that was made
+      fed-marked : (parts : List (List ℕ))
+          → begunUnder key (stateless (feeds key words (feedTable (m .key) (markIn m) words (whole first)) parts)) ≡ markFile key (first ++ flatten parts)
+      unfolding flatten
+      fed-marked parts =
+          rw (begun-clear m begun-is .1, table-words) (feeds-marked key clear (first ∷ parts))
+
+      pub first-refused : (r : Refusal) (kept : Running) → Refused r kept ≡ fedUnder (m .key) (feedTable (m .key) (markIn m) words (whole first))
+          → MarkedInParts key first (marked-cases.Refused r)
+      first-refused r kept u = (
+        [],
+        (
+          tt,
+          sym (fed-marked []) ∙ ap (begunUnder key) (fed-refused (m .key) (feedTable (m .key) (markIn m) words (whole first)) r kept u),
+        ),
+      )
+
+      pub rest-marked : (next : Running) (r : Marked) → Done next ≡ fedUnder (m .key) (feedTable (m .key) (markIn m) words (whole first))
+          → FedInParts next words r → MarkedInParts key first r
+      rest-marked next r u p = (p .0, (p .1 .0, subst (Gives r) same (p .1 .1)))
+        where
+          fed-is : (next .key ≡ m .key) × (feedTable (m .key) (markIn m) words (whole first) ≡ Done (markIn next))
+          fed-is = fed-next (m .key) (feedTable (m .key) (markIn m) words (whole first)) next u
+
+          same : begunUnder (next .key) (stateless (feeds (next .key) words (Done (markIn next)) (p .0))) ≡ markFile key (first ++ flatten (p .0))
+          same =
+              ap (λ (k : Key). begunUnder k (stateless (feeds k words (Done (markIn next)) (p .0))))
+              (fed-is .0 ∙ ap (λ (x : Running). x .key) (begun-clear m begun-is .1))
+              ∙ ap (λ (a : Answer Mark Mark). begunUnder key (stateless (feeds key words a (p .0)))) (sym (fed-is .1))
+              ∙ fed-marked (p .0)

@@ -1,0 +1,111 @@
+-- Laws of one call of read: what its answer means, by the tests that the code makes, and where its bytes stand.
+use mathlib.Core.Path.{_≡_, refl, sym, ap, subst, _∙_}
+use mathlib.Core.Bool.{Bool, true, false, cond}
+use mathlib.Core.List.{List}
+use mathlib.Core.Logic.{_⊎_, ⊎-elim}
+use Prim.Native.Nat.{ℕ, zero, suc, _+_, _-_, _≤_, _<_, min}
+use native.Mathlib.Nat.{min-eq-left}
+use native.Mathlib.Omega.{arith}
+use lib.Dec.{eqb}
+use lib.ListN.{length, drop, length-drop}
+use lib.Seq.{length-take-le}
+use lib.IntN.{ℤ, pos, negsuc}
+use lib.Signed.{ltZ}
+use mir.Syntax.{w32, w64}
+use mir.Val.{SFits, ofZ, toZ}
+use mir.ValLaws.{toZ-ofZ}
+use borrow.Author.Tests.{lt-ltb, ne-eqb}
+use Rattle.libc.specs.Io.{Moved}
+use Rattle.io.specs.Counts.{Counts, clamped}
+use Rattle.input_reading.specs.declared.Got.{Got}
+use Rattle.input_reading.specs.declared.Got.the-variants.{Bytes, End, Interrupted, Failed}
+use Rattle.input_reading.specs.declared.Front.{Front}
+use Rattle.input_reading.specs.declared.Front.the-variants as front-cases
+use Rattle.input_reading.specs.Reading.{failure, outcome, InFront}
+use Rattle.input_reading.specs.Heads.{Filled}
+
+true-false : true ≡ false → ⊥
+true-false e = let z : _≡_ {A = ℕ} 0 1 = cc in omega arith
+
+-- ---- the tests of `outcome`: the machine compares the bits of a signed number
+
+module _ (z error : ℤ) (n : ℕ) (f : SFits w64 z) where
+  positive : ltZ (pos 0) (toZ w64 (ofZ w64 z)) ≡ ltZ (pos 0) z
+  positive = ap (ltZ (pos 0)) (toZ-ofZ w64 z f)
+
+  pub some : (r : ℕ) → r ≡ clamped (toZ w64 (ofZ w64 z)) n → ltZ (pos 0) (toZ w64 (ofZ w64 z)) ≡ true → Bytes r ≡ outcome z error n
+  some r e t = ap Bytes (e ∙ ap (λ (y : ℤ). clamped y n) (toZ-ofZ w64 z f)) ∙ go z (sym positive ∙ t)
+    where
+      go : (z : ℤ) → ltZ (pos 0) z ≡ true → Bytes (clamped z n) ≡ outcome z error n
+      go (pos zero) t = cc
+      go (pos (suc k)) t = refl
+      go (negsuc k) t = cc
+
+  pub none : ofZ w64 z ≡ 0 → End ≡ outcome z error n
+  none e = ap (λ (y : ℤ). outcome y error n) (sym (sym (toZ-ofZ w64 z f) ∙ ap (toZ w64) e))
+
+  pub failed : ltZ (pos 0) (toZ w64 (ofZ w64 z)) ≡ false → (ofZ w64 z ≡ 0 → ⊥) → failure error ≡ outcome z error n
+  failed t h = go z (sym positive ∙ t) h
+    where
+      go : (z : ℤ) → ltZ (pos 0) z ≡ false → (ofZ w64 z ≡ 0 → ⊥) → failure error ≡ outcome z error n
+      go (pos zero) t h = absurd (h refl)
+      go (pos (suc k)) t h = absurd (true-false (sym (lt-ltb 0 (suc k) (omega arith)) ∙ t))
+      go (negsuc k) t h = refl
+
+module _ (error : ℤ) (f : SFits w32 error) where
+  pub interrupted : ofZ w32 error ≡ 4 → Interrupted ≡ failure error
+  interrupted e = ap failure (sym (sym (toZ-ofZ w32 error f) ∙ ap (toZ w32) e))
+
+  pub other : (ofZ w32 error ≡ 4 → ⊥) → Failed ≡ failure error
+  other h = go error h
+    where
+      go : (e : ℤ) → (ofZ w32 e ≡ 4 → ⊥) → Failed ≡ failure e
+      go (pos n) h = ap (λ (b : Bool). cond b Interrupted Failed) (sym (ne-eqb n 4 h))
+      go (negsuc n) h = refl
+
+-- ---- where the bytes stand
+
+pub counts : (n : ℕ) (l : List ℕ) → n ≤ length l → Counts n l
+counts n l h = (h, sym (length-take-le n l h))
+
+failure-front : (error : ℤ) (l : List ℕ) → InFront (failure error) l
+failure-front (pos n) l = go (eqb n 4)
+  where
+    go : (b : Bool) → InFront (cond b Interrupted Failed) l
+    go true = tt
+    go false = tt
+failure-front (negsuc n) l = tt
+
+-- a call answers no more than the buffer's length
+moved : (z error : ℤ) (before after : List ℕ) → Moved (length before) z → length after ≡ length before → InFront (outcome z error (length after)) after
+moved (pos zero) error before after m e = tt
+moved (pos (suc k)) error before after m e =
+    let l : suc k ≤ length after = omega arith in
+    let is : min (suc k) (length after) ≡ suc k = min-eq-left l in
+    rw is (omega arith, counts (suc k) after l)
+moved (negsuc k) error before after m e = failure-front error after
+
+pub moved-front : (z error : ℤ) (before after : List ℕ) (r : Got) → SFits w64 z → Moved (length before) z → length after ≡ length before
+    → r ≡ outcome (toZ w64 (ofZ w64 z)) error (length after) → InFront r after
+moved-front z error before after r f m e is =
+    subst (λ (g : Got). InFront g after) (sym (is ∙ ap (λ (y : ℤ). outcome y error (length after)) (toZ-ofZ w64 z f))) (moved z error before after m e)
+
+-- the bytes that a read gave
+pub bytes-front : (r : Got) (n : ℕ) (l : List ℕ) → InFront r l → r ≡ Bytes n → (0 < n) × Counts n l
+bytes-front r n l h e = subst (λ (g : Got). InFront g l) e h
+
+-- the same of a read behind the first bytes of a buffer
+pub more-fits : (r : Got) (n at : ℕ) (l : List ℕ) → at ≤ length l → InFront r (drop at l) → r ≡ Bytes n → (0 < n) × (at + n ≤ length l)
+more-fits r n at l h f e =
+    let b = bytes-front r n (drop at l) f e in
+    (b .0, omega (arith, b .1 .0, length-drop at l))
+
+pub filled : (r : Front) (n : ℕ) (l : List ℕ) → Filled r l → r ≡ front-cases.Bytes n → Counts n l
+filled r n l h e = subst (λ (g : Front). Filled g l) e h
+
+-- a number that is 0, 1 or 3 is not 2
+pub not-two : (x : ℕ) → (x ≡ 0) ⊎ ((x ≡ 1) ⊎ (x ≡ 3)) → x ≡ 2 → ⊥
+not-two x k e = ⊎-elim (λ a. omega arith) (λ b. ⊎-elim (λ a. omega arith) (λ a. omega arith) b) k
+
+pub not-failed : Failed ≡ Interrupted → ⊥
+not-failed e = let z : _≡_ {A = ℕ} 0 1 = cc in omega arith

@@ -1,0 +1,3 @@
+pub mod Folding
+pub mod Filling
+pub mod Decision
