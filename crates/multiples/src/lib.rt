@@ -1,6 +1,6 @@
 // Rows of multiples: the residues of i·x modulo a polynomial, for i from 0 to 2^width - 1, in consecutive words, and the same of x·t^width,
-// x·t^(2·width) and so on in the rows behind. A row is filled, and tested, by doubling. These functions are for the project's own crates:
-// what they require, every caller proves.
+// x·t^(2·width) and so on in the rows behind. A row is filled by doubling, and so it is tested (`row_tests`). These functions are for the
+// project's own crates: what they require, every caller proves.
 use gf2::Modulus;
 ghost use mathlib.Core.Path.{_≡_};
 ghost use Prim.Native.Nat.{_+_, _*_, _^_, _≤_, _<_};

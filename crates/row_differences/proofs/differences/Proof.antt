@@ -7,8 +7,8 @@ use Rattle.gf2.specs.Polynomials.{_⊕_}
 use Rattle.multiples.specs.Rows.{Shifted}
 use Rattle.multiples.proofs.Doubling.{or-iff, iff-trans, difference-iff, shifted-iff}
 use lib.ListN.{getD}
-use Rattle.row_tests.proofs.differences.Statement.{statement}
-use Rattle.row_tests.proofs.differences.Tie as tie
+use Rattle.row_differences.proofs.differences.Statement.{statement}
+use Rattle.row_differences.proofs.differences.Tie as tie
 
 abbrev Inv-loop : tie.InvT-loop
 Inv-loop words at n y next sum₀ i₀ sum i = (i ≤ n) × ((sum ≡ 0) ↔ Shifted at next i y words words)

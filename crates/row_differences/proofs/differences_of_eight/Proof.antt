@@ -5,8 +5,8 @@ use native.Mathlib.Omega.{arith}
 use mathlib.Core.Logic.{_↔_}
 use Rattle.gf2.specs.Polynomials.{_⊕_}
 use Rattle.multiples.proofs.Doubling.{iff-trans, Parts, parts-iff, parts-none, parts-whole}
-use Rattle.row_tests.proofs.differences_of_eight.Statement.{statement}
-use Rattle.row_tests.proofs.differences_of_eight.Tie as tie
+use Rattle.row_differences.proofs.differences_of_eight.Statement.{statement}
+use Rattle.row_differences.proofs.differences_of_eight.Tie as tie
 
 abbrev Inv-loop : tie.InvT-loop
 Inv-loop words at n y z v at1 at2 at3 at4 at5 at6 at7 sum₀ i₀ sum i =
