@@ -1,7 +1,7 @@
 -- Lists of calls under the key 0x11B, from the empty file, with the book beside them: each kind of call refused and not. And a route
 -- of each kind. So the claims of Guarantee.antt are not empty.
 use mathlib.Core.Path.{_≡_, refl, subst, _∙_}
-use mathlib.Core.List.{List, [], _∷_, _++_, map}
+use mathlib.Core.List.{List, [], _∷_, _++_, map, zipWith, flatten}
 use Prim.Native.Nat.{ℕ}
 use native.Mathlib.Omega.{arith}
 use lib.Dec.{ltb, ltb→lt}
@@ -123,7 +123,7 @@ sheet : List ℕ
 sheet = 0x47 ∷ 0x46 ∷ 0x50 ∷ 0x00 ∷ 0x04 ∷ pairField ++ field 0x10 ++ 0x00 ∷ 0x10 ∷ field 0x9D ++ field 0x9D
 
 written-sheet : writeSheet (keyOf 0x11B) 16 (whole (0x41 ∷ 0x42 ∷ [])) (replicate 40 0) ≡ Done sheet
-unfolding sheet writeSheet overlay sheetBytes keyNumber layoutAmong bytesIn fieldsOf bytesOf contentsOf pageFingerprints filled
+unfolding sheet writeSheet overlay sheetBytes keyNumber layoutAmong bytesIn zipWith flatten fieldsOf bytesOf contentsOf pageFingerprints filled
     monic reducible anyBelow fingerprint value valueFrom bits lowBits usedBits partLength partBits misused rem longDivision reduce degree halvings _⊕_
 written-sheet = refl
 
