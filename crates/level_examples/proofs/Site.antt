@@ -25,6 +25,7 @@ use Rattle.marks.specs.Feeding.{feedBits, feedTable}
 use Rattle.compose.specs.Composing.{joinBehind, joinInFront, replacePage}
 use Rattle.book.specs.Runs.{bookStep, run, Honest}
 use Rattle.book.specs.Confusions.{Confuses}
+use Rattle.fed_parts.specs.Parts as feeds
 use Rattle.bench_book.specs.Book as bench-level
 use Rattle.level_examples.proofs.Bench as bench-examples
 use Rattle.site_book.specs.Book.{Call, Feeding, Behind, InFront, Page, step, bookTests, written, site}
@@ -43,8 +44,8 @@ the-feeding-list = bench-lists 0x11B (mark 0x01 0) bench-examples.calls ∙ benc
 
 pub calls : List Call
 calls =
-    Feeding (bench-level.ByBits (whole (0x41 ∷ [])))
-    ∷ Feeding (bench-level.ByTable [] (whole (0x00 ∷ [])))
+    Feeding (feeds.ByBits (whole (0x41 ∷ [])))
+    ∷ Feeding (feeds.ByTable [] (whole (0x00 ∷ [])))
     ∷ Behind (mark 0x59 8) (bits (0x42 ∷ []))
     ∷ Behind (mark 0x100 8) []
     ∷ InFront (mark 0x5A 34359738360) []
@@ -66,7 +67,7 @@ unfolding calls run bookStep bookTests written bench-level.bookTests bench-level
 the-book = refl
 
 pub the-list : run (step 0x11B) (mark 0x01 0) calls ≡ (mark (fingerprint 0x11B (bits (0x41 ∷ 0x00 ∷ 0x00 ∷ []))) 24, numbers)
-unfolding calls run step bench-level.step feedBits feedTable fedMark joinBehind joinInFront joined replacePage replaced
+unfolding calls run step feeds.step feedBits feedTable fedMark joinBehind joinInFront joined replacePage replaced
     monic reducible anyBelow fingerprint value valueFrom bits lowBits usedBits partLength partBits misused rem longDivision reduce degree halvings _⊕_ differs
 the-list = refl
 

@@ -17,16 +17,17 @@ use Rattle.big_endian.specs.Numbers.{numberAt}
 use Rattle.sheets.specs.Layout.{fingerprintWidth, Layout, newest, layoutOf, pagePlace, pagesFor, Contents}
 use Rattle.sheets.specs.Sheets.{pageOf, writeSheet, readSheet, readPages, pagesNow}
 use Rattle.book.specs.Runs.{Level, Leaves}
+use Rattle.fed_parts.specs.Parts as feeds
 use Rattle.bench_book.specs.Book as bench-level
 
 -- "A joined mark, in a call not refused, comes with a file of which it is true."
 pub data Call : Type 0 where
-  Feeding : bench-level.Call → Call
+  Feeding : feeds.Feed → Call
   Behind InFront : (other : Mark) (its : List ℕ) → Call
   Page : (place : ℕ) (old new : Part) → Call
 
 unfoldable pub step : ℕ → Mark → Call → Answer Mark Mark
-step key m (Feeding c) = bench-level.step key m c
+step key m (Feeding c) = feeds.step key m c
 step key m (Behind other its) = joinBehind (keyOf key) m other
 step key m (InFront other its) = joinInFront (keyOf key) m other
 step key m (Page place old new) = replacePage (keyOf key) m place old new
