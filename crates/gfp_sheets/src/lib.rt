@@ -50,8 +50,24 @@ pub extern "C" fn gfp_read_sheet(
 ) -> u32
     ensures { λ r. ⌜
         (r ≡ numberOf (readSheet (now (sheet .entry))))
-        × (_≡_ {A = Sheet} (record { version = now (version .exit); key = keyAt (now (degree .exit)) (now (word .exit)); length = now (bits .exit); size = now («page_size» .exit); pages = now (pages .exit); fingerprint = now (fingerprint .exit) })
-        (valueOr (record { version = now (version .entry); key = keyAt (now (degree .entry)) (now (word .entry)); length = now (bits .entry); size = now («page_size» .entry); pages = now (pages .entry); fingerprint = now (fingerprint .entry) })
+        × (_≡_ {A = Sheet}
+        (record {
+          version = now (version .exit);
+          key = keyAt (now (degree .exit)) (now (word .exit));
+          length = now (bits .exit);
+          size = now («page_size» .exit);
+          pages = now (pages .exit);
+          fingerprint = now (fingerprint .exit);
+        })
+        (valueOr
+        (record {
+          version = now (version .entry);
+          key = keyAt (now (degree .entry)) (now (word .entry));
+          length = now (bits .entry);
+          size = now («page_size» .entry);
+          pages = now (pages .entry);
+          fingerprint = now (fingerprint .entry);
+        })
         (mapped numbersOf (readSheet (now (sheet .entry))))))
         ⌝ }
 {
