@@ -27,10 +27,9 @@ by-check sheet file = let x = contentsIn sheet in first-mapped (rangeIn x) (chec
 
 -- what is told of the answer that the code has
 told : (c : tie.After-first-changed-range) (o : Changed) → c .first-changed-range .result ≡ o
-    → (numberOf (changeAnswer o) ≡ numberOf (checkSheet (start c .args .sheet .now) (asPart (start c .args .file .now) (start c .args .used))))
-    × (valueOr (before c) (changeAnswer o)
-    ≡ valueOr (before c) (mapped (rangeIn (contentsIn (start c .args .sheet .now)))
-    (checkSheet (start c .args .sheet .now) (asPart (start c .args .file .now) (start c .args .used)))))
+    → let sheet = start c .args .sheet .now in
+    let checked = checkSheet sheet (asPart (start c .args .file .now) (start c .args .used)) in
+    (numberOf (changeAnswer o) ≡ numberOf checked) × (valueOr (before c) (changeAnswer o) ≡ valueOr (before c) (mapped (rangeIn (contentsIn sheet)) checked))
 told c o e =
     let sheet = start c .args .sheet .now in
     let file = asPart (start c .args .file .now) (start c .args .used) in

@@ -23,11 +23,14 @@ number→check c = c .before .before .before .before
 abbrev before : tie.After-check → List ℕ
 before c = let a = check→start c .args in a .outcome .now ∷ a .page .now ∷ []
 
+-- the check, as it is defined
+abbrev checked : tie.After-check → Answer Unit Outcome
+checked c = let a = check→start c .args in checkSheet (a .sheet .now) (asPart (a .file .now) (a .used))
+
 -- what is told of the answer that the code has
 told : (c : tie.After-check) (o : Checked) → c .check .result ≡ o
-    → (numberOf (checkAnswer o) ≡ numberOf (checkSheet (check→start c .args .sheet .now) (asPart (check→start c .args .file .now) (check→start c .args .used))))
-    × (valueOr (before c) (mapped outcomeIn (checkAnswer o))
-    ≡ valueOr (before c) (mapped outcomeIn (checkSheet (check→start c .args .sheet .now) (asPart (check→start c .args .file .now) (check→start c .args .used)))))
+    → (numberOf (checkAnswer o) ≡ numberOf (checked c))
+    × (valueOr (before c) (mapped outcomeIn (checkAnswer o)) ≡ valueOr (before c) (mapped outcomeIn (checked c)))
 told c o e =
     let h = ap checkAnswer (sym e) ∙ c .check .ensures in
     (ap numberOf h, ap (λ (a : Answer Unit Outcome). valueOr (before c) (mapped outcomeIn a)) h)
