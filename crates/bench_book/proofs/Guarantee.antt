@@ -15,11 +15,12 @@ use Rattle.printing.proofs.Reports.{printed-fingerprint}
 use Rattle.book.specs.Confusions.{Sound, Reaches}
 use Rattle.book.specs.Claims.{Lists, Lowest, Confusions, Counted, Bursts}
 use Rattle.book.proofs.Guarantee as any-level
-use Rattle.bench_book.specs.Book.{Call, ByBits, ByTable, bookTests, bench, Route, ByCalls, Beginning, Printed}
+use Rattle.fed_parts.specs.Parts.{Feed, ByBits, ByTable}
+use Rattle.bench_book.specs.Book.{bookTests, bench, Route, ByCalls, Beginning, Printed}
 use Rattle.bench_book.proofs.StepLaws.{keeps}
 
 -- the book's tests stand in the order of their numbers
-pub in-order : (key n : ℕ) (c : Call) → T (rising 0 (numbers (bookTests key n c)))
+pub in-order : (key n : ℕ) (c : Feed) → T (rising 0 (numbers (bookTests key n c)))
 unfolding bookTests rising
 in-order key n (ByBits part) = tt
 in-order key n (ByTable words part) = tt

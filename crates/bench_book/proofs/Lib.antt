@@ -1,4 +1,3 @@
 pub mod StepLaws
 pub mod Guarantee
 pub mod Calls
-pub mod Parts

@@ -1,22 +1,29 @@
 -- One call of the Bench level beside one step of the book.
-use mathlib.Core.Path.{_≡_, ap}
+use mathlib.Core.Path.{_≡_, ap, _∙_}
+use mathlib.Core.Bool.{true, false}
 use mathlib.Core.List.{List, [], _∷_, _++_}
-use Prim.Native.Nat.{ℕ, _<_}
+use Prim.Native.Nat.{ℕ, _+_, _≤_, _<_}
+use native.Mathlib.Omega.{arith}
 use lib.ListN.{length}
 use Rattle.refusals.specs.declared.Refusal.the-variants.{FinalByte}
-use Rattle.refusals.specs.Refusals.{Answer, stateOf, numberOf, Test, _⇒_, firstOf}
-use Rattle.refusals.proofs.Laws.{agree}
-use Rattle.acceptance.specs.Keys.{polynomialOf, keyOf, keyTests}
-use Rattle.acceptance.proofs.Laws.{whole-key}
+use Rattle.refusals.specs.Refusals.{Answer, Done, stateOf, numberOf, Test, _⇒_, firstOf, longest}
+use Rattle.refusals.proofs.Laws.{Clear, agree, clear-done, more-clear}
+use Rattle.refusals.proofs.Lengths.{sum-fits}
+use Rattle.acceptance.specs.Keys.{accepted, polynomialOf, keyOf, keyTests}
+use Rattle.acceptance.proofs.Laws.{accepted-pos, whole-key}
+use Rattle.acceptance.proofs.Opened.{open-accepted, opened-first}
 use Rattle.files.specs.declared.Mark.{Mark}
 use Rattle.files.specs.Files.{markOf, Part, partLength, partBits, misused, fedMark}
 use Rattle.files.proofs.Marks.{fed-true}
+use Rattle.files.proofs.Parts.{part-length}
 use Rattle.table_tests.specs.TableTests.{tableTests}
+use Rattle.table_tests.proofs.Laws.{clear-table}
 use Rattle.marks.specs.Feeding.{sumTest, feedTests, feedBits, feedTable}
 use Rattle.marks.proofs.Laws.{leave-out-8}
 use Rattle.book.specs.Runs.{bookStep}
 use Rattle.book.proofs.RunLaws.{Keeps}
-use Rattle.bench_book.specs.Book.{Call, ByBits, ByTable, step, bookTests, written, bench}
+use Rattle.fed_parts.specs.Parts.{Feed, ByBits, ByTable, step, partOf, Usable}
+use Rattle.bench_book.specs.Book.{bookTests, written, bench}
 
 -- the mark's side answers as the book does, and the mark is true of the book's file
 abbrev pub Agrees : ℕ → Answer Mark Mark → Answer (List ℕ) (List ℕ) → Type 0
@@ -62,9 +69,27 @@ module _ (key : ℕ) (pos : 0 < key) (file : List ℕ) where
       (firstOf (keyTests (keyOf key) ++ tableTests key words ++ tests part) file (file ++ partBits part))
       (feed-agrees (keyTests (keyOf key) ++ tableTests key words) part)
 
-  pub each : (c : Call) → Agrees key (step key (markOf key file) c) (bookStep bench key file c)
+  pub each : (c : Feed) → Agrees key (step key (markOf key file) c) (bookStep bench key file c)
   each (ByBits part) = bits-agree part
   each (ByTable words part) = table-agree words part
 
 pub keeps : (key : ℕ) → 0 < key → Keeps bench key
 keeps key pos file m c t h = rw t (each key pos file c)
+
+-- where no test holds, the book takes the part
+module _ (key : ℕ) (a : accepted key ≡ true) (file : List ℕ) where
+  -- numbers 7 and 19 do not apply
+  neither : (part : Part) → misused part ≡ false → length file + length (partBits part) ≤ longest → Clear (tests key (accepted-pos key a) file part)
+  neither part w l = (sum-fits (length file) (partLength part) (omega (arith, part-length part)), (w, tt))
+
+  pub taken : (c : Feed) → Usable key c → length file + length (partBits (partOf c)) ≤ longest
+      → bookStep bench key file c ≡ Done (file ++ partBits (partOf c))
+  unfolding bookStep bookTests written
+  taken (ByBits part) u l =
+      let ts = tests key (accepted-pos key a) file part in
+      opened-first (open-accepted key a) ts file (file ++ partBits part) ∙ clear-done ts file (file ++ partBits part) (neither part u l)
+  taken (ByTable words part) u l =
+      let ts = tests key (accepted-pos key a) file part in
+      opened-first (open-accepted key a) (tableTests key words ++ ts) file (file ++ partBits part)
+      ∙ more-clear (tableTests key words) ts file (file ++ partBits part) (clear-table words key (u .0))
+      ∙ clear-done ts file (file ++ partBits part) (neither part (u .1) l)

@@ -1,6 +1,6 @@
 -- Laws of numbers as bytes: what is written in w bytes reads back, and bytes that are read are what the number is written as.
 use mathlib.Core.Path.{_≡_, refl, sym, ap, ap₂, _∙_}
-use mathlib.Core.List.{List, [], _∷_, _++_, append-assoc}
+use mathlib.Core.List.{List, [], _∷_, _++_, zipWith, flatten, append-assoc}
 use Prim.Native.Nat.{ℕ, zero, suc, _+_, _-_, _*_, _/_, _%_, _^_, _≤_, _<_}
 use native.Mathlib.Nat.{suc-add, add-suc, mul-one, zero-mul, mul-zero, mul-assoc, zero-add, mul-add-div-right, mul-add-mod-self-right, add-zero, mod-one}
 use native.Mathlib.Nat.{div-one, mod-mod, mod-eq-of-lt, mul-suc, add-assoc, add-comm, mul-comm}
@@ -245,14 +245,14 @@ fields-behind w f fs l i = sets-behind (bytesOf w f) (fieldsOf w fs) l i (i + w)
 -- the fields in front of the fingerprints: one store more
 pub store-field : (ws xs : List ℕ) (w x place : ℕ) (l l' after : List ℕ) → l' ≡ sets l place (bytesOf w x) → after ≡ sets l' (place + w) (bytesIn ws xs)
     → after ≡ sets l place (bytesIn (w ∷ ws) (x ∷ xs))
-unfolding bytesIn
+unfolding bytesIn zipWith flatten
 store-field ws xs w x place l l' after e d =
     d
     ∙ ap (λ (b : List ℕ). sets b (place + w) (bytesIn ws xs)) e
     ∙ sets-behind (bytesOf w x) (bytesIn ws xs) l place (place + w) (ap (λ (n : ℕ). place + n) (sym (length-bytesOf w x)))
 
 pub store-none : (xs : List ℕ) (place : ℕ) (l : List ℕ) → l ≡ sets l place (bytesIn [] xs)
-unfolding bytesIn
+unfolding bytesIn zipWith flatten
 store-none xs place l = refl
 
 -- one of the numbers

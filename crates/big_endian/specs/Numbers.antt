@@ -1,7 +1,7 @@
 -- Numbers as bytes, the high byte first (document 01, "Page sheets": "Layout, high byte first").
-use mathlib.Core.List.{List, [], _∷_, _++_}
+use mathlib.Core.List.{List, [], _∷_, _++_, zipWith, flatten}
 use Prim.Native.Nat.{ℕ, zero, suc, _+_, _*_, _/_, _%_, _^_}
-use lib.ListN.{getD, take, drop}
+use lib.ListN.{take, drop}
 use Rattle.files.specs.Files.{bits, valueFrom}
 
 -- the w low bytes of a number
@@ -25,5 +25,4 @@ numbersAt place w (suc c) l = numberAt place w l ∷ numbersAt (place + w) w c l
 
 -- numbers one behind the other, each in its width
 unfoldable pub bytesIn : List ℕ → List ℕ → List ℕ
-bytesIn [] xs = []
-bytesIn (w ∷ ws) xs = bytesOf w (getD xs 0 0) ++ bytesIn ws (drop 1 xs)
+bytesIn ws xs = flatten (zipWith bytesOf ws xs)

@@ -2,12 +2,13 @@
 // held.
 ghost use mathlib.Core.Path.{_≡_};
 ghost use mathlib.Core.List.{[], _∷_};
-ghost use Rattle.refusals.specs.Refusals.{numberOf, stateOf, valueOr};
+ghost use Rattle.refusals.specs.Refusals.{numberOf, stateOf, valueOr, mapped};
 ghost use Rattle.files.specs.Files.{asPart};
-ghost use Rattle.c_interface.specs.Interface.{keyAt, heldAfter};
+ghost use Rattle.c_interface.specs.Interface.{keyAt};
 ghost use Rattle.sheets.specs.Layout.{contentsIn};
 ghost use Rattle.sheets.specs.Sheets.{writeSheet, readSheet, readPages, checkSheet, lengthFor};
-ghost use Rattle.gfp_sheets.specs.Outputs.{sheetIn, outcomeIn, rangeIn};
+ghost use Rattle.sheets.specs.Outputs.{numbersOf, outcomeIn, rangeIn};
+ghost use Rattle.sheets.specs.declared.Sheet.{Sheet};
 use acceptance::Key;
 use sheets::Changed;
 use sheets::Checked;
@@ -49,10 +50,25 @@ pub extern "C" fn gfp_read_sheet(
 ) -> u32
     ensures { λ r. ⌜
         (r ≡ numberOf (readSheet (now (sheet .entry))))
-        × (now (version .exit) ∷ now (degree .exit) ∷ now (word .exit) ∷ now (bits .exit) ∷ now («page_size» .exit) ∷ now (pages .exit) ∷ now (fingerprint .exit) ∷ []
-        ≡ heldAfter sheetIn
-        (now (version .entry) ∷ now (degree .entry) ∷ now (word .entry) ∷ now (bits .entry) ∷ now («page_size» .entry) ∷ now (pages .entry) ∷ now (fingerprint .entry) ∷ [])
-        (readSheet (now (sheet .entry))))
+        × (_≡_ {A = Sheet}
+        (record {
+          version = now (version .exit);
+          key = keyAt (now (degree .exit)) (now (word .exit));
+          length = now (bits .exit);
+          size = now («page_size» .exit);
+          pages = now (pages .exit);
+          fingerprint = now (fingerprint .exit);
+        })
+        (valueOr
+        (record {
+          version = now (version .entry);
+          key = keyAt (now (degree .entry)) (now (word .entry));
+          length = now (bits .entry);
+          size = now («page_size» .entry);
+          pages = now (pages .entry);
+          fingerprint = now (fingerprint .entry);
+        })
+        (mapped numbersOf (readSheet (now (sheet .entry))))))
         ⌝ }
 {
     match sheet_reading::read(sheet) {
@@ -96,7 +112,7 @@ pub extern "C" fn gfp_check_file(
     ensures { λ r. ⌜
         (r ≡ numberOf (checkSheet (now (sheet .entry)) (asPart (now (file .entry)) used)))
         × (now (outcome .exit) ∷ now (page .exit) ∷ []
-        ≡ heldAfter outcomeIn (now (outcome .entry) ∷ now (page .entry) ∷ []) (checkSheet (now (sheet .entry)) (asPart (now (file .entry)) used)))
+        ≡ valueOr (now (outcome .entry) ∷ now (page .entry) ∷ []) (mapped outcomeIn (checkSheet (now (sheet .entry)) (asPart (now (file .entry)) used))))
         ⌝ }
 {
     match sheet_checking::check(sheet, file, used) {
@@ -133,8 +149,8 @@ pub extern "C" fn gfp_changed_range(
     ensures { λ r. ⌜
         (r ≡ numberOf (checkSheet (now (sheet .entry)) (asPart (now (file .entry)) used)))
         × (now (outcome .exit) ∷ now (from .exit) ∷ now (to .exit) ∷ []
-        ≡ heldAfter (rangeIn (contentsIn (now (sheet .entry)))) (now (outcome .entry) ∷ now (from .entry) ∷ now (to .entry) ∷ [])
-        (checkSheet (now (sheet .entry)) (asPart (now (file .entry)) used)))
+        ≡ valueOr (now (outcome .entry) ∷ now (from .entry) ∷ now (to .entry) ∷ [])
+        (mapped (rangeIn (contentsIn (now (sheet .entry)))) (checkSheet (now (sheet .entry)) (asPart (now (file .entry)) used))))
         ⌝ }
 {
     match sheet_checking::first_changed_range(sheet, file, used) {

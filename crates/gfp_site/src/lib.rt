@@ -1,13 +1,12 @@
 // The Site level: its functions on marks and for the search, for C. Each answers 0 or the refusal's number; on refusal every lent place and buffer
 // keeps what it held. Its functions for page sheets stand in the crate gfp_sheets, the guarantee over lists of calls in the crate site_book.
 ghost use mathlib.Core.Path.{_≡_};
-ghost use mathlib.Core.List.{[], _∷_};
-ghost use Rattle.refusals.specs.Refusals.{numberOf, stateOf};
+ghost use Rattle.refusals.specs.Refusals.{numberOf, stateOf, valueOr};
 ghost use Rattle.files.specs.Files.{asPart};
-ghost use Rattle.c_interface.specs.Interface.{keyAt, markAt, heldAfter};
+ghost use Rattle.c_interface.specs.Interface.{keyAt, markAt};
 ghost use Rattle.compose.specs.Composing.{joinBehind, joinInFront, replacePage};
 ghost use Rattle.search.specs.Searching.{search, placesAfter};
-ghost use Rattle.gfp_site.specs.Outputs.{countsIn};
+ghost use Rattle.search.specs.declared.Counts.{Counts};
 use acceptance::Key;
 use files::Mark;
 use marks::Running;
@@ -119,8 +118,8 @@ pub extern "C" fn gfp_search(
     ensures { λ r. ⌜
         (r ≡ numberOf (search (keyAt degree word) (now (text .entry)) (now (pattern .entry))))
         × (now (places .exit) ≡ placesAfter (keyAt degree word) (now (text .entry)) (now (pattern .entry)) (now (places .entry)))
-        × (now (count .exit) ∷ now (alarms .exit) ∷ []
-        ≡ heldAfter countsIn (now (count .entry) ∷ now (alarms .entry) ∷ []) (search (keyAt degree word) (now (text .entry)) (now (pattern .entry))))
+        × (_≡_ {A = Counts} (record { places = now (count .exit); alarms = now (alarms .exit) })
+        (valueOr (record { places = now (count .entry); alarms = now (alarms .entry) }) (search (keyAt degree word) (now (text .entry)) (now (pattern .entry)))))
         ⌝ }
 {
     let key = Key { degree, word };

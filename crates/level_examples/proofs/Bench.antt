@@ -25,10 +25,11 @@ use Rattle.house.proofs.House.{house-accepted}
 use Rattle.stock.proofs.Table.{stock-smallest, stock-64}
 use Rattle.book.specs.Runs.{bookStep, run, Honest}
 use Rattle.book.specs.Confusions.{Confuses}
-use Rattle.bench_book.specs.Book.{Call, ByBits, ByTable, step, bookTests, bench, Route, Printed}
-use Rattle.bench_book.specs.Parts.{AllUsable}
+use Rattle.fed_parts.specs.Parts.{Feed, ByBits, ByTable, step, AllUsable}
+use Rattle.fed_parts.proofs.Parts.{parts, cut-anywhere}
+use Rattle.bench_book.specs.Book.{bookTests, bench, Route, Printed}
+use Rattle.bench_book.proofs.StepLaws.{taken}
 use Rattle.bench_book.proofs.Guarantee.{lists, reaches}
-use Rattle.bench_book.proofs.Parts.{taken, parts, cut-anywhere}
 
 pub accepted-11B : accepted 0x11B ≡ true
 unfolding accepted reducible anyBelow rem longDivision reduce degree halvings _⊕_
@@ -61,7 +62,7 @@ dirty = asPart (0x41 ∷ []) 3
 abbrev byte-41 : List ℕ
 byte-41 = bits (0x41 ∷ [])
 
-pub calls : List Call
+pub calls : List Feed
 calls =
     ByBits (whole (0x41 ∷ []))
     ∷ ByBits long
@@ -167,7 +168,7 @@ computed = (refl, refl, refl, refl, refl, refl)
 
 -- ---- under the house key, from the empty file
 
-pub house-calls : List Call
+pub house-calls : List Feed
 house-calls = ByTable houseWords (whole (0x41 ∷ [])) ∷ ByBits (whole (0x42 ∷ [])) ∷ ByTable houseWords (whole []) ∷ []
 
 pub house-usable : AllUsable houseKey house-calls

@@ -1,7 +1,7 @@
 -- Lists of calls under the key 0x11B, from the empty file, with the book beside them: each kind of call refused and not. And a route
 -- of each kind. So the claims of Guarantee.antt are not empty.
 use mathlib.Core.Path.{_≡_, refl, subst, _∙_}
-use mathlib.Core.List.{List, [], _∷_, _++_, map}
+use mathlib.Core.List.{List, [], _∷_, _++_, map, zipWith, flatten}
 use Prim.Native.Nat.{ℕ}
 use native.Mathlib.Omega.{arith}
 use lib.Dec.{ltb, ltb→lt}
@@ -25,6 +25,7 @@ use Rattle.marks.specs.Feeding.{feedBits, feedTable}
 use Rattle.compose.specs.Composing.{joinBehind, joinInFront, replacePage}
 use Rattle.book.specs.Runs.{bookStep, run, Honest}
 use Rattle.book.specs.Confusions.{Confuses}
+use Rattle.fed_parts.specs.Parts as feeds
 use Rattle.bench_book.specs.Book as bench-level
 use Rattle.level_examples.proofs.Bench as bench-examples
 use Rattle.site_book.specs.Book.{Call, Feeding, Behind, InFront, Page, step, bookTests, written, site}
@@ -43,8 +44,8 @@ the-feeding-list = bench-lists 0x11B (mark 0x01 0) bench-examples.calls ∙ benc
 
 pub calls : List Call
 calls =
-    Feeding (bench-level.ByBits (whole (0x41 ∷ [])))
-    ∷ Feeding (bench-level.ByTable [] (whole (0x00 ∷ [])))
+    Feeding (feeds.ByBits (whole (0x41 ∷ [])))
+    ∷ Feeding (feeds.ByTable [] (whole (0x00 ∷ [])))
     ∷ Behind (mark 0x59 8) (bits (0x42 ∷ []))
     ∷ Behind (mark 0x100 8) []
     ∷ InFront (mark 0x5A 34359738360) []
@@ -66,7 +67,7 @@ unfolding calls run bookStep bookTests written bench-level.bookTests bench-level
 the-book = refl
 
 pub the-list : run (step 0x11B) (mark 0x01 0) calls ≡ (mark (fingerprint 0x11B (bits (0x41 ∷ 0x00 ∷ 0x00 ∷ []))) 24, numbers)
-unfolding calls run step bench-level.step feedBits feedTable fedMark joinBehind joinInFront joined replacePage replaced
+unfolding calls run step feeds.step feedBits feedTable fedMark joinBehind joinInFront joined replacePage replaced
     monic reducible anyBelow fingerprint value valueFrom bits lowBits usedBits partLength partBits misused rem longDivision reduce degree halvings _⊕_ differs
 the-list = refl
 
@@ -123,7 +124,7 @@ sheet : List ℕ
 sheet = 0x47 ∷ 0x46 ∷ 0x50 ∷ 0x00 ∷ 0x04 ∷ pairField ++ field 0x10 ++ 0x00 ∷ 0x10 ∷ field 0x9D ++ field 0x9D
 
 written-sheet : writeSheet (keyOf 0x11B) 16 (whole (0x41 ∷ 0x42 ∷ [])) (replicate 40 0) ≡ Done sheet
-unfolding sheet writeSheet overlay sheetBytes keyNumber layoutAmong bytesIn fieldsOf bytesOf contentsOf pageFingerprints filled
+unfolding sheet writeSheet overlay sheetBytes keyNumber layoutAmong bytesIn zipWith flatten fieldsOf bytesOf contentsOf pageFingerprints filled
     monic reducible anyBelow fingerprint value valueFrom bits lowBits usedBits partLength partBits misused rem longDivision reduce degree halvings _⊕_
 written-sheet = refl
 

@@ -6,7 +6,7 @@ use Prim.Native.Nat.{ℕ}
 use Rattle.refusals.specs.declared.Refusal.{Refusal}
 use Rattle.refusals.specs.declared.Reply.{Reply}
 use Rattle.refusals.specs.declared.Reply.the-variants as reply-cases
-use Rattle.refusals.specs.Refusals.{Answer, Refused, numberOf, stateOf, valueOr, Test, _⇒_, firstOf, judged}
+use Rattle.refusals.specs.Refusals.{Answer, Done, Refused, numberOf, stateOf, valueOr, mapped, Test, _⇒_, firstOf, judged}
 use Rattle.refusals.specs.Answers.{reply, told}
 use Rattle.refusals.proofs.Laws.{Clear, done-clear, more-refused}
 
@@ -36,3 +36,13 @@ pub first-keeps : {A : Type 0} (ts : List Test) (before value : A) → valueOr b
 first-keeps [] before value = refl
 first-keeps (true ⇒ r ∷ ts) before value = refl
 first-keeps (false ⇒ r ∷ ts) before value = first-keeps ts before value
+
+-- the same answer with f of the value: its number, and its tests
+pub mapped-number : {S A B : Type 0} (f : A → B) (a : Answer S A) → numberOf (mapped f a) ≡ numberOf a
+mapped-number f (Done a) = refl
+mapped-number f (Refused r s) = refl
+
+pub first-mapped : {S A B : Type 0} (f : A → B) (ts : List Test) (kept : S) (value : A) → firstOf ts kept (f value) ≡ mapped f (firstOf ts kept value)
+first-mapped f [] kept value = refl
+first-mapped f (true ⇒ r ∷ ts) kept value = refl
+first-mapped f (false ⇒ r ∷ ts) kept value = first-mapped f ts kept value

@@ -46,6 +46,11 @@ abbrev pub valueOr : {S A : Type 0} → A → Answer S A → A
 valueOr before (Done a) = a
 valueOr before (Refused r s) = before
 
+-- the same answer, with f of the value
+abbrev pub mapped : {S A B : Type 0} → (A → B) → Answer S A → Answer S B
+mapped f (Done a) = Done (f a)
+mapped f (Refused r s) = Refused r s
+
 -- ---- the tests of a call
 
 -- a test, and the refusal where it holds

@@ -17,11 +17,12 @@ use Rattle.files.specs.Files.{Part, partLength, partBits, misused, bytesFor}
 use Rattle.files.proofs.Parts.{part-length, part-bytes}
 use Rattle.sheets.specs.declared.Sheet.{Sheet}
 use Rattle.big_endian.specs.Numbers.{numbersAt}
-use Rattle.sheets.specs.Layout.{versionIn, layouts, layoutOf, sheetLength, pageCount, pagesFor, Contents, fieldIn, contentsIn}
+use Rattle.sheets.specs.Layout.{versionIn, layouts, layoutOf, sheetLength, pageCount, pagesFor, Contents, sizeIn, contentsIn}
 use Rattle.sheets.specs.Sheets.{pageFingerprints, contentsOf, readTests, readSheet, Page, OtherLength, firstChange, compared, checkSheet}
+use Rattle.sheets.specs.Outputs.{rangeIn}
 use Rattle.sheets.specs.Answers.{sheetRead}
 use Rattle.sheets.specs.Sheets.{Outcome, headWrong, checkTests}
-use Rattle.sheets.specs.Answers.{FromTo, rangeOf, changedRange}
+use Rattle.sheets.specs.Answers.{changedRange}
 use Rattle.sheets.specs.Inner.{ReadAs, comparison, ranged, fingerprintsPart}
 use Rattle.refusals.proofs.Laws.{Clear, done-clear, more-refused, more-clear, first-true, first-false}
 use Rattle.sheets.proofs.Parts.{pages-held}
@@ -107,7 +108,7 @@ module _ (sheet : List ℕ) {x : Sheet} (r : ReadAs sheet x) where
 
 -- ---- the range is that of the check's answer
 
-first-ranged : (x : Contents) (ts : List Test) (o : Outcome) → firstOf ts tt (rangeOf x o) ≡ ranged x (firstOf ts tt o)
+first-ranged : (x : Contents) (ts : List Test) (o : Outcome) → firstOf ts tt (rangeIn x o) ≡ ranged x (firstOf ts tt o)
 first-ranged x [] o = refl
 first-ranged x (true ⇒ r ∷ ts) o = refl
 first-ranged x (false ⇒ r ∷ ts) o = first-ranged x ts o
@@ -137,11 +138,11 @@ module _ (sheet : List ℕ) (file : Part) (i : ℕ) (e : checkSheet sheet file �
   bytes-equal = sym (part-bytes file) ∙ ap bytesFor (sym (part-length file) ∙ named-equal)
 
   -- its bytes, by the numbers that the code has
-  pub named-range : (from size end : ℕ) → size ≡ fieldIn (layoutOf (versionIn sheet)) 4 sheet → from ≡ i * size
-      → end ≡ min (from + size) (length (file .bytes)) → Done (FromTo from end) ≡ changedRange sheet file
+  pub named-range : (from size end : ℕ) → size ≡ sizeIn (layoutOf (versionIn sheet)) sheet → from ≡ i * size
+      → end ≡ min (from + size) (length (file .bytes)) → Done (1 ∷ from ∷ end ∷ []) ≡ changedRange sheet file
   unfolding contentsIn
   named-range from size end es ef ee =
-      ap₂ (λ (a b : ℕ). Done (FromTo a b)) (ef ∙ ap (λ (s : ℕ). i * s) es) (ee ∙ ap₂ (λ (a b : ℕ). min a b)
+      ap₂ (λ (a b : ℕ). Done (1 ∷ a ∷ b ∷ [])) (ef ∙ ap (λ (s : ℕ). i * s) es) (ee ∙ ap₂ (λ (a b : ℕ). min a b)
       (ap₂ (λ (a b : ℕ). a + b) (ef ∙ ap (λ (s : ℕ). i * s) es) es) bytes-equal)
       ∙ ap (ranged (contentsIn sheet)) (sym e)
       ∙ sym (changed-by-check sheet file)

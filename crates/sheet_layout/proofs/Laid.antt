@@ -8,14 +8,14 @@ use lib.ListN.{length}
 use Rattle.acceptance.specs.declared.Key.{Key}
 use Rattle.acceptance.specs.Keys.{keyOf}
 use Rattle.big_endian.specs.Numbers.{numberAt}
-use Rattle.sheets.specs.Layout.{Layout, pagePlace, keyFrom, fieldIn, keyIn, lengthIn}
+use Rattle.sheets.specs.Layout.{Layout, pagePlace, keyFrom, fieldIn, sizeIn, keyIn, lengthIn}
 use Rattle.sheets.proofs.Keys.{pair-read, number-read}
 use Rattle.sheet_layout.specs.declared.Fields.{Fields}
 use Rattle.sheet_layout.specs.Heads.{LaidOut}
 
 module _ {v : Layout} {r : Fields} (h : LaidOut v r) where
   pub place-laid : pagePlace v 0 ≡ 5 + r .key + r .length + r .size
-  place-laid = rw (h .widths, h .fingerprints) (omega arith)
+  place-laid = rw (h .widths) (omega arith)
 
   -- the key's width, and its field, by its form
   pub key-wide : (b : Bool) → r .paired ≡ b → r .key ≡ cond b 9 8
@@ -37,5 +37,5 @@ module _ {v : Layout} {r : Fields} (h : LaidOut v r) where
       field : fieldIn v 3 sheet ≡ numberAt (5 + r .key) (r .length) sheet
       field = rw (h .widths) (ap (λ (n : ℕ). numberAt n (r .length) sheet) (omega arith))
 
-  pub size-laid : (sheet : List ℕ) → fieldIn v 4 sheet ≡ numberAt (5 + r .key + r .length) (r .size) sheet
+  pub size-laid : (sheet : List ℕ) → sizeIn v sheet ≡ numberAt (5 + r .key + r .length) (r .size) sheet
   size-laid sheet = rw (h .widths) (ap (λ (n : ℕ). numberAt n (r .size) sheet) (omega arith))

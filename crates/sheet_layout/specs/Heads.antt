@@ -4,7 +4,7 @@ use mathlib.Core.Bool.{cond}
 use mathlib.Core.List.{List, [], _∷_}
 use Prim.Native.Nat.{ℕ, _*_, _^_, _≤_, _<_}
 use Rattle.refusals.specs.Refusals.{longest}
-use Rattle.sheets.specs.Layout.{versionIn, Layout, layoutOf, Contents, fieldIn, keyIn, lengthIn}
+use Rattle.sheets.specs.Layout.{versionIn, Layout, layoutOf, Contents, sizeIn, keyIn, lengthIn}
 use Rattle.sheet_layout.specs.declared.Head.{Head}
 use Rattle.sheet_layout.specs.declared.Fields.{Fields}
 
@@ -12,7 +12,6 @@ use Rattle.sheet_layout.specs.declared.Fields.{Fields}
 pub record LaidOut (v : Layout) (r : Fields) : Type 0 where
   pub widths : v .widths ≡ r .key ∷ r .length ∷ r .size ∷ []
   pub paired : v .paired ≡ r .paired
-  pub fingerprints : v .fingerprintWidth ≡ 8
   pub unit : v .lengthUnit ≡ r .unit
   pub filled : v .filled ≡ r .filled
   pub key-width : r .key ≡ cond (r .paired) 9 8
@@ -27,7 +26,7 @@ pub record HeadOf (sheet : List ℕ) (head : Head) : Type 0 where
   pub version : head .version ≡ versionIn sheet
   pub key : head .key ≡ keyIn (layoutOf (versionIn sheet)) sheet
   pub length : head .length ≡ lengthIn (layoutOf (versionIn sheet)) sheet
-  pub size : head .size ≡ fieldIn (layoutOf (versionIn sheet)) 4 sheet
+  pub size : head .size ≡ sizeIn (layoutOf (versionIn sheet)) sheet
   pub length-fits : head .length ≤ longest
   pub size-fits : head .size < 2 ^ 16
 

@@ -19,16 +19,14 @@ use Rattle.keys.specs.declared.Tested.the-variants as tested-cases
 use Rattle.keys.specs.Testing.{testKey}
 use Rattle.keys.specs.Answers.{tested}
 use Rattle.keys.proofs.Laws.{refused}
-use Rattle.sheets.specs.declared.Sheet.{Sheet}
 use Rattle.sheet_layout.specs.declared.Head.{Head}
 use Rattle.big_endian.specs.Numbers.{numberAt}
-use Rattle.sheets.specs.Layout.{versionIn, Layout, layouts, layoutOf, pagePlace, sheetLength, pagesFor, Contents, fieldIn, keyIn, pagesIn, contentsIn}
+use Rattle.sheets.specs.Layout.{versionIn, Layout, layouts, layoutOf, pagePlace, sheetLength, pagesFor, Contents, sizeIn, keyIn, pagesIn, contentsIn}
 use Rattle.sheets.specs.Sheets.{someUnreduced, pagesJoined, fileFilled, pageSizeTest, headWrong, bodyWrong, readSheet}
-use Rattle.sheets.specs.Answers.{numbersOf}
+use Rattle.sheets.specs.Outputs.{numbersOf}
 use Rattle.sheet_layout.specs.Heads.{HeadOf}
 use Rattle.sheets.specs.Inner.{readBody}
 use Rattle.big_endian.proofs.Numbers.{length-numbersAt}
-use Rattle.sheets.proofs.Versions.{eight-wide}
 use Rattle.refusals.proofs.Laws.{first-true, first-false}
 use Rattle.sheets.proofs.Sound.{neither}
 
@@ -42,11 +40,7 @@ pub numbers-are : (sheet : List ℕ) (head : Head) (c f : ℕ) → HeadOf sheet 
 unfolding contentsIn
 numbers-are sheet head c f h ec ef =
     let v = layoutOf (versionIn sheet) in
-    rw (length-numbersAt (pagePlace v 0) (v .fingerprintWidth) (pagesIn v sheet) sheet, ← (h .key), ← (h .length), ← (h .size), ← ec, ← (h .version), ef)
-    (ap numbers (ap (λ (w : ℕ). numberAt (pagePlace (layoutOf (head .version)) c) w sheet) (eight-wide (head .version))))
-  where
-    numbers : ℕ → Sheet
-    numbers g = record { version = head .version; key = head .key; length = head .length; size = head .size; pages = c; fingerprint = g }
+    rw (length-numbersAt (pagePlace v 0) 8 (pagesIn v sheet) sheet, ← (h .key), ← (h .length), ← (h .size), ← ec, ← (h .version), ef)
 
 pub body-total : (sheet : List ℕ) → bodyWrong (length sheet) (contentsIn sheet) ≡ false
     → length sheet ≡ sheetLength (layoutOf (versionIn sheet)) (pagesIn (layoutOf (versionIn sheet)) sheet)
@@ -59,7 +53,7 @@ body-total sheet e =
     let t =
     neither (not sizes) (someUnreduced k (x .pages ++ x .fingerprint ∷ [])) (not (eqb (pagesJoined x .fingerprint) (fileFilled x))) e in
     eqb-true (length sheet) (sheetLength v (length (x .pages))) (not-false _ (t .0))
-    ∙ ap (sheetLength v) (length-numbersAt (pagePlace v 0) (v .fingerprintWidth) (pagesIn v sheet) sheet)
+    ∙ ap (sheetLength v) (length-numbersAt (pagePlace v 0) 8 (pagesIn v sheet) sheet)
 
 module _ (sheet : List ℕ) where
   abbrev x : Contents
@@ -87,12 +81,12 @@ module _ (sheet : List ℕ) where
     pub read-opened : (p : Modulus) → Opened (keyIn (layoutOf (versionIn sheet)) sheet) p → readSheet sheet ≡ readBody sheet
     read-opened p o = after-head ∙ opened-first o rest tt x
 
-  pub body-size : (ltb (fieldIn (layoutOf (versionIn sheet)) 4 sheet) 16 || ltb 4096 (fieldIn (layoutOf (versionIn sheet)) 4 sheet)) ≡ true
+  pub body-size : (ltb (sizeIn (layoutOf (versionIn sheet)) sheet) 16 || ltb 4096 (sizeIn (layoutOf (versionIn sheet)) sheet)) ≡ true
       → readBody sheet ≡ Refused PageSize tt
   unfolding contentsIn
   body-size e = first-true (ltb (x .pageSize) 16 || ltb 4096 (x .pageSize)) PageSize (bodyWrong (length sheet) x ⇒ SheetMalformed ∷ []) tt x e
 
-  module _ (size : (ltb (fieldIn (layoutOf (versionIn sheet)) 4 sheet) 16 || ltb 4096 (fieldIn (layoutOf (versionIn sheet)) 4 sheet)) ≡ false) where
+  module _ (size : (ltb (sizeIn (layoutOf (versionIn sheet)) sheet) 16 || ltb 4096 (sizeIn (layoutOf (versionIn sheet)) sheet)) ≡ false) where
     after-size : readBody sheet ≡ firstOf (bodyWrong (length sheet) x ⇒ SheetMalformed ∷ []) tt x
     unfolding contentsIn
     after-size = first-false (ltb (x .pageSize) 16 || ltb 4096 (x .pageSize)) PageSize (bodyWrong (length sheet) x ⇒ SheetMalformed ∷ []) tt x size

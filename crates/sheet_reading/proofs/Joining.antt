@@ -1,5 +1,5 @@
 -- Laws of reading's tests: the rest of number 14, by the numbers that the code has at hand.
-use mathlib.Core.Path.{_≡_, sym, ap, ap₂, subst, _∙_}
+use mathlib.Core.Path.{_≡_, sym, ap, ap₂, _∙_}
 use mathlib.Core.Bool.{false, _||_, not, Bool·not-not}
 use mathlib.Core.List.{List, [], _∷_, _++_}
 use Prim.Native.Nat.{ℕ, _*_, _^_, _≤_}
@@ -22,7 +22,6 @@ use Rattle.sheets.specs.Sheets.{bodyWrong, someUnreduced, joinedPages}
 use Rattle.sheet_layout.specs.Heads.{HeadOf}
 use Rattle.sheets.specs.Inner.{zerosBehind, fingerprintsPart}
 use Rattle.big_endian.proofs.Numbers.{length-numbersAt, numbers-of-part}
-use Rattle.sheets.proofs.Versions.{eight-wide}
 use Rattle.sheets.proofs.Pages.{pages-count, zeros-are}
 use Rattle.sheet_joining.specs.Joining.{BitsOf}
 use Rattle.sheet_joining.proofs.Joining.{bits-last}
@@ -56,11 +55,11 @@ module _ (sheet : List ℕ) (head : Head) (h : HeadOf sheet head) (some : 16 ≤
       || not (eqb (joinedPages v key (8 * head .size) (head .length) (markOf key []) fs .fingerprint)
       (rem key (f * 2 ^ zerosBehind v (8 * head .size) (head .length)))))
 
-  by-fields : wide (v .fingerprintWidth)
+  by-fields : wide 8
   unfolding contentsIn
   by-fields =
-      let fs = numbersAt (pagePlace v 0) (v .fingerprintWidth) count sheet in
-      let many = length-numbersAt (pagePlace v 0) (v .fingerprintWidth) count sheet in
+      let fs = numbersAt (pagePlace v 0) 8 count sheet in
+      let many = length-numbersAt (pagePlace v 0) 8 count sheet in
       rw (
         ← (h .key),
         ← (h .length),
@@ -75,7 +74,7 @@ module _ (sheet : List ℕ) (head : Head) (h : HeadOf sheet head) (some : 16 ≤
       || someUnreduced (degree key) (pages ++ file ∷ [])
       || not (eqb (joinedPages v key (8 * head .size) (head .length) (markOf key []) pages .fingerprint)
       (rem key (file * 2 ^ zerosBehind v (8 * head .size) (head .length)))))
-  body-is = rw (numbers-of-part (pagePlace v 0) 8 count sheet) (subst wide (eight-wide (head .version)) by-fields)
+  body-is = rw (numbers-of-part (pagePlace v 0) 8 count sheet) by-fields
 
   -- the total and the fields are right: the joining decides
   pub body-joined : (m x : ℕ) → length sheet ≡ sheetLength (layoutOf (head .version)) (pagesFor (head .size) (head .length))

@@ -18,8 +18,8 @@ use Rattle.big_endian.specs.Numbers.{bytesIn}
 use Rattle.sheets.specs.Layout.{Contents, headOf, sheetBytes}
 use Rattle.sheets.specs.Sheets.{pageFingerprints}
 use Rattle.big_endian.proofs.Numbers.{length-bytesOf, length-fieldsOf, sets-front, numbers-stored}
-use Rattle.sheets.proofs.Versions.{eight-wide, place-first, length-from}
-use Rattle.sheets.proofs.Layouts.{length-fields}
+use Rattle.sheets.proofs.Versions.{place-first, length-from}
+use Rattle.sheets.proofs.Layouts.{length-head}
 use Rattle.sheets.proofs.Pages.{length-pages, fingerprints-lt}
 
 -- u at the front, and v at the front of what is behind it
@@ -47,9 +47,8 @@ sheet-stores x c b b' part ec h e ep =
     let from = length-from (x .version) c in
     let all : pagePlace v 0 + (8 * c + 8) ≡ sheetLength v c = omega (arith, from) in
     ap (λ (l : List ℕ). take (pagePlace v 0) b' ++ l) ep
-    ∙ fronts head (pages ++ last) b b' (pagePlace v 0) (8 * c + 8) (length-fields (fieldWidths v) (headOf x) ∙ place-first v) long (omega (arith, from, h)) e
+    ∙ fronts head (pages ++ last) b b' (pagePlace v 0) (8 * c + 8) (length-head x ∙ place-first v) long (omega (arith, from, h)) e
     ∙ ap₂ (λ (u : List ℕ) (n : ℕ). u ++ drop n b) (sym (append-assoc head pages last)) all
-    ∙ ap (λ (w : ℕ). (head ++ fieldsOf w (x .pages) ++ bytesOf w (x .fingerprint)) ++ drop (sheetLength v c) b) (sym (eight-wide (x .version)))
 
 -- the fields of c pages of s bits read back, after they were stored
 pub pages-stored : (p : Modulus) → Proper p → (v : Layout) (s n : ℕ) (file b : List ℕ) → 8 * n ≤ length b

@@ -23,7 +23,7 @@ use Rattle.acceptance.specs.declared.Key.{Key}
 use Rattle.acceptance.specs.Keys.{polynomialOf}
 use Rattle.acceptance.proofs.Laws.{in-range, key-iff}
 use Rattle.big_endian.specs.Numbers.{numberAt}
-use Rattle.sheets.specs.Layout.{versionIn, Layout, version1, version2, version3, newest, layouts, known, layoutOf}
+use Rattle.sheets.specs.Layout.{versionIn, fingerprintWidth, Layout, version1, version2, version3, newest, layouts, known, layoutOf}
 use Rattle.sheets.specs.Layout.{pagePlace, sheetLength, pageCount, pagesFor, Contents, sheetBytes, contentsIn}
 use Rattle.sheets.specs.Sheets.{pageFingerprints, contentsOf, joinedPages, writeTests, writeSheet, readTests, readSheet, readPages, Page}
 use Rattle.sheets.specs.Claims.{highest, SoundContents, WellFormed, First, ReadIff, OtherVersion, PagesGiven, WrittenReads, WrittenFingerprint}
@@ -168,7 +168,7 @@ unfolding contentsOf
 written-fingerprint x s part buffer after done =
     let y = contentsOf (newest .version) x s (partBits part) in
     rw (written-bytes x s part buffer after done)
-    (ap₂ (λ (v : Layout) (c : ℕ). numberAt (pagePlace v c) (v .fingerprintWidth) (sheetBytes y)) (sym newest-is)
+    (ap₂ (λ (v : Layout) (c : ℕ). numberAt (pagePlace v c) fingerprintWidth (sheetBytes y)) (sym newest-is)
     (sym (length-pages (layoutOf (newest .version)) (polynomialOf x) (pagesFor s (length (partBits part))) (8 * s) (partBits part)))
     ∙ fingerprint-back y (sound-fits y (sound x s part buffer after done)))
 

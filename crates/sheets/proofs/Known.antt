@@ -10,13 +10,13 @@ use Rattle.refusals.proofs.Laws.{Clear, clear-done, done-clear, more-refused}
 use Rattle.refusals.specs.Refusals.{Answer, Done, Refused, Test, firstOf}
 use Rattle.sheets.specs.declared.Sheet.{Sheet}
 use Rattle.big_endian.specs.Numbers.{numbersAt}
-use Rattle.sheets.specs.Layout.{versionIn, layouts, layoutOf, pagePlace, sheetLength, Contents, pagesIn, contentsIn}
+use Rattle.sheets.specs.Layout.{versionIn, fingerprintWidth, layouts, layoutOf, pagePlace, sheetLength, Contents, pagesIn, contentsIn}
 use Rattle.sheets.specs.Sheets.{readTests, readSheet, readPages}
-use Rattle.sheets.specs.Answers.{numbersOf, sheetRead}
+use Rattle.sheets.specs.Outputs.{numbersOf}
+use Rattle.sheets.specs.Answers.{sheetRead}
 use Rattle.sheets.specs.Claims.{SoundContents}
 use Rattle.sheets.specs.Inner.{ReadAs, fingerprintsPart}
 use Rattle.big_endian.proofs.Numbers.{length-numbersAt, numbers-of-part}
-use Rattle.sheets.proofs.Versions.{eight-wide}
 use Rattle.sheets.proofs.Sound.{clear-total, clear-contents}
 
 -- the page fingerprints, in the part that begins with them
@@ -26,7 +26,7 @@ unfolding contentsIn
 pages-in sheet =
     let v = layoutOf (versionIn sheet) in
     let n = pagesIn v sheet in
-    ap (λ (w : ℕ). numbersAt (pagePlace v 0) w n sheet) (eight-wide (versionIn sheet)) ∙ sym (numbers-of-part (pagePlace v 0) 8 n sheet)
+    sym (numbers-of-part (pagePlace v 0) fingerprintWidth n sheet)
 
 -- ---- what reading says
 
@@ -65,7 +65,7 @@ module _ (sheet : List ℕ) {x : Sheet} (r : ReadAs sheet x) where
   unfolding contentsIn
   pages-counted =
       let v = layoutOf (versionIn sheet) in
-      ap (λ (y : Sheet). y .pages) (r .numbers) ∙ length-numbersAt (pagePlace v 0) (v .fingerprintWidth) (pagesIn v sheet) sheet
+      ap (λ (y : Sheet). y .pages) (r .numbers) ∙ length-numbersAt (pagePlace v 0) fingerprintWidth (pagesIn v sheet) sheet
 
 -- ---- its page fingerprints in lent words
 

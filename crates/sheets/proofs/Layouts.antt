@@ -1,6 +1,6 @@
 -- Laws of the layout, for every version: the bytes of a sheet read back as its numbers, and the numbers read are written as the bytes.
 use mathlib.Core.Path.{_≡_, refl, sym, ap, ap₂, _∙_}
-use mathlib.Core.List.{List, [], _∷_, _++_, append-assoc, append-nil}
+use mathlib.Core.List.{List, [], _∷_, _++_, zipWith, flatten, append-assoc, append-nil}
 use Prim.Native.Nat.{ℕ, zero, suc, _+_, _*_, _/_, _%_, _^_, _≤_, _<_}
 use native.Mathlib.Nat.{add-zero, zero-add, add-assoc, mul-comm, mul-div-cancel, div-add-mod'}
 use native.Mathlib.Omega.{arith}
@@ -10,11 +10,11 @@ use Rattle.lists.specs.Lists.{All}
 use Rattle.acceptance.specs.declared.Key.{Key}
 use Rattle.files.specs.Files.{Bytes}
 use Rattle.big_endian.specs.Numbers.{bytesOf, fieldsOf, numberAt, numbersAt}
-use Rattle.sheets.specs.Layout.{letters, versionIn, Layout, layoutOf, width, fieldWidths, pagePlace, sheetLength, pagesFor}
+use Rattle.sheets.specs.Layout.{letters, versionIn, fingerprintWidth, Layout, layoutOf, width, fieldWidths, pagePlace, sheetLength, pagesFor}
 use Rattle.big_endian.specs.Numbers.{bytesIn}
 use Rattle.sheets.specs.Layout.{keyNumber, keyFrom, Contents, headOf}
 use Rattle.sheets.specs.Layout.{sheetBytes, fieldIn, keyIn, lengthIn, pagesIn, contentsIn}
-use Rattle.sheets.proofs.Versions.{place-first}
+use Rattle.sheets.proofs.Versions.{three-wide, place-first}
 use Rattle.big_endian.proofs.Numbers.{length-bytesOf, length-fieldsOf, number-seam, number-behind, numbers-seam, bytes-number, fields-numbers}
 
 pub contents-eq : {v v' n n' s s' f f' : ℕ} {k k' : Key} {g g' : List ℕ} → v ≡ v' → k ≡ k' → n ≡ n' → s ≡ s' → g ≡ g' → f ≡ f'
@@ -24,51 +24,46 @@ contents-eq a b c d e f = cc
 
 -- ---- the fields in front of the fingerprints: written, then read
 
--- every number fits its width
+-- each width has a number, which fits it
 abbrev pub Fit : List ℕ → List ℕ → Type 0
 Fit [] xs = Unit {0}
-Fit (w ∷ ws) xs = (getD xs 0 0 < 2 ^ (8 * w)) × Fit ws (drop 1 xs)
+Fit (w ∷ ws) [] = ⊥
+Fit (w ∷ ws) (x ∷ xs) = (x < 2 ^ (8 * w)) × Fit ws xs
 
-pub length-fields : (ws xs : List ℕ) → length (bytesIn ws xs) ≡ width ws
-unfolding bytesIn
-length-fields [] xs = refl
-length-fields (w ∷ ws) xs =
-    length-append (bytesOf w (getD xs 0 0)) (bytesIn ws (drop 1 xs)) ∙ rw (length-bytesOf w (getD xs 0 0), length-fields ws (drop 1 xs))
-
-behind-first : (xs : List ℕ) (i : ℕ) → getD (drop 1 xs) i 0 ≡ getD xs (suc i) 0
-behind-first [] i = refl
-behind-first (x ∷ xs) i = refl
+length-fields : (ws xs : List ℕ) → length ws ≡ length xs → length (bytesIn ws xs) ≡ width ws
+unfolding bytesIn zipWith flatten
+length-fields [] xs e = refl
+length-fields (w ∷ ws) [] e = absurd (omega arith)
+length-fields (w ∷ ws) (x ∷ xs) e = length-append (bytesOf w x) (bytesIn ws xs) ∙ rw (length-bytesOf w x, length-fields ws xs (omega arith))
 
 pub field-read : (ws xs : List ℕ) (i : ℕ) (behind : List ℕ) → i < length ws → Fit ws xs
     → numberAt (width (take i ws)) (getD ws i 0) (bytesIn ws xs ++ behind) ≡ getD xs i 0
-unfolding bytesIn
+unfolding bytesIn zipWith flatten
 field-read [] xs i behind l fit = absurd (omega arith)
-field-read (w ∷ ws) xs zero behind l fit = rw append-assoc (number-seam [] (bytesIn ws (drop 1 xs) ++ behind) 0 w (getD xs 0 0) refl (fit .0))
-field-read (w ∷ ws) xs (suc i) behind l fit =
+field-read (w ∷ ws) [] i behind l fit = absurd fit
+field-read (w ∷ ws) (x ∷ xs) zero behind l fit = rw append-assoc (number-seam [] (bytesIn ws xs ++ behind) 0 w x refl (fit .0))
+field-read (w ∷ ws) (x ∷ xs) (suc i) behind l fit =
     rw append-assoc
-    (number-behind (bytesOf w (getD xs 0 0)) (bytesIn ws (drop 1 xs) ++ behind) w (width (take i ws)) (getD ws i 0) (length-bytesOf w (getD xs 0 0))
-    ∙ field-read ws (drop 1 xs) i behind (omega arith) (fit .1)
-    ∙ behind-first xs i)
+    (number-behind (bytesOf w x) (bytesIn ws xs ++ behind) w (width (take i ws)) (getD ws i 0) (length-bytesOf w x)
+    ∙ field-read ws xs i behind (omega arith) (fit .1))
 
 -- ---- the same: read, then written
 
 module _ (sheet : List ℕ) (h : Bytes sheet) where
-  pub fields-written : (ws xs : List ℕ) (place : ℕ)
+  fields-written : (ws xs : List ℕ) (place : ℕ) → length ws ≡ length xs
       → ((i : ℕ) → i < length ws → numberAt (place + width (take i ws)) (getD ws i 0) sheet ≡ getD xs i 0)
       → place + width ws ≤ length sheet → bytesIn ws xs ≡ take (width ws) (drop place sheet)
-  unfolding bytesIn
-  fields-written [] xs place f l = refl
-  fields-written (w ∷ ws) xs place f l =
-      let first : numberAt place w sheet ≡ getD xs 0 0 = ap (λ (n : ℕ). numberAt n w sheet) (sym (add-zero place)) ∙ f 0 (omega arith) in
+  unfolding bytesIn zipWith flatten
+  fields-written [] xs place e f l = refl
+  fields-written (w ∷ ws) [] place e f l = absurd (omega arith)
+  fields-written (w ∷ ws) (x ∷ xs) place e f l =
+      let first : numberAt place w sheet ≡ x = ap (λ (n : ℕ). numberAt n w sheet) (sym (add-zero place)) ∙ f 0 (omega arith) in
       ap₂ (λ (a b : List ℕ). a ++ b) (ap (bytesOf w) (sym first) ∙ bytes-number sheet h place w (omega arith))
-      (fields-written ws (drop 1 xs) (place + w) others (omega arith) ∙ ap (take (width ws)) (sym (drop-drop w place sheet)))
+      (fields-written ws xs (place + w) (omega arith) others (omega arith) ∙ ap (take (width ws)) (sym (drop-drop w place sheet)))
       ∙ sym (take-add w (width ws) (drop place sheet))
     where
-      others : (i : ℕ) → i < length ws → numberAt (place + w + width (take i ws)) (getD ws i 0) sheet ≡ getD (drop 1 xs) i 0
-      others i b =
-          ap (λ (n : ℕ). numberAt n (getD ws i 0) sheet) (add-assoc place w (width (take i ws)))
-          ∙ f (suc i) (omega (arith, b))
-          ∙ sym (behind-first xs i)
+      others : (i : ℕ) → i < length ws → numberAt (place + w + width (take i ws)) (getD ws i 0) sheet ≡ getD xs i 0
+      others i b = ap (λ (n : ℕ). numberAt n (getD ws i 0) sheet) (add-assoc place w (width (take i ws))) ∙ f (suc i) (omega (arith, b))
 
 -- ---- the sheet
 
@@ -77,8 +72,8 @@ module _ (sheet : List ℕ) (h : Bytes sheet) where
 pub record Fits (x : Contents) : Type 0 where
   pub fields : Fit (fieldWidths (layoutOf (x .version))) (headOf x)
   pub key : keyFrom (layoutOf (x .version) .paired) (keyNumber (layoutOf (x .version) .paired) (x .key)) ≡ x .key
-  pub pages : All (λ f. f < 2 ^ (8 * layoutOf (x .version) .fingerprintWidth)) (x .pages)
-  pub fingerprint : x .fingerprint < 2 ^ (8 * layoutOf (x .version) .fingerprintWidth)
+  pub pages : All (λ f. f < 2 ^ (8 * fingerprintWidth)) (x .pages)
+  pub fingerprint : x .fingerprint < 2 ^ (8 * fingerprintWidth)
   pub whole : x .length % layoutOf (x .version) .lengthUnit ≡ 0
   pub count : lib.ListN.length (x .pages) ≡ pagesFor (x .pageSize) (x .length)
 
@@ -90,13 +85,13 @@ module _ (x : Contents) where
   head = bytesIn (fieldWidths v) (headOf x)
 
   abbrev pages : List ℕ
-  pages = fieldsOf (v .fingerprintWidth) (x .pages)
+  pages = fieldsOf fingerprintWidth (x .pages)
 
   abbrev last : List ℕ
-  last = bytesOf (v .fingerprintWidth) (x .fingerprint)
+  last = bytesOf fingerprintWidth (x .fingerprint)
 
-  length-head : length head ≡ width (fieldWidths v)
-  length-head = length-fields (fieldWidths v) (headOf x)
+  pub length-head : length (bytesIn (fieldWidths (layoutOf (x .version))) (headOf x)) ≡ width (fieldWidths (layoutOf (x .version)))
+  length-head = length-fields (fieldWidths v) (headOf x) (ap (λ (n : ℕ). suc (suc n)) (three-wide (x .version)))
 
   length-front : length (head ++ pages) ≡ pagePlace v (length (x .pages))
   length-front = length-append head pages ∙ rw (length-head, length-fieldsOf)
@@ -110,17 +105,17 @@ module _ (x : Contents) where
     unfolding sheetBytes
     field-back i l = rw append-assoc (field-read (fieldWidths v) (headOf x) i (pages ++ last) l (fits .fields))
 
-    pages-back : numbersAt (pagePlace v 0) (v .fingerprintWidth) (length (x .pages)) (sheetBytes x) ≡ x .pages
+    pages-back : numbersAt (pagePlace v 0) fingerprintWidth (length (x .pages)) (sheetBytes x) ≡ x .pages
     unfolding sheetBytes
     pages-back =
-        rw append-assoc (numbers-seam (x .pages) head last (pagePlace v 0) (v .fingerprintWidth) (length-head ∙ place-first v) (fits .pages))
+        rw append-assoc (numbers-seam (x .pages) head last (pagePlace v 0) fingerprintWidth (length-head ∙ place-first v) (fits .pages))
 
-    pub fingerprint-back : numberAt (pagePlace (layoutOf (x .version)) (length (x .pages))) (layoutOf (x .version) .fingerprintWidth) (sheetBytes x)
+    pub fingerprint-back : numberAt (pagePlace (layoutOf (x .version)) (length (x .pages))) fingerprintWidth (sheetBytes x)
         ≡ x .fingerprint
     unfolding sheetBytes
     fingerprint-back =
-        ap (λ (l : List ℕ). numberAt (pagePlace v (length (x .pages))) (v .fingerprintWidth) (head ++ pages ++ l)) (sym (append-nil last))
-        ∙ number-seam (head ++ pages) [] (pagePlace v (length (x .pages))) (v .fingerprintWidth) (x .fingerprint) length-front (fits .fingerprint)
+        ap (λ (l : List ℕ). numberAt (pagePlace v (length (x .pages))) fingerprintWidth (head ++ pages ++ l)) (sym (append-nil last))
+        ∙ number-seam (head ++ pages) [] (pagePlace v (length (x .pages))) fingerprintWidth (x .fingerprint) length-front (fits .fingerprint)
 
     -- the version stands in the same place in every version
     pub version-back : versionIn (sheetBytes x) ≡ x .version
@@ -138,8 +133,8 @@ module _ (x : Contents) where
     read-back three =
         rw version-back
         (contents-eq refl (ap (keyFrom (v .paired)) (field-back 2 (omega arith)) ∙ fits .key) (length-back three) (field-back 4 (omega arith))
-        (ap (λ (c : ℕ). numbersAt (pagePlace v 0) (v .fingerprintWidth) c (sheetBytes x)) count ∙ pages-back)
-        (ap (λ (c : ℕ). numberAt (pagePlace v c) (v .fingerprintWidth) (sheetBytes x)) count ∙ fingerprint-back))
+        (ap (λ (c : ℕ). numbersAt (pagePlace v 0) fingerprintWidth c (sheetBytes x)) count ∙ pages-back)
+        (ap (λ (c : ℕ). numberAt (pagePlace v c) fingerprintWidth (sheetBytes x)) count ∙ fingerprint-back))
       where
         count : pagesIn (layoutOf (x .version)) (sheetBytes x) ≡ length (x .pages)
         count = ap₂ (λ (s n : ℕ). pagesFor s n) (field-back 4 (omega arith)) (length-back three) ∙ sym (fits .count)
@@ -166,13 +161,14 @@ module _ (sheet : List ℕ) (h : Bytes sheet) (three : length (layoutOf (version
   pub write-back : sheetBytes (contentsIn sheet) ≡ sheet
   unfolding sheetBytes contentsIn
   write-back =
-      let f = w .fingerprintWidth in
+      let f = fingerprintWidth in
       let c = pagesIn w sheet in
       let p = width (fieldWidths w) in
       let start : pagePlace w 0 ≡ p = sym (place-first w) in
       ap₂ (λ (a b : List ℕ). a ++ b)
       (ap₂ (λ (a b : List ℕ). a ++ b)
-      (fields-written sheet h (fieldWidths w) (headOf (contentsIn sheet)) 0 (λ i l. rw zero-add (agree i l)) (omega (arith, total)))
+      (fields-written sheet h (fieldWidths w) (headOf (contentsIn sheet)) 0 (ap (λ (n : ℕ). suc (suc n)) three) (λ i l. rw zero-add (agree i l))
+      (omega (arith, total)))
       (fields-numbers sheet h c (pagePlace w 0) f (omega (arith, start, total)) ∙ ap (λ (n : ℕ). take (f * c) (drop n sheet)) start)
       ∙ sym (take-add p (f * c) sheet))
       (bytes-number sheet h (pagePlace w c) f (omega (arith, total)))

@@ -13,7 +13,8 @@ use Rattle.acceptance.specs.declared.Key.{Key}
 use Rattle.acceptance.specs.Keys.{polynomialOf}
 use Rattle.files.specs.Files.{Bytes, bits, valueFrom, fingerprint, Part, partBits}
 use Rattle.big_endian.specs.Numbers.{numberAt}
-use Rattle.sheets.specs.Layout.{versionIn, Layout, newest, layouts, layoutOf, pagePlace, sheetLength, pagesFor, pagesIn, Contents, contentsIn}
+use Rattle.sheets.specs.Layout.{versionIn, fingerprintWidth, Layout, newest, layouts, layoutOf, pagePlace, sheetLength, pagesFor, pagesIn, Contents}
+use Rattle.sheets.specs.Layout.{contentsIn}
 use Rattle.sheets.specs.Sheets.{pageOf, contentsOf, writeSheet, readTests, readSheet, readPages, pagesNow}
 use Rattle.sheets.specs.Claims.{WellFormed}
 use Rattle.big_endian.proofs.Numbers.{numbers-one}
@@ -69,8 +70,8 @@ module _ (x : Key) (s : ℕ) (part : Part) (buffer after : List ℕ) (done : wri
       let v = layoutOf (versionIn sheet) in
       let c : pagesIn v sheet ≡ count = ap (λ (y : Contents). pagesFor (y .pageSize) (y .length)) numbers in
       sym (number-within (pagePlace newest i) 8 (sheetLength newest count) after (omega arith))
-      ∙ ap (λ (w : Layout). numberAt (pagePlace w 0 + w .fingerprintWidth * i) (w .fingerprintWidth) sheet) (sym layout-is)
-      ∙ sym (numbers-one (pagesIn v sheet) (pagePlace v 0) (v .fingerprintWidth) i sheet (omega (arith, c)))
+      ∙ ap (λ (w : Layout). numberAt (pagePlace w 0 + fingerprintWidth * i) fingerprintWidth sheet) (sym layout-is)
+      ∙ sym (numbers-one (pagesIn v sheet) (pagePlace v 0) fingerprintWidth i sheet (omega (arith, c)))
       ∙ ap (λ (x : Contents). getD (x .pages) i 0) numbers
       ∙ page-at (layoutOf (newest .version)) key (8 * s) count i file l
       ∙ ap (λ (w : Layout). fingerprint key (pageOf w (8 * s) (take (8 * s) (drop (i * (8 * s)) file)))) newest-is

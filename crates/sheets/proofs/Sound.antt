@@ -20,13 +20,13 @@ use Rattle.lists.proofs.Truth.{or-neither}
 use Rattle.acceptance.proofs.Laws.{accepted-iff, range-key, key-iff}
 use Rattle.files.specs.Files.{Bytes, fingerprint, markOf}
 use Rattle.big_endian.specs.Numbers.{numberAt}
-use Rattle.sheets.specs.Layout.{letters, lettersWidth, versionIn, Layout, layouts, known, layoutOf}
+use Rattle.sheets.specs.Layout.{letters, lettersWidth, versionIn, fingerprintWidth, Layout, layouts, known, layoutOf}
 use Rattle.sheets.specs.Layout.{pagePlace, sheetLength, pagesFor, Contents, sheetBytes, fieldIn, keyIn, lengthIn, pagesIn, contentsIn}
 use Rattle.sheets.specs.Sheets.{pageFingerprints, contentsOf, joinedPages, someUnreduced, pagesJoined, fileFilled, headWrong, readTests}
 use Rattle.sheets.specs.Claims.{highest, SoundContents, WellFormed}
 use Rattle.big_endian.proofs.Numbers.{number-lt, length-numbersAt}
 use Rattle.sheets.proofs.Keys.{key-pos, keyWidth, key-narrow, key-fits, key-back, number-back, degree-held}
-use Rattle.sheets.proofs.Versions.{widths-are, three-wide, eight-wide, unit-some, length-fits, length-from, least-needed, known-small}
+use Rattle.sheets.proofs.Versions.{widths-are, three-wide, unit-some, length-fits, length-from, least-needed, known-small}
 use Rattle.sheets.proofs.Layouts.{Fits, length-sheet, field-back, version-back, length-back, read-back, write-back}
 use Rattle.sheets.proofs.Pages.{pages-count, fingerprint-lt, fingerprints-lt, length-pages, pages-joined-print, zeros-are}
 
@@ -65,8 +65,8 @@ sound-fits x h =
             ),
           );
       key = key-back (x .key) (h .in-range) (v .paired);
-      pages = rw (eight-wide (x .version)) (all-map (λ f l. lt-of-lt-of-le l small) (x .pages) (h .pages));
-      fingerprint = rw (eight-wide (x .version)) (lt-of-lt-of-le (h .fingerprint) small);
+      pages = all-map (λ f l. lt-of-lt-of-le l small) (x .pages) (h .pages);
+      fingerprint = lt-of-lt-of-le (h .fingerprint) small;
       whole = h .whole;
       count = h .count;
     }
@@ -169,7 +169,7 @@ module _ (sheet : List ℕ) (c : Clear (readTests layouts sheet)) where
   unfolding x contentsIn
   count =
       let v = layoutOf (versionIn sheet) in
-      length-numbersAt (pagePlace v 0) (v .fingerprintWidth) (pagesIn v sheet) sheet
+      length-numbersAt (pagePlace v 0) fingerprintWidth (pagesIn v sheet) sheet
 
   pub clear-total : length sheet ≡ sheetLength (layoutOf (versionIn sheet)) (pagesIn (layoutOf (versionIn sheet)) sheet)
   unfolding x contentsIn

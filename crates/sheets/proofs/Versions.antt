@@ -11,7 +11,7 @@ use lib.Dec.{lit<}
 use lib.ListN.{length, getD}
 use borrow.Author.Tests.{ne-eqb}
 use Rattle.refusals.specs.Refusals.{longest}
-use Rattle.sheets.specs.Layout.{Layout, version1, version2, version3, version4, newest, layouts, known, layoutAmong, layoutOf}
+use Rattle.sheets.specs.Layout.{fingerprintWidth, Layout, version1, version2, version3, version4, newest, layouts, known, layoutAmong, layoutOf}
 use Rattle.sheets.specs.Layout.{width, fieldWidths, pagePlace, sheetLength}
 use Rattle.sheets.proofs.Keys.{keyWidth}
 
@@ -56,9 +56,6 @@ widths-are = of-each (λ v. v .widths ≡ keyWidth v ∷ lengthWidth v ∷ 2 ∷
 pub three-wide : (n : ℕ) → length (layoutOf n .widths) ≡ 3
 three-wide n = ap length (widths-are n)
 
-pub eight-wide : (n : ℕ) → layoutOf n .fingerprintWidth ≡ 8
-eight-wide = of-each (λ v. v .fingerprintWidth ≡ 8) refl refl refl refl
-
 pub unit-some : (n : ℕ) → 0 < layoutOf n .lengthUnit
 unit-some = of-each (λ v. 0 < v .lengthUnit) (lit< tt) (lit< tt) (lit< tt) (lit< tt)
 
@@ -80,7 +77,7 @@ newest-known = refl
 
 -- the fingerprints begin behind the fields
 pub place-first : (v : Layout) → width (fieldWidths v) ≡ pagePlace v 0
-place-first v = sym (rw (mul-zero (v .fingerprintWidth)) (add-zero (width (fieldWidths v))))
+place-first v = sym (rw (mul-zero fingerprintWidth) (add-zero (width (fieldWidths v))))
 
 -- where the fingerprint behind i others stands
 pub place-from : (n i : ℕ) → pagePlace (layoutOf n) i ≡ pagePlace (layoutOf n) 0 + 8 * i

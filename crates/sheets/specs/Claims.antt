@@ -71,7 +71,7 @@ PagesGiven = (sheet : List ℕ) (w : WellFormed sheet) (words : List ℕ) → re
 -- "The page marks of a sheet, each with its own length, joined, must give the file's fingerprint": those of a written sheet do,
 abbrev pub PagesGiveFile : Type 0
 PagesGiveFile =
-    (x : Key) (s : ℕ) (file : List ℕ) → 0 < s → pagesJoined (contentsOf (newest .version) x s file) ≡ markOf (polynomialOf x) file
+    (x : Key) (size : ℕ) (file : List ℕ) → 0 < size → pagesJoined (contentsOf (newest .version) x size file) ≡ markOf (polynomialOf x) file
 
 -- "and number 14 reads so": where pages are not filled up, it compares them with the file's fingerprint as it stands,
 abbrev pub OwnCompared : Type 0
@@ -80,7 +80,7 @@ OwnCompared =
     → lib.ListN.length (x .pages) ≡ pagesFor (x .pageSize) (x .length) → x .fingerprint < 2 ^ degree (polynomialOf (x .key))
     → fileFilled x ≡ x .fingerprint
 
--- where they are, with the file's fingerprint times t^(c × 8s − n), n being the length in bits, as document 01 has it
+-- where they are, with the file's fingerprint times t^(c × 8 × size − n), n being the length in bits, as document 01 has it
 abbrev pub FilledCompared : Type 0
 FilledCompared =
     (x : Contents) → layoutOf (x .version) .filled ≡ true
@@ -91,21 +91,21 @@ FilledCompared =
 -- what is written reads back: version 4, key, length, page size, every page fingerprint and the file's
 abbrev pub WrittenReads : Type 0
 WrittenReads =
-    (x : Key) (s : ℕ) (file : Part) (buffer after : List ℕ) → writeSheet x s file buffer ≡ Done after
-    → readSheet (take (sheetLength newest (pagesFor s (length (partBits file)))) after) ≡ Done (contentsOf (newest .version) x s (partBits file))
+    (x : Key) (size : ℕ) (file : Part) (buffer after : List ℕ) → writeSheet x size file buffer ≡ Done after
+    → readSheet (take (sheetLength newest (pagesFor size (length (partBits file)))) after) ≡ Done (contentsOf (newest .version) x size (partBits file))
 
 -- its last field is the file's fingerprint
 abbrev pub WrittenFingerprint : Type 0
 WrittenFingerprint =
-    (x : Key) (s : ℕ) (file : Part) (buffer after : List ℕ) → writeSheet x s file buffer ≡ Done after
-    → let c = pagesFor s (length (partBits file)) in
+    (x : Key) (size : ℕ) (file : Part) (buffer after : List ℕ) → writeSheet x size file buffer ≡ Done after
+    → let c = pagesFor size (length (partBits file)) in
     numberAt (pagePlace newest c) 8 (take (sheetLength newest c) after) ≡ fingerprint (polynomialOf x) (partBits file)
 
 -- a reader that stops at version 3 refuses it with 14
 abbrev pub OlderRefuses : Type 0
 OlderRefuses =
-    (x : Key) (s : ℕ) (file : Part) (buffer after : List ℕ) (y : Contents) → writeSheet x s file buffer ≡ Done after
-    → let sheet = take (sheetLength newest (pagesFor s (length (partBits file)))) after in
+    (x : Key) (size : ℕ) (file : Part) (buffer after : List ℕ) (y : Contents) → writeSheet x size file buffer ≡ Done after
+    → let sheet = take (sheetLength newest (pagesFor size (length (partBits file)))) after in
     _≡_ {A = Answer Unit Contents} (firstOf (readTests (version3 ∷ version2 ∷ version1 ∷ []) sheet) tt y) (Refused SheetMalformed tt)
 
 -- ---- checking a file against a sheet
@@ -139,28 +139,28 @@ SameIff =
 
 -- ---- a change inside k neighbouring bits, against the sheet of a file in each version
 
--- page i, of s bits, is the first that differs in two files
-pub record FirstAltered (s : ℕ) (a b : List ℕ) (i : ℕ) : Type 0 where
-  pub altered : take s (drop (i * s) a) ≢ take s (drop (i * s) b)
-  pub before : (j : ℕ) → j < i → take s (drop (j * s) a) ≡ take s (drop (j * s) b)
+-- page i, of `pageBits` bits, is the first that differs in two files
+pub record FirstAltered (pageBits : ℕ) (a b : List ℕ) (i : ℕ) : Type 0 where
+  pub altered : take pageBits (drop (i * pageBits) a) ≢ take pageBits (drop (i * pageBits) b)
+  pub before : (j : ℕ) → j < i → take pageBits (drop (j * pageBits) a) ≡ take pageBits (drop (j * pageBits) b)
 
 -- two different files of one length have such a page
 abbrev pub SomeAltered : Type 0
-SomeAltered = (s : ℕ) (a b : List ℕ) → 0 < s → length a ≡ length b → a ≢ b → (i : ℕ) × FirstAltered s a b i
+SomeAltered = (pageBits : ℕ) (a b : List ℕ) → 0 < pageBits → length a ≡ length b → a ≢ b → (i : ℕ) × FirstAltered pageBits a b i
 
 -- "A change that keeps the length and lies inside k neighbouring bits is found on the first page that it alters", in a file whose length
 -- the version can hold and under a key that it can hold
 abbrev pub BurstFound : Type 0
 BurstFound =
-    (version key s : ℕ) (a : List ℕ) (b : Part) → known layouts version ≡ true → accepted key ≡ true
-    → degree key ≤ highest (layoutOf version) → length a ≤ longest → length a % layoutOf version .lengthUnit ≡ 0 → 16 ≤ s → s ≤ 4096
-    → Bits a → misused b ≡ false → Burst (degree key) a (partBits b) → (i : ℕ) → FirstAltered (8 * s) a (partBits b) i
-    → checkSheet (sheetBytes (contentsOf version (keyOf key) s a)) b ≡ Done (Page i)
+    (version key size : ℕ) (a : List ℕ) (b : Part) → known layouts version ≡ true → accepted key ≡ true
+    → degree key ≤ highest (layoutOf version) → length a ≤ longest → length a % layoutOf version .lengthUnit ≡ 0 → 16 ≤ size → size ≤ 4096
+    → Bits a → misused b ≡ false → Burst (degree key) a (partBits b) → (i : ℕ) → FirstAltered (8 * size) a (partBits b) i
+    → checkSheet (sheetBytes (contentsOf version (keyOf key) size a)) b ≡ Done (Page i)
 
 -- so a file that differs inside k neighbouring bits is never told as the same
 abbrev pub NoBurstSame : Type 0
 NoBurstSame =
-    (version key s : ℕ) (a : List ℕ) (b : Part) → known layouts version ≡ true → accepted key ≡ true
-    → degree key ≤ highest (layoutOf version) → length a ≤ longest → length a % layoutOf version .lengthUnit ≡ 0 → 16 ≤ s → s ≤ 4096
+    (version key size : ℕ) (a : List ℕ) (b : Part) → known layouts version ≡ true → accepted key ≡ true
+    → degree key ≤ highest (layoutOf version) → length a ≤ longest → length a % layoutOf version .lengthUnit ≡ 0 → 16 ≤ size → size ≤ 4096
     → Bits a → misused b ≡ false → Burst (degree key) a (partBits b) → a ≢ partBits b
-    → checkSheet (sheetBytes (contentsOf version (keyOf key) s a)) b ≡ Done Same → ⊥
+    → checkSheet (sheetBytes (contentsOf version (keyOf key) size a)) b ≡ Done Same → ⊥

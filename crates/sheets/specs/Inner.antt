@@ -6,7 +6,7 @@ use Prim.Native.Nat.{ℕ, suc, _-_, _*_}
 use lib.Dec.{eqb}
 use lib.ListN.{length, drop}
 use Rattle.refusals.specs.declared.Refusal.the-variants.{TooLong, SheetMalformed, FinalByte}
-use Rattle.refusals.specs.Refusals.{Answer, Done, Refused, _⇒_, firstOf, passes}
+use Rattle.refusals.specs.Refusals.{Answer, Done, mapped, _⇒_, firstOf, passes}
 use Rattle.files.specs.Files.{Part, partLength, partBits, misused}
 use Rattle.sheets.specs.declared.Sheet.{Sheet}
 use Rattle.sheets.specs.declared.Checked.{Checked}
@@ -14,8 +14,7 @@ use Rattle.sheets.specs.declared.Checked.the-variants as checked-cases
 use Rattle.sheets.specs.declared.Changed.{Changed}
 use Rattle.sheets.specs.Layout.{Layout, layoutOf, pagePlace, pageCount, Contents, contentsIn}
 use Rattle.sheets.specs.Sheets.{pageSizeTest, bodyWrong, readSheet, Outcome, compared}
-use Rattle.sheets.specs.Answers.{Range, rangeOf}
-use Rattle.sheets.specs.Answers.{numbersOf}
+use Rattle.sheets.specs.Outputs.{numbersOf, rangeIn}
 use Rattle.sheets.specs.Answers.{checkAnswer, changeAnswer}
 
 -- how many zeros the pages of s bits of a file of n bits have behind it: none where they are not filled up
@@ -51,9 +50,8 @@ NoPage checked-cases.Same = Unit {0}
 NoPage checked-cases.OtherLength = Unit {0}
 NoPage (checked-cases.Refused r) = Unit {0}
 
-abbrev pub ranged : Contents → Answer Unit Outcome → Answer Unit Range
-ranged x (Done o) = Done (rangeOf x o)
-ranged x (Refused r s) = Refused r s
+abbrev pub ranged : Contents → Answer Unit Outcome → Answer Unit (List ℕ)
+ranged x a = mapped (rangeIn x) a
 
 -- the same answer in code, whatever the sheet's numbers are
 abbrev pub WithoutPage : Checked → Changed → Type 0

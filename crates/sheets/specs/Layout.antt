@@ -11,7 +11,7 @@ use Rattle.acceptance.specs.Keys.{polynomialOf, keyOf}
 use Rattle.files.specs.Files.{bytesFor}
 use Rattle.big_endian.specs.Numbers.{bytesOf, fieldsOf, numberAt, numbersAt, bytesIn}
 
--- ---- the front of every sheet, whatever its version: the letters GFP, which are the bytes 47 46 50, and the version's number
+-- ---- in every sheet, whatever its version: the letters GFP, which are the bytes 47 46 50, the version's number, and the fingerprints' width
 
 abbrev pub letters : ℕ
 letters = 0x474650
@@ -25,6 +25,10 @@ versionWidth = 2
 abbrev pub versionIn : List ℕ → ℕ
 versionIn sheet = numberAt lettersWidth versionWidth sheet
 
+-- the bytes of each page's fingerprint and of the file's
+abbrev pub fingerprintWidth : ℕ
+fingerprintWidth = 8
+
 -- ---- a version: its number, the widths of its fields, how it holds the key, what its length field counts, and how the last page is taken
 
 pub record Layout : Type 0 where
@@ -33,24 +37,22 @@ pub record Layout : Type 0 where
   pub widths : List ℕ
   -- the key is held as a byte of its degree and its word in 8 bytes; else as the number of its polynomial
   pub paired : Bool
-  -- of each page's fingerprint and of the file's
-  pub fingerprintWidth : ℕ
   -- the bits that the length field counts as one: 8 where it is in bytes
   pub lengthUnit : ℕ
   -- a last page shorter than the page size is taken as filled up with zeros
   pub filled : Bool
 
 abbrev pub version1 : Layout
-version1 = record { version = 1; widths = 8 ∷ 4 ∷ 2 ∷ []; paired = false; fingerprintWidth = 8; lengthUnit = 8; filled = true }
+version1 = record { version = 1; widths = 8 ∷ 4 ∷ 2 ∷ []; paired = false; lengthUnit = 8; filled = true }
 
 abbrev pub version2 : Layout
-version2 = record { version = 2; widths = 8 ∷ 4 ∷ 2 ∷ []; paired = false; fingerprintWidth = 8; lengthUnit = 8; filled = false }
+version2 = record { version = 2; widths = 8 ∷ 4 ∷ 2 ∷ []; paired = false; lengthUnit = 8; filled = false }
 
 abbrev pub version3 : Layout
-version3 = record { version = 3; widths = 8 ∷ 8 ∷ 2 ∷ []; paired = false; fingerprintWidth = 8; lengthUnit = 1; filled = false }
+version3 = record { version = 3; widths = 8 ∷ 8 ∷ 2 ∷ []; paired = false; lengthUnit = 1; filled = false }
 
 abbrev pub version4 : Layout
-version4 = record { version = 4; widths = 9 ∷ 8 ∷ 2 ∷ []; paired = true; fingerprintWidth = 8; lengthUnit = 1; filled = false }
+version4 = record { version = 4; widths = 9 ∷ 8 ∷ 2 ∷ []; paired = true; lengthUnit = 1; filled = false }
 
 -- sheets are written in this layout,
 abbrev pub newest : Layout
@@ -77,24 +79,24 @@ abbrev pub width : List ℕ → ℕ
 width [] = 0
 width (w ∷ ws) = w + width ws
 
--- the widths of all fields in front of the fingerprints: field 0 the letters, 1 the version, 2 the key, 3 the length, 4 the page size
+-- the widths of all fields in front of the fingerprints
 abbrev pub fieldWidths : Layout → List ℕ
 fieldWidths v = lettersWidth ∷ versionWidth ∷ v .widths
 
 abbrev pub pagePlace : Layout → ℕ → ℕ
-pagePlace v i = width (fieldWidths v) + v .fingerprintWidth * i
+pagePlace v i = width (fieldWidths v) + fingerprintWidth * i
 
 -- of a sheet with c pages: 27 + 8c in versions 1 and 2, 31 + 8c in version 3, 32 + 8c in version 4
 abbrev pub sheetLength : Layout → ℕ → ℕ
-sheetLength v c = pagePlace v c + v .fingerprintWidth
+sheetLength v c = pagePlace v c + fingerprintWidth
 
--- n / s, rounded up
+-- n / d, rounded up
 abbrev pub pageCount : ℕ → ℕ → ℕ
-pageCount s n = (n + s - 1) / s
+pageCount d n = (n + d - 1) / d
 
--- c, of a file of n bits in pages of s bytes: "c counts an unfinished byte as one"
+-- c, of a file of n bits in pages of `size` bytes: "c counts an unfinished byte as one"
 abbrev pub pagesFor : ℕ → ℕ → ℕ
-pagesFor s n = pageCount s (bytesFor n)
+pagesFor size n = pageCount size (bytesFor n)
 
 -- ---- the key in its field, as the number there: a pair's is the degree's byte in front of the word's eight
 
@@ -127,11 +129,11 @@ headOf x =
 unfoldable pub sheetBytes : Contents → List ℕ
 sheetBytes x =
     let v = layoutOf (x .version) in
-    bytesIn (fieldWidths v) (headOf x) ++ fieldsOf (v .fingerprintWidth) (x .pages) ++ bytesOf (v .fingerprintWidth) (x .fingerprint)
+    bytesIn (fieldWidths v) (headOf x) ++ fieldsOf fingerprintWidth (x .pages) ++ bytesOf fingerprintWidth (x .fingerprint)
 
 -- ---- the numbers as they stand in given bytes, with as many pages as the length and the page size ask
 
--- the number in field i
+-- the number in field i: 0 the letters, 1 the version, 2 the key, 3 the length, 4 the page size
 abbrev pub fieldIn : Layout → ℕ → List ℕ → ℕ
 fieldIn v i sheet = numberAt (width (take i (fieldWidths v))) (getD (fieldWidths v) i 0) sheet
 
@@ -142,8 +144,12 @@ keyIn v sheet = keyFrom (v .paired) (fieldIn v 2 sheet)
 abbrev pub lengthIn : Layout → List ℕ → ℕ
 lengthIn v sheet = v .lengthUnit * fieldIn v 3 sheet
 
+-- the page size in bytes
+abbrev pub sizeIn : Layout → List ℕ → ℕ
+sizeIn v sheet = fieldIn v 4 sheet
+
 abbrev pub pagesIn : Layout → List ℕ → ℕ
-pagesIn v sheet = pagesFor (fieldIn v 4 sheet) (lengthIn v sheet)
+pagesIn v sheet = pagesFor (sizeIn v sheet) (lengthIn v sheet)
 
 unfoldable pub contentsIn : List ℕ → Contents
 contentsIn sheet =
@@ -152,7 +158,7 @@ contentsIn sheet =
       version = versionIn sheet;
       key = keyIn v sheet;
       length = lengthIn v sheet;
-      pageSize = fieldIn v 4 sheet;
-      pages = numbersAt (pagePlace v 0) (v .fingerprintWidth) (pagesIn v sheet) sheet;
-      fingerprint = numberAt (pagePlace v (pagesIn v sheet)) (v .fingerprintWidth) sheet;
+      pageSize = sizeIn v sheet;
+      pages = numbersAt (pagePlace v 0) fingerprintWidth (pagesIn v sheet) sheet;
+      fingerprint = numberAt (pagePlace v (pagesIn v sheet)) fingerprintWidth sheet;
     }

@@ -17,65 +17,66 @@ use Rattle.big_endian.specs.Numbers.{numberAt}
 use Rattle.sheets.specs.Layout.{letters, lettersWidth, versionIn, Layout, newest, layouts, known, layoutOf}
 use Rattle.sheets.specs.Layout.{sheetLength, pageCount, pagesFor, Contents, sheetBytes, lengthIn, contentsIn}
 
--- ---- the pages of a file, of s bits each or what the file has left
+-- ---- the pages of a file, of `pageBits` bits each or what the file has left
 
--- a page shorter than s filled up with zeros
+-- a page shorter than that, filled up with zeros
 unfoldable pub filled : ℕ → List ℕ → List ℕ
-filled s page = page ++ replicate (s - length page) 0
+filled pageBits page = page ++ replicate (pageBits - length page) 0
 
 -- a page as its fingerprint takes it
 abbrev pub pageOf : Layout → ℕ → List ℕ → List ℕ
-pageOf v s page = cond (v .filled) (filled s page) page
+pageOf v pageBits page = cond (v .filled) (filled pageBits page) page
 
 -- the fingerprints of the first c pages
 unfoldable pub pageFingerprints : Layout → ℕ → ℕ → ℕ → List ℕ → List ℕ
-pageFingerprints v key s zero file = []
-pageFingerprints v key s (suc c) file = fingerprint key (pageOf v s (take s file)) ∷ pageFingerprints v key s c (drop s file)
+pageFingerprints v key pageBits zero file = []
+pageFingerprints v key pageBits (suc c) file = fingerprint key (pageOf v pageBits (take pageBits file)) ∷ pageFingerprints v key pageBits c (drop pageBits file)
 
--- with pages of s bytes
+-- with pages of `size` bytes
 unfoldable pub contentsOf : ℕ → Key → ℕ → List ℕ → Contents
-contentsOf version x s file =
+contentsOf version x size file =
     let key = polynomialOf x in
-    let pages = pageFingerprints (layoutOf version) key (8 * s) (pagesFor s (length file)) file in
-    record { version = version; key = x; length = length file; pageSize = s; pages = pages; fingerprint = fingerprint key file }
+    let pages = pageFingerprints (layoutOf version) key (8 * size) (pagesFor size (length file)) file in
+    record { version = version; key = x; length = length file; pageSize = size; pages = pages; fingerprint = fingerprint key file }
 
 -- ---- writing: numbers 1, 2, 7, 12, 13, 19
 
 -- number 12
 abbrev pub pageSizeTest : ℕ → Test
-pageSizeTest s = (ltb s 16 || ltb 4096 s) ⇒ PageSize
+pageSizeTest size = (ltb size 16 || ltb 4096 size) ⇒ PageSize
 
 abbrev pub lengthTests : ℕ → ℕ → List Test
-lengthTests n s = passes (n ∷ []) ⇒ TooLong ∷ pageSizeTest s ∷ []
+lengthTests n size = passes (n ∷ []) ⇒ TooLong ∷ pageSizeTest size ∷ []
 
 -- the bytes of the sheet of a file of n bytes, an unfinished one counted: numbers 7, 12
 unfoldable pub lengthFor : ℕ → ℕ → Answer Unit ℕ
-lengthFor n s = firstOf (lengthTests (8 * n) s) tt (sheetLength newest (pageCount s n))
+lengthFor n size = firstOf (lengthTests (8 * n) size) tt (sheetLength newest (pageCount size n))
 
 abbrev pub writeTests : Key → ℕ → Part → List ℕ → List Test
-writeTests x s file buffer =
+writeTests x size file buffer =
     keyTests x
-    ++ lengthTests (partLength file) s
-    ++ ltb (length buffer) (sheetLength newest (pageCount s (length (file .bytes)))) ⇒ BufferShort
+    ++ lengthTests (partLength file) size
+    ++ ltb (length buffer) (sheetLength newest (pageCount size (length (file .bytes)))) ⇒ BufferShort
     ∷ misused file ⇒ FinalByte
     ∷ []
 
 -- what the lent buffer holds after the call
 unfoldable pub writeSheet : Key → ℕ → Part → List ℕ → Answer (List ℕ) (List ℕ)
-writeSheet x s file buffer =
-    firstOf (writeTests x s file buffer) buffer
-    (overlay (sheetBytes (contentsOf (newest .version) x s (partBits file))) buffer)
+writeSheet x size file buffer =
+    firstOf (writeTests x size file buffer) buffer
+    (overlay (sheetBytes (contentsOf (newest .version) x size (partBits file))) buffer)
 
 -- ---- reading: number 14 for size, letters, version, the version's least size and the limit of lengths; 1, 2, 12; then the rest of 14
 
--- how long a page of s bits counts, with `left` bits of the file from it on
+-- how long a page counts, with `left` bits of the file from it on
 abbrev pub pageLength : Layout → ℕ → ℕ → ℕ
-pageLength v s left = cond (v .filled) s (min s left)
+pageLength v pageBits left = cond (v .filled) pageBits (min pageBits left)
 
 -- the marks of pages joined behind a mark, each with its own length, without the limit of number 7
 unfoldable pub joinedPages : Layout → ℕ → ℕ → ℕ → Mark → List ℕ → Mark
-joinedPages v key s left m [] = m
-joinedPages v key s left m (f ∷ fs) = joinedPages v key s (left - s) (joined key m (record { fingerprint = f; length = pageLength v s left })) fs
+joinedPages v key pageBits left m [] = m
+joinedPages v key pageBits left m (f ∷ fs) =
+    joinedPages v key pageBits (left - pageBits) (joined key m (record { fingerprint = f; length = pageLength v pageBits left })) fs
 
 -- a fingerprint is not below 2^k
 unfoldable pub someUnreduced : ℕ → List ℕ → Bool
@@ -105,8 +106,8 @@ headWrong vs sheet =
 
 -- number 14, last: total, fields, joining
 abbrev pub bodyWrong : ℕ → Contents → Bool
-bodyWrong size x =
-    not (eqb size (sheetLength (layoutOf (x .version)) (length (x .pages))))
+bodyWrong total x =
+    not (eqb total (sheetLength (layoutOf (x .version)) (length (x .pages))))
     || someUnreduced (degree (polynomialOf (x .key))) (x .pages ++ x .fingerprint ∷ [])
     || not (eqb (pagesJoined x .fingerprint) (fileFilled x))
 
@@ -130,9 +131,8 @@ readPages sheet lent = firstOf (readTests layouts sheet) lent (overlay (contents
 -- ---- checking a file: all of reading, then 7, then 19
 
 pub data Outcome : Type 0 where
-  Same : Outcome
+  Same OtherLength : Outcome
   Page : ℕ → Outcome
-  OtherLength : Outcome
 
 -- the first place where two lists of fingerprints differ, counted from i
 unfoldable pub firstChange : ℕ → List ℕ → List ℕ → Outcome

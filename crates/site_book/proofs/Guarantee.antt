@@ -18,7 +18,7 @@ use Rattle.book.proofs.Guarantee as any-level
 use Rattle.book.proofs.RunLaws.{run-map}
 use Rattle.sheets.specs.Layout.{pagesFor, Contents}
 use Rattle.sheets.proofs.Routes.{written-page, written-last, read-fingerprint, read-page}
-use Rattle.bench_book.specs.Book as bench-book
+use Rattle.fed_parts.specs.Parts as feeds
 use Rattle.bench_book.proofs.Guarantee as bench-level
 use Rattle.site_book.specs.Book.{Call, Feeding, Behind, InFront, Page, step, bookTests, site}
 use Rattle.site_book.specs.Book.{fieldAt, Route, OfBench, ByCalls, InSheet, InPageField, ByReading, ByReadingPages}
@@ -42,9 +42,9 @@ pub lowest : Lowest site
 lowest = any-level.lowest-first site in-order
 
 -- the Bench level's lists are lists of this level, so that its `parts` holds here too
-pub bench-lists : (key : ℕ) (m : Mark) (calls : List bench-book.Call) → run (step key) m (map Feeding calls) ≡ run (bench-book.step key) m calls
+pub bench-lists : (key : ℕ) (m : Mark) (calls : List feeds.Feed) → run (step key) m (map Feeding calls) ≡ run (feeds.step key) m calls
 unfolding step
-bench-lists key m calls = run-map (bench-book.step key) (step key) Feeding (λ s c. refl) m calls
+bench-lists key m calls = run-map (feeds.step key) (step key) Feeding (λ s c. refl) m calls
 
 -- ---- two different files
 

@@ -23,13 +23,14 @@ use Rattle.marks.proofs.Laws.{leave-out-8}
 use Rattle.compose.specs.Composing.{marksTests, joinTests, joinBehind, joinInFront, pageTests, replacePage}
 use Rattle.book.specs.Runs.{bookStep}
 use Rattle.book.proofs.RunLaws.{Keeps}
+use Rattle.fed_parts.specs.Parts as feeds
 use Rattle.bench_book.specs.Book as bench-level
 use Rattle.bench_book.proofs.StepLaws as bench-laws
 use Rattle.bench_book.proofs.StepLaws.{Agrees, agrees-by}
 use Rattle.site_book.specs.Book.{Call, Feeding, Behind, InFront, Page, step, bookTests, written, Brings, site}
 
 module _ (key : ℕ) (pos : 0 < key) (file : List ℕ) where
-  feeding-agrees : (c : bench-level.Call) → Agrees key (step key (markOf key file) (Feeding c)) (bookStep site key file (Feeding c))
+  feeding-agrees : (c : feeds.Feed) → Agrees key (step key (markOf key file) (Feeding c)) (bookStep site key file (Feeding c))
   unfolding step bookStep bookTests written
   feeding-agrees c = bench-laws.each key pos file c
 

@@ -14,19 +14,20 @@ use Rattle.files.specs.Files.{True, Bytes, unreduced, Part, partLength, partBit
 use Rattle.marks.specs.Feeding.{sumTest}
 use Rattle.compose.specs.Composing.{joinBehind, joinInFront, replacePage}
 use Rattle.big_endian.specs.Numbers.{numberAt}
-use Rattle.sheets.specs.Layout.{Layout, newest, layoutOf, pagePlace, pagesFor, Contents}
+use Rattle.sheets.specs.Layout.{fingerprintWidth, Layout, newest, layoutOf, pagePlace, pagesFor, Contents}
 use Rattle.sheets.specs.Sheets.{pageOf, writeSheet, readSheet, readPages, pagesNow}
 use Rattle.book.specs.Runs.{Level, Leaves}
+use Rattle.fed_parts.specs.Parts as feeds
 use Rattle.bench_book.specs.Book as bench-level
 
 -- "A joined mark, in a call not refused, comes with a file of which it is true."
 pub data Call : Type 0 where
-  Feeding : bench-level.Call → Call
+  Feeding : feeds.Feed → Call
   Behind InFront : (other : Mark) (its : List ℕ) → Call
   Page : (place : ℕ) (old new : Part) → Call
 
 unfoldable pub step : ℕ → Mark → Call → Answer Mark Mark
-step key m (Feeding c) = bench-level.step key m c
+step key m (Feeding c) = feeds.step key m c
 step key m (Behind other its) = joinBehind (keyOf key) m other
 step key m (InFront other its) = joinInFront (keyOf key) m other
 step key m (Page place old new) = replacePage (keyOf key) m place old new
@@ -65,13 +66,13 @@ site = record { Call = Call; step = step; tests = bookTests; written = written; 
 
 -- ---- the routes
 
--- page i of a file, of s bytes, as a version takes it
+-- page i of a file, of `size` bytes, as a version takes it
 abbrev pub pageIn : Layout → ℕ → List ℕ → ℕ → List ℕ
-pageIn v s file i = pageOf v (8 * s) (take (8 * s) (drop (i * (8 * s)) file))
+pageIn v size file i = pageOf v (8 * size) (take (8 * size) (drop (i * (8 * size)) file))
 
 -- the fingerprint in field i of a written sheet: page i's, and the file's behind the last page's
 abbrev pub fieldAt : List ℕ → ℕ → ℕ
-fieldAt sheet i = numberAt (pagePlace newest i) (newest .fingerprintWidth) sheet
+fieldAt sheet i = numberAt (pagePlace newest i) fingerprintWidth sheet
 
 -- a sheet under the key that reads as the numbers x, with the fingerprints of the file's pages
 pub record TruePages (key : ℕ) (file sheet : List ℕ) (x : Contents) : Type 0 where
@@ -87,11 +88,11 @@ pub data Route (key : ℕ) (file : List ℕ) (f : ℕ) : Type 0 where
   OfBench : bench-level.Route key file f → Route key file f
   ByCalls : Leaves site key file f → Route key file f
   -- the last field of a written sheet
-  InSheet : (s : ℕ) (part : Part) (buffer after : List ℕ) → writeSheet (keyOf key) s part buffer ≡ Done after → partBits part ≡ file
-      → fieldAt after (pagesFor s (length file)) ≡ f → Route key file f
+  InSheet : (size : ℕ) (part : Part) (buffer after : List ℕ) → writeSheet (keyOf key) size part buffer ≡ Done after → partBits part ≡ file
+      → fieldAt after (pagesFor size (length file)) ≡ f → Route key file f
   -- the field of a page of a written sheet: the file is that page
-  InPageField : (s i : ℕ) (part : Part) (buffer after : List ℕ) → writeSheet (keyOf key) s part buffer ≡ Done after → i < pagesFor s (length (partBits part))
-      → file ≡ pageIn newest s (partBits part) i → fieldAt after i ≡ f → Route key file f
+  InPageField : (size i : ℕ) (part : Part) (buffer after : List ℕ) → writeSheet (keyOf key) size part buffer ≡ Done after
+      → i < pagesFor size (length (partBits part)) → file ≡ pageIn newest size (partBits part) i → fieldAt after i ≡ f → Route key file f
   -- what reading gives of a sheet with true page fingerprints: the file's fingerprint,
   ByReading : (sheet : List ℕ) (x : Contents) → TruePages key file sheet x → x .fingerprint ≡ f → Route key file f
   -- and a page's, in a lent word

@@ -1,16 +1,15 @@
 -- The range is told in three places; on refusal nothing is.
-use mathlib.Core.Path.{_≡_, refl, sym, ap, _∙_}
-use mathlib.Core.Bool.{true, false}
+use mathlib.Core.Path.{_≡_, sym, ap, _∙_}
 use mathlib.Core.List.{List, [], _∷_}
 use Prim.Native.Nat.{ℕ}
-use Rattle.refusals.specs.Refusals.{numberOf, Test, _⇒_, firstOf}
-use Rattle.files.specs.Files.{asPart, partBits}
+use Rattle.refusals.specs.Refusals.{numberOf, valueOr, mapped}
+use Rattle.refusals.proofs.Replies.{mapped-number, first-mapped}
+use Rattle.files.specs.Files.{asPart, Part, partBits}
 use Rattle.sheets.specs.declared.Changed.{Changed}
-use Rattle.sheets.specs.Layout.{Contents, contentsIn}
-use Rattle.sheets.specs.Sheets.{Outcome, Same, Page, OtherLength, compared, checkTests, checkSheet}
-use Rattle.sheets.specs.Answers.{Range, NoChange, FromTo, NotAsLong, rangeOf, changedRange, changeAnswer}
-use Rattle.c_interface.specs.Interface.{heldAfter}
-use Rattle.gfp_sheets.specs.Outputs.{rangeIn}
+use Rattle.sheets.specs.Layout.{contentsIn}
+use Rattle.sheets.specs.Sheets.{compared, checkTests, checkSheet}
+use Rattle.sheets.specs.Outputs.{rangeIn}
+use Rattle.sheets.specs.Answers.{changedRange, changeAnswer}
 use borrow.Author.Needs.{needs}
 use Rattle.gfp_sheets.proofs.gfp_changed_range.Statement.{statement}
 use Rattle.gfp_sheets.proofs.gfp_changed_range.Tie as tie
@@ -21,36 +20,21 @@ start c = c .before .before .before
 abbrev before : tie.After-first-changed-range → List ℕ
 before c = let a = start c .args in a .outcome .now ∷ a .from .now ∷ a .to .now ∷ []
 
--- the numbers of the code's range, in the order of the places
-abbrev numbersIn : Range → List ℕ
-numbersIn NoChange = 0 ∷ 0 ∷ 0 ∷ []
-numbersIn (FromTo from to) = 1 ∷ from ∷ to ∷ []
-numbersIn NotAsLong = 2 ∷ 0 ∷ 0 ∷ []
-
--- behind the same tests, the range of an outcome is told as the outcome is
-same-told : (x : Contents) (o : Outcome) (before : List ℕ) (ts : List Test)
-    → (numberOf (firstOf {S = Unit} ts tt (rangeOf x o)) ≡ numberOf (firstOf {S = Unit} ts tt o))
-    × (heldAfter numbersIn before (firstOf {S = Unit} ts tt (rangeOf x o)) ≡ heldAfter (rangeIn x) before (firstOf {S = Unit} ts tt o))
-same-told x Same before [] = (refl, refl)
-same-told x (Page i) before [] = (refl, refl)
-same-told x OtherLength before [] = (refl, refl)
-same-told x o before (true ⇒ r ∷ ts) = (refl, refl)
-same-told x o before (false ⇒ r ∷ ts) = same-told x o before ts
+-- the range of the check's outcome
+by-check : (sheet : List ℕ) (file : Part) → changedRange sheet file ≡ mapped (rangeIn (contentsIn sheet)) (checkSheet sheet file)
+unfolding changedRange checkSheet
+by-check sheet file = let x = contentsIn sheet in first-mapped (rangeIn x) (checkTests sheet file) tt (compared x (partBits file))
 
 -- what is told of the answer that the code has
 told : (c : tie.After-first-changed-range) (o : Changed) → c .first-changed-range .result ≡ o
-    → (numberOf (changeAnswer o) ≡ numberOf (checkSheet (start c .args .sheet .now) (asPart (start c .args .file .now) (start c .args .used))))
-    × (heldAfter numbersIn (before c) (changeAnswer o)
-    ≡ heldAfter (rangeIn (contentsIn (start c .args .sheet .now))) (before c)
-    (checkSheet (start c .args .sheet .now) (asPart (start c .args .file .now) (start c .args .used))))
-unfolding changedRange checkSheet
+    → let sheet = start c .args .sheet .now in
+    let checked = checkSheet sheet (asPart (start c .args .file .now) (start c .args .used)) in
+    (numberOf (changeAnswer o) ≡ numberOf checked) × (valueOr (before c) (changeAnswer o) ≡ valueOr (before c) (mapped (rangeIn (contentsIn sheet)) checked))
 told c o e =
-    let h = ap changeAnswer (sym e) ∙ c .first-changed-range .ensures in
     let sheet = start c .args .sheet .now in
     let file = asPart (start c .args .file .now) (start c .args .used) in
-    let x = contentsIn sheet in
-    let s = same-told x (compared x (partBits file)) (before c) (checkTests sheet file) in
-    (ap numberOf h ∙ s .0, ap (heldAfter numbersIn (before c)) h ∙ s .1)
+    let h = ap changeAnswer (sym e) ∙ c .first-changed-range .ensures ∙ by-check sheet file in
+    (ap numberOf h ∙ mapped-number (rangeIn (contentsIn sheet)) (checkSheet sheet file), ap (valueOr (before c)) h)
 
 returns : tie.Need-returns
 returns c = told (c .before .before) _ (c .enum-told .given .1)

@@ -2,13 +2,12 @@
 use mathlib.Core.Path.{_≡_, sym, ap, _∙_}
 use mathlib.Core.List.{List, [], _∷_}
 use Prim.Native.Nat.{ℕ}
-use Rattle.refusals.specs.Refusals.{numberOf}
+use Rattle.refusals.specs.Refusals.{Answer, numberOf, valueOr, mapped}
 use Rattle.files.specs.Files.{asPart}
 use Rattle.sheets.specs.declared.Checked.{Checked}
-use Rattle.sheets.specs.Sheets.{checkSheet}
+use Rattle.sheets.specs.Sheets.{Outcome, checkSheet}
+use Rattle.sheets.specs.Outputs.{outcomeIn}
 use Rattle.sheets.specs.Answers.{checkAnswer}
-use Rattle.c_interface.specs.Interface.{heldAfter}
-use Rattle.gfp_sheets.specs.Outputs.{outcomeIn}
 use borrow.Author.Needs.{needs}
 use Rattle.gfp_sheets.proofs.gfp_check_file.Statement.{statement}
 use Rattle.gfp_sheets.proofs.gfp_check_file.Tie as tie
@@ -24,14 +23,17 @@ number→check c = c .before .before .before .before
 abbrev before : tie.After-check → List ℕ
 before c = let a = check→start c .args in a .outcome .now ∷ a .page .now ∷ []
 
+-- the check, as it is defined
+abbrev checked : tie.After-check → Answer Unit Outcome
+checked c = let a = check→start c .args in checkSheet (a .sheet .now) (asPart (a .file .now) (a .used))
+
 -- what is told of the answer that the code has
 told : (c : tie.After-check) (o : Checked) → c .check .result ≡ o
-    → (numberOf (checkAnswer o) ≡ numberOf (checkSheet (check→start c .args .sheet .now) (asPart (check→start c .args .file .now) (check→start c .args .used))))
-    × (heldAfter outcomeIn (before c) (checkAnswer o)
-    ≡ heldAfter outcomeIn (before c) (checkSheet (check→start c .args .sheet .now) (asPart (check→start c .args .file .now) (check→start c .args .used))))
+    → (numberOf (checkAnswer o) ≡ numberOf (checked c))
+    × (valueOr (before c) (mapped outcomeIn (checkAnswer o)) ≡ valueOr (before c) (mapped outcomeIn (checked c)))
 told c o e =
     let h = ap checkAnswer (sym e) ∙ c .check .ensures in
-    (ap numberOf h, ap (heldAfter outcomeIn (before c)) h)
+    (ap numberOf h, ap (λ (a : Answer Unit Outcome). valueOr (before c) (mapped outcomeIn a)) h)
 
 returns : tie.Need-returns
 returns c = told (c .before .before) _ (c .enum-told .given .1)

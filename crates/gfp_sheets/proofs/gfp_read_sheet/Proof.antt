@@ -1,18 +1,17 @@
 -- The numbers of the sheet are stored; on refusal nothing is.
-use mathlib.Core.Path.{_≡_, refl, sym, ap, _∙_}
-use mathlib.Core.List.{List, [], _∷_}
-use Prim.Native.Nat.{ℕ}
+use mathlib.Core.Path.{_≡_, sym, ap, _∙_}
 use native.Mathlib.Omega.{arith}
-use Rattle.refusals.specs.Refusals.{Answer, Done, Refused, numberOf}
+use Rattle.refusals.specs.Refusals.{numberOf, valueOr, mapped}
+use Rattle.refusals.proofs.Replies.{mapped-number}
 use Rattle.sheets.specs.declared.Reading.{Reading}
-use Rattle.sheets.specs.Answers.{reading, sheetRead}
+use Rattle.sheets.specs.Answers.{reading}
 use Rattle.sheets.specs.declared.Sheet.{Sheet}
-use Rattle.sheets.specs.Layout.{Contents, contentsIn}
+use Rattle.sheets.specs.Layout.{contentsIn}
 use Rattle.sheets.specs.Sheets.{readSheet}
+use Rattle.sheets.specs.Outputs.{numbersOf}
 use Rattle.sheets.proofs.Versions.{known-small}
 use Rattle.sheets.proofs.Known.{read-as, sound, version-read}
-use Rattle.c_interface.specs.Interface.{heldAfter}
-use Rattle.gfp_sheets.specs.Outputs.{sheetIn}
+use Rattle.c_interface.specs.Interface.{keyAt}
 use borrow.Author.Needs.{needs}
 use Rattle.gfp_sheets.proofs.gfp_read_sheet.Statement.{statement}
 use Rattle.gfp_sheets.proofs.gfp_read_sheet.Tie as tie
@@ -28,32 +27,25 @@ x→read c = c .before .before
 abbrev number→read : tie.After-number → tie.After-read
 number→read c = c .before .before .before .before
 
--- the numbers of the code's sheet, in the order of the places
-abbrev numbersIn : Sheet → List ℕ
-numbersIn x = x .version ∷ x .key .degree ∷ x .key .word ∷ x .length ∷ x .size ∷ x .pages ∷ x .fingerprint ∷ []
-
--- the code's sheet has the numbers of the definition's
-same-number : (a : Answer Unit Contents) → numberOf (sheetRead a) ≡ numberOf a
-same-number (Done x) = refl
-same-number (Refused r s) = refl
-
-same-places : (before : List ℕ) (a : Answer Unit Contents) → heldAfter numbersIn before (sheetRead a) ≡ heldAfter sheetIn before a
-same-places before (Done x) = refl
-same-places before (Refused r s) = refl
-
-abbrev before : tie.After-read → List ℕ
+abbrev before : tie.After-read → Sheet
 before c =
     let a = read→start c .args in
-    a .version .now ∷ a .degree .now ∷ a .word .now ∷ a .bits .now ∷ a .page-size .now ∷ a .pages .now ∷ a .fingerprint .now ∷ []
+    record {
+      version = a .version .now;
+      key = keyAt (a .degree .now) (a .word .now);
+      length = a .bits .now;
+      size = a .page-size .now;
+      pages = a .pages .now;
+      fingerprint = a .fingerprint .now;
+    }
 
 -- what is told of the answer that the code has
 told : (c : tie.After-read) (o : Reading) → c .read .result ≡ o
     → (numberOf (reading o) ≡ numberOf (readSheet (read→start c .args .sheet .now)))
-    × (heldAfter numbersIn (before c) (reading o) ≡ heldAfter sheetIn (before c) (readSheet (read→start c .args .sheet .now)))
+    × (valueOr (before c) (reading o) ≡ valueOr (before c) (mapped numbersOf (readSheet (read→start c .args .sheet .now))))
 told c o e =
     let h = ap reading (sym e) ∙ c .read .ensures in
-    let a = readSheet (read→start c .args .sheet .now) in
-    (ap numberOf h ∙ same-number a, ap (heldAfter numbersIn (before c)) h ∙ same-places (before c) a)
+    (ap numberOf h ∙ mapped-number numbersOf (readSheet (read→start c .args .sheet .now)), ap (valueOr (before c)) h)
 
 -- the version of a sheet that was read is a small number
 cast-version : tie.Need-cast-version

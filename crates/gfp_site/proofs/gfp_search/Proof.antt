@@ -1,11 +1,9 @@
 -- The two numbers of the search are stored; on refusal nothing is.
 use mathlib.Core.Path.{sym, ap, _∙_}
-use mathlib.Core.List.{[], _∷_}
-use Rattle.refusals.specs.Refusals.{numberOf}
+use Rattle.refusals.specs.Refusals.{numberOf, valueOr}
+use Rattle.search.specs.declared.Counts.{Counts}
 use Rattle.search.specs.declared.Searched.{Searched}
 use Rattle.search.specs.Answers.{searched}
-use Rattle.c_interface.specs.Interface.{heldAfter}
-use Rattle.gfp_site.specs.Outputs.{countsIn}
 use borrow.Author.Needs.{needs}
 use Rattle.gfp_site.proofs.gfp_search.Statement.{statement}
 use Rattle.gfp_site.proofs.gfp_search.Tie as tie
@@ -33,26 +31,27 @@ known-told→start c = places→start (c .before .before .before .before)
 abbrev known-told→search : tie.After-known-told → tie.After-search
 known-told→search c = places→search (c .before .before .before .before)
 
+abbrev before : tie.Start → Counts
+before s = record { places = s .args .count .now; alarms = s .args .alarms .now }
+
 returns : tie.Need-returns
 returns c =
     let m = known-told→search c .search in
-    let s = known-told→start c .args in
+    let s = known-told→start c in
     let e = sym (c .before .c .given .1) in (
       ap (λ (x : Searched). numberOf (searched x)) e ∙ ap numberOf (m .ensures .0),
       m .ensures .1,
-      ap (λ (x : Searched). heldAfter countsIn (s .count .now ∷ s .alarms .now ∷ []) (searched x)) e
-          ∙ ap (heldAfter countsIn (s .count .now ∷ s .alarms .now ∷ [])) (m .ensures .0),
+      ap (λ (x : Searched). valueOr (before s) (searched x)) e ∙ ap (valueOr (before s)) (m .ensures .0),
     )
 
 returns-2 : tie.Need-returns-2
 returns-2 c =
     let m = r→search (c .before .before) .search in
-    let s = r→start (c .before .before) .args in
+    let s = r→start (c .before .before) in
     let e = sym (c .before .before .r .given .1) in (
       c .number .ensures ∙ ap (λ (x : Searched). numberOf (searched x)) e ∙ ap numberOf (m .ensures .0),
       m .ensures .1,
-      ap (λ (x : Searched). heldAfter countsIn (s .count .now ∷ s .alarms .now ∷ []) (searched x)) e
-          ∙ ap (heldAfter countsIn (s .count .now ∷ s .alarms .now ∷ [])) (m .ensures .0),
+      ap (λ (x : Searched). valueOr (before s) (searched x)) e ∙ ap (valueOr (before s)) (m .ensures .0),
     )
 
 pub gfp-search-spec : {M : Type 1} → statement M

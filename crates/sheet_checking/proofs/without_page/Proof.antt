@@ -10,7 +10,6 @@ use Rattle.sheets.proofs.Checked as CheckedT
 use Rattle.sheets.specs.declared.Checked.{Checked}
 use Rattle.sheets.specs.declared.Checked.the-variants as cases
 use Rattle.sheets.specs.Layout.{Contents}
-use Rattle.sheets.specs.Answers.{NotAsLong}
 use Rattle.sheets.specs.Answers.{checkAnswer}
 use Rattle.sheets.specs.Inner.{NoPage, ranged}
 use borrow.Author.Needs.{needs}
@@ -19,7 +18,7 @@ use Rattle.sheet_checking.proofs.without_page.Tie as tie
 
 -- no page, neither same nor refused: the length is another
 other : (x : Contents) (o : Checked) → NoPage o → Run.OneOf (1 ∷ 2 ∷ 3 ∷ []) (Declared.tagOf CheckedT.the-type o)
-    → Run.OneOf (0 ∷ 1 ∷ 2 ∷ []) (Declared.tagOf CheckedT.the-type o) → Done NotAsLong ≡ ranged x (checkAnswer o)
+    → Run.OneOf (0 ∷ 1 ∷ 2 ∷ []) (Declared.tagOf CheckedT.the-type o) → Done (2 ∷ 0 ∷ 0 ∷ []) ≡ ranged x (checkAnswer o)
 other x cases.OtherLength h a b = refl
 other x (cases.Page i) h a b = absurd h
 other x cases.Same h (inl e) b = absurd (omega arith)

@@ -15,7 +15,7 @@ use Rattle.sheet_layout.proofs.fields_of.Tie as tie
 -- a version and its fields, by what the versions differ in: how the key is held, the width and the unit of the length, and whether pages are filled
 module _ (paired : Bool) (w unit : ℕ) (filled : Bool) where
   abbrev layout : ℕ → Layout
-  layout n = record { version = n; widths = cond paired 9 8 ∷ w ∷ 2 ∷ []; paired = paired; fingerprintWidth = 8; lengthUnit = unit; filled = filled }
+  layout n = record { version = n; widths = cond paired 9 8 ∷ w ∷ 2 ∷ []; paired = paired; lengthUnit = unit; filled = filled }
 
   abbrev fields : Fields
   fields = record { key = cond paired 9 8; paired = paired; length = w; size = 2; unit = unit; filled = filled }
@@ -25,7 +25,6 @@ module _ (paired : Bool) (w unit : ℕ) (filled : Bool) where
       record {
         widths = refl;
         paired = refl;
-        fingerprints = refl;
         unit = refl;
         filled = refl;
         key-width = refl;

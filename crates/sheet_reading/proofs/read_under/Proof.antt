@@ -9,7 +9,7 @@ use lib.ListN.{length}
 use Rattle.refusals.specs.Refusals.{Done}
 use Rattle.refusals.proofs.Laws.{holds, fails}
 use Rattle.sheet_layout.specs.declared.Head.{Head}
-use Rattle.sheets.specs.Layout.{versionIn, Layout, layoutOf, sheetLength, pagesFor, fieldIn, pagesIn}
+use Rattle.sheets.specs.Layout.{versionIn, Layout, layoutOf, sheetLength, pagesFor, sizeIn, pagesIn}
 use Rattle.sheets.specs.Answers.{sheetRead}
 use Rattle.sheets.proofs.Sound.{size-bounds}
 use Rattle.sheet_reading.proofs.Answers.{numbers-are, body-total, body-size, body-wrong, body-done}
@@ -34,8 +34,8 @@ layout s = layoutOf (versionIn (sheet s))
 
 -- the page size is right
 size-passed : (c : tie.Else1)
-    → (ltb (fieldIn (layout (start (c .before))) 4 (sheet (start (c .before)))) 16
-    || ltb 4096 (fieldIn (layout (start (c .before))) 4 (sheet (start (c .before))))) ≡ false
+    → (ltb (sizeIn (layout (start (c .before))) (sheet (start (c .before)))) 16
+    || ltb 4096 (sizeIn (layout (start (c .before))) (sheet (start (c .before))))) ≡ false
 size-passed c = let s = start (c .before) in rw (← (s .pre .0 .size)) (fails _ _ (c .before .size-right .ensures) (c .if1 .left))
 
 size : (c : tie.Else1) → (16 ≤ head (start (c .before)) .size) × (head (start (c .before)) .size ≤ 4096)

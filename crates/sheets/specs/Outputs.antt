@@ -1,14 +1,15 @@
--- The numbers that the functions for C write to lent places, in the order of the places.
+-- What the calls on sheets tell: in code, and to C in lent places.
 use mathlib.Core.List.{List, [], _∷_}
 use Prim.Native.Nat.{ℕ, _+_, _*_, min}
 use lib.ListN.{length}
 use Rattle.files.specs.Files.{bytesFor}
+use Rattle.sheets.specs.declared.Sheet.{Sheet}
 use Rattle.sheets.specs.Layout.{Contents}
 use Rattle.sheets.specs.Sheets.{Outcome, Same, Page, OtherLength}
 
--- of a sheet: the version, the key's degree and word, the file's length in bits, the page size, the number of pages, the file's fingerprint
-abbrev pub sheetIn : Contents → List ℕ
-sheetIn x = x .version ∷ x .key .degree ∷ x .key .word ∷ x .length ∷ x .pageSize ∷ length (x .pages) ∷ x .fingerprint ∷ []
+-- of a sheet: its numbers, with the number of pages; the page fingerprints are given by `readPages`
+abbrev pub numbersOf : Contents → Sheet
+numbersOf x = record { version = x .version; key = x .key; length = x .length; size = x .pageSize; pages = length (x .pages); fingerprint = x .fingerprint }
 
 -- of a check: 0 for same, 1 for a page, 2 for another length; and the page, or 0
 abbrev pub outcomeIn : Outcome → List ℕ

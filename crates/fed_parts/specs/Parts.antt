@@ -5,40 +5,52 @@ use mathlib.Core.Bool.{true, false}
 use mathlib.Core.List.{List, [], _∷_, _++_}
 use Prim.Native.Nat.{ℕ, _+_, _≤_}
 use lib.ListN.{length}
-use Rattle.refusals.specs.Refusals.{longest}
-use Rattle.acceptance.specs.Keys.{accepted}
+use Rattle.refusals.specs.Refusals.{Answer, longest}
+use Rattle.acceptance.specs.Keys.{accepted, keyOf}
 use Rattle.files.specs.declared.Mark.{Mark}
 use Rattle.files.specs.Files.{markOf, True, Part, partBits, misused}
 use Rattle.lookups.specs.Rule.{table}
+use Rattle.marks.specs.Feeding.{feedBits, feedTable}
 use Rattle.book.specs.Runs.{run}
-use Rattle.bench_book.specs.Book.{Call, ByBits, ByTable, step}
 
-abbrev pub partOf : Call → Part
+-- feeding, by bits or by tables. Feeding under the house key is feeding by its constant words (`feedHouse`).
+pub data Feed : Type 0 where
+  ByBits : (part : Part) → Feed
+  ByTable : (words : List ℕ) (part : Part) → Feed
+
+-- The key is a polynomial, and each feed gets it as a degree and a word: by `key-iff` this leaves no accepted key out.
+unfoldable pub step : ℕ → Mark → Feed → Answer Mark Mark
+step key m (ByBits part) = feedBits (keyOf key) m part
+step key m (ByTable words part) = feedTable (keyOf key) m words part
+
+-- ---- claims: parts fed one after another
+
+abbrev pub partOf : Feed → Part
 partOf (ByBits part) = part
 partOf (ByTable words part) = part
 
 -- the lent words are the key's table, and the part is not misused
-abbrev pub Usable : ℕ → Call → Type 0
+abbrev pub Usable : ℕ → Feed → Type 0
 Usable key (ByBits part) = misused part ≡ false
 Usable key (ByTable words part) = (words ≡ table key) × (misused part ≡ false)
 
-abbrev pub AllUsable : ℕ → List Call → Type 0
+abbrev pub AllUsable : ℕ → List Feed → Type 0
 AllUsable key [] = Unit {0}
 AllUsable key (c ∷ cs) = Usable key c × AllUsable key cs
 
-abbrev pub partsJoined : List Call → List ℕ
+abbrev pub partsJoined : List Feed → List ℕ
 partsJoined [] = []
 partsJoined (c ∷ cs) = partBits (partOf c) ++ partsJoined cs
 
 -- no call is refused
-abbrev pub zeros : List Call → List ℕ
+abbrev pub zeros : List Feed → List ℕ
 zeros [] = []
 zeros (c ∷ cs) = 0 ∷ zeros cs
 
 -- from any true mark, in any parts and by any mixture of bits and tables, where the length fits
 abbrev pub PartsJoined : Type 0
 PartsJoined =
-    (key : ℕ) (file : List ℕ) (m : Mark) (calls : List Call) → accepted key ≡ true → True key file m → AllUsable key calls
+    (key : ℕ) (file : List ℕ) (m : Mark) (calls : List Feed) → accepted key ≡ true → True key file m → AllUsable key calls
     → length file + length (partsJoined calls) ≤ longest → run (step key) m calls ≡ (markOf key (file ++ partsJoined calls), zeros calls)
 
 -- a file of bits cut anywhere, also inside a byte: its two parts, fed one after the other, give the mark of both joined
