@@ -24,7 +24,8 @@ module _ (flags : List Bool) (text pattern : List ℕ) (from size : ℕ) where
   module _ {words₀ words : List ℕ} {p₀ a₀ p a i : ℕ} (t : Counted words₀ p₀ a₀ words p a i) (l : i < size) (flag : getD flags i false ≡ true)
       (next b : ℕ) (eb : b ≡ a)
       (f : NextFlagged flags (i + 1) size next) where
-    pub place-next : (after : List ℕ) → after ≡ set words p (from + i) → same (window (length pattern) text (from + i)) pattern ≡ true → Counted words₀ p₀ a₀ after (p + 1) b next
+    pub place-next : (after : List ℕ) → after ≡ set words p (from + i) → same (window (length pattern) text (from + i)) pattern ≡ true
+        → Counted words₀ p₀ a₀ after (p + 1) b next
     place-next after e z =
         rw (e, eb)
         (skipped (tally-place t l (flagged-place flags text pattern from i true flag z) (flagged-alarm flags text pattern from i true flag z)) next f)
