@@ -1,5 +1,5 @@
 -- How a check answers, by what reading answers.
-use mathlib.Core.Path.{_≡_, refl, sym, ap, ap₂, _∙_}
+use mathlib.Core.Path.{_≡_, sym, ap, ap₂, _∙_}
 use mathlib.Core.Bool.{true, false}
 use mathlib.Core.List.{List, [], _∷_, _++_}
 use Prim.Native.Nat.{ℕ, _+_, _*_, _^_, _≤_, _<_, min}
@@ -17,13 +17,14 @@ use Rattle.files.specs.Files.{Part, partLength, partBits, misused, bytesFor}
 use Rattle.files.proofs.Parts.{part-length, part-bytes}
 use Rattle.sheets.specs.declared.Sheet.{Sheet}
 use Rattle.big_endian.specs.Numbers.{numbersAt}
-use Rattle.sheets.specs.Layout.{versionIn, layouts, layoutOf, sheetLength, pageCount, pagesFor, Contents, sizeIn, contentsIn}
+use Rattle.sheets.specs.Layout.{versionIn, layouts, layoutOf, sheetLength, pageCount, pagesFor, sizeIn, contentsIn}
 use Rattle.sheets.specs.Sheets.{pageFingerprints, contentsOf, readTests, readSheet, Page, OtherLength, firstChange, compared, checkSheet}
 use Rattle.sheets.specs.Outputs.{rangeIn}
 use Rattle.sheets.specs.Answers.{sheetRead}
-use Rattle.sheets.specs.Sheets.{Outcome, headWrong, checkTests}
+use Rattle.sheets.specs.Sheets.{headWrong, checkTests}
 use Rattle.sheets.specs.Answers.{changedRange}
 use Rattle.sheets.specs.Inner.{ReadAs, comparison, ranged, fingerprintsPart}
+use Rattle.refusals.proofs.Replies.{first-mapped}
 use Rattle.refusals.proofs.Laws.{Clear, done-clear, more-refused, more-clear, first-true, first-false}
 use Rattle.sheets.proofs.Parts.{pages-held}
 use Rattle.sheets.proofs.Known.{pages-in, refused-inv, tests-clear, total}
@@ -108,14 +109,9 @@ module _ (sheet : List ℕ) {x : Sheet} (r : ReadAs sheet x) where
 
 -- ---- the range is that of the check's answer
 
-first-ranged : (x : Contents) (ts : List Test) (o : Outcome) → firstOf ts tt (rangeIn x o) ≡ ranged x (firstOf ts tt o)
-first-ranged x [] o = refl
-first-ranged x (true ⇒ r ∷ ts) o = refl
-first-ranged x (false ⇒ r ∷ ts) o = first-ranged x ts o
-
 pub changed-by-check : (sheet : List ℕ) (file : Part) → changedRange sheet file ≡ ranged (contentsIn sheet) (checkSheet sheet file)
 unfolding changedRange checkSheet
-changed-by-check sheet file = let x = contentsIn sheet in first-ranged x (checkTests sheet file) (compared x (partBits file))
+changed-by-check sheet file = let x = contentsIn sheet in first-mapped (rangeIn x) (checkTests sheet file) tt (compared x (partBits file))
 
 -- ---- the page that a check names
 

@@ -3,13 +3,14 @@ use mathlib.Core.Path.{_≡_, sym, ap, _∙_}
 use mathlib.Core.List.{List, [], _∷_}
 use Prim.Native.Nat.{ℕ}
 use Rattle.refusals.specs.Refusals.{numberOf, valueOr, mapped}
-use Rattle.refusals.proofs.Replies.{mapped-number, first-mapped}
-use Rattle.files.specs.Files.{asPart, Part, partBits}
+use Rattle.refusals.proofs.Replies.{mapped-number}
+use Rattle.files.specs.Files.{asPart}
 use Rattle.sheets.specs.declared.Changed.{Changed}
 use Rattle.sheets.specs.Layout.{contentsIn}
-use Rattle.sheets.specs.Sheets.{compared, checkTests, checkSheet}
+use Rattle.sheets.specs.Sheets.{checkSheet}
 use Rattle.sheets.specs.Outputs.{rangeIn}
-use Rattle.sheets.specs.Answers.{changedRange, changeAnswer}
+use Rattle.sheets.specs.Answers.{changeAnswer}
+use Rattle.sheet_checking.proofs.Laws.{changed-by-check}
 use borrow.Author.Needs.{needs}
 use Rattle.gfp_sheets.proofs.gfp_changed_range.Statement.{statement}
 use Rattle.gfp_sheets.proofs.gfp_changed_range.Tie as tie
@@ -20,11 +21,6 @@ start c = c .before .before .before
 abbrev before : tie.After-first-changed-range → List ℕ
 before c = let a = start c .args in a .outcome .now ∷ a .from .now ∷ a .to .now ∷ []
 
--- the range of the check's outcome
-by-check : (sheet : List ℕ) (file : Part) → changedRange sheet file ≡ mapped (rangeIn (contentsIn sheet)) (checkSheet sheet file)
-unfolding changedRange checkSheet
-by-check sheet file = let x = contentsIn sheet in first-mapped (rangeIn x) (checkTests sheet file) tt (compared x (partBits file))
-
 -- what is told of the answer that the code has
 told : (c : tie.After-first-changed-range) (o : Changed) → c .first-changed-range .result ≡ o
     → let sheet = start c .args .sheet .now in
@@ -33,7 +29,7 @@ told : (c : tie.After-first-changed-range) (o : Changed) → c .first-changed-ra
 told c o e =
     let sheet = start c .args .sheet .now in
     let file = asPart (start c .args .file .now) (start c .args .used) in
-    let h = ap changeAnswer (sym e) ∙ c .first-changed-range .ensures ∙ by-check sheet file in
+    let h = ap changeAnswer (sym e) ∙ c .first-changed-range .ensures ∙ changed-by-check sheet file in
     (ap numberOf h ∙ mapped-number (rangeIn (contentsIn sheet)) (checkSheet sheet file), ap (valueOr (before c)) h)
 
 returns : tie.Need-returns
