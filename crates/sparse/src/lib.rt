@@ -98,7 +98,7 @@ pub fn difference(p: Modulus, n: u32, old: &[u8], new: &[u8]) -> u64
     requires { ⌜ Sparse p n × (length (now old) ≡ length (now new)) ⌝ }
     ensures { λ r. ⌜ r ≡ rem (polynomial p) (valueFrom 0 (bits (now (old .entry))) ⊕ valueFrom 0 (bits (now (new .entry)))) ⌝ }
 {
-    let bytes = n as usize;
+    let width = n as usize;
     let spare = 64 - 8 * n;
     let mut x: u64 = 0;
     let mut i: usize = 0;
@@ -106,7 +106,7 @@ pub fn difference(p: Modulus, n: u32, old: &[u8], new: &[u8]) -> u64
         let a = big_endian::eight_at(old, i);
         let b = big_endian::eight_at(new, i);
         x = behind(p, n, x, (a ^ b) >> spare);
-        i += bytes;
+        i += width;
     }
     difference_ones(p, x, old, new, i)
 }

@@ -15,10 +15,10 @@ use Rattle.sparse.proofs.difference.Statement.{statement}
 use Rattle.sparse.proofs.difference.Tie as tie
 
 abbrev Inv-loop : tie.InvT-loop
-Inv-loop p n old new bytes spare x₀ i₀ x i = (i ≤ length old) × Apart p 0 old new 0 i x
+Inv-loop p n old new width spare x₀ i₀ x i = (i ≤ length old) × Apart p 0 old new 0 i x
 
 abbrev μ-loop : tie.MeasureT-loop
-μ-loop p n old new bytes spare x₀ i₀ x i = length old - i
+μ-loop p n old new width spare x₀ i₀ x i = length old - i
 
 -- ---- the places: from each one to an earlier one
 
