@@ -16,7 +16,8 @@ use Rattle.lookups.specs.Rule.{word, differs}
 use Rattle.house.specs.House.{houseKey, houseWords}
 use Rattle.keys.specs.Testing.{testKey}
 use Rattle.tables.specs.Tables.{makeTable, testTable}
-use Rattle.marks.specs.Feeding.{begin, feedTests, feedBits, feedTable, feedHouse}
+use Rattle.mark_tests.specs.MarkTests.{feedTests}
+use Rattle.marks.specs.Feeding.{begin, feedBits, feedTable, feedHouse}
 use Rattle.bench_book.specs.Calls.{EachCall}
 
 module _ (x : Key) (m : Mark) (words : List ℕ) (part : Part) where

@@ -18,7 +18,8 @@ use Rattle.files.proofs.Marks.{fed-true}
 use Rattle.files.proofs.Parts.{part-length}
 use Rattle.table_tests.specs.TableTests.{tableTests}
 use Rattle.table_tests.proofs.Laws.{clear-table}
-use Rattle.marks.specs.Feeding.{sumTest, feedTests, feedBits, feedTable}
+use Rattle.mark_tests.specs.MarkTests.{sumTest, feedTests}
+use Rattle.marks.specs.Feeding.{feedBits, feedTable}
 use Rattle.marks.proofs.Laws.{leave-out-8}
 use Rattle.book.specs.Runs.{bookStep}
 use Rattle.book.proofs.RunLaws.{Keeps}

@@ -9,7 +9,8 @@ use Rattle.refusals.specs.Refusals.{Done, Test, _⇒_}
 use Rattle.acceptance.specs.Keys.{keyOf, keyTests}
 use Rattle.files.specs.Files.{bits, partLength, partBits, misused}
 use Rattle.table_tests.specs.TableTests.{tableTests}
-use Rattle.marks.specs.Feeding.{sumTest, begin}
+use Rattle.mark_tests.specs.MarkTests.{sumTest}
+use Rattle.marks.specs.Feeding.{begin}
 use Rattle.key_lines.specs.declared.KeyLine.the-variants.{Key}
 use Rattle.key_lines.specs.KeyLines.{keyLine}
 use Rattle.printing.specs.Printing.{report, printed}

@@ -14,7 +14,8 @@ use Rattle.house.specs.House.{houseWords}
 use Rattle.keys.specs.Testing.{testKey}
 use Rattle.table_tests.specs.TableTests.{tableSizeTest, tableTests}
 use Rattle.tables.specs.Tables.{makeTable, testTable}
-use Rattle.marks.specs.Feeding.{begin, feedTests, feedBits, feedTable, feedHouse}
+use Rattle.mark_tests.specs.MarkTests.{feedTests}
+use Rattle.marks.specs.Feeding.{begin, feedBits, feedTable, feedHouse}
 
 pub record EachCall (x : Key) (m : Mark) (words : List ℕ) (part : Part) : Type 0 where
   pub test-key : GivesLowest (1 ∷ 2 ∷ []) (keyTests x) (testKey x)

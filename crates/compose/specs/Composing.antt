@@ -10,7 +10,7 @@ use Rattle.acceptance.specs.declared.Key.{Key}
 use Rattle.acceptance.specs.Keys.{polynomialOf, keyTests}
 use Rattle.files.specs.declared.Mark.{Mark}
 use Rattle.files.specs.Files.{unreduced, Part, partLength, misused, joined, replaced}
-use Rattle.marks.specs.Feeding.{sumTest}
+use Rattle.mark_tests.specs.MarkTests.{sumTest}
 
 -- numbers 7 and 8 of two marks
 abbrev pub marksTests : ℕ → Mark → Mark → List Test

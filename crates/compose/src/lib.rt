@@ -89,14 +89,13 @@ fn replace(
         (replaced (polynomialOf (m .key)) (markIn m) place (asPart (now (old .entry)) «old_used») (asPart (now (new .entry)) «new_used»))) ⌝ }
 {
     let key = m.key;
-    let f = m.fingerprint;
     let length = m.length;
     let n = files::part_length(old, old_used);
     let other = files::part_length(new, new_used);
     if !refusals::within(length, n, other) {
         return Fed::Refused(Refusal::TooLong, m);
     }
-    if !gf2::is_residue(p, f) {
+    if !gf2::is_residue(p, m.fingerprint) {
         return Fed::Refused(Refusal::MarkNotReduced, m);
     }
     if n != other {
@@ -108,9 +107,10 @@ fn replace(
     if files::is_misused(old, old_used) | files::is_misused(new, new_used) {
         return Fed::Refused(Refusal::FinalByte, m);
     }
+    let change = feeding::page_difference(p, old, new, old_used);
     Fed::Next(Running {
         key: key,
-        fingerprint: files::replaced_residue(p, f, old, new, old_used, length - n - 8 * place),
+        fingerprint: files::replaced_residue(p, m.fingerprint, change, length - n - 8 * place),
         length: length,
     })
 }

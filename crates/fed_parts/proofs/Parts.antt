@@ -15,7 +15,8 @@ use Rattle.files.specs.declared.Mark.{Mark}
 use Rattle.files.specs.Files.{markOf, Part, partLength, partBits, misused, fedMark}
 use Rattle.files.proofs.Marks.{true-reduced, fed-true}
 use Rattle.files.proofs.Parts.{part-length}
-use Rattle.marks.specs.Feeding.{feedTests, feedBits, feedTable}
+use Rattle.mark_tests.specs.MarkTests.{feedTests}
+use Rattle.marks.specs.Feeding.{feedBits, feedTable}
 use Rattle.table_tests.specs.TableTests.{tableTests}
 use Rattle.table_tests.proofs.Laws.{clear-table}
 use Rattle.book.specs.Runs.{run}

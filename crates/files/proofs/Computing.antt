@@ -17,7 +17,7 @@ use Rattle.gf2.proofs.Steps.{residue-small}
 use Rattle.files.specs.Files.{lowBits, bits, valueFrom, value, fingerprint, Part, asPart, usedBits, partLength, partBits}
 use Rattle.files.specs.Ends.{wholeBytes, endBits}
 use Rattle.files.proofs.Values.{length-bits, value-append, value-low, rem-from, value-next, value-starts}
-use Rattle.files.proofs.Parts.{part-length, WellUsed, whole-front, end-split, end-none, end-low}
+use Rattle.files.proofs.Parts.{part-length, whole-bits, WellUsed, whole-front, end-split, end-none, end-low}
 
 -- ---- what is left to feed
 
@@ -55,6 +55,11 @@ module _ (k c : ℕ) (h : c < 2 ^ k) where
   replaced-is f d n l = rw (rem-⊕ (monic-pos k c h) f (d * 2 ^ n), residue-small k c h f l, rem-⊗-pow (monic-pos k c h) d n)
 
 -- ---- a part: its whole bytes, and the used bits behind them
+
+-- all bytes are whole
+pub whole-behind : (q f : ℕ) (bytes : List ℕ) (u : ℕ) → u ≡ 8 → rem q (valueFrom f (bits bytes)) ≡ rem q (valueFrom f (partBits (asPart bytes u)))
+whole-behind q f bytes u e =
+    ap (λ (l : List ℕ). rem q (valueFrom f l)) (sym (ap (λ (v : ℕ). partBits (asPart bytes v)) e ∙ whole-bits bytes))
 
 pub part-behind : {k : ℕ} (pos : 0 < k) (f : ℕ) (part : Part) (w x : ℕ) → w ≡ wholeBytes part → x ≡ rem k (valueFrom f (bits (take w (part .bytes))))
     → rem k (valueFrom x (endBits part)) ≡ rem k (valueFrom f (partBits part))

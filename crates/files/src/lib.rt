@@ -4,7 +4,7 @@
 ghost use mathlib.Core.Path.{_≡_};
 ghost use mathlib.Core.Bool.{false};
 ghost use Prim.Native.Nat.{_+_, _*_, _^_, _≤_, _<_};
-ghost use lib.ListN.{length};
+ghost use lib.ListN.{length, take};
 ghost use Rattle.gf2.specs.Polynomials.{_⊕_, rem};
 ghost use Rattle.gf2.specs.Moduli.{polynomial, Proper};
 ghost use Rattle.files.specs.Files.{lowBits, bits, valueFrom, fingerprint, asPart, usedBits, partBits, misused};
@@ -138,8 +138,8 @@ pub fn with_zeros(p: Modulus, f: u64, n: u64) -> u64
     gf2::product(p, f, gf2::power_of_t(p, n))
 }
 
-// The residue of the difference of two lists of bytes, which are equally many.
-fn difference(p: Modulus, old: &[u8], new: &[u8]) -> u64
+// The residue of the difference of two lists of bytes, which are equally many, bit by bit.
+pub fn difference(p: Modulus, old: &[u8], new: &[u8]) -> u64
     requires { ⌜ Proper p × (length (now old) ≡ length (now new)) ⌝ }
     ensures { λ r. ⌜ r ≡ rem (polynomial p) (valueFrom 0 (bits (now (old .entry))) ⊕ valueFrom 0 (bits (now (new .entry)))) ⌝ }
 {
@@ -152,28 +152,26 @@ fn difference(p: Modulus, old: &[u8], new: &[u8]) -> u64
     x
 }
 
-// The difference of the residues of two pages of one length: the residue of their difference, without the leading 1 of either.
-fn page_difference(p: Modulus, old: &[u8], new: &[u8], used: u32) -> u64
-    requires { ⌜ Proper p × (length (now old) ≡ length (now new)) × (misused (asPart (now old) used) ≡ false) × (misused (asPart (now new) used) ≡ false) ⌝ }
+// The difference of the fingerprints of two pages of one length, where x is that of their whole bytes, without the leading 1 of either: the difference of
+// the used bits comes in behind it.
+pub fn difference_end(p: Modulus, x: u64, old: &[u8], new: &[u8], used: u32) -> u64
+    requires { ⌜ Proper p × (length (now old) ≡ length (now new)) × (misused (asPart (now old) used) ≡ false) × (misused (asPart (now new) used) ≡ false)
+        × (x ≡ rem (polynomial p) (valueFrom 0 (bits (take (wholeBytes (asPart (now old) used)) (now old)))
+        ⊕ valueFrom 0 (bits (take (wholeBytes (asPart (now old) used)) (now new))))) ⌝ }
     ensures { λ r. ⌜ r ≡ fingerprint (polynomial p) (partBits (asPart (now (old .entry)) used))
         ⊕ fingerprint (polynomial p) (partBits (asPart (now (new .entry)) used)) ⌝ }
 {
-    let w = whole_bytes(old, used);
-    let x = difference(p, &old[..w], &new[..w]);
     if used == 8 {
         return x;
     }
+    let w = whole_bytes(old, used);
     feed_low(p, x, (old[w] ^ new[w]) >> (8 - used), used)
 }
 
-// The residue of a file in which a page was changed: the difference of the pages' residues, times t^(bits after the page), is added.
-pub fn replaced_residue(p: Modulus, f: u64, old: &[u8], new: &[u8], used: u32, after: u64) -> u64
-    requires { ⌜ Proper p × (f < 2 ^ p .degree) × (length (now old) ≡ length (now new))
-        × (misused (asPart (now old) used) ≡ false) × (misused (asPart (now new) used) ≡ false) ⌝ }
-    ensures { λ r. ⌜ r ≡ rem (polynomial p) (f ⊕ (fingerprint (polynomial p) (partBits (asPart (now (old .entry)) used))
-        ⊕ fingerprint (polynomial p) (partBits (asPart (now (new .entry)) used))) * 2 ^ after) ⌝ }
+// The residue of a file in which a page was changed: the difference of the pages' fingerprints, times t^(bits after the page), is added.
+pub fn replaced_residue(p: Modulus, f: u64, change: u64, after: u64) -> u64
+    requires { ⌜ Proper p × (f < 2 ^ p .degree) × (change < 2 ^ p .degree) ⌝ }
+    ensures { λ r. ⌜ r ≡ rem (polynomial p) (f ⊕ change * 2 ^ after) ⌝ }
 {
-    let change = page_difference(p, old, new, used);
-    let shift = gf2::power_of_t(p, after);
-    f ^ gf2::product(p, change, shift)
+    f ^ gf2::product(p, change, gf2::power_of_t(p, after))
 }

@@ -1,3 +1,1 @@
-pub mod Forms
-pub mod Folding
-pub mod House
+pub mod Remainders

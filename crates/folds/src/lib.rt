@@ -1,17 +1,14 @@
-// Feeding under the house key, t^61 + t^5 + t^2 + t + 1, with no table. Where w is a power of two, the key's power by w is the same sum of
-// powers of t^w. So a long part is divided by that power with four additions a byte, many bytes at a time, and 61 words are left. These
-// functions are for the project's own crates: what they require, every caller proves.
+// Feeding by folding (crate `fold_blocks`) under the house key, with no table: the words that are left of a long part are folded again by shorter
+// ones, and what is left of those comes in seven bytes at a time. These functions are for the project's own crates: what they require, every caller
+// proves.
 use gf2::Modulus;
 ghost use mathlib.Core.Path.{_≡_};
-ghost use mathlib.Core.Bool.{true};
-ghost use Prim.Native.Nat.{_+_, _-_, _*_, _^_, _≤_, _<_};
+ghost use Prim.Native.Nat.{_+_, _*_, _^_, _≤_, _<_};
 ghost use lib.ListN.{length, take, drop, replicate};
 ghost use Rattle.gf2.specs.Polynomials.{_⊕_, rem};
-ghost use Rattle.gf2.specs.Moduli.{polynomial, Proper};
 ghost use Rattle.files.specs.Files.{bits, valueFrom};
-ghost use Rattle.lookups.specs.Groups.{TableOf};
 ghost use Rattle.house.specs.House.{houseKey};
-ghost use Rattle.folds.specs.Folds.{exponents, front, folded, Word};
+ghost use Rattle.fold_blocks.specs.Folds.{exponents, front, folded, Word};
 
 // A short part behind a residue: seven bytes at a time.
 fn feed_sevens(f: u64, part: &[u8]) -> u64
@@ -19,98 +16,10 @@ fn feed_sevens(f: u64, part: &[u8]) -> u64
     ensures { λ r. ⌜ r ≡ rem houseKey (valueFrom f (bits (now (part .entry)))) ⌝ }
 {
     let p = Modulus {
-        degree: 61,
-        low: 39,
+        degree: house::DEGREE,
+        low: house::WORD,
     };
     sparse::fed(p, 7, f, part)
-}
-
-// The quotient's bytes for the bytes of src, behind the 61 words of s bytes in front. A byte depends on bytes at least 56 words before it, so the
-// compiler makes many at once.
-fn divide(q: &mut [u8], s: usize, src: &[u8])
-    requires { ⌜ (0 < s) × (s ≤ 16) × (length (now src) + 61 * s ≤ length (now q)) ⌝ }
-    ensures { λ r. ⌜ folded exponents s (now (q .exit)) (length (now (src .entry))) ≡ valueFrom (folded exponents s (now (q .entry)) 0) (bits (now (src .entry))) ⌝ }
-{
-    let two = 2 * s;
-    let five = 5 * s;
-    let all = 61 * s;
-    let mut i: usize = 0;
-    while i < src.len() {
-        q[i + all] = src[i] ^ q[i + five] ^ q[i + two] ^ q[i + s] ^ q[i];
-        i += 1;
-    }
-}
-
-// The same with the size of a word as a constant, for which the compiler makes code of its own.
-fn divide_piece(q: &mut [u8], s: usize, src: &[u8])
-    requires { ⌜ Word s × (length (now src) + 61 * s ≤ length (now q)) ⌝ }
-    ensures { λ r. ⌜ folded exponents s (now (q .exit)) (length (now (src .entry))) ≡ valueFrom (folded exponents s (now (q .entry)) 0) (bits (now (src .entry))) ⌝ }
-{
-    if s == 16 {
-        divide(q, 16, src);
-    } else {
-        divide(q, 4, src);
-    }
-}
-
-// A block behind what the 61 words in front stand for: then those behind as many bytes stand for it. It goes in pieces of 64 bytes, of which the
-// compiler loads none twice where a word has 16 bytes.
-fn divide_block(q: &mut [u8], s: usize, src: &[u8])
-    requires { ⌜ Word s × (length (now src) + 61 * s ≤ length (now q)) ⌝ }
-    ensures { λ r. ⌜ rem houseKey (folded exponents s (drop (length (now (src .entry))) (now (q .exit))) 0)
-        ≡ rem houseKey (valueFrom (folded exponents s (now (q .entry)) 0) (bits (now (src .entry)))) ⌝ }
-{
-    let mut i: usize = 0;
-    while 64 <= src.len() - i {
-        let end = i + 64;
-        divide_piece(&mut q[i..], s, &src[i..end]);
-        i = end;
-    }
-    divide_piece(&mut q[i..], s, &src[i..]);
-}
-
-// The k bytes from place n on come to the front.
-fn keep_last(q: &mut [u8], n: usize, k: usize)
-    requires { ⌜ n + k ≤ length (now q) ⌝ }
-    ensures { λ r. ⌜ take k (now (q .exit)) ≡ take k (drop n (now (q .entry))) ⌝ }
-{
-    let mut i: usize = 0;
-    while i < k {
-        q[i] = q[i + n];
-        i += 1;
-    }
-}
-
-// A block behind what the 61 words in front stand for.
-fn turn(q: &mut [u8], s: usize, src: &[u8])
-    requires { ⌜ Word s × (length (now src) + 61 * s ≤ length (now q)) ⌝ }
-    ensures { λ r. ⌜ rem houseKey (folded exponents s (now (q .exit)) 0)
-        ≡ rem houseKey (valueFrom (folded exponents s (now (q .entry)) 0) (bits (now (src .entry)))) ⌝ }
-{
-    divide_block(q, s, src);
-    keep_last(q, src.len(), 61 * s);
-}
-
-// Where the block from place `at` on ends, of n bytes.
-fn block_end(at: usize, size: usize, n: usize) -> usize
-    requires { ⌜ (0 < size) × (at < n) ⌝ }
-    ensures { λ r. ⌜ (at < r) × (r ≤ n) × (r - at ≤ size) ⌝ }
-{
-    if n - at < size { n } else { at + size }
-}
-
-// A part behind what the 61 words in front stand for, a block a turn.
-fn fold(q: &mut [u8], s: usize, size: usize, part: &[u8])
-    requires { ⌜ Word s × (0 < size) × (size + 61 * s ≤ length (now q)) ⌝ }
-    ensures { λ r. ⌜ rem houseKey (folded exponents s (now (q .exit)) 0)
-        ≡ rem houseKey (valueFrom (folded exponents s (now (q .entry)) 0) (bits (now (part .entry)))) ⌝ }
-{
-    let mut at: usize = 0;
-    while at < part.len() {
-        let end = block_end(at, size, part.len());
-        turn(q, s, &part[at..end]);
-        at = end;
-    }
 }
 
 // The first n bytes are added to the n bytes from place `at` on.
@@ -165,8 +74,8 @@ fn fold_from(q: &mut [u8], s: usize, size: usize, f: u64, part: &[u8])
     ensures { λ r. ⌜ rem houseKey (front (drop 8 (now (q .exit))) (61 * s)) ≡ rem houseKey (valueFrom f (bits (now (part .entry)))) ⌝ }
 {
     let start = eight(f);
-    divide_piece(q, s, &start);
-    fold(&mut q[8..], s, size, part);
+    fold_blocks::divide_piece(q, s, &start);
+    fold_blocks::fold(&mut q[8..], s, size, part);
     flatten(&mut q[8..], s);
 }
 
@@ -209,40 +118,4 @@ pub fn fed_house(f: u64, part: &[u8]) -> u64
         return fed_page(f, part);
     }
     feed_long(f, part)
-}
-
-// Whether a modulus is the house key.
-pub fn is_house(p: Modulus) -> bool
-    ensures { λ r. ⌜ (r ≡ true → (polynomial p ≡ houseKey) × (p .degree ≡ 61)) ⌝ }
-{
-    if p.degree != 61 {
-        return false;
-    }
-    p.low == 39
-}
-
-// A part behind a residue by the table of the modulus, which is not read under the house key.
-pub fn fed(words: &[u64], p: Modulus, f: u64, part: &[u8]) -> u64
-    requires { ⌜ TableOf p (now words) × (f < 2 ^ p .degree) ⌝ }
-    ensures { λ r. ⌜ r ≡ rem (polynomial p) (valueFrom f (bits (now (part .entry)))) ⌝ }
-{
-    if is_house(p) {
-        return fed_house(f, part);
-    }
-    table_lanes::fed(words, p, f, part)
-}
-
-// A part behind a residue with no table: bit by bit only where neither folding nor the sparse step can be had.
-pub fn fed_alone(p: Modulus, f: u64, part: &[u8]) -> u64
-    requires { ⌜ Proper p × (f < 2 ^ p .degree) ⌝ }
-    ensures { λ r. ⌜ r ≡ rem (polynomial p) (valueFrom f (bits (now (part .entry)))) ⌝ }
-{
-    if is_house(p) {
-        return fed_house(f, part);
-    }
-    let n = sparse::bytes_at_once(p);
-    if 0 < n {
-        return sparse::fed(p, n, f, part);
-    }
-    files::feed_bytes(p, f, part)
 }

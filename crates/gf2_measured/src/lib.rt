@@ -1,4 +1,4 @@
-// The arithmetic of crate gf2, exported for the project's own measurements: modulo the polynomial of degree 61 of the house key for the
+// The arithmetic of crate gf2, exported for the project's own measurements: modulo the house key for the
 // benchmark, and one step under any modulus for a look at its machine code.
 ghost use mathlib.Core.Path.{_≡_};
 ghost use Prim.Native.Nat.{_+_, _-_, _*_, _/_, _%_, _^_};
@@ -6,15 +6,19 @@ ghost use Rattle.gf2.specs.Polynomials.{monic, rem, _⊗_};
 use gf2::Modulus;
 
 const HOUSE: Modulus = Modulus {
-    degree: 61,
-    low: 39,
+    degree: house::DEGREE,
+    low: house::WORD,
 };
 
 #[no_mangle]
 pub extern "C" fn measured_product(a: u64, b: u64) -> u64
     ensures { λ r. ⌜ r ≡ rem (monic 61 39) (a % 2 ^ 61 ⊗ (b % 2 ^ 61)) ⌝ }
 {
-    gf2::product(HOUSE, gf2::low_bits(a, 61), gf2::low_bits(b, 61))
+    gf2::product(
+        HOUSE,
+        gf2::low_bits(a, house::DEGREE),
+        gf2::low_bits(b, house::DEGREE),
+    )
 }
 
 #[no_mangle]

@@ -28,7 +28,8 @@ use Rattle.table_tests.proofs.Laws.{size-passed, clear-table}
 use Rattle.marks.specs.declared.Running.{Running}
 use Rattle.marks.specs.declared.Fed.{Fed}
 use Rattle.marks.specs.declared.Fed.the-variants as fed-cases
-use Rattle.marks.specs.Feeding.{feedTests, begin, feedTable}
+use Rattle.mark_tests.specs.MarkTests.{feedTests}
+use Rattle.marks.specs.Feeding.{begin, feedTable}
 use Rattle.marks.specs.Answers.{markIn, running, fed, begunUnder, fedUnder}
 use Rattle.printing.specs.Printing.{markFile}
 use Rattle.input_feeding.specs.declared.Marked.{Marked}

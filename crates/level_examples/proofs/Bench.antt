@@ -16,7 +16,8 @@ use Rattle.files.specs.Files.{lowBits, bits, valueFrom, value, fingerprint, mar
 use Rattle.files.proofs.Marks.{empty-mark}
 use Rattle.files.proofs.Parts.{whole-long}
 use Rattle.acceptance.proofs.Opened.{open-accepted, opened-first}
-use Rattle.marks.specs.Feeding.{sumTest, feedBits}
+use Rattle.mark_tests.specs.MarkTests.{sumTest}
+use Rattle.marks.specs.Feeding.{feedBits}
 use Rattle.lookups.specs.Rule.{word, differs}
 use Rattle.printing.specs.Printing.{ascii}
 use Rattle.printing.proofs.Readings.{example-line, example-report}

@@ -7,8 +7,8 @@ use Rattle.gf2.specs.Polynomials.{rem}
 use Rattle.gf2.specs.Moduli.{polynomial}
 use Rattle.gf2.specs.declared.Modulus.{Modulus}
 use Rattle.refusals.specs.declared.Refusal.{Refusal}
-use Rattle.refusals.specs.declared.Refusal.the-variants.{TooLong, MarkNotReduced, FinalByte}
-use Rattle.refusals.specs.Refusals.{Answer, Done, Refused, Test, _⇒_, firstOf, passes}
+use Rattle.refusals.specs.declared.Refusal.the-variants.{MarkNotReduced}
+use Rattle.refusals.specs.Refusals.{Done, Refused, Test, _⇒_, firstOf}
 use Rattle.refusals.proofs.Laws.{Clear, skip, clear-done, done-clear, more-refused, more-clear}
 use Rattle.acceptance.specs.declared.Key.{Key}
 use Rattle.acceptance.specs.Keys.{accepted, polynomialOf, keyOf}
@@ -16,53 +16,36 @@ use Rattle.acceptance.specs.Opened.{Opened}
 use Rattle.acceptance.proofs.Laws.{accepted-pos, whole-key}
 use Rattle.acceptance.proofs.Opened.{open-accepted, opened-first, opened-whole, residue-below}
 use Rattle.files.specs.declared.Mark.{Mark}
-use Rattle.files.specs.Files.{valueFrom, markOf, unreduced, Part, partLength, partBits, misused, fedMark, bits, asPart}
+use Rattle.files.specs.Files.{valueFrom, markOf, unreduced, Part, partLength, partBits, misused, fedMark}
 use Rattle.files.proofs.Marks.{mark-eq, true-reduced}
-use Rattle.files.proofs.Parts.{whole-bits}
+use Rattle.mark_tests.specs.declared.Measured.{Measured}
+use Rattle.mark_tests.specs.declared.Measured.the-variants as measured-cases
+use Rattle.mark_tests.specs.MarkTests.{feedTests}
+use Rattle.mark_tests.specs.Answers.{measured}
 use Rattle.lookups.specs.Rule.{table}
 use Rattle.table_tests.specs.TableTests.{tableTests}
 use Rattle.table_tests.proofs.Laws.{clear-table}
 use Rattle.house.specs.House.{houseKey, houseWords}
 use Rattle.house.proofs.House.{house-accepted}
-use Rattle.marks.specs.Feeding.{begin, feedTests, feedBits, feedTable, feedHouse}
-use Rattle.marks.specs.declared.Measured.{Measured}
-use Rattle.marks.specs.declared.Measured.the-variants as measured-cases
-use Rattle.marks.specs.Answers.{measured, fedUnder}
+use Rattle.marks.specs.Feeding.{begin, feedBits, feedTable, feedHouse}
+use Rattle.marks.specs.Answers.{fedUnder}
 
--- ---- numbers 7, 8 and 19 in turn
-
-module _ (key : ℕ) (m : Mark) (part : Part) (v : ℕ) where
-  abbrev lengths : List ℕ
-  lengths = m .length ∷ partLength part ∷ (m .length + partLength part) ∷ []
-
-  abbrev answer : Answer Unit ℕ
-  answer = firstOf (feedTests key m part) tt v
-
-  pub feed-long : passes lengths ≡ true → answer ≡ Refused TooLong tt
-  feed-long e = rw e
-
-  pub feed-unreduced : passes lengths ≡ false → unreduced key m ≡ true → answer ≡ Refused MarkNotReduced tt
-  feed-unreduced e f = rw (e, f)
-
-  pub feed-misused : passes lengths ≡ false → unreduced key m ≡ false → misused part ≡ true → answer ≡ Refused FinalByte tt
-  feed-misused e f g = rw (e, f, g)
-
-  pub feed-passed : passes lengths ≡ false → unreduced key m ≡ false → misused part ≡ false → answer ≡ Done v
-  feed-passed e f g = rw (e, f, g)
-
--- ---- what a caller of `judge` knows in each arm
+-- ---- what a caller of `mark_tests::judge` knows in each arm
 
 module _ {x : Key} {p : Modulus} (h : Opened x p) (m : Mark) (part : Part) (r : Measured)
-    (e : measured r ≡ firstOf (feedTests (polynomialOf x) m part) tt (m .length + partLength part)) where
+    (e : measured r ≡ firstOf (feedTests (polynomial p) m part) tt (m .length + partLength part)) where
   abbrev key : ℕ
   key = polynomialOf x
 
+  under-key : measured r ≡ firstOf (feedTests key m part) tt (m .length + partLength part)
+  under-key = e ∙ ap (λ (q : ℕ). firstOf (feedTests q m part) tt (m .length + partLength part)) (opened-whole h)
+
   pub feed-refused : (q : Refusal) → r ≡ measured-cases.Refused q → firstOf (feedTests key m part) m (fedMark key m part) ≡ Refused q m
-  feed-refused q a = more-refused (feedTests key m part) [] tt m (m .length + partLength part) (fedMark key m part) q (sym e ∙ ap measured a)
+  feed-refused q a = more-refused (feedTests key m part) [] tt m (m .length + partLength part) (fedMark key m part) q (sym under-key ∙ ap measured a)
 
   module _ (n : ℕ) (a : r ≡ measured-cases.Length n) where
     clear : Clear (feedTests key m part) × (m .length + partLength part ≡ n)
-    clear = done-clear (feedTests key m part) tt (m .length + partLength part) n (sym e ∙ ap measured a)
+    clear = done-clear (feedTests key m part) tt (m .length + partLength part) n (sym under-key ∙ ap measured a)
 
     pub clear-below : m .fingerprint < 2 ^ p .degree
     clear-below = residue-below h (m .fingerprint) (clear .0 .1 .0)
@@ -78,12 +61,6 @@ module _ {x : Key} {p : Modulus} (h : Opened x p) (m : Mark) (part : Part) (r : 
         ap (λ (z : Mark). fedUnder x (Done z))
         (mark-eq (is ∙ ap (λ (q : ℕ). rem q (valueFrom (m .fingerprint) (partBits part))) (opened-whole h)) (sym (clear .1)))
         ∙ sym (ap (fedUnder x) (clear-done (feedTests key m part) m (fedMark key m part) (clear .0)))
-
--- ---- a part behind a residue: whole bytes
-
-pub whole-behind : (q f : ℕ) (bytes : List ℕ) (u : ℕ) → u ≡ 8 → rem q (valueFrom f (bits bytes)) ≡ rem q (valueFrom f (partBits (asPart bytes u)))
-whole-behind q f bytes u e =
-    ap (λ (l : List ℕ). rem q (valueFrom f l)) (sym (ap (λ (v : ℕ). partBits (asPart bytes v)) e ∙ whole-bits bytes))
 
 -- ---- marks of files
 

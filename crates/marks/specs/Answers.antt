@@ -1,11 +1,8 @@
 -- For callers in Rattle: the answers of the calls in code as an `Answer`, with the running mark.
-use Prim.Native.Nat.{ℕ}
 use Rattle.refusals.specs.Refusals.{Answer, Done, Refused}
 use Rattle.acceptance.specs.declared.Key.{Key}
 use Rattle.files.specs.declared.Mark.{Mark}
 use Rattle.marks.specs.declared.Running.{Running}
-use Rattle.marks.specs.declared.Measured.{Measured}
-use Rattle.marks.specs.declared.Measured.the-variants as measured-cases
 use Rattle.marks.specs.declared.Begun.{Begun}
 use Rattle.marks.specs.declared.Begun.the-variants as begun-cases
 use Rattle.marks.specs.declared.Fed.{Fed}
@@ -16,11 +13,6 @@ markIn r = record { fingerprint = r .fingerprint; length = r .length }
 
 abbrev pub running : Key → Mark → Running
 running x m = record { key = x; fingerprint = m .fingerprint; length = m .length }
-
--- the length that feeding gives
-abbrev pub measured : Measured → Answer Unit ℕ
-measured (measured-cases.Length n) = Done n
-measured (measured-cases.Refused r) = Refused r tt
 
 abbrev pub begun : Begun → Answer Unit Running
 begun (begun-cases.Started m) = Done m

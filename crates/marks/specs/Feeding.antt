@@ -1,27 +1,19 @@
 -- Beginning a mark and feeding it, by bits and by tables (document 01, "Marks", "Tables"; parts: document 02, wish 7): each call is its
 -- tests, in the order of their numbers, and its value. A key is handed in as x; all but its own tests go by its polynomial.
-use mathlib.Core.List.{List, [], _∷_, _++_}
-use Prim.Native.Nat.{ℕ, _+_}
-use Rattle.refusals.specs.declared.Refusal.the-variants.{TooLong, MarkNotReduced, FinalByte}
-use Rattle.refusals.specs.Refusals.{Answer, Test, _⇒_, firstOf, passes}
+use mathlib.Core.List.{List, [], _++_}
+use Prim.Native.Nat.{ℕ}
+use Rattle.refusals.specs.Refusals.{Answer, firstOf}
 use Rattle.acceptance.specs.declared.Key.{Key}
 use Rattle.acceptance.specs.Keys.{polynomialOf, keyTests}
 use Rattle.table_tests.specs.TableTests.{tableTests}
 use Rattle.house.specs.House.{houseWords}
 use Rattle.files.specs.declared.Mark.{Mark}
-use Rattle.files.specs.Files.{markOf, unreduced, Part, partLength, misused, fedMark}
-
--- number 7 of two lengths handed in that are added
-abbrev pub sumTest : ℕ → ℕ → Test
-sumTest a b = passes (a ∷ b ∷ (a + b) ∷ []) ⇒ TooLong
+use Rattle.files.specs.Files.{markOf, Part, fedMark}
+use Rattle.mark_tests.specs.MarkTests.{feedTests}
 
 -- the mark of the empty file
 unfoldable pub begin : Key → Answer Unit Mark
 begin x = firstOf (keyTests x) tt (markOf (polynomialOf x) [])
-
--- numbers 7, 8 and 19 of a mark to which a part is fed
-abbrev pub feedTests : ℕ → Mark → Part → List Test
-feedTests key m part = sumTest (m .length) (partLength part) ∷ unreduced key m ⇒ MarkNotReduced ∷ misused part ⇒ FinalByte ∷ []
 
 unfoldable pub feedBits : Key → Mark → Part → Answer Mark Mark
 feedBits x m part = firstOf (keyTests x ++ feedTests (polynomialOf x) m part) m (fedMark (polynomialOf x) m part)

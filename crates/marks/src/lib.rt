@@ -4,22 +4,20 @@ use acceptance::Key;
 use files::Mark;
 use gf2::Modulus;
 use keys::Tested;
+use mark_tests::Measured;
 use refusals::Refusal;
 use refusals::Reply;
 ghost use mathlib.Core.Path.{_≡_};
-ghost use mathlib.Core.Bool.{false};
 ghost use mathlib.Core.List.{_++_};
-ghost use Prim.Native.Nat.{_+_, _^_, _<_};
-ghost use Rattle.gf2.specs.Polynomials.{rem};
-ghost use Rattle.gf2.specs.Moduli.{polynomial, Proper};
 ghost use Rattle.refusals.specs.Refusals.{firstOf};
 ghost use Rattle.acceptance.specs.Keys.{polynomialOf};
 ghost use Rattle.acceptance.specs.Opened.{Opened};
-ghost use Rattle.files.specs.Files.{valueFrom, asPart, partLength, partBits, misused, fedMark};
-ghost use Rattle.lookups.specs.Groups.{Table, TableOf};
+ghost use Rattle.files.specs.Files.{asPart, fedMark};
+ghost use Rattle.mark_tests.specs.MarkTests.{feedTests};
+ghost use Rattle.lookups.specs.Groups.{Table};
 ghost use Rattle.table_tests.specs.TableTests.{tableTests};
-ghost use Rattle.marks.specs.Feeding.{begin, feedTests, feedBits, feedTable, feedHouse};
-ghost use Rattle.marks.specs.Answers.{markIn, measured, begun, begunUnder, fed, fedUnder};
+ghost use Rattle.marks.specs.Feeding.{begin, feedBits, feedTable, feedHouse};
+ghost use Rattle.marks.specs.Answers.{markIn, begun, begunUnder, fed, fedUnder};
 
 // A running mark (document 01's term): the state of a fingerprint that is taken as the file is read. The length is in bits. Numbers only.
 pub struct Running {
@@ -40,59 +38,6 @@ pub enum Fed {
     Refused(Refusal, Running),
 }
 
-// The answer to judging a mark and a part: the length in bits that feeding gives, or a refusal.
-pub enum Measured {
-    Length(u64),
-    Refused(Refusal),
-}
-
-// Numbers 7, 8 and 19 of a running mark and of a part that is to be fed to it, under its opened key.
-fn judge(p: Modulus, m: Running, part: &[u8], used: u32) -> Measured
-    requires { ⌜ Opened (m .key) p ⌝ }
-    ensures { λ r. ⌜ measured r ≡ firstOf (feedTests (polynomialOf (m .key)) (markIn m) (asPart (now (part .entry)) used)) tt
-        (m .length + partLength (asPart (now (part .entry)) used)) ⌝ }
-{
-    let f = m.fingerprint;
-    let n = files::part_length(part, used);
-    if !refusals::fits(m.length, n) {
-        return Measured::Refused(Refusal::TooLong);
-    }
-    if !gf2::is_residue(p, f) {
-        return Measured::Refused(Refusal::MarkNotReduced);
-    }
-    if files::is_misused(part, used) {
-        return Measured::Refused(Refusal::FinalByte);
-    }
-    let total = m.length + n;
-    Measured::Length(total)
-}
-
-// A part behind a residue, with no table: its whole bytes, and the used bits behind them.
-fn behind_alone(p: Modulus, f: u64, part: &[u8], used: u32) -> u64
-    requires { ⌜ Proper p × (f < 2 ^ p .degree) × (misused (asPart (now part) used) ≡ false) ⌝ }
-    ensures { λ r. ⌜ r ≡ rem (polynomial p) (valueFrom f (partBits (asPart (now (part .entry)) used))) ⌝ }
-{
-    if used == 8 {
-        return folds::fed_alone(p, f, part);
-    }
-    let w = files::whole_bytes(part, used);
-    let x = folds::fed_alone(p, f, &part[..w]);
-    files::feed_end(p, x, part, used)
-}
-
-// The same by the key's table.
-fn behind_looked(words: &[u64], p: Modulus, f: u64, part: &[u8], used: u32) -> u64
-    requires { ⌜ TableOf p (now words) × (f < 2 ^ p .degree) × (misused (asPart (now part) used) ≡ false) ⌝ }
-    ensures { λ r. ⌜ r ≡ rem (polynomial p) (valueFrom f (partBits (asPart (now (part .entry)) used))) ⌝ }
-{
-    if used == 8 {
-        return folds::fed(words, p, f, part);
-    }
-    let whole = files::whole_bytes(part, used);
-    let looked = folds::fed(words, p, f, &part[..whole]);
-    files::feed_end(p, looked, part, used)
-}
-
 // A part fed with no table, after the test of the key. Here and below a key is copied field by field: its degree and word were just stored apart, and
 // a copy of both at once would wait for that.
 fn feed_alone(p: Modulus, m: Running, part: &[u8], used: u32) -> Fed
@@ -100,14 +45,18 @@ fn feed_alone(p: Modulus, m: Running, part: &[u8], used: u32) -> Fed
     ensures { λ r. ⌜ fed r ≡ fedUnder (m .key) (firstOf (feedTests (polynomialOf (m .key)) (markIn m) (asPart (now (part .entry)) used)) (markIn m)
         (fedMark (polynomialOf (m .key)) (markIn m) (asPart (now (part .entry)) used))) ⌝ }
 {
-    match judge(p, m, part, used) {
+    let mark = Mark {
+        fingerprint: m.fingerprint,
+        length: m.length,
+    };
+    match mark_tests::judge(p, mark, part, used) {
         Measured::Refused(r) => Fed::Refused(r, m),
         Measured::Length(total) => {
             let key = Key {
                 degree: m.key.degree,
                 word: m.key.word,
             };
-            let next = behind_alone(p, m.fingerprint, part, used);
+            let next = feeding::part_alone(p, m.fingerprint, part, used);
             Fed::Next(Running {
                 key: key,
                 fingerprint: next,
@@ -123,14 +72,18 @@ fn feed_looked(p: Modulus, m: Running, words: &[u64], part: &[u8], used: u32) ->
     ensures { λ r. ⌜ fed r ≡ fedUnder (m .key) (firstOf (feedTests (polynomialOf (m .key)) (markIn m) (asPart (now (part .entry)) used)) (markIn m)
         (fedMark (polynomialOf (m .key)) (markIn m) (asPart (now (part .entry)) used))) ⌝ }
 {
-    match judge(p, m, part, used) {
+    let mark = Mark {
+        fingerprint: m.fingerprint,
+        length: m.length,
+    };
+    match mark_tests::judge(p, mark, part, used) {
         Measured::Refused(r) => Fed::Refused(r, m),
         Measured::Length(total) => {
             let key = Key {
                 degree: m.key.degree,
                 word: m.key.word,
             };
-            let looked = behind_looked(words, p, m.fingerprint, part, used);
+            let looked = feeding::part_by_table(words, p, m.fingerprint, part, used);
             Fed::Next(Running {
                 key: key,
                 fingerprint: looked,
@@ -207,12 +160,11 @@ impl Running {
     pub fn feed_house(self, part: &[u8], used: u32) -> Fed
         ensures { λ r. ⌜ fed r ≡ fedUnder (self .key) (feedHouse (self .key) (markIn self) (asPart (now (part .entry)) used)) ⌝ }
     {
-        let key = self.key;
-        if (key.degree == house::DEGREE) & (key.word == house::WORD) {
-            let p = Modulus {
-                degree: key.degree,
-                low: key.word,
-            };
+        let p = Modulus {
+            degree: self.key.degree,
+            low: self.key.word,
+        };
+        if house::is_house(p) {
             return feed_alone(p, self, part, used);
         }
         feed_constant(self, part, used)

@@ -109,15 +109,11 @@ fn fold_pages(marks: &mut [u64], size: usize, n: usize, pages: &[u8])
     }
 }
 
-// Whether pages are folded: under the house key, from 512 bytes on. Measured on 16 MiB beside the tables: at 16 bytes folding takes 1.4 times as
-// long, from 128 to 448 bytes it is at most 7 % faster, at 512 bytes 1.3 times as fast, at 1,024 bytes 2.2 times and at 4,096 bytes 4.2 times.
+// Whether pages are folded.
 fn folding(p: Modulus, size: usize) -> bool
     ensures { λ r. ⌜ (r ≡ true → polynomial p ≡ houseKey) ⌝ }
 {
-    if size < 512 {
-        return false;
-    }
-    folds::is_house(p)
+    feeding::pages_folded(p, size)
 }
 
 // The fingerprints of the first n pages, which are whole, into the first n places. The places behind them stay.
@@ -147,10 +143,7 @@ fn fed_front(words: &[u64], p: Modulus, front: &[u8]) -> u64
     requires { ⌜ TableOf p (now words) ⌝ }
     ensures { λ r. ⌜ r ≡ rem (polynomial p) (valueFrom 1 (bits (now (front .entry)))) ⌝ }
 {
-    if folds::is_house(p) {
-        return folds::fed_page(1, front);
-    }
-    table_lanes::fed(words, p, 1, front)
+    feeding::page_by_table(words, p, front)
 }
 
 // The fingerprint of a last page at its own length: its whole bytes, and the used bits behind them.

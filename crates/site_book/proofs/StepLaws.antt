@@ -18,7 +18,7 @@ use Rattle.files.specs.declared.Mark.{Mark}
 use Rattle.files.specs.Files.{fingerprint, markOf, True, unreduced, Part, partLength, partBits, misused, joined, replaced}
 use Rattle.files.proofs.Marks.{mark-eq, page, true-reduced, joined-true}
 use Rattle.files.proofs.Parts.{part-length}
-use Rattle.marks.specs.Feeding.{sumTest}
+use Rattle.mark_tests.specs.MarkTests.{sumTest}
 use Rattle.marks.proofs.Laws.{leave-out-8}
 use Rattle.compose.specs.Composing.{marksTests, joinTests, joinBehind, joinInFront, pageTests, replacePage}
 use Rattle.book.specs.Runs.{bookStep}

@@ -11,7 +11,7 @@ use Rattle.refusals.specs.Refusals.{Answer, Done, Test, _⇒_, passes}
 use Rattle.acceptance.specs.Keys.{keyOf, keyTests}
 use Rattle.files.specs.declared.Mark.{Mark}
 use Rattle.files.specs.Files.{True, Bytes, unreduced, Part, partLength, partBits, misused}
-use Rattle.marks.specs.Feeding.{sumTest}
+use Rattle.mark_tests.specs.MarkTests.{sumTest}
 use Rattle.compose.specs.Composing.{joinBehind, joinInFront, replacePage}
 use Rattle.big_endian.specs.Numbers.{numberAt}
 use Rattle.sheets.specs.Layout.{fingerprintWidth, Layout, newest, layoutOf, pagePlace, pagesFor, Contents}

@@ -2,10 +2,11 @@
 use mathlib.Core.Path.{_≡_, refl, sym, ap, ap₂, _∙_}
 use mathlib.Core.List.{List}
 use Prim.Native.Nat.{ℕ, _+_, _-_, _*_, _/_, _%_, _^_, _≤_, _<_}
+use native.Mathlib.Nat.{lt-of-lt-of-le}
 use native.Mathlib.Numerals.{add-one}
 use native.Mathlib.Omega.{arith}
 use lib.ListN.{length, take, drop}
-use lib.Pow.{high}
+use lib.Pow.{high, pow-mono}
 use Rattle.gf2.specs.Polynomials.{_⊕_, _⊗_, rem}
 use Rattle.gf2.specs.Moduli.{polynomial}
 use Rattle.gf2.specs.declared.Modulus.{Modulus}
@@ -19,6 +20,17 @@ use Rattle.files.specs.Files.{bits, valueFrom}
 use Rattle.lookups.proofs.Cut.{above, below, top-lt}
 use Rattle.big_endian.proofs.Pieces.{value-piece-lt, value-join}
 use Rattle.sparse.specs.Sparse.{Sparse}
+
+-- what holds for n bytes holds for one
+pub one-byte : (p : Modulus) (n : ℕ) → Sparse p n → Sparse p 1
+one-byte p n s = (
+  s .0,
+  omega arith,
+  omega arith,
+  s .3,
+  omega (arith, s .1, s .4),
+  lt-of-lt-of-le (s .5) (pow-mono {i = p .degree - 8 * n + 1} {j = p .degree - 8 + 1} (omega (arith, s .1))),
+)
 
 -- of eight bytes as one number the first n
 pub first-bytes : (p : List ℕ) (i n v : ℕ) → n ≤ 8 → i + 8 ≤ length p → v ≡ valueFrom 0 (bits (take 8 (drop i p)))

@@ -5,7 +5,7 @@ use gf2::Modulus;
 ghost use mathlib.Core.Path.{_≡_};
 ghost use Prim.Native.Nat.{_+_, _*_, _^_, _≤_, _<_};
 ghost use lib.ListN.{length, drop};
-ghost use Rattle.gf2.specs.Polynomials.{_⊗_, rem};
+ghost use Rattle.gf2.specs.Polynomials.{_⊕_, _⊗_, rem};
 ghost use Rattle.gf2.specs.Moduli.{polynomial, Proper};
 ghost use Rattle.files.specs.Files.{bits, valueFrom};
 ghost use Rattle.sparse.specs.Sparse.{Sparse};
@@ -30,8 +30,8 @@ fn times(h: u64, low: u64) -> u64
     requires { ⌜ (h < 2 ^ 56) × (low < 2 ^ 8) ⌝ }
     ensures { λ r. ⌜ r ≡ h ⊗ low ⌝ }
 {
-    if low == 39 {
-        return times_bits(h, 39);
+    if low == house::WORD {
+        return times_bits(h, house::WORD);
     }
     times_bits(h, low)
 }
@@ -75,6 +75,40 @@ pub fn fed(p: Modulus, n: u32, f: u64, part: &[u8]) -> u64
         i += bytes;
     }
     feed_ones(p, x, part, i)
+}
+
+// The bytes of two parts of one length from place `from` on, added to each other, one at a time.
+fn difference_ones(p: Modulus, f: u64, old: &[u8], new: &[u8], from: usize) -> u64
+    requires { ⌜ Sparse p 1 × (f < 2 ^ p .degree) × (length (now old) ≡ length (now new)) × (from ≤ length (now old)) ⌝ }
+    ensures { λ r. ⌜ r ≡ rem (polynomial p) (valueFrom f (bits (drop from (now (old .entry)))) ⊕ valueFrom 0 (bits (drop from (now (new .entry))))) ⌝ }
+{
+    let mut x = f;
+    let mut i = from;
+    while i < old.len() {
+        let a = big_endian::byte_at(old, i) as u64;
+        let b = big_endian::byte_at(new, i) as u64;
+        x = behind(p, 1, x, a ^ b);
+        i += 1;
+    }
+    x
+}
+
+// The residue of the difference of two parts of one length, in one pass: n bytes of either at a time, as above.
+pub fn difference(p: Modulus, n: u32, old: &[u8], new: &[u8]) -> u64
+    requires { ⌜ Sparse p n × (length (now old) ≡ length (now new)) ⌝ }
+    ensures { λ r. ⌜ r ≡ rem (polynomial p) (valueFrom 0 (bits (now (old .entry))) ⊕ valueFrom 0 (bits (now (new .entry)))) ⌝ }
+{
+    let width = n as usize;
+    let spare = 64 - 8 * n;
+    let mut x: u64 = 0;
+    let mut i: usize = 0;
+    while 8 <= old.len() - i {
+        let a = big_endian::eight_at(old, i);
+        let b = big_endian::eight_at(new, i);
+        x = behind(p, n, x, (a ^ b) >> spare);
+        i += width;
+    }
+    difference_ones(p, x, old, new, i)
 }
 
 // How many bytes come in at a time, at most seven: 0 where the coefficients are not few and low enough for one.

@@ -2,7 +2,7 @@
 use mathlib.Core.Path.{_≡_, refl, sym, ap, ap₂, subst, _∙_}
 use mathlib.Core.Bool.{Bool, false, _||_, not}
 use mathlib.Core.List.{List, [], _∷_}
-use Prim.Native.Nat.{ℕ, _+_, _-_, _*_, _^_, _≤_}
+use Prim.Native.Nat.{ℕ, _+_, _-_, _*_, _^_, _≤_, _<_}
 use native.Mathlib.Omega.{arith}
 use lib.Dec.{ltb}
 use lib.ListN.{length}
@@ -10,6 +10,10 @@ use borrow.Author.Needs.{needs}
 use borrow.Author.Tests.{ltb-false}
 use Rattle.lists.proofs.Truth.{or-neither}
 use Rattle.gf2.specs.Polynomials.{_⊕_, rem}
+use Rattle.gf2.specs.Moduli.{polynomial, Proper}
+use Rattle.gf2.specs.declared.Modulus.{Modulus}
+use Rattle.gf2.proofs.Sums.{⊕-lt}
+use Rattle.gf2.proofs.Steps.{residue-lt}
 use Rattle.refusals.specs.Refusals.{Done, longest, passes}
 use Rattle.refusals.proofs.Laws.{holds, fails}
 use Rattle.refusals.proofs.Lengths.{within, counted-is}
@@ -26,8 +30,11 @@ use Rattle.compose.proofs.replace.Tie as tie
 
 -- ---- the places: from each one to an earlier one
 
+abbrev length→start : tie.After-part-length → tie.Start
+length→start c = c .before .before .before .before
+
 abbrev within→start : tie.After-within → tie.Start
-within→start c = c .before .before .before .before .before .before
+within→start c = length→start (c .before .before)
 
 abbrev else1→start : tie.Else1 → tie.Start
 else1→start c = within→start (c .before)
@@ -184,16 +191,30 @@ used c =
     let h = or-neither (misused (old s)) (misused (new s)) (right c) in
     same-used (old s) (new s) (well-used (old s) (h .0)) (well-used (new s) (h .1)) (same (else5→else4 c .before))
 
-replaced-residue-requires : tie.Need-replaced-residue-requires
-replaced-residue-requires c κs =
+page-difference-requires : tie.Need-page-difference-requires
+page-difference-requires c κs =
     let s = else5→start c in
     let a = s .args in
     let h = or-neither (misused (old s)) (misused (new s)) (right c) in (
       opened-proper (s .pre),
-      residue-below (s .pre) (a .m .fingerprint) (low (else5→else2 c)),
       used c .0,
       h .0,
       subst (λ (u : ℕ). misused (asPart (a .new .now) u) ≡ false) (sym (used c .1)) (h .1),
+    )
+
+-- the difference of two fingerprints is a residue
+fingerprints-lt : (p : Modulus) → Proper p → (a b : List ℕ) → fingerprint (polynomial p) a ⊕ fingerprint (polynomial p) b < 2 ^ p .degree
+unfolding fingerprint
+fingerprints-lt p h a b = let lt = residue-lt (p .degree) (p .low) (h .2) in ⊕-lt (p .degree) _ _ (lt _) (lt _)
+
+replaced-residue-requires : tie.Need-replaced-residue-requires
+replaced-residue-requires c κs =
+    let e = c .before in
+    let s = else5→start e in
+    let proper = opened-proper (s .pre) in (
+      proper,
+      residue-below (s .pre) (s .args .m .fingerprint) (low (else5→else2 e)),
+      rw (c .page-difference .ensures) (fingerprints-lt (s .args .p) proper (partBits (old s)) (partBits (asPart (s .args .new .now) (s .args .old-used)))),
     )
 
 -- the bits after the page, as the code counts them and as the definition does
@@ -203,7 +224,7 @@ after-page n page place = omega arith
 returns-6 : tie.Need-returns-6
 unfolding replaced
 returns-6 c =
-    let e = c .before in
+    let e = c .before .before in
     let s = else5→start e in
     let a = s .args in
     let x = a .m .key in
@@ -215,6 +236,7 @@ returns-6 c =
     let change : ℕ → ℕ → ℕ = λ q u. fingerprint q (partBits (old s)) ⊕ fingerprint q (partBits (asPart (a .new .now) u)) in
     let is : c .replaced-residue .result ≡ rem key (m .fingerprint ⊕ change key (a .new-used) * 2 ^ (m .length - (8 * a .place + partLength (old s)))) =
     c .replaced-residue .ensures
+    ∙ ap (λ (d : ℕ). rem (polynomial (a .p)) (m .fingerprint ⊕ d * 2 ^ (m .length - page - 8 * a .place))) (c .before .page-difference .ensures)
     ∙ ap (λ (q : ℕ). rem q (m .fingerprint ⊕ change q (a .old-used) * 2 ^ (m .length - page - 8 * a .place))) (opened-whole (s .pre))
     ∙ ap₂ (λ (u n : ℕ). rem key (m .fingerprint ⊕ change key u * 2 ^ n)) (used e .1)
     (ap (λ (n : ℕ). m .length - n - 8 * a .place) (fits e .0) ∙ after-page (m .length) (partLength (old s)) (a .place)) in
@@ -237,8 +259,9 @@ replace-spec =
     (λ c κs. search needs)
     (λ c κs. search needs)
     returns-5
-    (λ c. omega (arith, fits c))
-    (λ c. record { fits = omega (arith, fits c) })
-    (λ c. omega (arith, fits c))
+    page-difference-requires
+    (λ c. omega (arith, fits (c .before)))
+    (λ c. record { fits = omega (arith, fits (c .before)) })
+    (λ c. omega (arith, fits (c .before)))
     replaced-residue-requires
     returns-6)

@@ -5,8 +5,9 @@ use native.Mathlib.Omega.{arith}
 use lib.ListN.{length, take, drop, length-set}
 use Rattle.gf2.specs.Polynomials.{_⊕_}
 use Rattle.gf2.proofs.Sums.{⊕-zero}
-use Rattle.folds.specs.Folds.{front}
-use Rattle.folds.proofs.Folding.{Bytes, front-zero, added-before, added-behind, added-next}
+use Rattle.fold_blocks.specs.Folds.{front}
+use Rattle.fold_blocks.proofs.Folding.{Bytes, front-zero}
+use Rattle.folds.proofs.Remainders.{added-before, added-behind, added-next}
 use borrow.Author.Needs.{needs}
 use Rattle.folds.proofs.add_front.Statement.{statement}
 use Rattle.folds.proofs.add_front.Tie as tie
@@ -19,6 +20,11 @@ Inv-loop q₀ at n i₀ q i =
 abbrev μ-loop : tie.MeasureT-loop
 μ-loop q₀ at n i₀ q i = n - i
 
+-- ---- the places: from each one to an earlier one
+
+abbrev known2→loop : tie.After-slice-known2 Inv-loop μ-loop → tie.At-loop Inv-loop μ-loop
+known2→loop c = c .before .before .before
+
 loop-holds : tie.Need-loop-holds Inv-loop μ-loop
 loop-holds c =
     let a = c .args in
@@ -27,9 +33,9 @@ loop-holds c =
 loop-again : tie.Need-loop-again Inv-loop μ-loop
 unfolding _⊕_
 loop-again c =
-    let s = c .before .before .before .before in
+    let s = known2→loop c .before in
     let a = s .args in
-    let l = c .before .before .before .loop in
+    let l = known2→loop c .loop in
     let i = l .inv in
     let bytes : Bytes (l .q) = λ j. c .slice-known2 .given j .fits in (
       omega arith,

@@ -1,6 +1,6 @@
 -- `eight` meets its contract: digits to the base 256.
 use native.Mathlib.Omega.{arith}
-use Rattle.folds.proofs.Folding.{value-digits}
+use Rattle.folds.proofs.Remainders.{value-digits}
 use borrow.Author.Needs.{needs}
 use Rattle.folds.proofs.eight.Statement.{statement}
 use Rattle.folds.proofs.eight.Tie as tie

@@ -7,11 +7,22 @@ use native.Mathlib.Omega.{arith}
 use lib.ListN.{take}
 use Rattle.gf2.specs.Polynomials.{_⊕_}
 use Rattle.gf2.proofs.Sums.{⊕-assoc, ⊕-zero}
-use Rattle.folds.specs.Folds.{exponents, front, folded}
-use Rattle.folds.proofs.Folding.{front-zero, front-same}
+use Rattle.fold_blocks.specs.Folds.{exponents, front, folded}
+use Rattle.fold_blocks.proofs.Folding.{front-zero, front-same}
 use borrow.Author.Needs.{needs}
 use Rattle.folds.proofs.flatten.Statement.{statement}
 use Rattle.folds.proofs.flatten.Tie as tie
+
+-- ---- the places: from each one to an earlier one
+
+abbrev first→start : tie.After-add-front → tie.Start
+first→start c = c .before .before .before
+
+abbrev second→first : tie.After-add-front2 → tie.After-add-front
+second→first c = c .before .before .before .before
+
+abbrev third→second : tie.After-add-front3 → tie.After-add-front2
+third→second c = c .before .before .before .before
 
 -- the sum as the exponents have it
 all-added : (s : ℕ) (q : List ℕ) → front q (61 * s) ⊕ front q (5 * s) ⊕ front q (2 * s) ⊕ front q s ≡ folded exponents s q 0
@@ -48,10 +59,12 @@ module _ (s : ℕ) (q q₁ q₂ q₃ : List ℕ)
 
 returns : tie.Need-returns
 returns c =
-    let a = c .before .before .before .before .before .before .before .before .before .before .before .before .before .args in
-    let x = c .before .before .before .before .before .before .before .before .before .before .add-front in
-    let y = c .before .before .before .before .before .before .add-front2 in
-    let z = c .before .before .add-front3 in
+    let third = c .before .before in
+    let second = third→second third in
+    let a = first→start (second→first second) .args in
+    let x = second→first second .add-front in
+    let y = second .add-front2 in
+    let z = third .add-front3 in
     flat (a .s) (a .q .now) (x .last .0) (y .last .0) (z .last .0) (x .ensures .0) (x .ensures .1) (y .ensures .0) (y .ensures .1) (z .ensures .0)
 
 pub flatten-spec : {M : Type 1} → statement M

@@ -9,12 +9,27 @@ use Rattle.lists.proofs.Sublists.{put-last}
 use Rattle.gf2.specs.Polynomials.{rem}
 use Rattle.files.specs.Files.{bits, valueFrom}
 use Rattle.house.specs.House.{houseKey}
-use Rattle.folds.specs.Folds.{exponents, front, folded, Word}
-use Rattle.folds.proofs.Folding.{same-start, folded-zeros, rest-all}
-use Rattle.folds.proofs.House.{house-pos, house-last, word-most}
+use Rattle.fold_blocks.specs.Folds.{exponents, front, folded, Word}
+use Rattle.fold_blocks.proofs.Folding.{same-start, rest-all}
+use Rattle.folds.proofs.Remainders.{folded-zeros}
+use Rattle.fold_blocks.proofs.House.{house-pos, house-last, word-most}
 use borrow.Author.Needs.{needs}
 use Rattle.folds.proofs.fold_from.Statement.{statement}
 use Rattle.folds.proofs.fold_from.Tie as tie
+
+-- ---- the places: from each one to an earlier one
+
+abbrev eight→start : tie.After-eight → tie.Start
+eight→start c = c .before .before .before
+
+abbrev piece→eight : tie.After-divide-piece → tie.After-eight
+piece→eight c = c .before .before .before
+
+abbrev fold→piece : tie.After-fold → tie.After-divide-piece
+fold→piece c = c .before .before .before .before
+
+abbrev flatten→fold : tie.After-flatten → tie.After-fold
+flatten→fold c = c .before .before .before .before
 
 -- behind zeros the first block alone counts
 started : (s : ℕ) → Word s → (zeros q : List ℕ) (f : ℕ) (start part : List ℕ) → length start ≡ 8 → 8 + 61 * s ≤ length q → zeros ≡ replicate (length zeros) 0
@@ -30,13 +45,13 @@ started s w zeros q f start part n l z ef e =
     ∙ ef))
 
 divide-piece-requires : tie.Need-divide-piece-requires
-divide-piece-requires c κs =
-    (c .before .before .before .before .before .pre .0, omega arith)
+divide-piece-requires c κs = (eight→start (c .before .before) .pre .0, omega arith)
 
 flatten-requires : tie.Need-flatten-requires
 flatten-requires c κs =
-    let s = c .before .before .before .before .before .before .before .before .before .before .before .before .before in
-    let d = c .before .before .before .before .before .before .before .divide-piece in
+    let piece = fold→piece (c .before .before .before) in
+    let s = eight→start (piece→eight piece) in
+    let d = piece .divide-piece in
     let g = c .before .before .before .fold in
     let e : length (putMid 8 (length (d .last .0) - 8) (d .last .0) (g .last .0)) ≡ length (d .last .0) =
     same-len-mid 8 (length (d .last .0) - 8) (d .last .0) (g .last .0) (g .kept .0) in
@@ -58,11 +73,13 @@ behind-start s w d g h part kept l eh eg =
 
 returns : tie.Need-returns
 returns c =
-    let s = c .before .before .before .before .before .before .before .before .before .before .before .before .before .before .before .before in
+    let folded-in = flatten→fold (c .before .before) in
+    let piece = fold→piece folded-in in
+    let s = eight→start (piece→eight piece) in
     let a = s .args in
-    let b = c .before .before .before .before .before .before .before .before .before .before .before .before .before .eight in
-    let d = c .before .before .before .before .before .before .before .before .before .before .divide-piece in
-    let g = c .before .before .before .before .before .before .fold in
+    let b = piece→eight piece .eight in
+    let d = piece .divide-piece in
+    let g = folded-in .fold in
     let h = c .before .before .flatten in
     behind-start (a .s) (s .pre .0) (d .last .0) (g .last .0) (h .last .0) (a .part .now) (g .kept .0) (omega arith) (h .ensures) (g .ensures)
     ∙ started (a .s) (s .pre .0) (a .q .now) (d .last .0) (a .f) (b .result) (a .part .now) (omega arith) (omega arith) (s .pre .3) (b .ensures) (d .ensures)

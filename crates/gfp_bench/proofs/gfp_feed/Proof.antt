@@ -8,7 +8,8 @@ use Rattle.acceptance.specs.declared.Key.{Key}
 use Rattle.acceptance.specs.Keys.{polynomialOf, keyTests}
 use Rattle.files.specs.declared.Mark.{Mark}
 use Rattle.files.specs.Files.{Part, asPart, fedMark}
-use Rattle.marks.specs.Feeding.{feedTests, feedBits}
+use Rattle.mark_tests.specs.MarkTests.{feedTests}
+use Rattle.marks.specs.Feeding.{feedBits}
 use Rattle.c_interface.specs.Interface.{keyAt, markAt}
 use Rattle.c_interface.proofs.Answers.{stored}
 use Rattle.gfp_bench.proofs.gfp_feed.Statement.{statement}

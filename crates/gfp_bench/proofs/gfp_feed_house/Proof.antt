@@ -10,7 +10,8 @@ use Rattle.files.specs.declared.Mark.{Mark}
 use Rattle.files.specs.Files.{Part, asPart, fedMark}
 use Rattle.table_tests.specs.TableTests.{tableTests}
 use Rattle.house.specs.House.{houseWords}
-use Rattle.marks.specs.Feeding.{feedTests, feedTable, feedHouse}
+use Rattle.mark_tests.specs.MarkTests.{feedTests}
+use Rattle.marks.specs.Feeding.{feedTable, feedHouse}
 use Rattle.c_interface.specs.Interface.{keyAt, markAt}
 use Rattle.c_interface.proofs.Answers.{stored}
 use Rattle.gfp_bench.proofs.gfp_feed_house.Statement.{statement}

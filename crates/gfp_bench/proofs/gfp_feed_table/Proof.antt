@@ -10,7 +10,8 @@ use Rattle.acceptance.specs.Keys.{polynomialOf, keyTests}
 use Rattle.files.specs.declared.Mark.{Mark}
 use Rattle.files.specs.Files.{Part, asPart, fedMark}
 use Rattle.table_tests.specs.TableTests.{tableTests}
-use Rattle.marks.specs.Feeding.{feedTests, feedTable}
+use Rattle.mark_tests.specs.MarkTests.{feedTests}
+use Rattle.marks.specs.Feeding.{feedTable}
 use Rattle.c_interface.specs.Interface.{keyAt, markAt}
 use Rattle.c_interface.proofs.Answers.{stored}
 use Rattle.gfp_bench.proofs.gfp_feed_table.Statement.{statement}

@@ -19,14 +19,17 @@ total→start c = judge→start (c .before .before)
 abbrev partAt : tie.Start → Part
 partAt s = asPart (s .args .part .now) (s .args .used)
 
+judge-requires : tie.Need-judge-requires
+judge-requires c κs = opened-proper (c .before .pre)
+
 returns : tie.Need-returns
 returns c =
     let s = judge→start (c .before .before .before) in
     let j = c .before .before .before .judge in
     sym (ap (fedUnder (s .args .m .key)) (feed-refused (s .pre) (markIn (s .args .m)) (partAt s) (j .result) (j .ensures) _ (c .before .r .given .1)))
 
-behind-alone-requires : tie.Need-behind-alone-requires
-behind-alone-requires c κs =
+part-alone-requires : tie.Need-part-alone-requires
+part-alone-requires c κs =
     let t = c .before in
     let s = total→start t in
     let j = t .before .before .judge in
@@ -41,8 +44,8 @@ returns-2 c =
     let t = c .before .before in
     let s = total→start t in
     let j = t .before .before .judge in
-    fed-next (s .pre) (markIn (s .args .m)) (partAt s) (j .result) (j .ensures) _ (t .total .given .1) _ (c .behind-alone .ensures)
+    fed-next (s .pre) (markIn (s .args .m)) (partAt s) (j .result) (j .ensures) _ (t .total .given .1) _ (c .part-alone .ensures)
 
 pub feed-alone-spec : {M : Type 1} → statement M
 feed-alone-spec =
-    tie.close (tie.spec (λ c κs. search needs) (λ c. search needs) (λ c. search needs) behind-alone-requires returns returns-2)
+    tie.close (tie.spec judge-requires (λ c. search needs) (λ c. search needs) part-alone-requires returns returns-2)

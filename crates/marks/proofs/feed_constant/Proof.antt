@@ -9,10 +9,15 @@ use Rattle.marks.specs.Answers.{markIn, fedUnder}
 use Rattle.marks.proofs.feed_constant.Statement.{statement}
 use Rattle.marks.proofs.feed_constant.Tie as tie
 
+-- ---- the places: from each one to an earlier one
+
+abbrev words→start : tie.After-words → tie.Start
+words→start c = c .before .before
+
 returns : tie.Need-returns
 unfolding feedHouse
 returns c =
-    let a = c .before .before .before .before .args in
+    let a = words→start (c .before .before) .args in
     c .feed-table .ensures
     ∙ ap (λ (ws : List ℕ). fedUnder (a .m .key) (feedTable (a .m .key) (markIn (a .m)) ws (asPart (a .part .now) (a .used))))
     (c .before .before .words .ensures)

@@ -21,14 +21,17 @@ total→start c = judge→start (c .before .before)
 abbrev partAt : tie.Start → Part
 partAt s = asPart (s .args .part .now) (s .args .used)
 
+judge-requires : tie.Need-judge-requires
+judge-requires c κs = opened-proper (c .before .before .pre .0)
+
 returns : tie.Need-returns
 returns c =
     let s = judge→start (c .before .before .before) in
     let j = c .before .before .before .judge in
     sym (ap (fedUnder (s .args .m .key)) (feed-refused (s .pre .0) (markIn (s .args .m)) (partAt s) (j .result) (j .ensures) _ (c .before .r .given .1)))
 
-behind-looked-requires : tie.Need-behind-looked-requires
-behind-looked-requires c κs =
+part-by-table-requires : tie.Need-part-by-table-requires
+part-by-table-requires c κs =
     let t = c .before in
     let s = total→start t in
     let h = s .pre .0 in
@@ -45,8 +48,8 @@ returns-2 c =
     let t = c .before .before in
     let s = total→start t in
     let j = t .before .before .judge in
-    fed-next (s .pre .0) (markIn (s .args .m)) (partAt s) (j .result) (j .ensures) _ (t .total .given .1) _ (c .behind-looked .ensures)
+    fed-next (s .pre .0) (markIn (s .args .m)) (partAt s) (j .result) (j .ensures) _ (t .total .given .1) _ (c .part-by-table .ensures)
 
 pub feed-looked-spec : {M : Type 1} → statement M
 feed-looked-spec =
-    tie.close (tie.spec (λ c κs. search needs) (λ c. search needs) (λ c. search needs) behind-looked-requires returns returns-2)
+    tie.close (tie.spec judge-requires (λ c. search needs) (λ c. search needs) part-by-table-requires returns returns-2)

@@ -13,7 +13,7 @@ use Rattle.files.specs.declared.Mark.{Mark}
 use Rattle.files.specs.Files.{asPart, fedMark}
 use Rattle.table_tests.specs.TableTests.{tableTests}
 use Rattle.table_tests.proofs.Laws.{table-clear}
-use Rattle.marks.specs.Feeding.{feedTests}
+use Rattle.mark_tests.specs.MarkTests.{feedTests}
 use Rattle.marks.specs.Answers.{markIn, fedUnder}
 use Rattle.marks.proofs.feed_under.Statement.{statement}
 use Rattle.marks.proofs.feed_under.Tie as tie

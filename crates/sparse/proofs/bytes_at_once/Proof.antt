@@ -28,19 +28,24 @@ module _ (p : Modulus) (proper : Proper p) (some : 0 < p .low) where
         (pow-mono {i = suc (degree (p .low))} {j = p .degree - 8 * n + 1} (omega arith)),
   )
 
+-- ---- the places: from each one to an earlier one
+
+abbrev degree→start : tie.After-degree → tie.Start
+degree→start c = c .before .before .before .before .before
+
 sub-n : tie.Need-sub-n
 sub-n c =
-    let s = c .before .before .before .before .before .before in
+    let s = degree→start (c .before) in
     omega (arith, c .before .degree .ensures, low-degree (s .args .p) (s .pre) (omega arith))
 
 returns-3 : tie.Need-returns-3
 returns-3 c pos =
-    let s = c .before .before .before .before .before .before .before in
+    let s = degree→start (c .before .before) in
     enough (s .args .p) (s .pre) (omega arith) (omega arith) _ (omega arith) (omega (arith, c .before .before .degree .ensures)) pos
 
 returns-4 : tie.Need-returns-4
 returns-4 c pos =
-    let s = c .before .before .before .before .before .before .before in
+    let s = degree→start (c .before .before) in
     enough (s .args .p) (s .pre) (omega arith) (omega arith) 7 (omega arith) (omega (arith, c .before .before .degree .ensures)) pos
 
 pub bytes-at-once-spec : {M : Type 1} → statement M

@@ -1,15 +1,11 @@
 -- `fed` meets its contract: x stands for f and the bytes before i.
 use mathlib.Core.Path.{_≡_, refl, _∙_}
-use Prim.Native.Nat.{ℕ, _+_, _-_, _*_, _/_, _^_, _≤_}
+use Prim.Native.Nat.{_-_, _*_, _/_, _^_, _≤_}
 use native.Mathlib.Omega.{arith}
-use native.Mathlib.Nat.{lt-of-lt-of-le}
 use lib.ListN.{length, take, drop}
-use lib.Pow.{pow-mono}
-use Rattle.gf2.specs.declared.Modulus.{Modulus}
 use Rattle.files.specs.Files.{bits, valueFrom}
 use Rattle.big_endian.proofs.Pieces.{piece-lt, Going, going}
-use Rattle.sparse.specs.Sparse.{Sparse}
-use Rattle.sparse.proofs.Steps.{first-bytes}
+use Rattle.sparse.proofs.Steps.{first-bytes, one-byte}
 use Rattle.sparse.proofs.fed.Statement.{statement}
 use Rattle.sparse.proofs.fed.Tie as tie
 
@@ -19,39 +15,36 @@ Inv-loop p n f part bytes spare x₀ i₀ x i = (i ≤ length part) × Going p f
 abbrev μ-loop : tie.MeasureT-loop
 μ-loop p n f part bytes spare x₀ i₀ x i = length part - i
 
--- what holds for n bytes holds for one
-one-byte : (p : Modulus) (n : ℕ) → Sparse p n → Sparse p 1
-one-byte p n s = (
-  s .0,
-  omega arith,
-  omega arith,
-  s .3,
-  omega (arith, s .1, s .4),
-  lt-of-lt-of-le (s .5) (pow-mono {i = p .degree - 8 * n + 1} {j = p .degree - 8 + 1} (omega (arith, s .1))),
-)
+-- ---- the places: from each one to an earlier one
+
+abbrev eight→loop : tie.After-eight-at Inv-loop μ-loop → tie.At-loop Inv-loop μ-loop
+eight→loop c = c .before .before
+
+abbrev eight→start : tie.After-eight-at Inv-loop μ-loop → tie.Start Inv-loop μ-loop
+eight→start c = eight→loop c .before .before
 
 loop-holds : tie.Need-loop-holds Inv-loop μ-loop
 loop-holds c = (omega arith, (c .before .pre .1, refl))
 
 -- the bytes that come in
-value-in : (c : tie.After-eight-at Inv-loop μ-loop) → let a = c .before .before .before .before .args in
-    c .eight-at .result / 2 ^ (64 - 8 * a .n) ≡ valueFrom 0 (bits (take (a .n) (drop (c .before .before .loop .i) (a .part .now))))
+value-in : (c : tie.After-eight-at Inv-loop μ-loop) → let a = eight→start c .args in
+    c .eight-at .result / 2 ^ (64 - 8 * a .n) ≡ valueFrom 0 (bits (take (a .n) (drop (eight→loop c .loop .i) (a .part .now))))
 value-in c =
-    let s = c .before .before .before .before in
-    first-bytes (s .args .part .now) (c .before .before .loop .i) (s .args .n) (c .eight-at .result) (omega (arith, s .pre .0 .2)) (omega arith)
+    let s = eight→start c in
+    first-bytes (s .args .part .now) (eight→loop c .loop .i) (s .args .n) (c .eight-at .result) (omega (arith, s .pre .0 .2)) (omega arith)
     (c .eight-at .ensures)
 
 behind-requires : tie.Need-behind-requires Inv-loop μ-loop
 behind-requires c κs =
-    let s = c .before .before .before .before in
-    let l = c .before .before .loop in
+    let s = eight→start c in
+    let l = eight→loop c .loop in
     (s .pre .0, l .inv .1 .0, piece-lt (s .args .part .now) (l .i) (s .args .n) _ (omega arith) (value-in c))
 
 loop-again : tie.Need-loop-again Inv-loop μ-loop
 loop-again c =
-    let s = c .before .before .before .before .before in
+    let s = eight→start (c .before) in
     let a = s .args in
-    let l = c .before .before .before .loop in (
+    let l = eight→loop (c .before) .loop in (
       omega arith,
       going (a .p) (s .pre .0 .0) (a .f) (a .part .now) 0 (l .i) (l .x) (l .inv .1) (a .n) _ (c .behind .result) (omega arith) (value-in (c .before))
           (c .behind .ensures),

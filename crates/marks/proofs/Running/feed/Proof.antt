@@ -9,7 +9,8 @@ use Rattle.acceptance.proofs.Opened.{opened-first}
 use Rattle.files.specs.declared.Mark.{Mark}
 use Rattle.files.specs.Files.{asPart, fedMark}
 use Rattle.keys.proofs.Laws.{opened, refused}
-use Rattle.marks.specs.Feeding.{feedTests, feedBits}
+use Rattle.mark_tests.specs.MarkTests.{feedTests}
+use Rattle.marks.specs.Feeding.{feedBits}
 use Rattle.marks.specs.Answers.{markIn, fedUnder}
 use Rattle.marks.proofs.Running.feed.Statement.{statement}
 use Rattle.marks.proofs.Running.feed.Tie as tie

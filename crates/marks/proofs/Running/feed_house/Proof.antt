@@ -1,9 +1,6 @@
 -- `Running::feed_house` meets its contract: under the house key no test of key and words holds; under another key it is `feed_constant`.
 use mathlib.Core.Path.{_≡_, sym, ap, _∙_}
 use borrow.Author.Needs.{needs}
-use borrow.Author.Tests.{eqb-true}
-use lib.Dec.{eqb}
-use Rattle.lists.proofs.Truth.{and-both}
 use Rattle.acceptance.specs.Opened.{Opened}
 use Rattle.acceptance.specs.Keys.{asModulus}
 use Rattle.files.specs.Files.{asPart}
@@ -16,14 +13,11 @@ use Rattle.marks.proofs.Running.feed_house.Tie as tie
 -- ---- the places: from each one to an earlier one
 
 abbrev then1→start : tie.Then1 → tie.Start
-then1→start c = c .before .before .before .before .before
+then1→start c = c .before .before .before
 
 -- the key handed in is the house key
 house : (c : tie.Then1) → let key = then1→start c .args .self .key in (key .degree ≡ 61) × (key .word ≡ 0x27)
-house c =
-    let key = then1→start c .args .self .key in
-    let b = and-both (eqb (key .degree) 61) (eqb (key .word) 0x27) (c .if1 .taken) in
-    (eqb-true (key .degree) 61 (b .0), eqb-true (key .word) 0x27 (b .1))
+house c = let h = c .before .is-house .ensures (c .if1 .taken) in (h .0, h .1)
 
 opened-house : (c : tie.Then1) → let key = then1→start c .args .self .key in Opened key (asModulus key)
 opened-house c = house-opened (then1→start c .args .self .key) (house c .0) (house c .1)
@@ -41,4 +35,4 @@ returns c =
     (asPart (s .args .part .now) (s .args .used))))
 
 pub feed-house-spec : {M : Type 1} → statement M
-feed-house-spec = tie.close (tie.spec feed-alone-requires returns (λ c κs. search needs) (λ c. search needs))
+feed-house-spec = tie.close (tie.spec (λ c κs. search needs) feed-alone-requires returns (λ c κs. search needs) (λ c. search needs))

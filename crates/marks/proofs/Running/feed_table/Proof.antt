@@ -10,7 +10,8 @@ use Rattle.files.specs.declared.Mark.{Mark}
 use Rattle.files.specs.Files.{asPart, fedMark}
 use Rattle.table_tests.specs.TableTests.{tableTests}
 use Rattle.keys.proofs.Laws.{opened, refused}
-use Rattle.marks.specs.Feeding.{feedTests, feedTable}
+use Rattle.mark_tests.specs.MarkTests.{feedTests}
+use Rattle.marks.specs.Feeding.{feedTable}
 use Rattle.marks.specs.Answers.{markIn, fedUnder}
 use Rattle.marks.proofs.Running.feed_table.Statement.{statement}
 use Rattle.marks.proofs.Running.feed_table.Tie as tie

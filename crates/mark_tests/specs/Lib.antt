@@ -1,0 +1,2 @@
+pub mod MarkTests
+pub mod Answers
