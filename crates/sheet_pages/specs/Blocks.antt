@@ -2,13 +2,14 @@
 use mathlib.Core.Path.{_≡_}
 use mathlib.Core.List.{List}
 use Prim.Native.Nat.{ℕ, _*_, _<_, min}
-use lib.ListN.{getD, take, drop}
+use lib.ListN.{length, getD, take, drop}
 use Rattle.gf2.specs.Polynomials.{rem}
 use Rattle.gf2.specs.Moduli.{polynomial, Proper}
 use Rattle.gf2.specs.declared.Modulus.{Modulus}
 use Rattle.files.specs.Files.{bits, valueFrom, fingerprint, Part, partLength, partBits}
 use Rattle.multiples.specs.Rows.{SameFrom}
 use Rattle.lookups.specs.Groups.{TableOf}
+use Rattle.house.specs.House.{houseKey}
 use Rattle.shifts.specs.Shifts.{Shifts}
 use Rattle.sheets.specs.Layout.{Layout, pageCount}
 use Rattle.sheets.specs.Sheets.{pageFingerprints}
@@ -17,6 +18,18 @@ use Rattle.sheets.specs.Sheets.{pageFingerprints}
 pub record PageTables (p : Modulus) (words eights : List ℕ) : Type 0 where
   pub table : TableOf p words
   pub shifts : Shifts (polynomial p) 64 eights
+
+-- what pages are fed by under a modulus: these tables, or no words where it is the house key, for folding
+pub record FedBy (p : Modulus) (words eights : List ℕ) : Type 0 where
+  pub proper : Proper p
+  pub tables : 0 < length words → PageTables p words eights
+  pub house : length words ≡ 0 → polynomial p ≡ houseKey
+
+-- the same of a last page, which needs the first table alone
+pub record LastBy (p : Modulus) (words : List ℕ) : Type 0 where
+  pub proper : Proper p
+  pub table : 0 < length words → TableOf p words
+  pub house : length words ≡ 0 → polynomial p ≡ houseKey
 
 -- the first w bytes of page i, of pages of s bytes
 abbrev pub pageFront : ℕ → ℕ → List ℕ → ℕ → List ℕ

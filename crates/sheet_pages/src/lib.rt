@@ -11,9 +11,9 @@ ghost use Rattle.files.specs.Files.{bits, valueFrom, fingerprint, asPart, partB
 ghost use Rattle.multiples.specs.Rows.{SameFrom};
 ghost use Rattle.lookups.specs.Groups.{TableOf};
 ghost use Rattle.house.specs.House.{houseKey};
-ghost use Rattle.sheets.specs.Layout.{layoutOf};
 ghost use Rattle.sheets.specs.Sheets.{pageOf};
-ghost use Rattle.sheet_pages.specs.Blocks.{PageTables, Begun, BegunBy, Finished, NextPages};
+ghost use Rattle.sheets.specs.Inner.{filling};
+ghost use Rattle.sheet_pages.specs.Blocks.{PageTables, FedBy, LastBy, Begun, BegunBy, Finished, NextPages};
 
 // The two tables that pages are fed by: four bytes at a time, and eight.
 pub fn fill_tables(words: &mut [u64], eights: &mut [u64], p: Modulus)
@@ -111,7 +111,7 @@ fn fold_pages(marks: &mut [u64], size: usize, n: usize, pages: &[u8])
 
 // Whether pages are folded: under the house key, from 512 bytes on. Measured on 16 MiB beside the tables: at 16 bytes folding takes 1.4 times as
 // long, from 128 to 448 bytes it is at most 7 % faster, at 512 bytes 1.3 times as fast, at 1,024 bytes 2.2 times and at 4,096 bytes 4.2 times.
-fn folding(p: Modulus, size: usize) -> bool
+pub fn folding(p: Modulus, size: usize) -> bool
     ensures { λ r. ⌜ (r ≡ true → polynomial p ≡ houseKey) ⌝ }
 {
     if size < 512 {
@@ -120,7 +120,7 @@ fn folding(p: Modulus, size: usize) -> bool
     folds::is_house(p)
 }
 
-// The fingerprints of the first n pages, which are whole, into the first n places. The places behind them stay.
+// The fingerprints of the first n pages, which are whole, into the first n places: by folding where there is no table. The places behind them stay.
 fn whole_marks(
     marks: &mut [u64],
     words: &[u64],
@@ -130,10 +130,10 @@ fn whole_marks(
     n: usize,
     pages: &[u8],
 )
-    requires { ⌜ PageTables p (now words) (now eights) × (8 ≤ size) × (n * size ≤ length (now pages)) × (n ≤ length (now marks)) ⌝ }
+    requires { ⌜ FedBy p (now words) (now eights) × (8 ≤ size) × (n * size ≤ length (now pages)) × (n ≤ length (now marks)) ⌝ }
     ensures { λ r. ⌜ Finished (polynomial p) size n (now (pages .entry)) (now (marks .exit)) × SameFrom n (now (marks .entry)) (now (marks .exit)) ⌝ }
 {
-    if folding(p, size) {
+    if words.len() == 0 {
         fold_pages(marks, size, n, pages);
         return;
     }
@@ -153,32 +153,43 @@ fn fed_front(words: &[u64], p: Modulus, front: &[u8]) -> u64
     table_lanes::fed(words, p, 1, front)
 }
 
+// The same by folding where there is no table.
+fn begun_last(words: &[u64], p: Modulus, front: &[u8]) -> u64
+    requires { ⌜ LastBy p (now words) ⌝ }
+    ensures { λ r. ⌜ r ≡ rem (polynomial p) (valueFrom 1 (bits (now (front .entry)))) ⌝ }
+{
+    if words.len() == 0 {
+        return folds::fed_page(1, front);
+    }
+    fed_front(words, p, front)
+}
+
 // The fingerprint of a last page at its own length: its whole bytes, and the used bits behind them.
 fn fed_last(words: &[u64], p: Modulus, page: &[u8], used: u32) -> u64
-    requires { ⌜ TableOf p (now words) × (misused (asPart (now page) used) ≡ false) ⌝ }
+    requires { ⌜ LastBy p (now words) × (misused (asPart (now page) used) ≡ false) ⌝ }
     ensures { λ r. ⌜ r ≡ fingerprint (polynomial p) (partBits (asPart (now (page .entry)) used)) ⌝ }
 {
     let w = files::whole_bytes(page, used);
-    let front = fed_front(words, p, &page[..w]);
+    let front = begun_last(words, p, &page[..w]);
     files::feed_end(p, front, page, used)
 }
 
-// How a file is cut into pages: the opened key, the bytes of a page, the used bits of the file's final byte, and the sheet's version.
+// How a file is cut into pages: the opened key, the bytes of a page, the used bits of the file's final byte, and whether a last page is filled up.
 pub struct Paging {
     pub p: Modulus,
     pub size: usize,
     pub used: u32,
-    pub version: u64,
+    pub filled: bool,
 }
 
-// The fingerprint of a last page, as the version takes it: zeros behind it come in as one power of t.
+// The fingerprint of a last page, filled up or not: zeros behind it come in as one power of t.
 fn last_page(words: &[u64], x: Paging, page: &[u8]) -> u64
-    requires { ⌜ TableOf (x .p) (now words) × (length (now page) ≤ x .size) × (x .size ≤ 4096) × (misused (asPart (now page) (x .used)) ≡ false) ⌝ }
+    requires { ⌜ LastBy (x .p) (now words) × (length (now page) ≤ x .size) × (x .size ≤ 4096) × (misused (asPart (now page) (x .used)) ≡ false) ⌝ }
     ensures { λ r. ⌜ r ≡ fingerprint (polynomial (x .p))
-        (pageOf (layoutOf (x .version)) (8 * x .size) (partBits (asPart (now (page .entry)) (x .used)))) ⌝ }
+        (pageOf (filling (x .filled)) (8 * x .size) (partBits (asPart (now (page .entry)) (x .used)))) ⌝ }
 {
     let own = fed_last(words, x.p, page, x.used);
-    if sheet_layout::fills(x.version) {
+    if x.filled {
         let bits = 8 * (x.size as u64);
         return files::with_zeros(x.p, own, bits - files::part_length(page, x.used));
     }
@@ -187,9 +198,9 @@ fn last_page(words: &[u64], x: Paging, page: &[u8]) -> u64
 
 // The fingerprints of the next pages, at most 64, into the first places: how many. A page whose final byte is not used whole is no whole page.
 pub fn next_pages(marks: &mut [u64], words: &[u64], eights: &[u64], x: Paging, rest: &[u8]) -> usize
-    requires { ⌜ PageTables (x .p) (now words) (now eights) × (8 ≤ x .size) × (x .size ≤ 4096) × (64 ≤ length (now marks))
+    requires { ⌜ FedBy (x .p) (now words) (now eights) × (8 ≤ x .size) × (x .size ≤ 4096) × (64 ≤ length (now marks))
         × (misused (asPart (now rest) (x .used)) ≡ false) ⌝ }
-    ensures { λ r. ⌜ NextPages (layoutOf (x .version)) (polynomial (x .p)) (x .size) (asPart (now (rest .entry)) (x .used)) r
+    ensures { λ r. ⌜ NextPages (filling (x .filled)) (polynomial (x .p)) (x .size) (asPart (now (rest .entry)) (x .used)) r
         (now (marks .entry)) (now (marks .exit)) ⌝ }
 {
     let size = x.size;

@@ -36,7 +36,7 @@ counted c =
 
 residue : (c : tie.After-fed-last) → let s = start c in c .fed-last .result < 2 ^ s .args .x .p .degree
 unfolding fingerprint
-residue c = let s = start c in residue-below (s .args .x .p) (s .pre .0 .0) _ (value (partBits (page s))) (c .fed-last .ensures)
+residue c = let s = start c in residue-below (s .args .x .p) (s .pre .0 .proper) _ (value (partBits (page s))) (c .fed-last .ensures)
 
 sub-with-zeros : tie.Need-sub-with-zeros
 sub-with-zeros c = let s = start (fed c) in omega (arith, counted c, part-range (page s) .0, s .pre .1)
@@ -45,7 +45,7 @@ with-zeros-requires : tie.Need-with-zeros-requires
 with-zeros-requires c κs =
     let f = fed c in
     let s = start f in
-    (s .pre .0 .0, residue f)
+    (s .pre .0 .proper, residue f)
 
 returns : tie.Need-returns
 unfolding filled
@@ -61,7 +61,7 @@ returns c =
     c .with-zeros .ensures
     ∙ ap (λ (n : ℕ). rem (key s) (f .fed-last .result * 2 ^ (8 * s .args .x .size - n))) (counted l ∙ sym (part-length (page s)))
     ∙ ap (λ (g : ℕ). rem (key s) (g * 2 ^ zeros)) (f .fed-last .ensures)
-    ∙ with-zeros (monic-pos (p .degree) (p .low) (s .pre .0 .0 .2)) zeros bits
+    ∙ with-zeros (monic-pos (p .degree) (p .low) (s .pre .0 .proper .2)) zeros bits
     ∙ ap (λ (b : Bool). fingerprint (key s) (cond b (filled (8 * s .args .x .size) bits) bits)) (sym fills)
 
 returns-2 : tie.Need-returns-2

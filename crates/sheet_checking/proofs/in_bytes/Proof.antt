@@ -1,0 +1,33 @@
+-- `in_bytes` meets its contract.
+use mathlib.Core.Path.{_≡_, sym, ap, ap₂, _∙_}
+use Prim.Native.Nat.{ℕ, _+_, _*_, _^_, _<_, min}
+use native.Mathlib.Omega.{arith}
+use Rattle.refusals.specs.Refusals.{Done}
+use Rattle.sheets.specs.declared.Checked.{Checked}
+use Rattle.sheets.specs.Answers.{FromTo, checkAnswer}
+use Rattle.sheets.specs.Inner.{ranged}
+use Rattle.sheet_checking.proofs.Laws.{range-fits}
+use borrow.Author.Needs.{needs}
+use Rattle.sheet_checking.proofs.in_bytes.Statement.{statement}
+use Rattle.sheet_checking.proofs.in_bytes.Tie as tie
+
+returns : tie.Need-returns
+returns c x ex h = ap (λ (o : Checked). ranged x (checkAnswer o)) (sym (c .enum-told .given .1))
+
+returns-2 : tie.Need-returns-2
+returns-2 c x ex h = ap (λ (o : Checked). ranged x (checkAnswer o)) (sym (c .enum-told .given .1))
+
+returns-3 : tie.Need-returns-3
+returns-3 c x ex h = ap (λ (o : Checked). ranged x (checkAnswer o)) (sym (c .before .r .given .1))
+
+returns-4 : tie.Need-returns-4
+returns-4 c x ex h =
+    let g = c .before .i .given in
+    let i = g .0 .0 in
+    let from = ap (λ (s : ℕ). i * s) (sym ex) in
+    ap₂ (λ (a b : ℕ). Done (FromTo a b)) from
+    (c .least .ensures ∙ ap₂ (λ (a b : ℕ). min a b) (ap₂ (λ (a b : ℕ). a + b) from (sym ex)) (sym (h i (ap checkAnswer (g .1)))))
+    ∙ ap (λ (o : Checked). ranged x (checkAnswer o)) (sym (g .1))
+
+pub in-bytes-spec : {M : Type 1} → statement M
+in-bytes-spec = tie.close (tie.spec returns returns-2 returns-3 returns-4)
