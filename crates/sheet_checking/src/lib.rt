@@ -31,7 +31,8 @@ fn compare(sheet: &[u8], x: OpenSheet, file: &[u8], used: u32) -> Checked
     }
     let pages = sheet_layout::page_fields(sheet, x.place);
     let mut none = [0u8; 0];
-    let same = sheet_pass::over_pages(&mut none, pages, x.p, size, x.filled, file, used) as u64;
+    let p = x.p;
+    let same = sheet_pass::over_pages(&mut none, pages, p, size, x.filled, file, used) as u64;
     if same < y.pages {
         return Checked::Page(same as u32);
     }
@@ -78,6 +79,9 @@ pub fn first_changed_range(sheet: &[u8], file: &[u8], used: u32) -> Changed
 {
     match sheet_opening::open_sheet(sheet) {
         Opening::Refused(r) => Changed::Refused(r),
-        Opening::Opened(x) => in_bytes(compare(sheet, x, file, used), x.numbers.size, file.len() as u64),
+        Opening::Opened(x) => {
+            let numbers = x.numbers;
+            in_bytes(compare(sheet, x, file, used), numbers.size, file.len() as u64)
+        }
     }
 }

@@ -78,9 +78,10 @@ fn open_under(p: Modulus, sheet: &[u8], head: Head) -> Opening
     if !body_right(sheet, head, p, count, file) {
         return Opening::Refused(Refusal::SheetMalformed);
     }
+    let key = head.key;
     let numbers = Sheet {
         version: head.version,
-        key: head.key,
+        key: key,
         length: head.length,
         size: head.size,
         pages: count,
@@ -99,7 +100,8 @@ fn open_key(sheet: &[u8], head: Head) -> Opening
     requires { ⌜ (headWrong layouts (now sheet) ≡ false) × HeadOf (now sheet) head ⌝ }
     ensures { λ r. ⌜ (opening r ≡ sheetRead (readSheet (now (sheet .entry)))) × Kept r ⌝ }
 {
-    match keys::test(head.key) {
+    let key = head.key;
+    match keys::test(key) {
         Tested::Refused(r) => Opening::Refused(r),
         Tested::Accepted(p) => open_under(p, sheet, head),
     }

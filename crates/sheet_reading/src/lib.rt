@@ -18,7 +18,10 @@ pub fn read(sheet: &[u8]) -> Reading
 {
     match sheet_opening::open_sheet(sheet) {
         Opening::Refused(r) => Reading::Refused(r),
-        Opening::Opened(x) => Reading::Sheet(x.numbers),
+        Opening::Opened(x) => {
+            let numbers = x.numbers;
+            Reading::Sheet(numbers)
+        }
     }
 }
 
@@ -51,7 +54,8 @@ pub fn read_pages(sheet: &[u8], lent: &mut [u64]) -> Reply
     match sheet_opening::open_sheet(sheet) {
         Opening::Refused(r) => Reply::Refused(r),
         Opening::Opened(x) => {
-            let n = least(x.numbers.pages, lent.len());
+            let numbers = x.numbers;
+            let n = least(numbers.pages, lent.len());
             copy_fields(lent, sheet_layout::page_fields(sheet, x.place), n);
             Reply::Done
         }

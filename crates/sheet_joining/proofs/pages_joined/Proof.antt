@@ -1,6 +1,6 @@
 -- `pages_joined` meets its contract: the whole pages, and what is left.
 use mathlib.Core.Path.{_≡_, ap, subst, _∙_}
-use mathlib.Core.List.{List}
+use mathlib.Core.Bool.{false}
 use Prim.Native.Nat.{ℕ, _+_, _-_, _*_, _^_, _≤_, _<_}
 use native.Mathlib.Omega.{arith}
 use Rattle.big_endian.specs.Numbers.{numberAt, numbersAt}

@@ -1,5 +1,5 @@
 -- `whole_pages` meets its contract.
-use mathlib.Core.Path.{_≡_, refl, ap}
+use mathlib.Core.Path.{_≡_, refl, sym, ap, subst}
 use mathlib.Core.Logic.{_≢_}
 use Prim.Native.Nat.{ℕ, zero, suc, _+_, _-_, _*_, _≤_, _<_}
 use native.Mathlib.Nat.{add-mul, mul-le-mul-right, zero-lt-suc, zero-mul}
@@ -16,10 +16,10 @@ page s = s .args .page
 
 -- the pages reach the file's end, and the last begins inside it
 covers : (s : tie.Start) → s .args .n ≤ s .args .count * page s
-covers s = rw (s .pre .3) (count-covers (page s) (s .args .n) (s .pre .0))
+covers s = subst (λ (m : ℕ). s .args .n ≤ m * page s) (sym (s .pre .3)) (count-covers (page s) (s .args .n) (s .pre .0))
 
 tight : (s : tie.Start) → s .args .count * page s < s .args .n + page s
-tight s = rw (s .pre .3) (count-tight (page s) (s .args .n) (s .pre .0))
+tight s = subst (λ (m : ℕ). m * page s < s .args .n + page s) (sym (s .pre .3)) (count-tight (page s) (s .args .n) (s .pre .0))
 
 returns : tie.Need-returns
 returns c =

@@ -39,7 +39,7 @@ abbrev part→joined : tie.After-pages-joined → tie.After-page-fields
 part→joined c = c .before
 
 abbrev joined : tie.After-is-residue → tie.After-pages-joined
-joined c = c .before
+joined c = c .before .before
 
 abbrev begun : tie.After-pages-joined → tie.Start
 begun c = start (part→joined c)
@@ -154,7 +154,7 @@ pages-joined-requires c κs =
     (opened-proper (s .pre .3), s .pre .1, s .pre .2, s .pre .0 .length-fits, e, omega (arith, long, total s, from, e))
 
 is-residue-requires : tie.Need-is-residue-requires
-is-residue-requires c κs = opened-proper (begun c .pre .3)
+is-residue-requires c κs = opened-proper (begun (c .before) .pre .3)
 
 returns : tie.Need-returns
 returns c =
@@ -177,7 +177,8 @@ file-filled-requires c κs =
 
 returns-2 : tie.Need-returns-2
 returns-2 c =
-    let e = c .before in
+    let f = c .before in
+    let e = f .before in
     let r = e .before in
     let j = joined r in
     let s = begun j in
@@ -185,8 +186,8 @@ returns-2 c =
     let t : someUnreduced (degree (polynomialOf (head s .key))) (all s) ≡ false = sym (bits r) ∙ fails _ _ (r .is-residue .ensures) (e .if1 .left) in
     let mark = joined-are (sheet s) (head s) (s .pre .0) (s .pre .1) (a .p) (s .pre .3) (j .pages-joined .result .mark) (pages j)
     (part (part→joined j)) (mark-joined j (fields e .0)) in
-    let filled = filled-is (sheet s) (head s) (s .pre .0) (s .pre .1) (a .p) (s .pre .3) _ (c .file-filled .result) _ (file s) (zeros s) (c .file-filled .ensures) in
-    body-joined (sheet s) (head s) (s .pre .0) (s .pre .1) (j .pages-joined .result .mark) (c .file-filled .result) (total s) t mark filled
+    let filled = filled-is (sheet s) (head s) (s .pre .0) (s .pre .1) (a .p) (s .pre .3) _ (f .file-filled .result) _ (file s) (zeros s) (f .file-filled .ensures) in
+    body-joined (sheet s) (head s) (s .pre .0) (s .pre .1) (j .pages-joined .result .mark) (f .file-filled .result) (total s) t mark filled
 
 pub body-right-spec : {M : Type 1} → statement M
 body-right-spec =

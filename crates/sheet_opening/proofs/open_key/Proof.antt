@@ -13,7 +13,7 @@ use Rattle.sheet_opening.proofs.open_key.Tie as tie
 
 -- the key is tested
 abbrev start : tie.After-test → tie.Start
-start c = c .before .before
+start c = c .before .before .before
 
 abbrev accepted : tie.After-p → tie.After-test
 accepted c = c .before .before

@@ -13,7 +13,7 @@ use Rattle.sheet_opening.proofs.open_sheet.Statement.{statement}
 use Rattle.sheet_opening.proofs.open_sheet.Tie as tie
 
 abbrev start : tie.After-open-head → tie.Start
-start c = c .before .before .before
+start c = c .before .before
 
 abbrev sheet : tie.After-open-head → List ℕ
 sheet c = start c .args .sheet .now

@@ -149,14 +149,15 @@ returns-3 c =
 
 returns-4 : tie.Need-returns-4
 returns-4 c =
-    let b = c .before in
+    let t = c .before in
+    let b = t .before in
     let f = right→read b in
     let e = read→else2 f in
     let n = else2→counted e in
     let s = begun e in
     let z = sized f in (
       sym
-          (ap sheetRead (body-done (sheet s) (size-passed (counted→else1 n)) (fails _ _ (b .body-right .ensures) (c .if3 .left)))
+          (ap sheetRead (body-done (sheet s) (size-passed (counted→else1 n)) (fails _ _ (b .body-right .ensures) (t .if3 .left)))
           ∙ ap Done (numbers-are (sheet s) (head s) (n .pages-for .result) (f .eight-at .result) (s .pre .0) (z .counted) (z .last))),
       record { key = s .pre .1; place = place-is s; filled = s .pre .0 .filled ∙ ap (λ (v : ℕ). layoutOf v .filled) (sym (s .pre .0 .version)) },
     )

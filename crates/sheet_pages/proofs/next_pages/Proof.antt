@@ -19,8 +19,11 @@ use borrow.Author.Needs.{needs}
 use Rattle.sheet_pages.proofs.next_pages.Statement.{statement}
 use Rattle.sheet_pages.proofs.next_pages.Tie as tie
 
+abbrev bytes→start : tie.After-whole-bytes → tie.Start
+bytes→start c = c .before .before .before .before .before
+
 abbrev start : tie.After-block → tie.Start
-start c = c .before .before .before .before .before .before
+start c = bytes→start (c .before)
 
 abbrev block : tie.After-slice-known2 → tie.After-block
 block c = c .before .before .before .before
@@ -58,7 +61,7 @@ whole-marks-requires c κs =
     let s = start b in
     (s .pre .0, s .pre .1, fits b, omega (arith, s .pre .3))
 
--- the fingerprints of the whole pages, as a version takes them
+-- the fingerprints of the whole pages, as a layout takes them
 prints : (c : tie.After-slice-known2) (v : Layout)
     → take (block c .block .result) (whole-marks c .whole-marks .last .0)
     ≡ pageFingerprints v (polynomial (start (block c) .args .x .p)) (8 * size (start (block c))) (block c .block .result) (partBits (rest (start (block c))))
