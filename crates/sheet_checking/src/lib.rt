@@ -1,9 +1,9 @@
 // Checking a file against a page sheet.
 use refusals::Refusal;
-use sheets::Changed;
-use sheets::Checked;
 use sheet_opening::OpenSheet;
 use sheet_opening::Opening;
+use sheets::Changed;
+use sheets::Checked;
 ghost use mathlib.Core.Path.{_≡_};
 ghost use Prim.Native.Nat.{_≤_, min};
 ghost use Rattle.files.specs.Files.{asPart};
@@ -81,7 +81,11 @@ pub fn first_changed_range(sheet: &[u8], file: &[u8], used: u32) -> Changed
         Opening::Refused(r) => Changed::Refused(r),
         Opening::Opened(x) => {
             let numbers = x.numbers;
-            in_bytes(compare(sheet, x, file, used), numbers.size, file.len() as u64)
+            in_bytes(
+                compare(sheet, x, file, used),
+                numbers.size,
+                file.len() as u64,
+            )
         }
     }
 }

@@ -43,7 +43,11 @@ fn key_in(sheet: &[u8], paired: bool) -> Key
 {
     if paired {
         return Key {
-            degree: big_endian::number_at(sheet, sheet_layout::KEY_PLACE, sheet_layout::DEGREE_WIDTH) as u32,
+            degree: big_endian::number_at(
+                sheet,
+                sheet_layout::KEY_PLACE,
+                sheet_layout::DEGREE_WIDTH,
+            ) as u32,
             word: big_endian::number_at(sheet, sheet_layout::WORD_PLACE, 8),
         };
     }
@@ -88,7 +92,11 @@ pub fn open_head(sheet: &[u8]) -> Header
     if big_endian::number_at(sheet, 0, sheet_layout::LETTERS_WIDTH) != LETTERS {
         return Header::Wrong;
     }
-    let version = big_endian::number_at(sheet, sheet_layout::LETTERS_WIDTH, sheet_layout::VERSION_WIDTH);
+    let version = big_endian::number_at(
+        sheet,
+        sheet_layout::LETTERS_WIDTH,
+        sheet_layout::VERSION_WIDTH,
+    );
     if !sheet_layout::is_known(version) {
         return Header::Wrong;
     }
@@ -105,8 +113,18 @@ pub fn put_head(buffer: &mut [u8], key: Key, n: u64, size: u64)
     let length_place = sheet_layout::KEY_PLACE + v.key;
     let size_place = length_place + v.length;
     big_endian::put(buffer, 0, sheet_layout::LETTERS_WIDTH, LETTERS);
-    big_endian::put(buffer, sheet_layout::LETTERS_WIDTH, sheet_layout::VERSION_WIDTH, sheet_layout::NEWEST);
-    big_endian::put(buffer, sheet_layout::KEY_PLACE, sheet_layout::DEGREE_WIDTH, key.degree as u64);
+    big_endian::put(
+        buffer,
+        sheet_layout::LETTERS_WIDTH,
+        sheet_layout::VERSION_WIDTH,
+        sheet_layout::NEWEST,
+    );
+    big_endian::put(
+        buffer,
+        sheet_layout::KEY_PLACE,
+        sheet_layout::DEGREE_WIDTH,
+        key.degree as u64,
+    );
     big_endian::put(buffer, sheet_layout::WORD_PLACE, 8, key.word);
     big_endian::put(buffer, length_place, v.length, counted);
     big_endian::put(buffer, size_place, v.size, size);

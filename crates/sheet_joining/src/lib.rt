@@ -137,7 +137,14 @@ fn whole_pages(count: u64, page: u64, n: u64, filled: bool) -> u64
 
 // The marks of the pages of a file of n bits joined: the whole pages, then the last page by its own length, or as one page more where it is filled
 // up.
-pub fn pages_joined(fields: &[u8], p: Modulus, size: u64, n: u64, count: u64, filled: bool) -> Joined
+pub fn pages_joined(
+    fields: &[u8],
+    p: Modulus,
+    size: u64,
+    n: u64,
+    count: u64,
+    filled: bool,
+) -> Joined
     requires { ⌜ Proper p × (16 ≤ size) × (size ≤ 4096) × (n ≤ longest) × (count ≡ pagesFor size n) × (8 * count ≤ length (now fields)) ⌝ }
     ensures { λ r. ⌜ PagesJoined (filling filled) (polynomial p) (p .degree) (8 * size) n (numbersAt 0 8 count (now (fields .entry))) r ⌝ }
 {
@@ -148,5 +155,10 @@ pub fn pages_joined(fields: &[u8], p: Modulus, size: u64, n: u64, count: u64, fi
         return x;
     }
     let left = n - whole * page;
-    join_last(p, x, big_endian::eight_at(fields, (8 * whole) as usize), left)
+    join_last(
+        p,
+        x,
+        big_endian::eight_at(fields, (8 * whole) as usize),
+        left,
+    )
 }

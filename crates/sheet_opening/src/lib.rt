@@ -3,9 +3,9 @@
 use gf2::Modulus;
 use keys::Tested;
 use refusals::Refusal;
-use sheets::Sheet;
 use sheet_heads::Head;
 use sheet_heads::Header;
+use sheets::Sheet;
 ghost use mathlib.Core.Path.{_≡_};
 ghost use mathlib.Core.Bool.{false, cond, not};
 ghost use Prim.Native.Nat.{_-_, _*_, _^_, _≤_, _<_};

@@ -1,7 +1,8 @@
-// Reading a page sheet.
+// Reading a page sheet. An answer of `read` holds a `Key`.
+use acceptance::Key;
 use refusals::Reply;
-use sheets::Reading;
 use sheet_opening::Opening;
+use sheets::Reading;
 ghost use mathlib.Core.Path.{_≡_};
 ghost use mathlib.Core.List.{_++_};
 ghost use Prim.Native.Nat.{_+_, _*_, _≤_, min};

@@ -29,25 +29,25 @@ use Rattle.sheet_checking.proofs.compare.Tie as tie
 -- ---- the places: the length is not too long, the file is not misused, the lengths are equal, the pages are passed over
 
 abbrev else1→start : tie.Else1 → tie.Start
-else1→start c = c .before .before .before
+else1→start c = c .before .before .before .before
 
 abbrev else2→else1 : tie.Else2 → tie.Else1
 else2→else1 c = c .before .before
 
 abbrev else3→else2 : tie.Else3 → tie.Else2
-else3→else2 c = c .before .before
+else3→else2 c = c .before .before .before
 
 abbrev start : tie.Else3 → tie.Start
 start c = else1→start (else2→else1 (else3→else2 c))
 
 abbrev equal : tie.After-page-fields → tie.Else3
-equal c = c .before .before
+equal c = c .before
 
-abbrev passed : tie.Then4 → tie.After-over-pages
-passed c = c .before
+abbrev passed : tie.After-struct-known2 → tie.After-over-pages
+passed c = c .before .before
 
 abbrev fields-read : tie.After-over-pages → tie.After-page-fields
-fields-read c = c .before .before
+fields-read c = c .before .before .before
 
 abbrev begin : tie.After-over-pages → tie.Else3
 begin c = equal (fields-read c)
@@ -78,7 +78,7 @@ measured : (c : tie.After-part-length) → c .part-length .result ≡ partLength
 measured c = let e = else2→else1 (c .before) in c .part-length .ensures ∙ counted-part (file (else1→start e)) (fits e)
 
 as-long : (c : tie.Else3) → partLength (file (start c)) ≡ start c .args .x .numbers .length
-as-long c = sym (measured (c .before)) ∙ c .if3 .left
+as-long c = sym (measured (c .before .before)) ∙ c .if3 .left
 
 within : (c : tie.Else3) → partLength (file (start c)) ≤ longest
 within c = part-fits (file (start c)) (fits (else2→else1 (else3→else2 c)))
@@ -98,7 +98,7 @@ place-is : (s : tie.Start) → s .args .x .place ≡ pagePlace (layout s) 0
 place-is s = s .pre .1 .place
 
 returns : tie.Need-returns
-returns c = let s = c .before .before .before in sym (compare-long (sheet s) (file s) (part-long (file s) (omega (arith, c .if1 .taken))))
+returns c = let s = c .before .before .before .before in sym (compare-long (sheet s) (file s) (part-long (file s) (omega (arith, c .if1 .taken))))
 
 returns-2 : tie.Need-returns-2
 returns-2 c =
@@ -108,7 +108,7 @@ returns-2 c =
 
 returns-3 : tie.Need-returns-3
 returns-3 c =
-    let l = c .before in
+    let l = c .before .before in
     let u = l .before in
     let e = else2→else1 u in
     let s = else1→start e in
@@ -118,9 +118,8 @@ returns-3 c =
 
 page-fields-requires : tie.Need-page-fields-requires
 page-fields-requires c κs =
-    let e = c .before in
-    let s = start e in
-    omega (arith, place-is s, total e, length-from (s .args .x .numbers .version) (count s))
+    let s = start c in
+    omega (arith, place-is s, total c, length-from (s .args .x .numbers .version) (count s))
 
 -- the part that begins with them
 fields-are : (c : tie.After-page-fields) → c .page-fields .result .now ≡ fingerprintsPart (start (equal c) .args .x .numbers .version) (sheet (start (equal c)))
@@ -136,7 +135,7 @@ part c =
 
 over-pages-requires : tie.Need-over-pages-requires
 over-pages-requires c κs =
-    let f = c .before in
+    let f = c .before .before in
     let s = start (equal f) in
     let h = s .pre .1 .key in
     let z = size s in
@@ -195,22 +194,22 @@ answer c =
     (fields-are (fields-read c))
     ∙ ap (λ (fs : List ℕ). Done (firstChange 0 (numbersAt 0 8 (count s) (fields .result .now)) fs)) (prints-are c)
 
-cast-page : tie.Need-cast-t21
+cast-page : tie.Need-cast-t19
 cast-page c =
-    let p = passed c in
+    let p = passed (c .before) in
     let s = start (begin p) in
     let z = size s in
     omega (arith, few p, count-few (s .args .x .numbers .size) (length (bytes s)) (z .0) (z .1) (omega (arith, fits (else2→else1 (else3→else2 (begin p))))))
 
 returns-4 : tie.Need-returns-4
 returns-4 c =
-    let p = passed c in
+    let p = passed (c .before) in
     sym (answer p ∙ ap Done (pass-changed (prints p) (fields-read p .page-fields .result .now) _ _ (p .over-pages .result) (count (start (begin p)))
     (p .over-pages .ensures) (long p) (part (fields-read p)) (omega (arith, c .if4 .taken, many p))))
 
 returns-5 : tie.Need-returns-5
 returns-5 c =
-    let p = passed c in
+    let p = passed (c .before) in
     sym (answer p ∙ ap Done (pass-same (prints p) (fields-read p .page-fields .result .now) _ _ (p .over-pages .result) (count (start (begin p)))
     (p .over-pages .ensures) (long p) (part (fields-read p)) (omega (arith, c .if4 .left, many p))))
 

@@ -27,7 +27,7 @@ abbrev counted : tie.After-page-fields → tie.After-least
 counted c = c .before .before
 
 abbrev given : tie.After-least → tie.After-x
-given c = c .before .before
+given c = c .before .before .before
 
 abbrev sheet : tie.After-x → List ℕ
 sheet c = start (read c) .args .sheet .now

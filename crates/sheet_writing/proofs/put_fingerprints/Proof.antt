@@ -37,7 +37,7 @@ abbrev begin : tie.After-over-pages → tie.Start
 begin c = start (c .before)
 
 abbrev pages : tie.After-pages-joined → tie.After-over-pages
-pages c = c .before .before
+pages c = c .before .before .before .before
 
 -- ---- the file, and its pages, which are not filled up
 
@@ -88,7 +88,7 @@ over-pages-requires c κs =
 
 pages-joined-requires : tie.Need-pages-joined-requires
 pages-joined-requires c κs =
-    let p = c .before in
+    let p = c .before .before .before in
     let s = begin p in (
       s .pre .0,
       s .pre .2,
@@ -115,17 +115,17 @@ joined c =
     ∙ ap (λ (m : Mark). m .fingerprint) (own-joined pos v refl (size s) (file s) (omega (arith, s .pre .2)))
 
 mul-put : tie.Need-mul-put
-mul-put c = let p = pages c in omega (arith, passed p, begin p .pre .5)
+mul-put c = let p = pages (c .before) in omega (arith, passed p, begin p .pre .5)
 
 put-requires : tie.Need-put-requires
 put-requires c κs =
-    let p = pages c in
+    let p = pages (c .before) in
     (omega arith, omega (arith, passed p, p .over-pages .kept .0, begin p .pre .5))
 
 returns : tie.Need-returns
 returns c =
     let q = c .before .before in
-    let j = q .before in
+    let j = q .before .before in
     let p = pages j in
     let s = begin p in
     let a = s .args in

@@ -103,7 +103,7 @@ returns c =
     ∙ ap (λ (m : ℕ). take m b ++ part) from
     ∙ sheet-stores (contentsOf (newest .version) (a .key) (a .size) file) count (a .buffer .now) b part
     (length-pages v key (pagesFor (a .size) (length file)) size file ∙ held) (s .pre .4)
-    (h .put-head .ensures ∙ ap (λ (m : ℕ). sets (a .buffer .now) 0 (bytesIn (fieldWidths v) (fields m))) (counted (put→length h) ∙ sym (part-length (part s))))
+    (h .put-head .ensures ∙ ap (λ (m : ℕ). sets (a .buffer .now) 0 (bytesIn (fieldWidths v) (fields m))) (counted (put→length h) ∙ sym (part-length (asPart (a .file .now) (a .used)))))
     (stored
     ∙ ap₂ (λ (m c : ℕ). sets (drop m b) 0 (fieldsOf 8 (pageFingerprints v key size c file) ++ bytesOf 8 (fingerprint key file))) from (sym held))
 
