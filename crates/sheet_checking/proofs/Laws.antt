@@ -2,8 +2,8 @@
 use mathlib.Core.Path.{_≡_, refl, sym, ap, ap₂, _∙_}
 use mathlib.Core.Bool.{true, false}
 use mathlib.Core.List.{List, [], _∷_, _++_}
-use Prim.Native.Nat.{ℕ, _+_, _*_, _^_, _≤_, _<_, min}
-use native.Mathlib.Nat.{mul-le-mul-left, le-of-suc-le-suc}
+use Prim.Native.Nat.{ℕ, _+_, _*_, _^_, _≤_, _<_}
+use native.Mathlib.Nat.{mul-le-mul-left}
 use native.Mathlib.Decide.{ℕ-discrete}
 use native.Mathlib.Omega.{arith}
 use lib.ListN.{length}
@@ -17,11 +17,11 @@ use Rattle.files.specs.Files.{Part, partLength, partBits, misused, bytesFor}
 use Rattle.files.proofs.Parts.{part-length, part-bytes}
 use Rattle.sheets.specs.declared.Sheet.{Sheet}
 use Rattle.big_endian.specs.Numbers.{numbersAt}
-use Rattle.sheets.specs.Layout.{versionIn, layouts, layoutOf, sheetLength, pageCount, pagesFor, Contents, fieldIn, contentsIn}
+use Rattle.sheets.specs.Layout.{layouts, layoutOf, sheetLength, pageCount, pagesFor, Contents, contentsIn}
 use Rattle.sheets.specs.Sheets.{pageFingerprints, contentsOf, readTests, readSheet, Page, OtherLength, firstChange, compared, checkSheet}
 use Rattle.sheets.specs.Answers.{sheetRead}
-use Rattle.sheets.specs.Sheets.{Outcome, headWrong, checkTests}
-use Rattle.sheets.specs.Answers.{FromTo, rangeOf, changedRange}
+use Rattle.sheets.specs.Sheets.{Outcome, checkTests}
+use Rattle.sheets.specs.Answers.{rangeOf, changedRange}
 use Rattle.sheets.specs.Inner.{ReadAs, comparison, ranged, fingerprintsPart}
 use Rattle.refusals.proofs.Laws.{Clear, done-clear, more-refused, more-clear, first-true, first-false}
 use Rattle.sheets.proofs.Parts.{pages-held}

@@ -1,17 +1,15 @@
 -- How the calls answer, test by test.
 use mathlib.Core.Path.{_≡_, ap, _∙_}
-use mathlib.Core.Bool.{true, false, _||_, not}
+use mathlib.Core.Bool.{true, false, _||_}
 use mathlib.Core.List.{List, [], _∷_, _++_}
 use Prim.Native.Nat.{ℕ}
-use lib.Dec.{ltb, eqb}
+use lib.Dec.{ltb}
 use lib.ListN.{length}
-use borrow.Author.Tests.{eqb-true, not-false}
-use Rattle.gf2.specs.Polynomials.{degree}
 use Rattle.gf2.specs.declared.Modulus.{Modulus}
 use Rattle.refusals.specs.declared.Refusal.{Refusal}
 use Rattle.refusals.specs.declared.Refusal.the-variants.{PageSize, SheetMalformed}
 use Rattle.refusals.specs.Refusals.{Done, Refused, Test, _⇒_, firstOf}
-use Rattle.acceptance.specs.Keys.{polynomialOf, keyTests}
+use Rattle.acceptance.specs.Keys.{keyTests}
 use Rattle.acceptance.specs.Opened.{Opened}
 use Rattle.acceptance.proofs.Opened.{opened-first}
 use Rattle.keys.specs.declared.Tested.{Tested}
@@ -22,15 +20,14 @@ use Rattle.keys.proofs.Laws.{refused}
 use Rattle.sheets.specs.declared.Sheet.{Sheet}
 use Rattle.sheet_heads.specs.declared.Head.{Head}
 use Rattle.big_endian.specs.Numbers.{numberAt}
-use Rattle.sheets.specs.Layout.{versionIn, Layout, layouts, layoutOf, pagePlace, sheetLength, pagesFor, Contents, fieldIn, keyIn, pagesIn, contentsIn}
-use Rattle.sheets.specs.Sheets.{someUnreduced, pagesJoined, fileFilled, pageSizeTest, headWrong, bodyWrong, readSheet}
+use Rattle.sheets.specs.Layout.{versionIn, Layout, layouts, layoutOf, pagePlace, pagesFor, Contents, fieldIn, keyIn, pagesIn, contentsIn}
+use Rattle.sheets.specs.Sheets.{pageSizeTest, headWrong, bodyWrong, readSheet}
 use Rattle.sheets.specs.Answers.{numbersOf}
 use Rattle.sheet_heads.specs.Heads.{HeadOf}
 use Rattle.sheets.specs.Inner.{readBody}
 use Rattle.big_endian.proofs.Numbers.{length-numbersAt}
 use Rattle.sheets.proofs.Versions.{eight-wide}
 use Rattle.refusals.proofs.Laws.{first-true, first-false}
-use Rattle.sheets.proofs.Sound.{neither}
 
 -- ---- reading
 

@@ -1,10 +1,9 @@
 -- `pages_joined` meets its contract: the whole pages, and what is left.
-use mathlib.Core.Path.{_≡_, ap, subst, _∙_}
+use mathlib.Core.Path.{_≡_, subst, _∙_}
 use mathlib.Core.Bool.{false}
 use Prim.Native.Nat.{ℕ, _+_, _-_, _*_, _^_, _≤_, _<_}
 use native.Mathlib.Omega.{arith}
 use Rattle.big_endian.specs.Numbers.{numberAt, numbersAt}
-use Rattle.sheets.specs.Layout.{pageCount}
 use Rattle.sheets.specs.Inner.{filling}
 use Rattle.sheets.proofs.Pages.{pages-count, count-small}
 use Rattle.gf2.specs.Moduli.{polynomial}

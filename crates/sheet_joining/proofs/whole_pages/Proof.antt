@@ -7,7 +7,6 @@ use native.Mathlib.Omega.{arith}
 use Rattle.sheets.proofs.Pages.{count-covers, count-tight}
 use Rattle.sheets.specs.Inner.{filling}
 use Rattle.sheet_joining.proofs.Joining.{filled-counts, whole-counts}
-use borrow.Author.Needs.{needs}
 use Rattle.sheet_joining.proofs.whole_pages.Statement.{statement}
 use Rattle.sheet_joining.proofs.whole_pages.Tie as tie
 

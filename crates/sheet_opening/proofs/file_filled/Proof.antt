@@ -1,5 +1,5 @@
 -- `file_filled` meets its contract: with no zeros behind it the fingerprint is its own residue.
-use mathlib.Core.Path.{_≡_, sym, ap, _∙_}
+use mathlib.Core.Path.{sym, ap, _∙_}
 use mathlib.Core.Bool.{Bool, cond}
 use Prim.Native.Nat.{ℕ, _-_, _*_, _^_}
 use native.Mathlib.Nat.{mul-one}

@@ -13,7 +13,7 @@ use Rattle.files.proofs.Parts.{part-length}
 use Rattle.big_endian.specs.Numbers.{bytesOf, fieldsOf, bytesIn}
 use Rattle.sheets.specs.Layout.{letters, Layout, newest, layoutOf, fieldWidths, pageCount, pagesFor, keyNumber}
 use Rattle.sheets.specs.Sheets.{pageFingerprints, contentsOf}
-use Rattle.sheets.proofs.Versions.{length-from, newest-is}
+use Rattle.sheets.proofs.Versions.{length-from}
 use Rattle.sheets.proofs.Pages.{length-pages, all-left}
 use Rattle.sheets.proofs.Parts.{counted-part, pages-held}
 use Rattle.sheet_writing.proofs.Stores.{sheet-stores}
