@@ -17,7 +17,7 @@ use Rattle.files.proofs.Marks.{fed}
 use Rattle.sheets.specs.Layout.{Layout}
 use Rattle.sheets.specs.Sheets.{pageOf, pageFingerprints}
 use Rattle.sheets.proofs.Pages.{length-pages, page-whole, page-at, pages-last}
-use Rattle.sheet_pages.specs.Blocks.{pageFront, Begun, Finished}
+use Rattle.sheet_pages.specs.Blocks.{pageFront, Begun, Reduced, Finished}
 
 -- ---- one page more, or two
 
@@ -35,6 +35,17 @@ module _ (key s w : ℕ) (pages marks : List ℕ) (i : ℕ) where
   pub finished-more : (v : ℕ) → i < length marks → Finished key s i pages marks → v ≡ fingerprint key (bits (pageFront s s pages i))
       → Finished key s (i + 1) pages (set marks i v)
   finished-more v l f e m b = stored 0 (λ n z. z ≡ fingerprint key (bits (pageFront s s pages n))) marks i v l e m (λ d. f m (omega (arith, d)))
+
+-- one number more is a residue
+pub reduced-more : (key : ℕ) (before marks : List ℕ) (i v : ℕ) → i < length marks → Reduced key i before marks → v ≡ rem key (getD before i 0)
+    → Reduced key (i + 1) before (set marks i v)
+reduced-more key before marks i v l f e m b = stored 0 (λ n z. z ≡ rem key (getD before n 0)) marks i v l e m (λ d. f m (omega (arith, d)))
+
+-- whole pages that are begun, and reduced
+pub cut-finished : (key s w n : ℕ) (pages before marks : List ℕ) → w ≡ s → Begun key s w n pages before → Reduced key n before marks
+    → Finished key s n pages marks
+unfolding fingerprint value
+cut-finished key s w n pages before marks e b r i l = r i l ∙ b i l ∙ ap (λ (m : ℕ). rem key (valueFrom 1 (bits (pageFront s m pages i)))) e
 
 -- ---- the bytes of a page in the block
 

@@ -44,6 +44,10 @@ Begun key s w n pages marks = (i : ℕ) → i < n → rem key (getD marks i 0) �
 abbrev pub BegunBy : List ℕ → ℕ → ℕ → ℕ → List ℕ → List ℕ → Type 0
 BegunBy eights s w n pages marks = (p : Modulus) → Proper p → Shifts (polynomial p) 64 eights → Begun (polynomial p) s w n pages marks
 
+-- the first n numbers are the residues of those before
+abbrev pub Reduced : ℕ → ℕ → List ℕ → List ℕ → Type 0
+Reduced key n before marks = (i : ℕ) → i < n → getD marks i 0 ≡ rem key (getD before i 0)
+
 -- it is the fingerprint of page i
 abbrev pub Finished : ℕ → ℕ → ℕ → List ℕ → List ℕ → Type 0
 Finished key s n pages marks = (i : ℕ) → i < n → getD marks i 0 ≡ fingerprint key (bits (pageFront s s pages i))

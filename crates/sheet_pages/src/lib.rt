@@ -13,7 +13,7 @@ ghost use Rattle.lookups.specs.Groups.{TableOf};
 ghost use Rattle.house.specs.House.{houseKey};
 ghost use Rattle.sheets.specs.Sheets.{pageOf};
 ghost use Rattle.sheets.specs.Inner.{filling};
-ghost use Rattle.sheet_pages.specs.Blocks.{PageTables, FedBy, LastBy, Begun, BegunBy, Finished, NextPages};
+ghost use Rattle.sheet_pages.specs.Blocks.{PageTables, FedBy, LastBy, Begun, BegunBy, Reduced, Finished, NextPages};
 
 // The two tables that pages are fed by: four bytes at a time, and eight.
 pub fn fill_tables(words: &mut [u64], eights: &mut [u64], p: Modulus)
@@ -26,11 +26,13 @@ pub fn fill_tables(words: &mut [u64], eights: &mut [u64], p: Modulus)
 
 // How many whole pages the next block has: all that are left, at most 64.
 fn block(left: usize, size: usize) -> usize
-    requires { ⌜ 0 < size ⌝ }
+    requires { ⌜ (0 < size) × (size ≤ 4096) ⌝ }
     ensures { λ r. ⌜ r ≡ min (left / size) 64 ⌝ }
 {
-    let n = left / size;
-    if n < 64 { n } else { 64 }
+    if 64 * size <= left {
+        return 64;
+    }
+    left / size
 }
 
 // The page that is fed beside page i, of n pages: the next one, or page i itself where it is the last.
@@ -96,6 +98,61 @@ fn finish_pages(
     }
 }
 
+// The residue of a number of 64 bits at a degree of 56 to 63: what stands at t^k and above is at most a byte.
+fn cut(words: &[u64], p: Modulus, x: u64) -> u64
+    requires { ⌜ TableOf p (now words) × (56 ≤ p .degree) × (p .degree < 64) ⌝ }
+    ensures { λ r. ⌜ r ≡ rem (polynomial p) x ⌝ }
+{
+    let k = p.degree;
+    gf2::low_bits(x, k) ^ words[(x >> k) as usize]
+}
+
+// Each of the first n numbers becomes its residue, at such a degree. The places behind them stay.
+fn cut_marks(marks: &mut [u64], words: &[u64], p: Modulus, n: usize)
+    requires { ⌜ TableOf p (now words) × (56 ≤ p .degree) × (p .degree < 64) × (n ≤ length (now marks)) ⌝ }
+    ensures { λ r. ⌜ Reduced (polynomial p) n (now (marks .entry)) (now (marks .exit)) × SameFrom n (now (marks .entry)) (now (marks .exit)) ⌝ }
+{
+    let mut i: usize = 0;
+    while i < n {
+        marks[i] = cut(words, p, marks[i]);
+        i += 1;
+    }
+}
+
+// Whether nothing is left of a page behind `whole` bytes, and the degree is 56 to 63.
+fn is_cut(p: Modulus, size: usize, whole: usize) -> bool
+    ensures { λ r. ⌜ (r ≡ true → (whole ≡ size) × (56 ≤ p .degree) × (p .degree < 64)) ⌝ }
+{
+    if whole != size {
+        return false;
+    }
+    if p.degree < 56 {
+        return false;
+    }
+    p.degree < 64
+}
+
+// The fingerprints of n pages that are begun. Where nothing is left of a page, and at the degrees that most keys have, in a loop of few steps.
+fn finish(
+    marks: &mut [u64],
+    words: &[u64],
+    p: Modulus,
+    size: usize,
+    whole: usize,
+    n: usize,
+    pages: &[u8],
+)
+    requires { ⌜ TableOf p (now words) × (whole ≤ size) × (n * size ≤ length (now pages)) × (n ≤ length (now marks))
+        × Begun (polynomial p) size whole n (now pages) (now marks) ⌝ }
+    ensures { λ r. ⌜ Finished (polynomial p) size n (now (pages .entry)) (now (marks .exit)) × SameFrom n (now (marks .entry)) (now (marks .exit)) ⌝ }
+{
+    if is_cut(p, size, whole) {
+        cut_marks(marks, words, p, n);
+    } else {
+        finish_pages(marks, words, p, size, whole, n, pages);
+    }
+}
+
 // The fingerprints of n pages under the house key, by folding: no table is read. The places behind the first n stay.
 fn fold_pages(marks: &mut [u64], size: usize, n: usize, pages: &[u8])
     requires { ⌜ (n * size ≤ length (now pages)) × (n ≤ length (now marks)) ⌝ }
@@ -139,7 +196,7 @@ fn whole_marks(
     }
     let whole = size / 8 * 8;
     begin_pages(marks, eights, size, whole, n, pages);
-    finish_pages(marks, words, p, size, whole, n, pages);
+    finish(marks, words, p, size, whole, n, pages);
 }
 
 // The residue of the whole bytes of a last page, behind the leading 1.

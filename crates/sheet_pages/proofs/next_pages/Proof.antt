@@ -55,6 +55,9 @@ begin c = let s = start c in count-le (size s) (length (rest s .bytes)) (c .bloc
 pages : (s : tie.Start) → pageCount (size s) (length (rest s .bytes)) ≡ pageCount (8 * size s) (partLength (rest s))
 pages s = part-pages (size s) (rest s) (omega (arith, s .pre .1))
 
+block-requires : tie.Need-block-requires
+block-requires c κs = let s = bytes→start c in (omega (arith, s .pre .1), s .pre .2)
+
 whole-marks-requires : tie.Need-whole-marks-requires
 whole-marks-requires c κs =
     let b = c .before in
@@ -171,7 +174,7 @@ next-pages-spec =
     tie.close
     (tie.spec
     (λ c κs. search needs)
-    (λ c κs. search needs)
+    block-requires
     whole-marks-requires
     (λ c. search needs)
     returns

@@ -19,7 +19,7 @@ tabled c = c .before
 abbrev start : tie.After-begin-pages-arg → tie.Start
 start c = entry (tabled c .before)
 
-abbrev begun : tie.After-finish-pages → tie.After-begin-pages
+abbrev begun : tie.After-finish → tie.After-begin-pages
 begun c = c .before .before .before .before
 
 -- there are tables
@@ -38,8 +38,8 @@ returns c =
 begin-pages-requires : tie.Need-begin-pages-requires
 begin-pages-requires c κs = let s = start c in (tables c .shifts .long, omega arith, omega arith, omega arith, s .pre .2, s .pre .3)
 
-finish-pages-requires : tie.Need-finish-pages-requires
-finish-pages-requires c κs =
+finish-requires : tie.Need-finish-requires
+finish-requires c κs =
     let b = c .before .before .before in
     let s = start (b .before) in
     let t = tables (b .before) in (
@@ -54,7 +54,7 @@ returns-2 : tie.Need-returns-2
 returns-2 c =
     let f = c .before .before in
     let b = begun f in
-    (f .finish-pages .ensures .0, λ j l. f .finish-pages .ensures .1 j l ∙ b .begin-pages .ensures .1 j l)
+    (f .finish .ensures .0, λ j l. f .finish .ensures .1 j l ∙ b .begin-pages .ensures .1 j l)
 
 pub whole-marks-spec : {M : Type 1} → statement M
 whole-marks-spec =
@@ -65,6 +65,6 @@ whole-marks-spec =
     returns
     (λ c. search needs)
     begin-pages-requires
-    finish-pages-requires
+    finish-requires
     (λ c. search needs)
     returns-2)
