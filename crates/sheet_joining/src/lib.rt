@@ -150,10 +150,10 @@ pub fn pages_joined(
 {
     let page = 8 * size;
     let whole = whole_pages(count, page, n, filled);
-    let x = join_run(fields, p, size, whole);
     if whole == count {
-        return x;
+        return join_run(fields, p, size, count);
     }
+    let x = join_run(fields, p, size, whole);
     let left = n - whole * page;
     join_last(
         p,

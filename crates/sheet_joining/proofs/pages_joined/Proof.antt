@@ -1,27 +1,22 @@
 -- `pages_joined` meets its contract: the whole pages, and what is left.
-use mathlib.Core.Path.{_≡_, subst, _∙_}
+use mathlib.Core.Path.{_≡_, _∙_}
 use mathlib.Core.Bool.{false}
 use Prim.Native.Nat.{ℕ, _+_, _-_, _*_, _^_, _≤_, _<_}
 use native.Mathlib.Omega.{arith}
-use Rattle.big_endian.specs.Numbers.{numberAt, numbersAt}
+use Rattle.big_endian.specs.Numbers.{numberAt}
 use Rattle.sheets.specs.Inner.{filling}
 use Rattle.sheets.proofs.Pages.{pages-count, count-small}
-use Rattle.gf2.specs.Moduli.{polynomial}
-use Rattle.sheet_joining.specs.Joining.{RunJoined}
 use Rattle.sheet_joining.proofs.Joining.{run-joined, last-joined}
 use borrow.Author.Needs.{needs}
 use Rattle.sheet_joining.proofs.pages_joined.Statement.{statement}
 use Rattle.sheet_joining.proofs.pages_joined.Tie as tie
 
--- the whole pages are counted, and joined; something is left
+-- the whole pages are counted: all of them, or all but the last
 abbrev start : tie.After-whole-pages → tie.Start
 start c = c .before .before
 
-abbrev counted : tie.After-join-run → tie.After-whole-pages
-counted c = c .before
-
 abbrev begun : tie.Else1 → tie.Start
-begun c = start (counted (c .before))
+begun c = start (c .before)
 
 abbrev page : tie.Start → ℕ
 page s = 8 * s .args .size
@@ -40,53 +35,54 @@ whole-pages-requires c κs =
     )
 
 join-run-requires : tie.Need-join-run-requires
-join-run-requires c κs =
-    let s = start c in
-    let w = c .whole-pages .ensures .few in
-    (s .pre .0, s .pre .2, omega (arith, few s, w), omega (arith, s .pre .5, w))
+join-run-requires c κs = let s = start (c .before) in (s .pre .0, s .pre .2, few s, s .pre .5)
 
 returns : tie.Need-returns
 returns c =
-    let r = c .before in
-    let s = start (counted r) in
+    let t = c .before in
+    let s = start (t .before) in
     let a = s .args in
-    run-joined (s .pre .0) (filling (a .filled)) (page s) (a .n) (a .fields .now) (a .count) _
-    (counted r .whole-pages .ensures .all (c .if1 .taken))
-    (subst (λ (m : ℕ). RunJoined (polynomial (a .p)) (a .p .degree) (page s) (numbersAt 0 8 m (a .fields .now)) (r .join-run .result)) (c .if1 .taken)
-    (r .join-run .ensures))
+    run-joined (s .pre .0) (filling (a .filled)) (page s) (a .n) (a .fields .now) (a .count) _ (t .before .whole-pages .ensures .all (t .if1 .taken))
+    (c .join-run .ensures)
 
 -- something is left: the last page has a field
 abbrev whole : tie.Else1 → ℕ
-whole c = counted (c .before) .whole-pages .result
+whole c = c .before .whole-pages .result
 
 last : (c : tie.Else1)
     → (begun c .args .filled ≡ false) × (whole c + 1 ≡ begun c .args .count) × (whole c * page (begun c) ≤ begun c .args .n)
     × (begun c .args .n < whole c * page (begun c) + page (begun c))
-last c = counted (c .before) .whole-pages .ensures .but-last (c .if1 .left)
+last c = c .before .whole-pages .ensures .but-last (c .if1 .left)
+
+join-run-requires-2 : tie.Need-join-run-requires-2
+join-run-requires-2 c κs =
+    let s = begun c in
+    (s .pre .0, s .pre .2, omega (arith, few s, last c .1), omega (arith, s .pre .5, last c .1))
 
 mul-left : tie.Need-mul-left
-mul-left c = omega (arith, last c .2, begun c .pre .3)
+mul-left c = omega (arith, last (c .before) .2, begun (c .before) .pre .3)
 
 sub-left : tie.Need-sub-left
-sub-left c = last c .2
+sub-left c = last (c .before) .2
 
 mul-eight-at : tie.Need-mul-eight-at
-mul-eight-at c = omega (arith, few (begun c), last c .1)
+mul-eight-at c = let e = c .before in omega (arith, few (begun e), last e .1)
 
 eight-at-requires : tie.Need-eight-at-requires
-eight-at-requires c κs = omega (arith, begun c .pre .5, last c .1)
+eight-at-requires c κs = let e = c .before in omega (arith, begun e .pre .5, last e .1)
 
 returns-2 : tie.Need-returns-2
 unfolding numberAt
 returns-2 c =
-    let e = c .before .before in
+    let r = c .before .before in
+    let e = r .before in
     let s = begun e in
     let a = s .args in
     let w = whole e in
     let l = last e in
     rw (← (l .1))
     (last-joined (s .pre .0) (filling (a .filled)) (page s) (a .n) (a .fields .now) w (a .n - w * page s) _ _ _ (l .0) (omega (arith, l .2))
-    (omega (arith, l .3)) (c .before .eight-at .ensures) (e .before .join-run .ensures) (c .join-last .ensures))
+    (omega (arith, l .3)) (c .before .eight-at .ensures) (r .join-run2 .ensures) (c .join-last .ensures))
 
 pub pages-joined-spec : {M : Type 1} → statement M
 pages-joined-spec =
@@ -96,6 +92,7 @@ pages-joined-spec =
     whole-pages-requires
     join-run-requires
     returns
+    join-run-requires-2
     mul-left
     sub-left
     mul-eight-at
