@@ -110,6 +110,8 @@ pub fn put_head(buffer: &mut [u8], key: Key, n: u64, size: u64)
 {
     let v = sheet_layout::fields_of(sheet_layout::NEWEST);
     let counted = n / v.unit;
+    let degree_place = sheet_layout::KEY_PLACE;
+    let word_place = sheet_layout::WORD_PLACE;
     let length_place = sheet_layout::KEY_PLACE + v.key;
     let size_place = length_place + v.length;
     big_endian::put(buffer, 0, sheet_layout::LETTERS_WIDTH, LETTERS);
@@ -121,11 +123,11 @@ pub fn put_head(buffer: &mut [u8], key: Key, n: u64, size: u64)
     );
     big_endian::put(
         buffer,
-        sheet_layout::KEY_PLACE,
+        degree_place,
         sheet_layout::DEGREE_WIDTH,
         key.degree as u64,
     );
-    big_endian::put(buffer, sheet_layout::WORD_PLACE, 8, key.word);
+    big_endian::put(buffer, word_place, 8, key.word);
     big_endian::put(buffer, length_place, v.length, counted);
     big_endian::put(buffer, size_place, v.size, size);
 }

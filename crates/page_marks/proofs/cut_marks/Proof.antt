@@ -7,10 +7,10 @@ use lib.Seq.{getD-set-other}
 use Rattle.gf2.specs.Polynomials.{rem}
 use Rattle.gf2.specs.Moduli.{polynomial}
 use Rattle.multiples.specs.Rows.{SameFrom}
-use Rattle.sheet_pages.specs.Blocks.{Reduced}
-use Rattle.sheet_pages.proofs.Blocks.{reduced-more}
-use Rattle.sheet_pages.proofs.cut_marks.Statement.{statement}
-use Rattle.sheet_pages.proofs.cut_marks.Tie as tie
+use Rattle.page_marks.specs.Marks.{Reduced}
+use Rattle.page_marks.proofs.Marks.{reduced-more}
+use Rattle.page_marks.proofs.cut_marks.Statement.{statement}
+use Rattle.page_marks.proofs.cut_marks.Tie as tie
 
 abbrev Inv-loop : tie.InvT-loop
 Inv-loop marks₀ words p n i₀ marks i =

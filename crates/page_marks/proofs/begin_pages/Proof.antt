@@ -11,10 +11,10 @@ use Rattle.gf2.specs.Moduli.{polynomial}
 use Rattle.files.specs.Files.{bits, valueFrom}
 use Rattle.multiples.specs.Rows.{SameFrom}
 use Rattle.table_lanes.proofs.Joining.{lane-length}
-use Rattle.sheet_pages.specs.Blocks.{BegunBy}
-use Rattle.sheet_pages.proofs.Blocks.{begun-two, place-fits, front-cut}
-use Rattle.sheet_pages.proofs.begin_pages.Statement.{statement}
-use Rattle.sheet_pages.proofs.begin_pages.Tie as tie
+use Rattle.page_marks.specs.Marks.{BegunBy}
+use Rattle.page_marks.proofs.Marks.{begun-two, place-fits, front-cut}
+use Rattle.page_marks.proofs.begin_pages.Statement.{statement}
+use Rattle.page_marks.proofs.begin_pages.Tie as tie
 
 abbrev Inv-loop : tie.InvT-loop
 Inv-loop marks₀ eights size whole n pages i₀ marks i =

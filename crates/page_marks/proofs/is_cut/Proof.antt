@@ -2,8 +2,8 @@
 use mathlib.Core.Bool.{false≢true}
 use native.Mathlib.Omega.{arith}
 use borrow.Author.Tests.{ltb-true}
-use Rattle.sheet_pages.proofs.is_cut.Statement.{statement}
-use Rattle.sheet_pages.proofs.is_cut.Tie as tie
+use Rattle.page_marks.proofs.is_cut.Statement.{statement}
+use Rattle.page_marks.proofs.is_cut.Tie as tie
 
 returns : tie.Need-returns
 returns c e = absurd (false≢true e)

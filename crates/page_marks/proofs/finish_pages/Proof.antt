@@ -8,10 +8,10 @@ use Rattle.gf2.specs.Polynomials.{rem}
 use Rattle.gf2.specs.Moduli.{polynomial}
 use Rattle.gf2.proofs.Monics.{monic-pos}
 use Rattle.multiples.specs.Rows.{SameFrom}
-use Rattle.sheet_pages.specs.Blocks.{Finished}
-use Rattle.sheet_pages.proofs.Blocks.{finished-more, place-fits, page-finished}
-use Rattle.sheet_pages.proofs.finish_pages.Statement.{statement}
-use Rattle.sheet_pages.proofs.finish_pages.Tie as tie
+use Rattle.page_marks.specs.Marks.{Finished}
+use Rattle.page_marks.proofs.Marks.{finished-more, place-fits, page-finished}
+use Rattle.page_marks.proofs.finish_pages.Statement.{statement}
+use Rattle.page_marks.proofs.finish_pages.Tie as tie
 
 abbrev Inv-loop : tie.InvT-loop
 Inv-loop marks₀ words p size whole n pages i₀ marks i =

@@ -9,10 +9,10 @@ use Rattle.gf2.specs.Polynomials.{rem}
 use Rattle.files.specs.Files.{bits, valueFrom, value, fingerprint}
 use Rattle.multiples.specs.Rows.{SameFrom}
 use Rattle.house.specs.House.{houseKey}
-use Rattle.sheet_pages.specs.Blocks.{pageFront, Finished}
-use Rattle.sheet_pages.proofs.Blocks.{finished-more, place-fits, front-cut}
-use Rattle.sheet_pages.proofs.fold_pages.Statement.{statement}
-use Rattle.sheet_pages.proofs.fold_pages.Tie as tie
+use Rattle.page_marks.specs.Marks.{pageFront, Finished}
+use Rattle.page_marks.proofs.Marks.{finished-more, place-fits, front-cut}
+use Rattle.page_marks.proofs.fold_pages.Statement.{statement}
+use Rattle.page_marks.proofs.fold_pages.Tie as tie
 
 abbrev Inv-loop : tie.InvT-loop
 Inv-loop marks₀ size n pages i₀ marks i = (i ≤ n) × (length marks ≡ length marks₀) × Finished houseKey size i pages marks × SameFrom n marks₀ marks

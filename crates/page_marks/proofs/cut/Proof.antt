@@ -12,8 +12,8 @@ use Rattle.gf2.proofs.Monics.{monic-pos}
 use Rattle.gf2.proofs.Steps.{residue-split}
 use Rattle.lookups.proofs.Rule.{table-long, table-rows}
 use Rattle.lookups.proofs.Cut.{looked-shift, look-one}
-use Rattle.sheet_pages.proofs.cut.Statement.{statement}
-use Rattle.sheet_pages.proofs.cut.Tie as tie
+use Rattle.page_marks.proofs.cut.Statement.{statement}
+use Rattle.page_marks.proofs.cut.Tie as tie
 
 abbrev start : tie.After-low-bits → tie.Start
 start c = c .before .before

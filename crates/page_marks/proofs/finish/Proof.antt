@@ -1,9 +1,9 @@
 -- `finish` meets its contract, by either way.
 use Rattle.gf2.specs.Moduli.{polynomial}
-use Rattle.sheet_pages.proofs.Blocks.{cut-finished}
+use Rattle.page_marks.proofs.Marks.{cut-finished}
 use borrow.Author.Needs.{needs}
-use Rattle.sheet_pages.proofs.finish.Statement.{statement}
-use Rattle.sheet_pages.proofs.finish.Tie as tie
+use Rattle.page_marks.proofs.finish.Statement.{statement}
+use Rattle.page_marks.proofs.finish.Tie as tie
 
 abbrev start : tie.After-is-cut → tie.Start
 start c = c .before .before .before .before

@@ -10,8 +10,8 @@ use Rattle.gf2.proofs.Monics.{monic-pos}
 use Rattle.gf2.proofs.Steps.{residue-lt}
 use Rattle.files.specs.Files.{bits, valueFrom}
 use Rattle.files.proofs.Values.{rem-from}
-use Rattle.sheet_pages.proofs.finished.Statement.{statement}
-use Rattle.sheet_pages.proofs.finished.Tie as tie
+use Rattle.page_marks.proofs.finished.Statement.{statement}
+use Rattle.page_marks.proofs.finished.Tie as tie
 
 abbrev start : tie.After-residue → tie.Start
 start c = c .before .before .before
