@@ -2,8 +2,8 @@
 use mathlib.Core.Path.{_≡_, sym, ap, ap₂, _∙_}
 use mathlib.Core.Bool.{true, false}
 use mathlib.Core.List.{List, [], _∷_, _++_}
-use Prim.Native.Nat.{ℕ, _+_, _*_, _^_, _≤_, _<_, min}
-use native.Mathlib.Nat.{mul-le-mul-left, le-of-suc-le-suc}
+use Prim.Native.Nat.{ℕ, _+_, _*_, _^_, _≤_, _<_}
+use native.Mathlib.Nat.{mul-le-mul-left}
 use native.Mathlib.Decide.{ℕ-discrete}
 use native.Mathlib.Omega.{arith}
 use lib.ListN.{length}
@@ -17,17 +17,17 @@ use Rattle.files.specs.Files.{Part, partLength, partBits, misused, bytesFor}
 use Rattle.files.proofs.Parts.{part-length, part-bytes}
 use Rattle.sheets.specs.declared.Sheet.{Sheet}
 use Rattle.big_endian.specs.Numbers.{numbersAt}
-use Rattle.sheets.specs.Layout.{versionIn, layouts, layoutOf, sheetLength, pageCount, pagesFor, sizeIn, contentsIn}
+use Rattle.sheets.specs.Layout.{layouts, layoutOf, sheetLength, pageCount, pagesFor, contentsIn}
 use Rattle.sheets.specs.Sheets.{pageFingerprints, contentsOf, readTests, readSheet, Page, OtherLength, firstChange, compared, checkSheet}
 use Rattle.sheets.specs.Outputs.{rangeIn}
 use Rattle.sheets.specs.Answers.{sheetRead}
-use Rattle.sheets.specs.Sheets.{headWrong, checkTests}
+use Rattle.sheets.specs.Sheets.{checkTests}
 use Rattle.sheets.specs.Answers.{changedRange}
 use Rattle.sheets.specs.Inner.{ReadAs, comparison, ranged, fingerprintsPart}
 use Rattle.refusals.proofs.Replies.{first-mapped}
 use Rattle.refusals.proofs.Laws.{Clear, done-clear, more-refused, more-clear, first-true, first-false}
 use Rattle.sheets.proofs.Parts.{pages-held}
-use Rattle.sheets.proofs.Known.{pages-in, refused-inv, tests-clear, total}
+use Rattle.sheets.proofs.Known.{pages-in, refused-inv, tests-clear, total, pages-counted}
 use Rattle.sheets.proofs.Changes.{not-other}
 use Rattle.sheets.proofs.Guarantee.{other-length}
 
@@ -97,15 +97,22 @@ module _ (sheet : List ℕ) {x : Sheet} (r : ReadAs sheet x) where
   pub length-is : x .length ≡ contentsIn sheet .length
   length-is = ap (λ (y : Sheet). y .length) (r .numbers)
 
-  -- all fields of the pages are there
+  -- as many pages as the file has
+  pub pages-many : (file : Part) → partLength file ≡ x .length → x .pages ≡ pageCount (x .size) (length (file .bytes))
+  unfolding contentsIn
+  pages-many file e =
+      pages-counted sheet r
+      ∙ ap₂ (λ (s n : ℕ). pagesFor s n) (sym size-is) (sym (e ∙ length-is))
+      ∙ ap (pageCount (x .size)) (part-bytes file)
+
+  -- and all their fields are there
   pub pages-there : (file : Part) → partLength file ≡ x .length
       → sheetLength (layoutOf (x .version)) (pageCount (x .size) (length (file .bytes))) ≡ length sheet
   unfolding contentsIn
   pages-there file e =
       sym
       (total sheet r
-      ∙ ap₂ (λ (s n : ℕ). sheetLength (layoutOf (versionIn sheet)) (pagesFor s n)) (sym size-is) (sym (e ∙ length-is))
-      ∙ ap₂ (λ (v n : ℕ). sheetLength (layoutOf v) (pageCount (x .size) n)) (sym version-is) (part-bytes file))
+      ∙ ap₂ (λ (v n : ℕ). sheetLength (layoutOf v) n) (sym version-is) (sym (pages-counted sheet r) ∙ pages-many file e))
 
 -- ---- the range is that of the check's answer
 
@@ -120,9 +127,6 @@ module _ (sheet : List ℕ) (file : Part) (i : ℕ) (e : checkSheet sheet file �
   unfolding checkSheet
   named = done-clear (readTests layouts sheet ++ fileTests file) tt (compared (contentsIn sheet) (partBits file)) (Page i) e
 
-  pub named-head : headWrong layouts sheet ≡ false
-  named-head = named .0 .0
-
   named-equal : length (partBits file) ≡ contentsIn sheet .length
   named-equal = go (ℕ-discrete (length (partBits file)) (contentsIn sheet .length))
     where
@@ -130,18 +134,9 @@ module _ (sheet : List ℕ) (file : Part) (i : ℕ) (e : checkSheet sheet file �
       go (yes d) = d
       go (no d) = absurd (not-other (sym (other-length (contentsIn sheet) (partBits file) d) ∙ named .1))
 
-  bytes-equal : length (file .bytes) ≡ bytesFor (contentsIn sheet .length)
-  bytes-equal = sym (part-bytes file) ∙ ap bytesFor (sym (part-length file) ∙ named-equal)
+  -- the file has as many bytes as the sheet says
+  pub named-bytes : bytesFor (contentsIn sheet .length) ≡ length (file .bytes)
+  named-bytes = sym (ap bytesFor (sym (part-length file) ∙ named-equal)) ∙ part-bytes file
 
-  -- its bytes, by the numbers that the code has
-  pub named-range : (from size end : ℕ) → size ≡ sizeIn (layoutOf (versionIn sheet)) sheet → from ≡ i * size
-      → end ≡ min (from + size) (length (file .bytes)) → Done (1 ∷ from ∷ end ∷ []) ≡ changedRange sheet file
-  unfolding contentsIn
-  named-range from size end es ef ee =
-      ap₂ (λ (a b : ℕ). Done (1 ∷ a ∷ b ∷ [])) (ef ∙ ap (λ (s : ℕ). i * s) es) (ee ∙ ap₂ (λ (a b : ℕ). min a b)
-      (ap₂ (λ (a b : ℕ). a + b) (ef ∙ ap (λ (s : ℕ). i * s) es) es) bytes-equal)
-      ∙ ap (ranged (contentsIn sheet)) (sym e)
-      ∙ sym (changed-by-check sheet file)
-
-pub range-fits : (i size : ℕ) → i < 2 ^ 32 → size < 2 ^ 16 → i * size + size < 2 ^ 64
-range-fits i size a b = omega (arith, mul-le-mul-left i (le-of-suc-le-suc b))
+pub range-fits : (i size : ℕ) → i < 2 ^ 32 → size ≤ 4096 → i * size + size < 2 ^ 64
+range-fits i size a b = omega (arith, mul-le-mul-left i b)

@@ -1,43 +1,39 @@
 // Checking a file against a page sheet.
-use gf2::Modulus;
 use refusals::Refusal;
+use sheet_opening::OpenSheet;
+use sheet_opening::Opening;
 use sheets::Changed;
 use sheets::Checked;
-use sheets::Reading;
-use sheets::Sheet;
 ghost use mathlib.Core.Path.{_≡_};
+ghost use Prim.Native.Nat.{_≤_, min};
 ghost use Rattle.files.specs.Files.{asPart};
 ghost use Rattle.sheets.specs.Sheets.{checkSheet};
 ghost use Rattle.sheets.specs.Answers.{changedRange};
 ghost use Rattle.sheets.specs.Answers.{checkAnswer, changeAnswer};
-ghost use Rattle.sheets.specs.Inner.{ReadAs, comparison, NoPage, WithoutPage};
+ghost use Rattle.sheets.specs.Inner.{ReadAs, comparison, RangeOf};
+ghost use Rattle.sheet_opening.specs.Opening.{KeptOf};
 
-// A file against a sheet that was read as x. Numbers 7, 19.
-fn compare(sheet: &[u8], x: Sheet, file: &[u8], used: u32) -> Checked
-    requires { ⌜ ReadAs (now sheet) x ⌝ }
+// A file against a sheet that was opened as x. Numbers 7, 19.
+fn compare(sheet: &[u8], x: OpenSheet, file: &[u8], used: u32) -> Checked
+    requires { ⌜ ReadAs (now sheet) (x .numbers) × KeptOf x ⌝ }
     ensures { λ r. ⌜ checkAnswer r ≡ comparison (now (sheet .entry)) (asPart (now (file .entry)) used) ⌝ }
 {
-    let n = file.len() as u64;
-    let length = x.length;
-    let size = x.size as usize;
-    if refusals::LONGEST_BYTES < n {
+    let y = x.numbers;
+    let size = y.size as usize;
+    if refusals::LONGEST_BYTES < file.len() as u64 {
         return Checked::Refused(Refusal::TooLong);
     }
     if files::is_misused(file, used) {
         return Checked::Refused(Refusal::FinalByte);
     }
-    if files::part_length(file, used) != length {
+    if files::part_length(file, used) != y.length {
         return Checked::OtherLength;
     }
-    let key = x.key;
-    let p = Modulus {
-        degree: key.degree,
-        low: key.word,
-    };
-    let pages = sheet_layout::page_fields(sheet, x.version);
+    let pages = sheet_layout::page_fields(sheet, x.place);
     let mut none = [0u8; 0];
-    let same = sheet_pass::over_pages(&mut none, pages, p, size, x.version, file, used) as u64;
-    if same < sheet_layout::page_count(x.size, n) {
+    let p = x.p;
+    let same = sheet_pass::over_pages(&mut none, pages, p, size, x.filled, file, used) as u64;
+    if same < y.pages {
         return Checked::Page(same as u32);
     }
     Checked::Same
@@ -47,41 +43,49 @@ fn compare(sheet: &[u8], x: Sheet, file: &[u8], used: u32) -> Checked
 pub fn check(sheet: &[u8], file: &[u8], used: u32) -> Checked
     ensures { λ r. ⌜ checkAnswer r ≡ checkSheet (now (sheet .entry)) (asPart (now (file .entry)) used) ⌝ }
 {
-    match sheet_reading::read(sheet) {
-        Reading::Refused(r) => Checked::Refused(r),
-        Reading::Sheet(x) => compare(sheet, x, file, used),
+    match sheet_opening::open_sheet(sheet) {
+        Opening::Refused(r) => Checked::Refused(r),
+        Opening::Opened(x) => compare(sheet, x, file, used),
     }
 }
 
-// An answer of the check that names no page, as the answer of `first_changed_range`.
-fn without_page(answer: Checked) -> Changed
-    requires { ⌜ NoPage answer ⌝ }
-    ensures { λ r. ⌜ WithoutPage answer r ⌝ }
+// The smaller of two numbers.
+fn least(a: u64, b: u64) -> u64
+    ensures { λ r. ⌜ r ≡ min a b ⌝ }
 {
-    if let Checked::Same = answer {
-        return Changed::Same;
-    }
-    if let Checked::Refused(r) = answer {
-        return Changed::Refused(r);
-    }
-    Changed::OtherLength
+    if a < b { a } else { b }
 }
 
-// The bytes of the first changed page: from the first to before the last. Goes on only where the check names a page.
+// A check's answer with the bytes of the page that it names, from the first to before the last, by the page size and the file's bytes.
+fn in_bytes(answer: Checked, size: u64, n: u64) -> Changed
+    requires { ⌜ size ≤ 4096 ⌝ }
+    ensures { λ r. ⌜ RangeOf size n answer r ⌝ }
+{
+    match answer {
+        Checked::Same => Changed::Same,
+        Checked::OtherLength => Changed::OtherLength,
+        Checked::Refused(r) => Changed::Refused(r),
+        Checked::Page(i) => {
+            let from = i as u64 * size;
+            Changed::Bytes(from, least(from + size, n))
+        }
+    }
+}
+
+// The bytes of the first changed page: from the first to before the last, where the check names a page.
 // Numbers 14, 1, 2, 12, 14, 7, 19, as above.
 pub fn first_changed_range(sheet: &[u8], file: &[u8], used: u32) -> Changed
     ensures { λ r. ⌜ changeAnswer r ≡ changedRange (now (sheet .entry)) (asPart (now (file .entry)) used) ⌝ }
 {
-    let answer = check(sheet, file, used);
-    let Checked::Page(i) = answer else {
-        return without_page(answer);
-    };
-    let size = sheet_layout::read_head(sheet).size;
-    let n = file.len() as u64;
-    let from = i as u64 * size;
-    let end = from + size;
-    if n < end {
-        return Changed::Bytes(from, n);
+    match sheet_opening::open_sheet(sheet) {
+        Opening::Refused(r) => Changed::Refused(r),
+        Opening::Opened(x) => {
+            let numbers = x.numbers;
+            in_bytes(
+                compare(sheet, x, file, used),
+                numbers.size,
+                file.len() as u64,
+            )
+        }
     }
-    Changed::Bytes(from, end)
 }

@@ -1,9 +1,10 @@
 -- For inner functions: a reader of the promises need not read this page. What they promise of page marks joined, and of the bits of their
 -- fields.
 use mathlib.Core.Path.{_≡_}
-use mathlib.Core.Bool.{false}
+use mathlib.Core.Logic.{_≢_}
+use mathlib.Core.Bool.{Bool, false}
 use mathlib.Core.List.{List, [], _∷_}
-use Prim.Native.Nat.{ℕ, _+_, _*_, _%_, _^_}
+use Prim.Native.Nat.{ℕ, _+_, _-_, _*_, _%_, _^_, _≤_, _<_}
 use lib.Bits.{bitOr}
 use lib.Dec.{leb}
 use lib.ListN.{getD}
@@ -12,7 +13,8 @@ use Rattle.files.specs.Files.{markOf}
 use Rattle.lookups.specs.Groups.{looked}
 use Rattle.big_endian.specs.Numbers.{numbersAt}
 use Rattle.sheets.specs.Layout.{Layout}
-use Rattle.sheets.specs.Sheets.{someUnreduced, joinedPages}
+use Rattle.sheets.specs.Sheets.{someUnreduced, joinedPages, pageLength}
+use Rattle.sheets.specs.Inner.{filling}
 use Rattle.sheet_joining.specs.declared.Joined.{Joined}
 use Rattle.sheet_joining.specs.declared.Lanes.{Lanes}
 
@@ -47,7 +49,13 @@ pub record LastJoined (key k : ℕ) (x : Joined) (last n : ℕ) (r : Joined) : T
   pub mark : r .mark ≡ rem key (x .mark % 2 ^ k * 2 ^ n ⊕ last % 2 ^ k ⊕ 2 ^ n)
   pub bits : r .bits ≡ bitOr (x .bits) last
 
--- the page marks of a sheet joined, by its version, for a file of n bits in pages of s bits
+-- w of the c pages, of s bits, of a file of n bits count s bits each: all of them, or all but the last, which has what is left
+pub record WholeOf (filled : Bool) (c s n w : ℕ) : Type 0 where
+  pub all : w ≡ c → (i : ℕ) → i < c → pageLength (filling filled) s (n - i * s) ≡ s
+  pub but-last : w ≢ c → (filled ≡ false) × (w + 1 ≡ c) × (w * s ≤ n) × (n < w * s + s)
+  pub few : w ≤ c
+
+-- the page marks of a sheet joined, by its layout, for a file of n bits in pages of s bits
 pub record PagesJoined (v : Layout) (key k s n : ℕ) (fields : List ℕ) (r : Joined) : Type 0 where
   pub mark : someUnreduced k fields ≡ false → r .mark ≡ joinedPages v key s n (markOf key []) fields .fingerprint
   pub bits : BitsOf fields (r .bits)

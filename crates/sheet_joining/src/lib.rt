@@ -7,8 +7,9 @@ ghost use lib.ListN.{length};
 ghost use Rattle.gf2.specs.Moduli.{polynomial, Proper};
 ghost use Rattle.refusals.specs.Refusals.{longest};
 ghost use Rattle.big_endian.specs.Numbers.{numbersAt};
-ghost use Rattle.sheets.specs.Layout.{layoutOf, pagesFor};
-ghost use Rattle.sheet_joining.specs.Joining.{looping, BitsOf, LanesJoined, RunJoined, LastJoined, PagesJoined};
+ghost use Rattle.sheets.specs.Layout.{pageCount, pagesFor};
+ghost use Rattle.sheets.specs.Inner.{filling};
+ghost use Rattle.sheet_joining.specs.Joining.{looping, BitsOf, LanesJoined, RunJoined, LastJoined, WholeOf, PagesJoined};
 
 // Marks joined, and the bits that stand in any of their fields: all fields are below 2^k exactly where these bits are.
 pub struct Joined {
@@ -120,21 +121,44 @@ fn join_last(p: Modulus, x: Joined, last: u64, n: u64) -> Joined
     }
 }
 
-// The page marks of a sheet joined, for a file of n bits: the whole pages, then the last page by its own length, or as one page more where the
-// version fills it up.
-pub fn pages_joined(fields: &[u8], p: Modulus, size: u64, n: u64, version: u64) -> Joined
-    requires { ⌜ Proper p × (16 ≤ size) × (size ≤ 4096) × (n ≤ longest) × (8 * pagesFor size n ≤ length (now fields)) ⌝ }
-    ensures { λ r. ⌜ PagesJoined (layoutOf version) (polynomial p) (p .degree) (8 * size) n (numbersAt 0 8 (pagesFor size n) (now (fields .entry))) r ⌝ }
+// How many of the pages of a file of n bits count as whole ones: all where the last is whole or filled up, else all but the last.
+fn whole_pages(count: u64, page: u64, n: u64, filled: bool) -> u64
+    requires { ⌜ (0 < page) × (page ≤ 32768) × (count < 2 ^ 29) × (count ≡ pageCount page n) ⌝ }
+    ensures { λ r. ⌜ WholeOf filled count page n r ⌝ }
+{
+    if filled {
+        return count;
+    }
+    if n == count * page {
+        return count;
+    }
+    count - 1
+}
+
+// The marks of the pages of a file of n bits joined: the whole pages, then the last page by its own length, or as one page more where it is filled
+// up.
+pub fn pages_joined(
+    fields: &[u8],
+    p: Modulus,
+    size: u64,
+    n: u64,
+    count: u64,
+    filled: bool,
+) -> Joined
+    requires { ⌜ Proper p × (16 ≤ size) × (size ≤ 4096) × (n ≤ longest) × (count ≡ pagesFor size n) × (8 * count ≤ length (now fields)) ⌝ }
+    ensures { λ r. ⌜ PagesJoined (filling filled) (polynomial p) (p .degree) (8 * size) n (numbersAt 0 8 count (now (fields .entry))) r ⌝ }
 {
     let page = 8 * size;
-    let whole = n / page;
-    if sheet_layout::fills(version) {
-        return join_run(fields, p, size, sheet_layout::pages_for(size, n));
+    let whole = whole_pages(count, page, n, filled);
+    if whole == count {
+        return join_run(fields, p, size, count);
     }
     let x = join_run(fields, p, size, whole);
     let left = n - whole * page;
-    if left == 0 {
-        return x;
-    }
-    join_last(p, x, big_endian::eight_at(fields, (8 * whole) as usize), left)
+    join_last(
+        p,
+        x,
+        big_endian::eight_at(fields, (8 * whole) as usize),
+        left,
+    )
 }

@@ -1,1 +1,2 @@
 pub mod Laid
+pub mod Filling

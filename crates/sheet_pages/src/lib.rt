@@ -3,7 +3,7 @@
 use gf2::Modulus;
 ghost use mathlib.Core.Path.{_≡_};
 ghost use mathlib.Core.Bool.{true, false};
-ghost use Prim.Native.Nat.{_+_, _-_, _*_, _/_, _%_, _≤_, _<_, min};
+ghost use Prim.Native.Nat.{_+_, _-_, _*_, _/_, _≤_, _<_, min};
 ghost use lib.ListN.{length};
 ghost use Rattle.gf2.specs.Polynomials.{rem};
 ghost use Rattle.gf2.specs.Moduli.{polynomial, Proper};
@@ -11,9 +11,10 @@ ghost use Rattle.files.specs.Files.{bits, valueFrom, fingerprint, asPart, partB
 ghost use Rattle.multiples.specs.Rows.{SameFrom};
 ghost use Rattle.lookups.specs.Groups.{TableOf};
 ghost use Rattle.house.specs.House.{houseKey};
-ghost use Rattle.sheets.specs.Layout.{layoutOf};
 ghost use Rattle.sheets.specs.Sheets.{pageOf};
-ghost use Rattle.sheet_pages.specs.Blocks.{PageTables, Begun, BegunBy, Finished, NextPages};
+ghost use Rattle.sheets.specs.Inner.{filling};
+ghost use Rattle.sheet_pages.specs.Blocks.{PageTables, FedBy, LastBy, NextPages};
+ghost use Rattle.page_marks.specs.Marks.{Finished};
 
 // The two tables that pages are fed by: four bytes at a time, and eight.
 pub fn fill_tables(words: &mut [u64], eights: &mut [u64], p: Modulus)
@@ -26,97 +27,23 @@ pub fn fill_tables(words: &mut [u64], eights: &mut [u64], p: Modulus)
 
 // How many whole pages the next block has: all that are left, at most 64.
 fn block(left: usize, size: usize) -> usize
-    requires { ⌜ 0 < size ⌝ }
+    requires { ⌜ (0 < size) × (size ≤ 4096) ⌝ }
     ensures { λ r. ⌜ r ≡ min (left / size) 64 ⌝ }
 {
-    let n = left / size;
-    if n < 64 { n } else { 64 }
-}
-
-// The page that is fed beside page i, of n pages: the next one, or page i itself where it is the last.
-fn beside(i: usize, n: usize) -> usize
-    requires { ⌜ i < n ⌝ }
-    ensures { λ r. ⌜ r ≡ min (i + 1) (n - 1) ⌝ }
-{
-    if i < n - 1 { i + 1 } else { i }
-}
-
-// The first bytes of each of n pages, `whole` of them, in groups of eight: two pages side by side, which do not wait for each other. The
-// places behind the first n stay.
-fn begin_pages(marks: &mut [u64], eights: &[u64], size: usize, whole: usize, n: usize, pages: &[u8])
-    requires { ⌜ (length (now eights) ≡ 2048) × (8 ≤ whole) × (whole % 8 ≡ 0) × (whole ≤ size)
-        × (n * size ≤ length (now pages)) × (n ≤ length (now marks)) ⌝ }
-    ensures { λ r. ⌜ BegunBy (now (eights .entry)) size whole n (now (pages .entry)) (now (marks .exit))
-        × SameFrom n (now (marks .entry)) (now (marks .exit)) ⌝ }
-{
-    let mut i: usize = 0;
-    while i < n {
-        let j = beside(i, n);
-        let a = i * size;
-        let b = j * size;
-        let x = shifts::feed_eights(eights, &pages[a..a + whole], &pages[b..b + whole]);
-        marks[i] = x.a;
-        marks[j] = x.b;
-        i = j + 1;
+    if 64 * size <= left {
+        return 64;
     }
-}
-
-// The residue of x with the bytes that are left of a page behind it.
-fn finished(words: &[u64], p: Modulus, x: u64, rest: &[u8]) -> u64
-    requires { ⌜ TableOf p (now words) ⌝ }
-    ensures { λ r. ⌜ r ≡ rem (polynomial p) (valueFrom x (bits (now (rest .entry)))) ⌝ }
-{
-    let f = lookups::residue(words, p, x);
-    if rest.len() == 0 {
-        return f;
-    }
-    table_lanes::fed(words, p, f, rest)
-}
-
-// The fingerprints of n pages that are begun: each number is reduced, and the bytes that are left of its page are fed behind it.
-// The places behind the first n stay.
-fn finish_pages(
-    marks: &mut [u64],
-    words: &[u64],
-    p: Modulus,
-    size: usize,
-    whole: usize,
-    n: usize,
-    pages: &[u8],
-)
-    requires { ⌜ TableOf p (now words) × (whole ≤ size) × (n * size ≤ length (now pages)) × (n ≤ length (now marks))
-        × Begun (polynomial p) size whole n (now pages) (now marks) ⌝ }
-    ensures { λ r. ⌜ Finished (polynomial p) size n (now (pages .entry)) (now (marks .exit)) × SameFrom n (now (marks .entry)) (now (marks .exit)) ⌝ }
-{
-    let mut i: usize = 0;
-    while i < n {
-        let a = i * size;
-        marks[i] = finished(words, p, marks[i], &pages[a + whole..a + size]);
-        i += 1;
-    }
-}
-
-// The fingerprints of n pages under the house key, by folding: no table is read. The places behind the first n stay.
-fn fold_pages(marks: &mut [u64], size: usize, n: usize, pages: &[u8])
-    requires { ⌜ (n * size ≤ length (now pages)) × (n ≤ length (now marks)) ⌝ }
-    ensures { λ r. ⌜ Finished houseKey size n (now (pages .entry)) (now (marks .exit)) × SameFrom n (now (marks .entry)) (now (marks .exit)) ⌝ }
-{
-    let mut i: usize = 0;
-    while i < n {
-        let a = i * size;
-        marks[i] = folds::fed_page(1, &pages[a..a + size]);
-        i += 1;
-    }
+    left / size
 }
 
 // Whether pages are folded.
-fn folding(p: Modulus, size: usize) -> bool
+pub fn folding(p: Modulus, size: usize) -> bool
     ensures { λ r. ⌜ (r ≡ true → polynomial p ≡ houseKey) ⌝ }
 {
     feeding::pages_folded(p, size)
 }
 
-// The fingerprints of the first n pages, which are whole, into the first n places. The places behind them stay.
+// The fingerprints of the first n pages, which are whole, into the first n places: by folding where there is no table. The places behind them stay.
 fn whole_marks(
     marks: &mut [u64],
     words: &[u64],
@@ -126,16 +53,16 @@ fn whole_marks(
     n: usize,
     pages: &[u8],
 )
-    requires { ⌜ PageTables p (now words) (now eights) × (8 ≤ size) × (n * size ≤ length (now pages)) × (n ≤ length (now marks)) ⌝ }
+    requires { ⌜ FedBy p (now words) (now eights) × (8 ≤ size) × (n * size ≤ length (now pages)) × (n ≤ length (now marks)) ⌝ }
     ensures { λ r. ⌜ Finished (polynomial p) size n (now (pages .entry)) (now (marks .exit)) × SameFrom n (now (marks .entry)) (now (marks .exit)) ⌝ }
 {
-    if folding(p, size) {
-        fold_pages(marks, size, n, pages);
+    if words.len() == 0 {
+        page_marks::fold_pages(marks, size, n, pages);
         return;
     }
     let whole = size / 8 * 8;
-    begin_pages(marks, eights, size, whole, n, pages);
-    finish_pages(marks, words, p, size, whole, n, pages);
+    page_marks::begin_pages(marks, eights, size, whole, n, pages);
+    page_marks::finish(marks, words, p, size, whole, n, pages);
 }
 
 // The residue of the whole bytes of a last page, behind the leading 1.
@@ -146,32 +73,43 @@ fn fed_front(words: &[u64], p: Modulus, front: &[u8]) -> u64
     feeding::page_by_table(words, p, front)
 }
 
+// The same by folding where there is no table.
+fn begun_last(words: &[u64], p: Modulus, front: &[u8]) -> u64
+    requires { ⌜ LastBy p (now words) ⌝ }
+    ensures { λ r. ⌜ r ≡ rem (polynomial p) (valueFrom 1 (bits (now (front .entry)))) ⌝ }
+{
+    if words.len() == 0 {
+        return folds::fed_page(1, front);
+    }
+    fed_front(words, p, front)
+}
+
 // The fingerprint of a last page at its own length: its whole bytes, and the used bits behind them.
 fn fed_last(words: &[u64], p: Modulus, page: &[u8], used: u32) -> u64
-    requires { ⌜ TableOf p (now words) × (misused (asPart (now page) used) ≡ false) ⌝ }
+    requires { ⌜ LastBy p (now words) × (misused (asPart (now page) used) ≡ false) ⌝ }
     ensures { λ r. ⌜ r ≡ fingerprint (polynomial p) (partBits (asPart (now (page .entry)) used)) ⌝ }
 {
     let w = files::whole_bytes(page, used);
-    let front = fed_front(words, p, &page[..w]);
+    let front = begun_last(words, p, &page[..w]);
     files::feed_end(p, front, page, used)
 }
 
-// How a file is cut into pages: the opened key, the bytes of a page, the used bits of the file's final byte, and the sheet's version.
+// How a file is cut into pages: the opened key, the bytes of a page, the used bits of the file's final byte, and whether a last page is filled up.
 pub struct Paging {
     pub p: Modulus,
     pub size: usize,
     pub used: u32,
-    pub version: u64,
+    pub filled: bool,
 }
 
-// The fingerprint of a last page, as the version takes it: zeros behind it come in as one power of t.
+// The fingerprint of a last page, filled up or not: zeros behind it come in as one power of t.
 fn last_page(words: &[u64], x: Paging, page: &[u8]) -> u64
-    requires { ⌜ TableOf (x .p) (now words) × (length (now page) ≤ x .size) × (x .size ≤ 4096) × (misused (asPart (now page) (x .used)) ≡ false) ⌝ }
+    requires { ⌜ LastBy (x .p) (now words) × (length (now page) ≤ x .size) × (x .size ≤ 4096) × (misused (asPart (now page) (x .used)) ≡ false) ⌝ }
     ensures { λ r. ⌜ r ≡ fingerprint (polynomial (x .p))
-        (pageOf (layoutOf (x .version)) (8 * x .size) (partBits (asPart (now (page .entry)) (x .used)))) ⌝ }
+        (pageOf (filling (x .filled)) (8 * x .size) (partBits (asPart (now (page .entry)) (x .used)))) ⌝ }
 {
     let own = fed_last(words, x.p, page, x.used);
-    if sheet_layout::fills(x.version) {
+    if x.filled {
         let bits = 8 * (x.size as u64);
         return files::with_zeros(x.p, own, bits - files::part_length(page, x.used));
     }
@@ -180,9 +118,9 @@ fn last_page(words: &[u64], x: Paging, page: &[u8]) -> u64
 
 // The fingerprints of the next pages, at most 64, into the first places: how many. A page whose final byte is not used whole is no whole page.
 pub fn next_pages(marks: &mut [u64], words: &[u64], eights: &[u64], x: Paging, rest: &[u8]) -> usize
-    requires { ⌜ PageTables (x .p) (now words) (now eights) × (8 ≤ x .size) × (x .size ≤ 4096) × (64 ≤ length (now marks))
+    requires { ⌜ FedBy (x .p) (now words) (now eights) × (8 ≤ x .size) × (x .size ≤ 4096) × (64 ≤ length (now marks))
         × (misused (asPart (now rest) (x .used)) ≡ false) ⌝ }
-    ensures { λ r. ⌜ NextPages (layoutOf (x .version)) (polynomial (x .p)) (x .size) (asPart (now (rest .entry)) (x .used)) r
+    ensures { λ r. ⌜ NextPages (filling (x .filled)) (polynomial (x .p)) (x .size) (asPart (now (rest .entry)) (x .used)) r
         (now (marks .entry)) (now (marks .exit)) ⌝ }
 {
     let size = x.size;

@@ -99,11 +99,16 @@ sets-none (v ∷ vs) (b ∷ l) i e = absurd (omega arith)
 
 -- ---- what a pass gives
 
--- nothing is known: all fingerprints are written
+-- nothing is known: all pages are passed,
+pub pass-count : (fs before after : List ℕ) (n : ℕ) → Passed fs [] before after n → n ≡ length fs
+unfolding expected
+pass-count fs before after n h = h .same ∙ agree-all fs
+
+-- and all fingerprints are written
 pub pass-all : (fs before after : List ℕ) (n : ℕ) → Passed fs [] before after n → after ≡ sets before 0 (fieldsOf 8 fs)
 unfolding expected
 pass-all fs before after n h =
-    let all : take n fs ≡ fs = ap (λ (m : ℕ). take m fs) (h .same ∙ agree-all fs) ∙ take-length fs in
+    let all : take n fs ≡ fs = ap (λ (m : ℕ). take m fs) (pass-count fs before after n h) ∙ take-length fs in
     h .written ∙ ap (λ (us : List ℕ). sets before 0 (fieldsOf 8 us)) all
 
 expected-all : (known fs : List ℕ) → 8 * length fs ≤ length known → expected known 0 fs ≡ numbersAt 0 8 (length fs) known

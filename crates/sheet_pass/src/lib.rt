@@ -10,10 +10,10 @@ ghost use lib.Seq.{sets};
 ghost use Rattle.gf2.specs.Moduli.{polynomial, Proper};
 ghost use Rattle.files.specs.Files.{asPart, partBits, misused};
 ghost use Rattle.big_endian.specs.Numbers.{fieldsOf};
-ghost use Rattle.sheets.specs.Layout.{layoutOf, pageCount};
+ghost use Rattle.sheets.specs.Layout.{pageCount};
 ghost use Rattle.sheets.specs.Sheets.{pageFingerprints};
-ghost use Rattle.sheets.specs.Inner.{agreeing};
-ghost use Rattle.sheet_pages.specs.Blocks.{PageTables};
+ghost use Rattle.sheets.specs.Inner.{filling, agreeing};
+ghost use Rattle.sheet_pages.specs.Blocks.{FedBy};
 ghost use Rattle.sheet_pass.specs.Passes.{Room, expected, Passed};
 
 // How many of the fingerprints, from the first on, are those in the known fields from a place on: all of them where nothing is known.
@@ -62,11 +62,11 @@ fn over_blocks(
     x: Paging,
     file: &[u8],
 ) -> usize
-    requires { ⌜ PageTables (x .p) (now words) (now eights) × (16 ≤ x .size) × (x .size ≤ 4096) × (length (now file) < 2 ^ 32)
+    requires { ⌜ FedBy (x .p) (now words) (now eights) × (16 ≤ x .size) × (x .size ≤ 4096) × (length (now file) < 2 ^ 32)
         × Room (8 * pageCount (x .size) (length (now file))) (now out) × Room (8 * pageCount (x .size) (length (now file))) (now known)
         × (misused (asPart (now file) (x .used)) ≡ false) ⌝ }
     ensures { λ r. ⌜ Passed
-        (pageFingerprints (layoutOf (x .version)) (polynomial (x .p)) (8 * x .size) (pageCount (x .size) (length (now (file .entry))))
+        (pageFingerprints (filling (x .filled)) (polynomial (x .p)) (8 * x .size) (pageCount (x .size) (length (now (file .entry))))
         (partBits (asPart (now (file .entry)) (x .used))))
         (now (known .entry)) (now (out .entry)) (now (out .exit)) r ⌝ }
 {
@@ -86,14 +86,31 @@ fn over_blocks(
     page
 }
 
-// The pass under an opened key, with the pages as a version takes them: how many, from the first on, have the expected fingerprints. An empty
+// The pass by the two tables, which are made for it.
+fn by_tables(out: &mut [u8], known: &[u8], x: Paging, file: &[u8]) -> usize
+    requires { ⌜ Proper (x .p) × (8 ≤ x .p .degree) × (16 ≤ x .size) × (x .size ≤ 4096) × (length (now file) < 2 ^ 32)
+        × Room (8 * pageCount (x .size) (length (now file))) (now out) × Room (8 * pageCount (x .size) (length (now file))) (now known)
+        × (misused (asPart (now file) (x .used)) ≡ false) ⌝ }
+    ensures { λ r. ⌜ Passed
+        (pageFingerprints (filling (x .filled)) (polynomial (x .p)) (8 * x .size) (pageCount (x .size) (length (now (file .entry))))
+        (partBits (asPart (now (file .entry)) (x .used))))
+        (now (known .entry)) (now (out .entry)) (now (out .exit)) r ⌝ }
+{
+    let mut words = [0u64; 1024];
+    let mut eights = [0u64; 2048];
+    sheet_pages::fill_tables(&mut words, &mut eights, x.p);
+    over_blocks(out, known, &words, &eights, x, file)
+}
+
+// The pass under an opened key, with a last page filled up or not: how many pages, from the first on, have the expected fingerprints. An empty
 // `known` means that nothing is known, an empty `out` that nothing is to be written. The file comes as bytes and the used bits of the final one.
+// Tables are made only where they are read.
 pub fn over_pages(
     out: &mut [u8],
     known: &[u8],
     p: Modulus,
     size: usize,
-    version: u64,
+    filled: bool,
     file: &[u8],
     used: u32,
 ) -> usize
@@ -101,18 +118,19 @@ pub fn over_pages(
         × Room (8 * pageCount size (length (now file))) (now out) × Room (8 * pageCount size (length (now file))) (now known)
         × (misused (asPart (now file) used) ≡ false) ⌝ }
     ensures { λ r. ⌜ Passed
-        (pageFingerprints (layoutOf version) (polynomial p) (8 * size) (pageCount size (length (now (file .entry))))
+        (pageFingerprints (filling filled) (polynomial p) (8 * size) (pageCount size (length (now (file .entry))))
         (partBits (asPart (now (file .entry)) used)))
         (now (known .entry)) (now (out .entry)) (now (out .exit)) r ⌝ }
 {
-    let mut words = [0u64; 1024];
-    let mut eights = [0u64; 2048];
-    sheet_pages::fill_tables(&mut words, &mut eights, p);
     let x = Paging {
         p: p,
         size: size,
         used: used,
-        version: version,
+        filled: filled,
     };
-    over_blocks(out, known, &words, &eights, x, file)
+    if sheet_pages::folding(p, size) {
+        let none = [0u64; 0];
+        return over_blocks(out, known, &none, &none, x, file);
+    }
+    by_tables(out, known, x, file)
 }

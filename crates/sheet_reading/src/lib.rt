@@ -1,61 +1,28 @@
-// Reading a page sheet.
-use gf2::Modulus;
-use keys::Tested;
-use refusals::Refusal;
+// Reading a page sheet. An answer of `read` holds a `Key`.
+use acceptance::Key;
 use refusals::Reply;
+use sheet_opening::Opening;
 use sheets::Reading;
-use sheets::Sheet;
-use sheet_layout::Head;
 ghost use mathlib.Core.Path.{_≡_};
 ghost use mathlib.Core.List.{_++_};
 ghost use Prim.Native.Nat.{_+_, _*_, _≤_, min};
 ghost use lib.ListN.{length, drop};
 ghost use Rattle.refusals.specs.Answers.{reply};
-ghost use Rattle.acceptance.specs.Opened.{Opened};
 ghost use Rattle.big_endian.specs.Numbers.{numbersAt};
 ghost use Rattle.sheets.specs.Sheets.{readSheet, readPages};
 ghost use Rattle.sheets.specs.Answers.{sheetRead};
 ghost use Rattle.sheets.specs.Answers.{reading};
-ghost use Rattle.sheet_layout.specs.Heads.{HeadOf};
-ghost use Rattle.sheets.specs.Inner.{readBody};
-
-mod wellformed;
-
-// What stands behind a head that is right, under its opened key. Numbers 12, 14 (total, fingerprints, joining).
-fn read_under(p: Modulus, sheet: &[u8], head: Head) -> Reading
-    requires { ⌜ HeadOf (now sheet) head × Opened (head .key) p ⌝ }
-    ensures { λ r. ⌜ reading r ≡ sheetRead (readBody (now (sheet .entry))) ⌝ }
-{
-    if !sheet_layout::size_right(head.size) {
-        return Reading::Refused(Refusal::PageSize);
-    }
-    if !wellformed::body_right(sheet, head, p) {
-        return Reading::Refused(Refusal::SheetMalformed);
-    }
-    let count = sheet_layout::pages_for(head.size, head.length);
-    let key = head.key;
-    Reading::Sheet(Sheet {
-        version: head.version,
-        key: key,
-        length: head.length,
-        size: head.size,
-        pages: count,
-        fingerprint: sheet_layout::fingerprint_at(sheet, head.version, count),
-    })
-}
 
 // Reads a sheet. Numbers 14 (size, letters, version, least size, limit of lengths), 1, 2, 12, 14 (total, fingerprints, joining).
 pub fn read(sheet: &[u8]) -> Reading
     ensures { λ r. ⌜ reading r ≡ sheetRead (readSheet (now (sheet .entry))) ⌝ }
 {
-    if !sheet_layout::head_right(sheet) {
-        return Reading::Refused(Refusal::SheetMalformed);
-    }
-    let head = sheet_layout::read_head(sheet);
-    let key = head.key;
-    match keys::test(key) {
-        Tested::Refused(r) => Reading::Refused(r),
-        Tested::Accepted(p) => read_under(p, sheet, head),
+    match sheet_opening::open_sheet(sheet) {
+        Opening::Refused(r) => Reading::Refused(r),
+        Opening::Opened(x) => {
+            let numbers = x.numbers;
+            Reading::Sheet(numbers)
+        }
     }
 }
 
@@ -85,11 +52,12 @@ fn copy_fields(lent: &mut [u64], fields: &[u8], n: usize)
 pub fn read_pages(sheet: &[u8], lent: &mut [u64]) -> Reply
     ensures { λ r. ⌜ reply (now (lent .exit)) r ≡ readPages (now (sheet .entry)) (now (lent .entry)) ⌝ }
 {
-    match read(sheet) {
-        Reading::Refused(r) => Reply::Refused(r),
-        Reading::Sheet(x) => {
-            let n = least(x.pages, lent.len());
-            copy_fields(lent, sheet_layout::page_fields(sheet, x.version), n);
+    match sheet_opening::open_sheet(sheet) {
+        Opening::Refused(r) => Reply::Refused(r),
+        Opening::Opened(x) => {
+            let numbers = x.numbers;
+            let n = least(numbers.pages, lent.len());
+            copy_fields(lent, sheet_layout::page_fields(sheet, x.place), n);
             Reply::Done
         }
     }

@@ -5,7 +5,6 @@ use keys::Tested;
 use refusals::Refusal;
 use refusals::Reply;
 use sheets::SheetLength;
-use sheet_layout::Head;
 ghost use mathlib.Core.Path.{_≡_};
 ghost use mathlib.Core.Bool.{false};
 ghost use mathlib.Core.List.{_++_};
@@ -15,38 +14,26 @@ ghost use lib.Seq.{sets};
 ghost use Rattle.gf2.specs.Moduli.{polynomial, Proper};
 ghost use Rattle.refusals.specs.Answers.{reply};
 ghost use Rattle.acceptance.specs.Opened.{Opened};
-ghost use Rattle.files.specs.Files.{fingerprint, asPart, partBits, misused};
-ghost use Rattle.big_endian.specs.Numbers.{bytesOf, fieldsOf, numbersAt};
+ghost use Rattle.files.specs.Files.{fingerprint, asPart, partLength, partBits, misused};
+ghost use Rattle.big_endian.specs.Numbers.{bytesOf, fieldsOf};
 ghost use Rattle.sheets.specs.Layout.{newest, layoutOf, sheetLength, pageCount, sheetBytes};
 ghost use Rattle.sheets.specs.Sheets.{pageFingerprints, contentsOf, lengthFor, writeSheet};
 ghost use Rattle.sheets.specs.Answers.{lengthAnswer};
 
-// The file's fingerprint: those of its pages, which stand in the fields, joined, the last with its own length.
-fn file_mark(fields: &[u8], p: Modulus, size: u64, file: &[u8], used: u32) -> u64
-    requires { ⌜ Proper p × (16 ≤ size) × (size ≤ 4096) × (length (now file) < 2 ^ 32)
-        × (8 * pageCount size (length (now file)) ≤ length (now fields))
-        × (numbersAt 0 8 (pageCount size (length (now file))) (now fields)
-        ≡ pageFingerprints (layoutOf (newest .version)) (polynomial p) (8 * size) (pageCount size (length (now file))) (partBits (asPart (now file) used))) ⌝ }
-    ensures { λ r. ⌜ r ≡ fingerprint (polynomial p) (partBits (asPart (now (file .entry)) used)) ⌝ }
-{
-    let n = files::part_length(file, used);
-    sheet_joining::pages_joined(fields, p, size, n, sheet_layout::NEWEST).mark
-}
-
-// Writes all fingerprints: the pages', and the file's behind them.
-fn put_fingerprints(fields: &mut [u8], p: Modulus, size: u64, file: &[u8], used: u32)
+// Writes all fingerprints, of a file of n bits: the pages', and behind them the file's, which is these joined, the last with its own length.
+fn put_fingerprints(fields: &mut [u8], p: Modulus, size: u64, file: &[u8], used: u32, n: u64)
     requires { ⌜ Proper p × (8 ≤ p .degree) × (16 ≤ size) × (size ≤ 4096) × (length (now file) < 2 ^ 32)
-        × (8 * pageCount size (length (now file)) + 8 ≤ length (now fields)) × (misused (asPart (now file) used) ≡ false) ⌝ }
+        × (8 * pageCount size (length (now file)) + 8 ≤ length (now fields)) × (misused (asPart (now file) used) ≡ false)
+        × (n ≡ partLength (asPart (now file) used)) ⌝ }
     ensures { λ r. ⌜ now (fields .exit) ≡ sets (now (fields .entry)) 0
         (fieldsOf 8 (pageFingerprints (layoutOf (newest .version)) (polynomial p) (8 * size) (pageCount size (length (now (file .entry))))
         (partBits (asPart (now (file .entry)) used)))
         ++ bytesOf 8 (fingerprint (polynomial p) (partBits (asPart (now (file .entry)) used)))) ⌝ }
 {
     let none = [0u8; 0];
-    sheet_pass::over_pages(fields, &none, p, size as usize, sheet_layout::NEWEST, file, used);
-    let f = file_mark(fields, p, size, file, used);
-    let count = sheet_layout::page_count(size, file.len() as u64);
-    big_endian::put(fields, (8 * count) as usize, 8, f);
+    let count = sheet_pass::over_pages(fields, &none, p, size as usize, false, file, used);
+    let joined = sheet_joining::pages_joined(fields, p, size, n, count as u64, false);
+    big_endian::put(fields, 8 * count, 8, joined.mark);
 }
 
 // Writes the sheet; the buffer's further bytes keep their value.
@@ -57,15 +44,10 @@ fn put_sheet(buffer: &mut [u8], key: Key, p: Modulus, size: u64, file: &[u8], us
     ensures { λ r. ⌜ now (buffer .exit) ≡ sheetBytes (contentsOf (newest .version) key size (partBits (asPart (now (file .entry)) used)))
         ++ drop (sheetLength (layoutOf (newest .version)) (pageCount size (length (now (file .entry))))) (now (buffer .entry)) ⌝ }
 {
-    let head = Head {
-        version: sheet_layout::NEWEST,
-        key: key,
-        length: files::part_length(file, used),
-        size: size,
-    };
-    sheet_layout::put_head(buffer, head);
-    let from = sheet_layout::pages_place(sheet_layout::NEWEST);
-    put_fingerprints(&mut buffer[from..], p, size, file, used);
+    let n = files::part_length(file, used);
+    sheet_heads::put_head(buffer, key, n, size);
+    let from = sheet_layout::pages_place();
+    put_fingerprints(&mut buffer[from..], p, size, file, used, n);
 }
 
 // The bytes of the sheet of a file of n bytes, an unfinished one counted, with pages of the given size. Numbers 7, 12.
@@ -78,7 +60,8 @@ pub fn length(n: u64, size: u64) -> SheetLength
     if !sheet_layout::size_right(size) {
         return SheetLength::Refused(Refusal::PageSize);
     }
-    SheetLength::Bytes(sheet_layout::sheet_length(sheet_layout::NEWEST, sheet_layout::page_count(size, n)))
+    let count = sheet_layout::page_count(size, n);
+    SheetLength::Bytes(sheet_layout::sheet_length(sheet_layout::pages_place(), count))
 }
 
 // Writes the sheet of a file under an opened key. Numbers 7, 12, 13, 19.

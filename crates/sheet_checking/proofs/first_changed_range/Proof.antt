@@ -1,87 +1,70 @@
 -- `first_changed_range` meets its contract.
-use mathlib.Core.Path.{_≡_, refl, sym, ap, _∙_}
-use mathlib.Core.List.{[], _∷_}
-use mathlib.Core.Logic.{inl, inr}
-use Prim.Native.Nat.{_+_, _*_, _^_, _<_}
+use mathlib.Core.Path.{_≡_, sym, ap, subst, _∙_}
 use native.Mathlib.Omega.{arith}
-use types.Run
-use denote.Enum.Declared
-use Rattle.refusals.specs.Refusals.{Done}
-use Rattle.files.specs.Files.{asPart}
-use Rattle.sheets.proofs.Checked as CheckedT
-use Rattle.sheets.specs.declared.Checked.{Checked}
-use Rattle.sheets.specs.declared.Checked.the-variants as cases
+use Rattle.files.specs.Files.{Part, asPart}
 use Rattle.sheets.specs.Layout.{contentsIn}
-use Rattle.sheets.specs.Sheets.{Page, checkSheet}
+use Rattle.sheets.specs.Sheets.{checkSheet}
 use Rattle.sheets.specs.Answers.{checkAnswer}
-use Rattle.sheets.specs.Inner.{NoPage, ranged}
-use Rattle.sheet_checking.proofs.Laws.{changed-by-check, named-head, named-range, range-fits}
+use Rattle.sheets.specs.Inner.{ReadAs, ranged}
+use Rattle.sheets.proofs.Known.{read-as, sound}
+use Rattle.sheet_opening.specs.Opening.{opening, Kept}
+use Rattle.sheet_checking.proofs.Laws.{check-refused, check-done, size-is, changed-by-check, named-bytes}
 use borrow.Author.Needs.{needs}
 use Rattle.sheet_checking.proofs.first_changed_range.Statement.{statement}
 use Rattle.sheet_checking.proofs.first_changed_range.Tie as tie
 
--- the answers that the `else` stands for
-other : (o : Checked) → Run.OneOf (0 ∷ 2 ∷ 3 ∷ []) (Declared.tagOf CheckedT.the-type o) → NoPage o
-other cases.Same h = tt
-other cases.OtherLength h = tt
-other (cases.Refused r) h = tt
-other (cases.Page i) (inl e) = absurd (omega arith)
-other (cases.Page i) (inr (inl e)) = absurd (omega arith)
-other (cases.Page i) (inr (inr e)) = absurd (omega arith)
-
-abbrev start : tie.After-check → tie.Start
+abbrev start : tie.After-open-sheet → tie.Start
 start c = c .before .before .before
 
-abbrev asked : tie.After-answer → tie.After-check
-asked c = c .before .before
+abbrev opened : tie.After-x → tie.After-open-sheet
+opened c = c .before .before
 
-abbrev place : tie.After-read-head → tie.After-answer
-place c = c .before .before
+abbrev file : tie.Start → Part
+file s = asPart (s .args .file .now) (s .args .used)
 
-page : (c : tie.After-answer)
-    → checkSheet (start (asked c) .args .sheet .now) (asPart (start (asked c) .args .file .now) (start (asked c) .args .used))
-    ≡ Done (Page (c .answer .given .0 .0))
-page c = sym (asked c .check .ensures) ∙ ap checkAnswer (c .answer .given .1)
+known : (c : tie.After-x) → ReadAs (start (opened c) .args .sheet .now) (c .x .given .0 .0 .numbers)
+known c = read-as (start (opened c) .args .sheet .now) (c .x .given .0 .0 .numbers) (ap opening (sym (c .x .given .1)) ∙ opened c .open-sheet .ensures .0)
 
-fits : (c : tie.After-read-head) → place c .answer .given .0 .0 * c .read-head .result .size + c .read-head .result .size < 2 ^ 64
-fits c = range-fits (place c .answer .given .0 .0) (c .read-head .result .size) (search needs) (c .read-head .ensures .size-fits)
+abbrev begun : tie.After-compare → tie.After-x
+begun c = c .before .before .before
 
-without-page-requires : tie.Need-without-page-requires
-without-page-requires c κs = other (c .before .check .result) (c .match .keys2)
+compare-requires : tie.Need-compare-requires
+compare-requires c κs = let x = c .before .before in (known x, subst Kept (x .x .given .1) (opened x .open-sheet .ensures .1))
+
+-- the page size is that of the sheet, and right
+in-bytes-requires : tie.Need-in-bytes-requires
+in-bytes-requires c κs =
+    let x = begun c in
+    let sheet = start (opened x) .args .sheet .now in
+    omega (arith, size-is sheet (known x), sound sheet (known x) .pageSize .1)
+
+-- the check's answer
+answer : (c : tie.After-compare) → let s = start (opened (begun c)) in checkAnswer (c .compare .result) ≡ checkSheet (s .args .sheet .now) (file s)
+answer c =
+    let x = begun c in
+    let s = start (opened x) in
+    c .compare .ensures ∙ sym (check-done (s .args .sheet .now) (known x) (file s))
 
 returns : tie.Need-returns
 returns c =
-    let k = c .before .before in
-    let a = start k .args in
-    let x = contentsIn (a .sheet .now) in
-    c .without-page .ensures x ∙ ap (ranged x) (k .check .ensures) ∙ sym (changed-by-check (a .sheet .now) (asPart (a .file .now) (a .used)))
-
-read-head-requires : tie.Need-read-head-requires
-read-head-requires c κs = named-head _ _ _ (page (c .before))
-
-mul-from : tie.Need-mul-from
-mul-from c = omega (arith, fits c)
-
-add-end : tie.Need-add-end
-add-end c = omega (arith, fits c)
+    let r = c .before .before .before in
+    let s = start r in
+    let sheet = s .args .sheet .now in
+    sym
+    (changed-by-check sheet (file s)
+    ∙ ap (ranged (contentsIn sheet)) (check-refused sheet (c .before .r .given .0 .0) (file s) (ap opening (sym (c .before .r .given .1)) ∙ r .open-sheet .ensures .0)))
 
 returns-2 : tie.Need-returns-2
-returns-2 c = let h = c .before in named-range _ _ _ (page (place h)) _ (h .read-head .result .size) _ (h .read-head .ensures .size) refl (omega arith)
-
-returns-3 : tie.Need-returns-3
-returns-3 c = let h = c .before in named-range _ _ _ (page (place h)) _ (h .read-head .result .size) _ (h .read-head .ensures .size) refl (omega arith)
+returns-2 c =
+    let k = c .before in
+    let x = begun k in
+    let s = start (opened x) in
+    let sheet = s .args .sheet .now in
+    c .in-bytes .ensures (contentsIn sheet) (sym (size-is sheet (known x))) (λ i e. named-bytes sheet (file s) i (sym (answer k) ∙ e))
+    ∙ ap (ranged (contentsIn sheet)) (answer k)
+    ∙ sym (changed-by-check sheet (file s))
 
 pub first-changed-range-spec : {M : Type 1} → statement M
 first-changed-range-spec =
     tie.close
-    (tie.spec
-    (λ c κs. search needs)
-    (λ c. search needs)
-    without-page-requires
-    returns
-    read-head-requires
-    (λ c. search needs)
-    mul-from
-    add-end
-    returns-2
-    returns-3)
+    (tie.spec (λ c κs. search needs) (λ c. search needs) (λ c. search needs) compare-requires in-bytes-requires returns returns-2)

@@ -6,7 +6,7 @@ use Prim.Native.Nat.{ℕ, _*_, _^_, _≤_, _<_}
 use native.Mathlib.Omega.{arith}
 use borrow.Author.Needs.{needs}
 use Rattle.sheets.specs.Layout.{Layout}
-use Rattle.sheet_layout.specs.Heads.{LaidOut}
+use Rattle.sheet_layout.specs.Laid.{LaidOut}
 use Rattle.sheet_layout.specs.declared.Fields.{Fields}
 use Rattle.sheets.proofs.Versions.{first-is, second-is, third-is, other-is}
 use Rattle.sheet_layout.proofs.fields_of.Statement.{statement}

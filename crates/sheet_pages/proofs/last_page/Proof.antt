@@ -1,4 +1,4 @@
--- `last_page` meets its contract: its own fingerprint, or with zeros behind it, as the version says.
+-- `last_page` meets its contract: its own fingerprint, or with zeros behind it, as the sheet takes it.
 use mathlib.Core.Path.{_≡_, sym, ap, _∙_}
 use mathlib.Core.Bool.{Bool, cond}
 use Prim.Native.Nat.{ℕ, _-_, _*_, _^_, _<_}
@@ -20,7 +20,7 @@ abbrev start : tie.After-fed-last → tie.Start
 start c = c .before .before .before
 
 abbrev fed : tie.After-part-length → tie.After-fed-last
-fed c = c .before .before .before
+fed c = c .before .before
 
 abbrev key : tie.Start → ℕ
 key s = polynomial (s .args .x .p)
@@ -36,7 +36,7 @@ counted c =
 
 residue : (c : tie.After-fed-last) → let s = start c in c .fed-last .result < 2 ^ s .args .x .p .degree
 unfolding fingerprint
-residue c = let s = start c in residue-below (s .args .x .p) (s .pre .0 .0) _ (value (partBits (page s))) (c .fed-last .ensures)
+residue c = let s = start c in residue-below (s .args .x .p) (s .pre .0 .proper) _ (value (partBits (page s))) (c .fed-last .ensures)
 
 sub-with-zeros : tie.Need-sub-with-zeros
 sub-with-zeros c = let s = start (fed c) in omega (arith, counted c, part-range (page s) .0, s .pre .1)
@@ -45,7 +45,7 @@ with-zeros-requires : tie.Need-with-zeros-requires
 with-zeros-requires c κs =
     let f = fed c in
     let s = start f in
-    (s .pre .0 .0, residue f)
+    (s .pre .0 .proper, residue f)
 
 returns : tie.Need-returns
 unfolding filled
@@ -57,26 +57,23 @@ returns c =
     let p = s .args .x .p in
     let bits = partBits (page s) in
     let zeros = 8 * s .args .x .size - length bits in
-    let fills = sym (t .before .fills .ensures) ∙ t .if1 .taken in
     c .with-zeros .ensures
     ∙ ap (λ (n : ℕ). rem (key s) (f .fed-last .result * 2 ^ (8 * s .args .x .size - n))) (counted l ∙ sym (part-length (page s)))
     ∙ ap (λ (g : ℕ). rem (key s) (g * 2 ^ zeros)) (f .fed-last .ensures)
-    ∙ with-zeros (monic-pos (p .degree) (p .low) (s .pre .0 .0 .2)) zeros bits
-    ∙ ap (λ (b : Bool). fingerprint (key s) (cond b (filled (8 * s .args .x .size) bits) bits)) (sym fills)
+    ∙ with-zeros (monic-pos (p .degree) (p .low) (s .pre .0 .proper .2)) zeros bits
+    ∙ ap (λ (b : Bool). fingerprint (key s) (cond b (filled (8 * s .args .x .size) bits) bits)) (sym (t .if1 .taken))
 
 returns-2 : tie.Need-returns-2
 returns-2 c =
-    let f = c .before .before in
+    let f = c .before in
     let s = start f in
-    let fills = sym (c .before .fills .ensures) ∙ c .if1 .left in
     f .fed-last .ensures
-    ∙ ap (λ (b : Bool). fingerprint (key s) (cond b (filled (8 * s .args .x .size) (partBits (page s))) (partBits (page s)))) (sym fills)
+    ∙ ap (λ (b : Bool). fingerprint (key s) (cond b (filled (8 * s .args .x .size) (partBits (page s))) (partBits (page s)))) (sym (c .if1 .left))
 
 pub last-page-spec : {M : Type 1} → statement M
 last-page-spec =
     tie.close
     (tie.spec
-    (λ c κs. search needs)
     (λ c κs. search needs)
     (λ c. search needs)
     (λ c κs. search needs)

@@ -10,16 +10,20 @@ use Rattle.gf2.specs.Moduli.{polynomial}
 use Rattle.files.specs.Files.{fingerprint, Part, asPart, partLength, partBits, misused}
 use Rattle.files.specs.Ends.{wholeBytes}
 use Rattle.files.proofs.Parts.{part-length, part-range, rest-bits, rest-misused, whole-range}
-use Rattle.sheets.specs.Layout.{Layout, layoutOf, pageCount}
+use Rattle.sheets.specs.Layout.{Layout, pageCount}
 use Rattle.sheets.specs.Sheets.{pageOf, pageFingerprints}
+use Rattle.sheets.specs.Inner.{filling}
 use Rattle.sheets.proofs.Pages.{count-le, count-reached, count-next, part-pages, whole-fits, last-short, all-left}
 use Rattle.sheet_pages.proofs.Blocks.{block-is, block-last}
 use borrow.Author.Needs.{needs}
 use Rattle.sheet_pages.proofs.next_pages.Statement.{statement}
 use Rattle.sheet_pages.proofs.next_pages.Tie as tie
 
+abbrev bytes→start : tie.After-whole-bytes → tie.Start
+bytes→start c = c .before .before .before .before .before
+
 abbrev start : tie.After-block → tie.Start
-start c = c .before .before .before .before .before .before
+start c = bytes→start (c .before)
 
 abbrev block : tie.After-slice-known2 → tie.After-block
 block c = c .before .before .before .before
@@ -51,13 +55,16 @@ begin c = let s = start c in count-le (size s) (length (rest s .bytes)) (c .bloc
 pages : (s : tie.Start) → pageCount (size s) (length (rest s .bytes)) ≡ pageCount (8 * size s) (partLength (rest s))
 pages s = part-pages (size s) (rest s) (omega (arith, s .pre .1))
 
+block-requires : tie.Need-block-requires
+block-requires c κs = let s = bytes→start c in (omega (arith, s .pre .1), s .pre .2)
+
 whole-marks-requires : tie.Need-whole-marks-requires
 whole-marks-requires c κs =
     let b = c .before in
     let s = start b in
     (s .pre .0, s .pre .1, fits b, omega (arith, s .pre .3))
 
--- the fingerprints of the whole pages, as a version takes them
+-- the fingerprints of the whole pages, as a layout takes them
 prints : (c : tie.After-slice-known2) (v : Layout)
     → take (block c .block .result) (whole-marks c .whole-marks .last .0)
     ≡ pageFingerprints v (polynomial (start (block c) .args .x .p)) (8 * size (start (block c))) (block c .block .result) (partBits (rest (start (block c))))
@@ -118,7 +125,7 @@ last-page-requires c κs =
     let s = start b in
     let from = b .block .result * size s in
     let same = all-left (rest s .bytes) from in (
-      s .pre .0 .table,
+      record { proper = s .pre .0 .proper; table = λ l. s .pre .0 .tables l .table; house = s .pre .0 .house },
       omega (arith, ap length same ∙ length-drop from (rest s .bytes), short e),
       s .pre .2,
       ap (λ (q : List ℕ). misused (asPart q (rest s .used))) same
@@ -129,14 +136,14 @@ last-page-requires c κs =
 -- its bits are those that are left
 page : (c : tie.After-last-page) → let s = start (block (last c)) in let n = block (last c) .block .result in
     let key = polynomial (s .args .x .p) in
-    c .last-page .result ≡ fingerprint key (pageOf (layoutOf (s .args .x .version)) (8 * size s) (drop (n * (8 * size s)) (partBits (rest s))))
+    c .last-page .result ≡ fingerprint key (pageOf (filling (s .args .x .filled)) (8 * size s) (drop (n * (8 * size s)) (partBits (rest s))))
 page c =
     let e = left (c .before) in
     let b = block (last c) in
     let s = start b in
     let n = b .block .result in
     c .last-page .ensures
-    ∙ ap (λ (q : List ℕ). fingerprint (polynomial (s .args .x .p)) (pageOf (layoutOf (s .args .x .version)) (8 * size s) q))
+    ∙ ap (λ (q : List ℕ). fingerprint (polynomial (s .args .x .p)) (pageOf (filling (s .args .x .filled)) (8 * size s) q))
     (ap (λ (q : List ℕ). partBits (asPart q (rest s .used))) (all-left (rest s .bytes) (n * size s))
     ∙ rest-bits (rest s .bytes) (rest s .used) (n * size s) (omega (arith, e .if2 .left))
     ∙ ap (λ (m : ℕ). drop m (partBits (rest s))) (sym (mul-left-comm n 8 (size s))))
@@ -167,7 +174,7 @@ next-pages-spec =
     tie.close
     (tie.spec
     (λ c κs. search needs)
-    (λ c κs. search needs)
+    block-requires
     whole-marks-requires
     (λ c. search needs)
     returns

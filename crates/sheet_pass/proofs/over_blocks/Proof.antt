@@ -10,9 +10,9 @@ use Rattle.gf2.specs.Moduli.{polynomial}
 use Rattle.files.specs.Files.{Part, asPart, partBits, misused}
 use Rattle.files.proofs.Parts.{rest-misused}
 use Rattle.big_endian.specs.Numbers.{fieldsOf}
-use Rattle.sheets.specs.Layout.{Layout, layoutOf, pageCount}
+use Rattle.sheets.specs.Layout.{Layout, pageCount}
 use Rattle.sheets.specs.Sheets.{pageFingerprints}
-use Rattle.sheets.specs.Inner.{agreeing}
+use Rattle.sheets.specs.Inner.{filling, agreeing}
 use Rattle.sheets.proofs.Pages.{length-pages, page-begins, count-few, count-reached, all-left}
 use Rattle.sheets.proofs.Changes.{agree-le}
 use Rattle.sheet_pass.specs.Passes.{expected}
@@ -24,7 +24,7 @@ use Rattle.sheet_pass.proofs.over_blocks.Tie as tie
 abbrev Inv-loop : tie.InvT-loop
 Inv-loop out₀ known words eights x file size marks₀ page₀ out marks page =
     let count = pageCount (x .size) (length file) in
-    let fs = pageFingerprints (layoutOf (x .version)) (polynomial (x .p)) (8 * x .size) count (partBits (asPart file (x .used))) in
+    let fs = pageFingerprints (filling (x .filled)) (polynomial (x .p)) (8 * x .size) count (partBits (asPart file (x .used))) in
     (page ≤ count) × (length marks ≡ 64) × (length out ≡ length out₀) × (out ≡ sets out₀ 0 (fieldsOf 8 (take page fs)))
     × (page + agreeing (expected known (8 * page) (drop page fs)) (drop page fs) ≡ agreeing (expected known 0 fs) fs)
 
@@ -57,7 +57,7 @@ abbrev key : tie.Start Inv-loop μ-loop → ℕ
 key s = polynomial (s .args .x .p)
 
 abbrev layout : tie.Start Inv-loop μ-loop → Layout
-layout s = layoutOf (s .args .x .version)
+layout s = filling (s .args .x .filled)
 
 abbrev file : tie.Start Inv-loop μ-loop → Part
 file s = asPart (s .args .file .now) (s .args .x .used)

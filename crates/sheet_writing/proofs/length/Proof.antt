@@ -1,15 +1,15 @@
 -- `length` meets its contract.
-use mathlib.Core.Path.{_≡_, sym, ap, ap₂, _∙_}
+use mathlib.Core.Path.{_≡_, sym, ap, _∙_}
 use mathlib.Core.Bool.{false, _||_}
 use mathlib.Core.List.{[], _∷_}
-use Prim.Native.Nat.{ℕ, _*_, _^_, _≤_, _<_}
+use Prim.Native.Nat.{_*_, _^_, _≤_, _<_}
 use native.Mathlib.Omega.{arith}
 use lib.Dec.{ltb}
 use Rattle.refusals.specs.Refusals.{Done, passes}
 use Rattle.refusals.proofs.Lengths.{within}
 use Rattle.refusals.proofs.Laws.{holds, fails}
-use Rattle.sheets.specs.Layout.{Layout, sheetLength}
-use Rattle.sheets.proofs.Versions.{newest-is}
+use Rattle.sheets.specs.Layout.{Layout, newest, layoutOf, sheetLength, pageCount}
+use Rattle.sheets.proofs.Versions.{newest-is, length-from}
 use Rattle.sheets.proofs.Sound.{size-bounds}
 use Rattle.sheets.proofs.Pages.{count-few}
 use Rattle.sheet_writing.proofs.Answers.{length-long, length-size, length-done}
@@ -48,18 +48,33 @@ page-count-requires c κs = let b = size c in (omega (arith, b .0), b .1, few (c
 
 sheet-length-requires : tie.Need-sheet-length-requires
 sheet-length-requires c κs =
-    let a = start (c .before .before) .args in
-    let b = size (c .before) in
-    omega (arith, c .page-count .ensures, count-few (a .size) (a .n) (b .0) (b .1) (few (c .before .before .before)))
+    let p = c .before in
+    let e = p .before in
+    let a = start (e .before) .args in
+    let b = size e in
+    (c .pages-place .ensures .1, omega (arith, p .page-count .ensures, count-few (a .size) (a .n) (b .0) (b .1) (few (e .before .before))))
 
 returns-3 : tie.Need-returns-3
 returns-3 c =
-    let p = c .before in
-    let a = start (p .before .before) .args in
-    ap Done (c .sheet-length .ensures ∙ ap₂ (λ (v : Layout) (n : ℕ). sheetLength v n) newest-is (p .page-count .ensures))
-    ∙ sym (length-done (a .n) (a .size) (fit (p .before .before .before)) (right (p .before)))
+    let q = c .before in
+    let p = q .before in
+    let e = p .before in
+    let a = start (e .before) .args in
+    let v = layoutOf (newest .version) in
+    let total : c .sheet-length .result ≡ sheetLength v (pageCount (a .size) (a .n)) =
+    omega (arith, c .sheet-length .ensures, q .pages-place .ensures .0, p .page-count .ensures, length-from (newest .version) (pageCount (a .size) (a .n))) in
+    ap Done (total ∙ ap (λ (w : Layout). sheetLength w (pageCount (a .size) (a .n))) newest-is)
+    ∙ sym (length-done (a .n) (a .size) (fit (e .before .before)) (right e))
 
 pub length-spec : {M : Type 1} → statement M
 length-spec =
     tie.close
-    (tie.spec (λ c κs. search needs) returns (λ c κs. search needs) returns-2 page-count-requires sheet-length-requires returns-3)
+    (tie.spec
+    (λ c κs. search needs)
+    returns
+    (λ c κs. search needs)
+    returns-2
+    page-count-requires
+    (λ c κs. search needs)
+    sheet-length-requires
+    returns-3)

@@ -1,6 +1,5 @@
 -- `put_sheet` meets its contract.
 use mathlib.Core.Path.{_≡_, sym, ap, ap₂, _∙_}
-use mathlib.Core.Bool.{true}
 use mathlib.Core.List.{List, [], _∷_, _++_, append-nil}
 use Prim.Native.Nat.{ℕ, _+_, _-_, _*_, _/_, _≤_}
 use native.Mathlib.Nat.{le-refl}
@@ -9,12 +8,12 @@ use lib.ListN.{length, take, drop, length-drop, drop-of-length-le}
 use lib.Seq.{sets}
 use Rattle.acceptance.specs.Keys.{polynomialOf}
 use Rattle.acceptance.proofs.Opened.{opened-proper, opened-eight, opened-whole}
-use Rattle.files.specs.Files.{fingerprint, Part, asPart, partBits}
+use Rattle.files.specs.Files.{fingerprint, Part, asPart, partLength, partBits}
 use Rattle.files.proofs.Parts.{part-length}
 use Rattle.big_endian.specs.Numbers.{bytesOf, fieldsOf, bytesIn}
 use Rattle.sheets.specs.Layout.{letters, Layout, newest, layoutOf, fieldWidths, pageCount, pagesFor, keyNumber}
 use Rattle.sheets.specs.Sheets.{pageFingerprints, contentsOf}
-use Rattle.sheets.proofs.Versions.{length-from, newest-is}
+use Rattle.sheets.proofs.Versions.{length-from}
 use Rattle.sheets.proofs.Pages.{length-pages, all-left}
 use Rattle.sheets.proofs.Parts.{counted-part, pages-held}
 use Rattle.sheet_writing.proofs.Stores.{sheet-stores}
@@ -25,8 +24,14 @@ use Rattle.sheet_writing.proofs.put_sheet.Tie as tie
 abbrev v : Layout
 v = layoutOf (newest .version)
 
+abbrev length→start : tie.After-part-length → tie.Start
+length→start c = c .before .before .before
+
+abbrev put→length : tie.After-put-head → tie.After-part-length
+put→length c = c .before .before
+
 abbrev start : tie.After-put-head → tie.Start
-start c = c .before .before .before .before .before
+start c = length→start (put→length c)
 
 abbrev head : tie.After-pages-place → tie.After-put-head
 head c = c .before .before .before
@@ -43,20 +48,23 @@ fits c =
     let from = length-from (newest .version) (pageCount (a .size) (length (a .file .now))) in
     omega (arith, h .put-head .kept .0, start h .pre .4, c .pages-place .ensures .0, from)
 
--- the key is held as a pair
-paired : v .paired ≡ true
-paired = ap (λ (w : Layout). w .paired) newest-is
-
 put-head-requires : tie.Need-put-head-requires
 put-head-requires c κs =
-    let s = c .before .before .before .before in
-    (paired, omega (arith, s .pre .4, length-from (newest .version) (pageCount (s .args .size) (length (s .args .file .now)))))
+    let s = length→start (c .before) in
+    omega (arith, s .pre .4, length-from (newest .version) (pageCount (s .args .size) (length (s .args .file .now))))
 
 sub-put-fingerprints : tie.Need-sub-put-fingerprints
 sub-put-fingerprints c = omega (arith, fits c)
 
 part-put-fingerprints-start : tie.Need-part-put-fingerprints-start
 part-put-fingerprints-start c = omega (arith, fits c)
+
+abbrev part : tie.Start → Part
+part s = asPart (s .args .file .now) (s .args .used)
+
+-- the file's length
+counted : (c : tie.After-part-length) → c .part-length .result ≡ partLength (part (length→start c))
+counted c = let s = length→start c in c .part-length .ensures ∙ counted-part (part s) (omega (arith, s .pre .3))
 
 put-fingerprints-requires : tie.Need-put-fingerprints-requires
 put-fingerprints-requires c κs =
@@ -65,16 +73,7 @@ put-fingerprints-requires c κs =
     let p = start (head q) .pre in
     let n = q .pages-place .result in
     let part = ap length (all-left b n) ∙ length-drop n b in
-    (opened-proper (p .0), opened-eight (p .0), p .1, p .2, p .3, omega (arith, part, fits q), p .5)
-
-abbrev part : tie.Start → Part
-part s = asPart (s .args .file .now) (s .args .used)
-
--- the file's length, as it stands in the head
-counted : (c : tie.After-put-head) → c .before .before .part-length .result ≡ length (partBits (part (start c)))
-counted c =
-    let s = start c in
-    c .before .before .part-length .ensures ∙ counted-part (part s) (omega (arith, s .pre .3)) ∙ sym (part-length (part s))
+    (opened-proper (p .0), opened-eight (p .0), p .1, p .2, p .3, omega (arith, part, fits q), p .5, counted (put→length (head q)))
 
 returns : tie.Need-returns
 unfolding contentsOf
@@ -104,7 +103,7 @@ returns c =
     ∙ ap (λ (m : ℕ). take m b ++ part) from
     ∙ sheet-stores (contentsOf (newest .version) (a .key) (a .size) file) count (a .buffer .now) b part
     (length-pages v key (pagesFor (a .size) (length file)) size file ∙ held) (s .pre .4)
-    (h .put-head .ensures ∙ ap (λ (m : ℕ). sets (a .buffer .now) 0 (bytesIn (fieldWidths v) (fields m))) (counted h))
+    (h .put-head .ensures ∙ ap (λ (m : ℕ). sets (a .buffer .now) 0 (bytesIn (fieldWidths v) (fields m))) (counted (put→length h) ∙ sym (part-length (asPart (a .file .now) (a .used)))))
     (stored
     ∙ ap₂ (λ (m c : ℕ). sets (drop m b) 0 (fieldsOf 8 (pageFingerprints v key size c file) ++ bytesOf 8 (fingerprint key file))) from (sym held))
 
