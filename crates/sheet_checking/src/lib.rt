@@ -10,7 +10,7 @@ ghost use Rattle.files.specs.Files.{asPart};
 ghost use Rattle.sheets.specs.Sheets.{checkSheet};
 ghost use Rattle.sheets.specs.Answers.{changedRange};
 ghost use Rattle.sheets.specs.Answers.{checkAnswer, changeAnswer};
-ghost use Rattle.sheets.specs.Inner.{ReadAs, comparison, RangeOf};
+ghost use Rattle.sheets.specs.Inner.{ReadAs, comparison, NoPage, WithoutPage, RangeOf};
 ghost use Rattle.sheet_opening.specs.Opening.{KeptOf};
 
 // A file against a sheet that was opened as x. Numbers 7, 19.
@@ -56,20 +56,31 @@ fn least(a: u64, b: u64) -> u64
     if a < b { a } else { b }
 }
 
-// A check's answer with the bytes of the page that it names, from the first to before the last, by the page size and the file's bytes.
+// An answer of the check that names no page, as the answer of `first_changed_range`.
+fn without_page(answer: Checked) -> Changed
+    requires { ⌜ NoPage answer ⌝ }
+    ensures { λ r. ⌜ WithoutPage answer r ⌝ }
+{
+    if let Checked::Same = answer {
+        return Changed::Same;
+    }
+    if let Checked::Refused(r) = answer {
+        return Changed::Refused(r);
+    }
+    Changed::OtherLength
+}
+
+// A check's answer with the bytes of the page that it names, from the first to before the last, by the page size and the file's bytes. Goes on only
+// where a page is named.
 fn in_bytes(answer: Checked, size: u64, n: u64) -> Changed
     requires { ⌜ size ≤ 4096 ⌝ }
     ensures { λ r. ⌜ RangeOf size n answer r ⌝ }
 {
-    match answer {
-        Checked::Same => Changed::Same,
-        Checked::OtherLength => Changed::OtherLength,
-        Checked::Refused(r) => Changed::Refused(r),
-        Checked::Page(i) => {
-            let from = i as u64 * size;
-            Changed::Bytes(from, least(from + size, n))
-        }
-    }
+    let Checked::Page(i) = answer else {
+        return without_page(answer);
+    };
+    let from = i as u64 * size;
+    Changed::Bytes(from, least(from + size, n))
 }
 
 // The bytes of the first changed page: from the first to before the last, where the check names a page.

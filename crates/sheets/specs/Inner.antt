@@ -10,6 +10,7 @@ use Rattle.refusals.specs.Refusals.{Answer, Done, mapped, _⇒_, firstOf, passe
 use Rattle.files.specs.Files.{Part, partLength, partBits, misused, bytesFor}
 use Rattle.sheets.specs.declared.Sheet.{Sheet}
 use Rattle.sheets.specs.declared.Checked.{Checked}
+use Rattle.sheets.specs.declared.Checked.the-variants as checked-cases
 use Rattle.sheets.specs.declared.Changed.{Changed}
 use Rattle.sheets.specs.Layout.{Layout, newest, layoutOf, pagePlace, pageCount, Contents, contentsIn}
 use Rattle.sheets.specs.Sheets.{pageSizeTest, bodyWrong, readSheet, Outcome, Page, compared}
@@ -27,9 +28,9 @@ filling b =
       filled = b;
     }
 
--- how many zeros the pages of s bits of a file of n bits have behind it: none where they are not filled up
+-- how many zeros the pages, of `pageBits` bits, of a file of n bits have behind it: none where they are not filled up
 abbrev pub zerosBehind : Layout → ℕ → ℕ → ℕ
-zerosBehind v s n = cond (v .filled) (pageCount s n * s - n) 0
+zerosBehind v pageBits n = cond (v .filled) (pageCount pageBits n * pageBits - n) 0
 
 -- how many numbers, from the first on, two lists have in common
 unfoldable pub agreeing : List ℕ → List ℕ → ℕ
@@ -57,7 +58,17 @@ comparison sheet file =
 abbrev pub ranged : Contents → Answer Unit Outcome → Answer Unit (List ℕ)
 ranged x a = mapped (rangeIn x) a
 
--- the same in code, by the page size and the file's bytes, which are those of the sheet's length where a page is named
+-- an answer of the check that names no page; and the same answer, whatever the sheet's numbers are
+abbrev pub NoPage : Checked → Type 0
+NoPage (checked-cases.Page i) = ⊥
+NoPage checked-cases.Same = Unit {0}
+NoPage checked-cases.OtherLength = Unit {0}
+NoPage (checked-cases.Refused r) = Unit {0}
+
+abbrev pub WithoutPage : Checked → Changed → Type 0
+WithoutPage o r = (x : Contents) → changeAnswer r ≡ ranged x (checkAnswer o)
+
+-- any answer in code, by the page size and the file's bytes, which are those of the sheet's length where a page is named
 abbrev pub RangeOf : ℕ → ℕ → Checked → Changed → Type 0
 RangeOf size n o r =
     (x : Contents) → x .pageSize ≡ size → ((i : ℕ) → checkAnswer o ≡ Done (Page i) → bytesFor (x .length) ≡ n)

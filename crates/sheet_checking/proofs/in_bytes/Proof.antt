@@ -1,19 +1,39 @@
 -- `in_bytes` meets its contract.
 use mathlib.Core.Path.{sym, ap, ap₂, _∙_}
 use mathlib.Core.List.{[], _∷_}
+use mathlib.Core.Logic.{inl, inr}
 use Prim.Native.Nat.{ℕ, _+_, _*_, _^_, _<_, min}
 use native.Mathlib.Omega.{arith}
+use types.Run
+use denote.Enum.Declared
 use Rattle.refusals.specs.Refusals.{Done}
+use Rattle.sheets.proofs.Checked as CheckedT
 use Rattle.sheets.specs.declared.Checked.{Checked}
+use Rattle.sheets.specs.declared.Checked.the-variants as cases
 use Rattle.sheets.specs.Answers.{checkAnswer}
-use Rattle.sheets.specs.Inner.{ranged}
+use Rattle.sheets.specs.Inner.{NoPage, ranged}
 use Rattle.sheet_checking.proofs.Laws.{range-fits}
 use borrow.Author.Needs.{needs}
 use Rattle.sheet_checking.proofs.in_bytes.Statement.{statement}
 use Rattle.sheet_checking.proofs.in_bytes.Tie as tie
 
-fits : (c : tie.After-known-told2) → let s = c .before .before .before in c .before .answer2 .given .0 .0 * s .args .size + s .args .size < 2 ^ 64
-fits c = let s = c .before .before .before in range-fits (c .before .answer2 .given .0 .0) (s .args .size) (search needs) (s .pre)
+-- the answers that the `else` stands for
+other : (o : Checked) → Run.OneOf (0 ∷ 2 ∷ 3 ∷ []) (Declared.tagOf CheckedT.the-type o) → NoPage o
+other cases.Same h = tt
+other cases.OtherLength h = tt
+other (cases.Refused r) h = tt
+other (cases.Page i) (inl e) = absurd (omega arith)
+other (cases.Page i) (inr (inl e)) = absurd (omega arith)
+other (cases.Page i) (inr (inr e)) = absurd (omega arith)
+
+without-page-requires : tie.Need-without-page-requires
+without-page-requires c κs = other (c .before .args .answer) (c .match .keys2)
+
+returns : tie.Need-returns
+returns c x ex h = c .without-page .ensures x
+
+fits : (c : tie.After-known-told) → let s = c .before .before .before in c .before .answer .given .0 .0 * s .args .size + s .args .size < 2 ^ 64
+fits c = let s = c .before .before .before in range-fits (c .before .answer .given .0 .0) (s .args .size) (search needs) (s .pre)
 
 mul-from : tie.Need-mul-from
 mul-from c = omega (arith, fits c)
@@ -21,18 +41,9 @@ mul-from c = omega (arith, fits c)
 add-least : tie.Need-add-least
 add-least c = omega (arith, fits c)
 
-returns : tie.Need-returns
-returns c x ex h = ap (λ (o : Checked). ranged x (checkAnswer o)) (sym (c .enum-told .given .1))
-
 returns-2 : tie.Need-returns-2
-returns-2 c x ex h = ap (λ (o : Checked). ranged x (checkAnswer o)) (sym (c .enum-told2 .given .1))
-
-returns-3 : tie.Need-returns-3
-returns-3 c x ex h = ap (λ (o : Checked). ranged x (checkAnswer o)) (sym (c .before .answer .given .1))
-
-returns-4 : tie.Need-returns-4
-returns-4 c x ex h =
-    let g = c .before .before .answer2 .given in
+returns-2 c x ex h =
+    let g = c .before .before .answer .given in
     let i = g .0 .0 in
     let from = ap (λ (s : ℕ). i * s) (sym ex) in
     ap₂ (λ (a b : ℕ). Done (1 ∷ a ∷ b ∷ [])) from
@@ -40,18 +51,4 @@ returns-4 c x ex h =
     ∙ ap (λ (o : Checked). ranged x (checkAnswer o)) (sym (g .1))
 
 pub in-bytes-spec : {M : Type 1} → statement M
-in-bytes-spec =
-    tie.close
-    (tie.spec
-    (λ c. search needs)
-    (λ c. search needs)
-    (λ c. search needs)
-    (λ c. search needs)
-    (λ c. search needs)
-    mul-from
-    add-least
-    (λ c κs. search needs)
-    returns
-    returns-2
-    returns-3
-    returns-4)
+in-bytes-spec = tie.close (tie.spec (λ c. search needs) without-page-requires returns (λ c. search needs) mul-from add-least (λ c κs. search needs) returns-2)
