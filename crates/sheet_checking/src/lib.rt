@@ -80,7 +80,8 @@ fn in_bytes(answer: Checked, size: u64, n: u64) -> Changed
         return without_page(answer);
     };
     let from = i as u64 * size;
-    Changed::Bytes(from, least(from + size, n))
+    let end = from + size;
+    Changed::Bytes(from, least(end, n))
 }
 
 // The bytes of the first changed page: from the first to before the last, where the check names a page.

@@ -38,8 +38,8 @@ fits c = let s = c .before .before .before in range-fits (c .before .answer .giv
 mul-from : tie.Need-mul-from
 mul-from c = omega (arith, fits c)
 
-add-least : tie.Need-add-least
-add-least c = omega (arith, fits c)
+add-end : tie.Need-add-end
+add-end c = omega (arith, fits c)
 
 returns-2 : tie.Need-returns-2
 returns-2 c x ex h =
@@ -51,4 +51,4 @@ returns-2 c x ex h =
     ∙ ap (λ (o : Checked). ranged x (checkAnswer o)) (sym (g .1))
 
 pub in-bytes-spec : {M : Type 1} → statement M
-in-bytes-spec = tie.close (tie.spec (λ c. search needs) without-page-requires returns (λ c. search needs) mul-from add-least (λ c κs. search needs) returns-2)
+in-bytes-spec = tie.close (tie.spec (λ c. search needs) without-page-requires returns (λ c. search needs) mul-from add-end (λ c κs. search needs) returns-2)
