@@ -3,9 +3,9 @@
 // - sparse (`sparse`): with no table, under a key whose coefficients below t^k are few and low, as those of the stock keys from degree 16 on;
 // - by table (`table_lanes`): under any key but the house key, where its table is lent;
 // - by bits (`files`): with no table, where neither folding nor the sparse step can be had.
-// Whole bytes go one of these ways; the used bits of an unfinished final byte come in behind them by single steps (`files::feed_end`). Pages that are fed
-// many at a time go by tables of their own where they are not folded (`sheet_pages`). These functions are for the project's own crates: what they require,
-// every caller proves.
+// Whole bytes go one of these ways; the used bits of an unfinished final byte come in behind them by single steps (`files::feed_end`). The difference of two
+// pages is fed with no table, and never folded. Pages of a sheet that are not folded go many at a time by tables of their own (`sheet_pages`). These
+// functions are for the project's own crates: what they require, every caller proves.
 use gf2::Modulus;
 ghost use mathlib.Core.Path.{_≡_};
 ghost use mathlib.Core.Bool.{true, false};

@@ -52,8 +52,8 @@ loop-again c =
     let u = c .before .before .byte-at in
     let v = c .before .byte-at2 in (
       omega arith,
-      apart (a .p) (s .pre .0 .0) (a .f) (a .old .now) (a .new .now) (s .pre .2) (a .from) (l .i) (l .x) (l .inv .1) 1 (u .result) (v .result) (c .behind .result)
-          (omega arith) (u .ensures) (v .ensures) (c .behind .ensures),
+      apart (a .p) (s .pre .0 .0) (a .f) (a .old .now) (a .new .now) (s .pre .2) (a .from) (l .i) (l .x) (l .inv .1) 1 (u .result) (v .result)
+          (c .behind .result) (omega arith) (u .ensures) (v .ensures) (c .behind .ensures),
     )
 
 returns : tie.Need-returns Inv-loop μ-loop
