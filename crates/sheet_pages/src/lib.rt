@@ -4,7 +4,7 @@ use gf2::Modulus;
 ghost use mathlib.Core.Path.{_≡_};
 ghost use mathlib.Core.Bool.{true, false};
 ghost use Prim.Native.Nat.{_+_, _-_, _*_, _/_, _≤_, _<_, min};
-ghost use lib.ListN.{length};
+ghost use lib.ListN.{length, take};
 ghost use Rattle.gf2.specs.Polynomials.{rem};
 ghost use Rattle.gf2.specs.Moduli.{polynomial, Proper};
 ghost use Rattle.files.specs.Files.{bits, valueFrom, fingerprint, asPart, partBits, misused};
@@ -17,12 +17,31 @@ ghost use Rattle.sheet_pages.specs.Blocks.{PageTables, FedBy, LastBy, Ne
 ghost use Rattle.page_marks.specs.Marks.{Finished};
 
 // The two tables that pages are fed by: four bytes at a time, and eight.
-pub fn fill_tables(words: &mut [u64], eights: &mut [u64], p: Modulus)
+fn fill_tables(words: &mut [u64], eights: &mut [u64], p: Modulus)
     requires { ⌜ Proper p × (8 ≤ p .degree) × (length (now words) ≡ 1024) × (length (now eights) ≡ 2048) ⌝ }
     ensures { λ r. ⌜ PageTables p (now (words .exit)) (now (eights .exit)) ⌝ }
 {
     lookups::fill_table(words, p);
     shifts::fill(eights, p, 8);
+}
+
+// Whether pages are folded.
+fn folding(p: Modulus, size: usize) -> bool
+    ensures { λ r. ⌜ (r ≡ true → polynomial p ≡ houseKey) ⌝ }
+{
+    feeding::pages_folded(p, size)
+}
+
+// The tables made where they are read: how many words of the first one, none where pages are folded, else all.
+pub fn make_tables(words: &mut [u64], eights: &mut [u64], p: Modulus, size: usize) -> usize
+    requires { ⌜ Proper p × (8 ≤ p .degree) × (length (now words) ≡ 1024) × (length (now eights) ≡ 2048) ⌝ }
+    ensures { λ r. ⌜ FedBy p (take r (now (words .exit))) (now (eights .exit)) × (r ≤ 1024) ⌝ }
+{
+    if folding(p, size) {
+        return 0;
+    }
+    fill_tables(words, eights, p);
+    1024
 }
 
 // How many whole pages the next block has: all that are left, at most 64.
@@ -34,13 +53,6 @@ fn block(left: usize, size: usize) -> usize
         return 64;
     }
     left / size
-}
-
-// Whether pages are folded.
-pub fn folding(p: Modulus, size: usize) -> bool
-    ensures { λ r. ⌜ (r ≡ true → polynomial p ≡ houseKey) ⌝ }
-{
-    feeding::pages_folded(p, size)
 }
 
 // The fingerprints of the first n pages, which are whole, into the first n places: by folding where there is no table. The places behind them stay.

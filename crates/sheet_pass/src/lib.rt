@@ -86,22 +86,6 @@ fn over_blocks(
     page
 }
 
-// The pass by the two tables, which are made for it.
-fn by_tables(out: &mut [u8], known: &[u8], x: Paging, file: &[u8]) -> usize
-    requires { ⌜ Proper (x .p) × (8 ≤ x .p .degree) × (16 ≤ x .size) × (x .size ≤ 4096) × (length (now file) < 2 ^ 32)
-        × Room (8 * pageCount (x .size) (length (now file))) (now out) × Room (8 * pageCount (x .size) (length (now file))) (now known)
-        × (misused (asPart (now file) (x .used)) ≡ false) ⌝ }
-    ensures { λ r. ⌜ Passed
-        (pageFingerprints (filling (x .filled)) (polynomial (x .p)) (8 * x .size) (pageCount (x .size) (length (now (file .entry))))
-        (partBits (asPart (now (file .entry)) (x .used))))
-        (now (known .entry)) (now (out .entry)) (now (out .exit)) r ⌝ }
-{
-    let mut words = [0u64; 1024];
-    let mut eights = [0u64; 2048];
-    sheet_pages::fill_tables(&mut words, &mut eights, x.p);
-    over_blocks(out, known, &words, &eights, x, file)
-}
-
 // The pass under an opened key, with a last page filled up or not: how many pages, from the first on, have the expected fingerprints. An empty
 // `known` means that nothing is known, an empty `out` that nothing is to be written. The file comes as bytes and the used bits of the final one.
 // Tables are made only where they are read.
@@ -122,15 +106,14 @@ pub fn over_pages(
         (partBits (asPart (now (file .entry)) used)))
         (now (known .entry)) (now (out .entry)) (now (out .exit)) r ⌝ }
 {
+    let mut words = [0u64; 1024];
+    let mut eights = [0u64; 2048];
+    let made = sheet_pages::make_tables(&mut words, &mut eights, p, size);
     let x = Paging {
         p: p,
         size: size,
         used: used,
         filled: filled,
     };
-    if sheet_pages::folding(p, size) {
-        let none = [0u64; 0];
-        return over_blocks(out, known, &none, &none, x, file);
-    }
-    by_tables(out, known, x, file)
+    over_blocks(out, known, &words[..made], &eights, x, file)
 }
