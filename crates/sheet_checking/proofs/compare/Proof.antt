@@ -21,7 +21,8 @@ use Rattle.sheets.proofs.Pages.{length-pages, count-few}
 use Rattle.sheets.proofs.Parts.{part-fits, part-long, counted-part}
 use Rattle.sheet_layout.proofs.Filling.{prints-filling}
 use Rattle.sheet_pass.proofs.Passes.{pass-few, pass-changed, pass-same}
-use Rattle.sheet_checking.proofs.Laws.{compare-long, compare-misused, compare-other, compare-pages, version-is, size-is, key-is, length-is, pages-many, pages-there}
+use Rattle.sheet_checking.proofs.Laws.{compare-long, compare-misused, compare-other, compare-pages}
+use Rattle.sheet_checking.proofs.Laws.{version-is, size-is, key-is, length-is, pages-many, pages-there}
 use borrow.Author.Needs.{needs}
 use Rattle.sheet_checking.proofs.compare.Statement.{statement}
 use Rattle.sheet_checking.proofs.compare.Tie as tie

@@ -50,9 +50,10 @@ returns c =
     let r = c .before .before .before in
     let s = start r in
     let sheet = s .args .sheet .now in
+    let told = ap opening (sym (c .before .r .given .1)) ∙ r .open-sheet .ensures .0 in
     sym
     (changed-by-check sheet (file s)
-    ∙ ap (ranged (contentsIn sheet)) (check-refused sheet (c .before .r .given .0 .0) (file s) (ap opening (sym (c .before .r .given .1)) ∙ r .open-sheet .ensures .0)))
+    ∙ ap (ranged (contentsIn sheet)) (check-refused sheet (c .before .r .given .0 .0) (file s) told))
 
 returns-2 : tie.Need-returns-2
 returns-2 c =

@@ -186,7 +186,8 @@ returns-2 c =
     let t : someUnreduced (degree (polynomialOf (head s .key))) (all s) ≡ false = sym (bits r) ∙ fails _ _ (r .is-residue .ensures) (e .if1 .left) in
     let mark = joined-are (sheet s) (head s) (s .pre .0) (s .pre .1) (a .p) (s .pre .3) (j .pages-joined .result .mark) (pages j)
     (part (part→joined j)) (mark-joined j (fields e .0)) in
-    let filled = filled-is (sheet s) (head s) (s .pre .0) (s .pre .1) (a .p) (s .pre .3) _ (f .file-filled .result) _ (file s) (zeros s) (f .file-filled .ensures) in
+    let filled = filled-is (sheet s) (head s) (s .pre .0) (s .pre .1) (a .p) (s .pre .3) _ (f .file-filled .result) _ (file s) (zeros s)
+    (f .file-filled .ensures) in
     body-joined (sheet s) (head s) (s .pre .0) (s .pre .1) (j .pages-joined .result .mark) (f .file-filled .result) (total s) t mark filled
 
 pub body-right-spec : {M : Type 1} → statement M

@@ -77,7 +77,8 @@ place-is : (s : tie.Start) → head s .place ≡ pagePlace (layout s) 0
 place-is s = s .pre .0 .place ∙ ap (λ (v : ℕ). pagePlace (layoutOf v) 0) (sym (s .pre .0 .version))
 
 -- the bytes that the sheet should have
-asked : (c : tie.After-sheet-length) → let n = c .before in c .sheet-length .result ≡ sheetLength (layout (else1→start (counted→else1 n))) (n .pages-for .result)
+asked : (c : tie.After-sheet-length) → let n = c .before in
+    c .sheet-length .result ≡ sheetLength (layout (else1→start (counted→else1 n))) (n .pages-for .result)
 asked c =
     let n = c .before in
     let s = else1→start (counted→else1 n) in

@@ -85,6 +85,7 @@ returns c =
     let a = s .args in
     let key = polynomialOf (a .key) in
     let file = partBits (part s) in
+    let bits = part-length (part s) in
     let size = 8 * a .size in
     let count = pageCount (a .size) (length (a .file .now)) in
     let held = pages-held (a .size) (part s) in
@@ -103,7 +104,7 @@ returns c =
     ∙ ap (λ (m : ℕ). take m b ++ part) from
     ∙ sheet-stores (contentsOf (newest .version) (a .key) (a .size) file) count (a .buffer .now) b part
     (length-pages v key (pagesFor (a .size) (length file)) size file ∙ held) (s .pre .4)
-    (h .put-head .ensures ∙ ap (λ (m : ℕ). sets (a .buffer .now) 0 (bytesIn (fieldWidths v) (fields m))) (counted (put→length h) ∙ sym (part-length (asPart (a .file .now) (a .used)))))
+    (h .put-head .ensures ∙ ap (λ (m : ℕ). sets (a .buffer .now) 0 (bytesIn (fieldWidths v) (fields m))) (counted (put→length h) ∙ sym bits))
     (stored
     ∙ ap₂ (λ (m c : ℕ). sets (drop m b) 0 (fieldsOf 8 (pageFingerprints v key size c file) ++ bytesOf 8 (fingerprint key file))) from (sym held))
 
