@@ -605,7 +605,7 @@ static const struct key STACK_KEYS[KEYS] = {{KEY}, {HOUSE}, {31, 9}, {63, 3}, {K
 /* keys of degree 8, 61, 31, 63 and 64; short and long parts; every function with all of them */
 static uint64_t f, n, w[5];
 static uint32_t c[2], used_now;
-static size_t sheet_now; /* the sheet's bytes */
+static size_t sheet_now, page_now; /* the bytes of the sheet and of a page */
 static uint8_t lent[sizeof sheet];
 
 static void run_test_key(struct key x, size_t m) {
@@ -638,7 +638,7 @@ static void run_search(struct key x, size_t m) {
     gfp_search(x.degree, x.word, file, m, file, m / 100 + 1, found, 64, c, c + 1);
 }
 static void run_write_sheet(struct key x, size_t m) {
-    gfp_write_sheet(x.degree, x.word, 16 + m % 64, file, m, used_now, lent, sizeof lent);
+    gfp_write_sheet(x.degree, x.word, page_now - m % 16, file, m, used_now, lent, sizeof lent);
 }
 static void run_read_sheet(struct key x, size_t m) {
     (void)x, (void)m, gfp_read_sheet(sheet, sheet_now, c, c + 1, w, w + 1, w + 2, w + 3, w + 4);
@@ -749,8 +749,8 @@ static void to_version_1(struct key x, size_t m) {
 /* the sheet that the functions are measured with, of a version */
 static void make_sheet(struct key x, size_t m, int number) {
     uint32_t outcome = NONE32, page;
-    gfp_write_sheet(x.degree, x.word, 32, file, m, used_now, sheet, sizeof sheet);
-    sheet_now = GFP_SHEET_BYTES + 8 * ((m + 31) / 32);
+    gfp_write_sheet(x.degree, x.word, page_now, file, m, used_now, sheet, sizeof sheet);
+    sheet_now = GFP_SHEET_BYTES + 8 * ((m + page_now - 1) / page_now);
     if (number < 4)
         to_version_3(x);
     if (number < 3)
@@ -763,12 +763,14 @@ static void make_sheet(struct key x, size_t m, int number) {
     }
 }
 
-/* a version of the sheet, and the used bits of the final byte */
-#define CASES 6
+/* a version of the sheet, the used bits of the final byte, and the bytes of a page: under the house key long ones are
+ * folded */
+#define CASES 8
 static const struct {
     int number;
     uint32_t used;
-} SHEETS[CASES] = {{1, 8}, {2, 8}, {3, 8}, {3, 3}, {4, 8}, {4, 3}};
+    size_t page;
+} SHEETS[CASES] = {{1, 8, 32}, {2, 8, 32}, {3, 8, 32}, {3, 3, 32}, {4, 8, 32}, {4, 3, 32}, {4, 8, 4096}, {4, 3, 600}};
 
 /* the most that a function takes under a key and with a part of m bytes; under a key of degree 64 in version 4 alone */
 static size_t most_taken(uint8_t *stack, size_t running, struct key x, size_t m) {
@@ -776,7 +778,7 @@ static size_t most_taken(uint8_t *stack, size_t running, struct key x, size_t m)
     const uint8_t last = m == 0 ? 0 : file[m - 1];
     gfp_make_table(x.degree, x.word, words, GFP_TABLE_WORDS);
     for (i = x.degree == 64 ? 4 : 0; i < CASES; i++) {
-        used_now = m == 0 ? 8 : SHEETS[i].used;
+        used_now = m == 0 ? 8 : SHEETS[i].used, page_now = SHEETS[i].page;
         if (m != 0)
             file[m - 1] = used_now == 3 ? last & 0xe0 : last;
         make_sheet(x, m, SHEETS[i].number);

@@ -121,7 +121,7 @@ uint32_t gfp_feed_table(uint32_t degree, uint64_t word, uint64_t *fingerprint, u
 /* Feeds the next part by the table of the house key, which the library holds: the same as gfp_feed_table with its
  * words. Under that key (GFP_HOUSE_DEGREE, GFP_HOUSE_WORD) no word is tested, since they are proved right, and none is
  * read: that is the fastest way to feed. Under another key they are tested like a lent table.
- * Refusals: 1, 2, 6, 7, 8, 19. Stack: 15,360 bytes. */
+ * Refusals: 1, 2, 6, 7, 8, 19. Stack: 15,872 bytes. */
 uint32_t gfp_feed_house(uint32_t degree, uint64_t word, uint64_t *fingerprint, uint64_t *bits, const uint8_t *part,
                         size_t part_length, uint32_t used);
 
@@ -176,7 +176,7 @@ uint32_t gfp_sheet_length(uint64_t file_length, uint64_t page_size, uint64_t *sh
  * as one, over the page size, rounded up: the letters GFP, the version GFP_SHEET_VERSION (2 bytes), the key's degree
  * (1) and word (8), the file's length in bits (8), the page size in bytes (2), the fingerprint of each page (8 each,
  * the last page as long as it is, without filling) and the file's (8), high byte first.
- * Refusals: 1, 2, 7, 12, 13, 19. Stack: 26,624 bytes. */
+ * Refusals: 1, 2, 7, 12, 13, 19. Stack: 27,648 bytes. */
 uint32_t gfp_write_sheet(uint32_t degree, uint64_t word, uint64_t page_size, const uint8_t *file, size_t file_length,
                          uint32_t used, uint8_t *sheet, size_t sheet_length);
 
@@ -206,14 +206,14 @@ uint32_t gfp_read_pages(const uint8_t *sheet, size_t sheet_length, uint64_t *fin
  * counted from 0, in *page, or GFP_OTHER_LENGTH. *page is 0 where the outcome is not GFP_PAGE. Lengths are compared in
  * bits: against a sheet of version 1 or 2 a file with used below 8 has another length. Against a sheet of version 1 the
  * file's last page is filled up with zero bytes to the page size, against one of version 2, 3 or 4 it is not.
- * Refusals, those of gfp_read_sheet first: 14, 1, 2, 12, 14, 7, 19. Stack: 26,624 bytes. */
+ * Refusals, those of gfp_read_sheet first: 14, 1, 2, 12, 14, 7, 19. Stack: 27,648 bytes. */
 uint32_t gfp_check_file(const uint8_t *sheet, size_t sheet_length, const uint8_t *file, size_t file_length,
                         uint32_t used, uint32_t *outcome, uint32_t *page);
 
 /* Checks a file as gfp_check_file does, and names the bytes of the page: where *outcome is GFP_PAGE, they stand from
  * *from on, and end before *to, which is the file's end where the last page is not full. Both are in bytes; an
  * unfinished byte at the file's end counts as one. *from and *to are 0 where the outcome is not GFP_PAGE.
- * Refusals, those of gfp_read_sheet first: 14, 1, 2, 12, 14, 7, 19. Stack: 26,624 bytes. */
+ * Refusals, those of gfp_read_sheet first: 14, 1, 2, 12, 14, 7, 19. Stack: 27,648 bytes. */
 uint32_t gfp_changed_range(const uint8_t *sheet, size_t sheet_length, const uint8_t *file, size_t file_length,
                            uint32_t used, uint32_t *outcome, uint64_t *from, uint64_t *to);
 
