@@ -1,15 +1,18 @@
-// The Site level: its functions for page sheets, for C. Each answers 0 or the refusal's number; on refusal every lent place and buffer keeps what it
-// held.
+// The Site level: its functions for page sheets, and the search, which is faster where it is compiled beside them (docs/DECISIONS.md), for C. Each answers 0
+// or the refusal's number; on refusal every lent place and buffer keeps what it held.
 ghost use mathlib.Core.Path.{_≡_};
 ghost use mathlib.Core.List.{[], _∷_};
 ghost use Rattle.refusals.specs.Refusals.{numberOf, stateOf, valueOr, mapped};
 ghost use Rattle.files.specs.Files.{asPart};
 ghost use Rattle.c_interface.specs.Interface.{keyAt};
+ghost use Rattle.search.specs.Searching.{search, placesAfter};
+ghost use Rattle.search.specs.declared.Counts.{Counts};
 ghost use Rattle.sheets.specs.Layout.{contentsIn};
 ghost use Rattle.sheets.specs.Sheets.{writeSheet, readSheet, readPages, checkSheet, lengthFor};
 ghost use Rattle.sheets.specs.Outputs.{numbersOf, outcomeIn, rangeIn};
 ghost use Rattle.sheets.specs.declared.Sheet.{Sheet};
 use acceptance::Key;
+use search::Searched;
 use sheets::Changed;
 use sheets::Checked;
 use sheets::Reading;
@@ -191,5 +194,35 @@ pub extern "C" fn gfp_sheet_length(file_length: u64, page_size: u64, sheet_lengt
             0
         }
         SheetLength::Refused(r) => refusals::number(r),
+    }
+}
+
+// All places of the pattern in the text, the first ones into the lent places; the numbers of places and of false alarms into count and alarms.
+// Numbers 1, 2, 7, 11.
+#[no_mangle]
+pub extern "C" fn gfp_search(
+    degree: u32,
+    word: u64,
+    text: &[u8],
+    pattern: &[u8],
+    places: &mut [u32],
+    count: &mut u32,
+    alarms: &mut u32,
+) -> u32
+    ensures { λ r. ⌜
+        (r ≡ numberOf (search (keyAt degree word) (now (text .entry)) (now (pattern .entry))))
+        × (now (places .exit) ≡ placesAfter (keyAt degree word) (now (text .entry)) (now (pattern .entry)) (now (places .entry)))
+        × (_≡_ {A = Counts} (record { places = now (count .exit); alarms = now (alarms .exit) })
+        (valueOr (record { places = now (count .entry); alarms = now (alarms .entry) }) (search (keyAt degree word) (now (text .entry)) (now (pattern .entry)))))
+        ⌝ }
+{
+    let key = Key { degree, word };
+    match search::search(key, text, pattern, places) {
+        Searched::Found(c) => {
+            *count = c.places;
+            *alarms = c.alarms;
+            0
+        }
+        Searched::Refused(r) => refusals::number(r),
     }
 }

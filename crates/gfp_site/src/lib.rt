@@ -1,16 +1,13 @@
-// The Site level: its functions on marks and for the search, for C. Each answers 0 or the refusal's number; on refusal every lent place and buffer
-// keeps what it held. Its functions for page sheets stand in the crate gfp_sheets, the guarantee over lists of calls in the crate site_book.
+// The Site level: its functions on marks, for C. Each answers 0 or the refusal's number; on refusal every lent place and buffer keeps what it held. Its
+// functions for page sheets and the search stand in the crate gfp_sheets, the guarantee over lists of calls in the crate site_book.
 ghost use mathlib.Core.Path.{_≡_};
-ghost use Rattle.refusals.specs.Refusals.{numberOf, stateOf, valueOr};
+ghost use Rattle.refusals.specs.Refusals.{numberOf, stateOf};
 ghost use Rattle.files.specs.Files.{asPart};
 ghost use Rattle.c_interface.specs.Interface.{keyAt, markAt};
 ghost use Rattle.compose.specs.Composing.{joinBehind, joinInFront, replacePage};
-ghost use Rattle.search.specs.Searching.{search, placesAfter};
-ghost use Rattle.search.specs.declared.Counts.{Counts};
 use acceptance::Key;
 use files::Mark;
 use marks::Running;
-use search::Searched;
 
 // The file of the mark (other_fingerprint, other_bits) goes behind the file of the mark in the two places; lengths are in bits.
 // Numbers 1, 2, 7, 8.
@@ -101,34 +98,4 @@ pub extern "C" fn gfp_replace_page(
         fingerprint,
         bits,
     )
-}
-
-// All places of the pattern in the text, the first ones into the lent places; the numbers of places and of false alarms into count and alarms.
-// Numbers 1, 2, 7, 11.
-#[no_mangle]
-pub extern "C" fn gfp_search(
-    degree: u32,
-    word: u64,
-    text: &[u8],
-    pattern: &[u8],
-    places: &mut [u32],
-    count: &mut u32,
-    alarms: &mut u32,
-) -> u32
-    ensures { λ r. ⌜
-        (r ≡ numberOf (search (keyAt degree word) (now (text .entry)) (now (pattern .entry))))
-        × (now (places .exit) ≡ placesAfter (keyAt degree word) (now (text .entry)) (now (pattern .entry)) (now (places .entry)))
-        × (_≡_ {A = Counts} (record { places = now (count .exit); alarms = now (alarms .exit) })
-        (valueOr (record { places = now (count .entry); alarms = now (alarms .entry) }) (search (keyAt degree word) (now (text .entry)) (now (pattern .entry)))))
-        ⌝ }
-{
-    let key = Key { degree, word };
-    match search::search(key, text, pattern, places) {
-        Searched::Found(c) => {
-            *count = c.places;
-            *alarms = c.alarms;
-            0
-        }
-        Searched::Refused(r) => refusals::number(r),
-    }
 }

@@ -5,8 +5,8 @@ use Rattle.search.specs.declared.Counts.{Counts}
 use Rattle.search.specs.declared.Searched.{Searched}
 use Rattle.search.specs.Answers.{searched}
 use borrow.Author.Needs.{needs}
-use Rattle.gfp_site.proofs.gfp_search.Statement.{statement}
-use Rattle.gfp_site.proofs.gfp_search.Tie as tie
+use Rattle.gfp_sheets.proofs.gfp_search.Statement.{statement}
+use Rattle.gfp_sheets.proofs.gfp_search.Tie as tie
 
 -- ---- the places: from each one to an earlier one
 
