@@ -1,5 +1,6 @@
 -- The parts that the program reads: feeding them one after another marks the file that they make.
 use mathlib.Core.Path.{_≡_, refl, sym, ap, subst, _∙_}
+use mathlib.Core.Bool.{Bool, true, false, cond}
 use mathlib.Core.List.{List, [], _∷_, _++_, flatten, append-assoc, append-nil}
 use Prim.Native.Nat.{ℕ, _+_, _-_, _*_, _≤_, _<_}
 use native.Mathlib.Decide.{decLe}
@@ -11,8 +12,8 @@ use Rattle.lists.specs.Lists.{listFrom}
 use Rattle.refusals.specs.declared.Refusal.{Refusal}
 use Rattle.refusals.specs.declared.Refusal.the-variants.{TooLong, MarkNotReduced, FinalByte}
 use Rattle.refusals.specs.Refusals.{Answer, Done, Refused, _⇒_, firstOf, passes, longest}
-use Rattle.refusals.proofs.Laws.{Clear, clear-done, done-clear, more-clear, more-refused, first-true}
-use Rattle.refusals.proofs.Lengths.{sum-passes, sum-fits}
+use Rattle.refusals.proofs.Laws.{Clear, clear-done, done-clear, clear-behind, more-clear, more-refused, first-true}
+use Rattle.refusals.proofs.Lengths.{within, sum-passes, sum-fits}
 use Rattle.acceptance.specs.declared.Key.{Key}
 use Rattle.acceptance.specs.Keys.{polynomialOf, keyTests}
 use Rattle.acceptance.proofs.Laws.{accepted-pos, key-iff}
@@ -36,8 +37,14 @@ use Rattle.input_feeding.specs.declared.Marked.{Marked}
 use Rattle.input_feeding.specs.declared.Marked.the-variants as marked-cases
 use Rattle.input_feeding.specs.declared.Step.{Step}
 use Rattle.input_feeding.specs.declared.Step.the-variants as step-cases
-use Rattle.input_feeding.specs.Turns.{Stepped, NonEmpty}
-use Rattle.input_feeding.specs.Marking.{feeds, stateless, Gives, FedInParts, MarkedInParts}
+use Rattle.input_feeding.specs.declared.Marking.{Marking}
+use Rattle.input_feeding.specs.Turns.{Turned}
+use Rattle.input_feeding.specs.Marking.{feeds, stateless, Gives, FedInParts, MarkedInParts, refused}
+use Rattle.input_calls.specs.declared.Got.{Got}
+use Rattle.input_calls.specs.declared.Got.the-variants.{Bytes, End, Interrupted, Failed}
+use Rattle.input_calls.specs.declared.Input.{Input}
+use Rattle.input_calls.specs.Reading.{given, Read, Gave}
+use Rattle.input_reading.proofs.Given.{read-bytes, read-none, gave-none, gave-append, gave-one}
 
 -- ---- one feed, in code
 
@@ -53,6 +60,19 @@ module _ (key : Key) where
   fed-refused (Done m) r kept e = cc
   fed-refused (Refused q m) r kept e = cc
 
+-- a part that is fed makes the mark longer, within the limit
+fed-longer : (x : Key) (m : Mark) (words part : List ℕ) (n : Mark) → feedTable x m words (whole part) ≡ Done n
+    → (n .length ≡ m .length + 8 * length part) × (n .length ≤ longest)
+unfolding feedTable fedMark
+fed-longer x m words part n e =
+    let key = polynomialOf x in
+    let d = done-clear (keyTests x ++ (tableTests key words ++ feedTests key m (whole part))) m (fedMark key m (whole part)) n e in
+    let c = clear-behind (tableTests key words) (feedTests key m (whole part))
+    (clear-behind (keyTests x) (tableTests key words ++ feedTests key m (whole part)) (d .0)) in
+    let long : m .length + partLength (whole part) ≡ n .length = ap (λ (y : Mark). y .length) (d .1) in
+    let fits = within (m .length ∷ partLength (whole part) ∷ (m .length + partLength (whole part)) ∷ []) (c .0) in
+    (omega (arith, long, whole-long part), omega (arith, long, fits .1 .1 .0))
+
 -- ---- feeds one after another
 
 module _ (key : Key) (words : List ℕ) where
@@ -65,19 +85,27 @@ module _ (key : Key) (words : List ℕ) where
   feeds-append (Done m) (x ∷ xs) ys = feeds-append (feedTable key m words (whole x)) xs ys
   feeds-append (Refused r m) (x ∷ xs) ys = sym (stopped r m ys)
 
-nonempty-append : (xs ys : List (List ℕ)) → NonEmpty xs → NonEmpty ys → NonEmpty (xs ++ ys)
-nonempty-append [] ys p q = q
-nonempty-append (x ∷ xs) ys p q = (p .0, nonempty-append xs ys (p .1) q)
+-- what the turns have made of a running mark so far: the parts that the reads gave are fed to it
+abbrev pub SoFar : Running → List ℕ → Input → Running → Input → Type 0
+SoFar start words input m at =
+    (m .key ≡ start .key)
+    × ((parts : List (List ℕ)) × (Gave input parts at × (feeds (start .key) words (Done (markIn start)) parts ≡ Done (markIn m))))
 
--- what the turns have made of a running mark so far: the parts that were read are fed to it
-abbrev pub SoFar : Running → List ℕ → Running → Type 0
-SoFar start words m =
-    (m .key ≡ start .key) × ((parts : List (List ℕ)) × (NonEmpty parts × (feeds (start .key) words (Done (markIn start)) parts ≡ Done (markIn m))))
+-- where no more is read, a read gave the end
+abbrev pub Closed : Bool → Input → Type 0
+Closed true at = Unit {0}
+Closed false at = at .last ≡ End
 
-pub at-first : (start : Running) (words : List ℕ) → SoFar start words start
-at-first start words = (refl, ([], (tt, refl)))
+pub still-more : (more : Bool) (at : Input) → more ≡ true → Closed more at
+still-more more at e = rw e tt
 
-module _ (start : Running) (words : List ℕ) (m : Running) (s : SoFar start words m) where
+pub closes : (n : ℕ) (more : Bool) → more ≡ true → n + cond false 1 0 < n + cond more 1 0
+closes n more e = rw e (omega arith)
+
+pub at-first : (start : Running) (words : List ℕ) (input : Input) → SoFar start words input start input
+at-first start words input = (refl, ([], (gave-none input input refl, refl)))
+
+module _ (start : Running) (words : List ℕ) (input : Input) (m : Running) (at : Input) (s : SoFar start words input m at) where
   -- one part more
   one-more : (part : List ℕ) → feeds (start .key) words (Done (markIn start)) (s .1 .0 ++ part ∷ []) ≡ feedTable (m .key) (markIn m) words (whole part)
   one-more part =
@@ -85,46 +113,94 @@ module _ (start : Running) (words : List ℕ) (m : Running) (s : SoFar start wor
       ∙ ap (λ (a : Answer Mark Mark). feeds (start .key) words a (part ∷ [])) (s .1 .1 .1)
       ∙ ap (λ (k : Key). feedTable k (markIn m) words (whole part)) (sym (s .0))
 
-  pub next-turn : (part : List ℕ) (next : Running) → 0 < length part
-      → Done next ≡ fedUnder (m .key) (feedTable (m .key) (markIn m) words (whole part)) → SoFar start words next
-  next-turn part next p e =
-      let h = fed-next (m .key) (feedTable (m .key) (markIn m) words (whole part)) next e in
-      (h .0 ∙ s .0, (s .1 .0 ++ part ∷ [], (nonempty-append (s .1 .0) (part ∷ []) (s .1 .1 .0) (p, tt), one-more part ∙ h .1)))
+  -- a read that gave nothing
+  pub no-more : (next : Input) → next .bytes ≡ at .bytes → SoFar start words input m next
+  no-more next e = (s .0, (s .1 .0, ((s .1 .1 .0 .0, e ∙ s .1 .1 .0 .1), s .1 .1 .1)))
 
-  pub last-turn : (part : List ℕ) (r : Refusal) (kept : Running) → 0 < length part
-      → Refused r kept ≡ fedUnder (m .key) (feedTable (m .key) (markIn m) words (whole part)) → FedInParts start words (marked-cases.Refused r)
-  last-turn part r kept p e = (
-    s .1 .0 ++ part ∷ [],
-    (
-      nonempty-append (s .1 .0) (part ∷ []) (s .1 .1 .0) (p, tt),
-      ap (begunUnder (start .key)) (ap stateless (one-more part) ∙ fed-refused (m .key) (feedTable (m .key) (markIn m) words (whole part)) r kept e),
-    ),
-  )
-
-  pub at-end : FedInParts start words (marked-cases.Done m)
-  at-end = (
+  pub at-end : at .last ≡ End → FedInParts start words input (record { marked = marked-cases.Done m; input = at })
+  at-end e = (
     s .1 .0,
     (
       s .1 .1 .0,
-      ap (λ (a : Answer Mark Mark). begunUnder (start .key) (stateless a)) (s .1 .1 .1)
-          ∙ ap (λ (k : Key). Done (running k (markIn m))) (sym (s .0)),
+      (
+        e,
+        ap (λ (a : Answer Mark Mark). begunUnder (start .key) (stateless a)) (s .1 .1 .1)
+            ∙ ap (λ (k : Key). Done (running k (markIn m))) (sym (s .0)),
+      ),
     ),
   )
 
--- one turn of the code
-module _ (start : Running) (words : List ℕ) (m : Running) (s : SoFar start words m) (buffer : List ℕ) (step : Step) (n : ℕ) (f : Fed)
-    (h : Stepped m words buffer step) (is : step ≡ step-cases.Fed n f) where
-  turned : ((0 < n) × Counts n buffer) × (fed f ≡ fedUnder (m .key) (feedTable (m .key) (markIn m) words (whole (take n buffer))))
-  turned = subst (λ (x : Step). Stepped m words buffer x) is h
+  pub at-failure : at .last ≡ Failed → FedInParts start words input (record { marked = marked-cases.Unread; input = at })
+  at-failure e = (s .1 .0, (s .1 .1 .0, e))
 
-  some-bytes : 0 < length (take n buffer)
-  some-bytes = omega (arith, turned .0 .0, turned .0 .1 .1)
+  -- one read, and the turn that feeds what it gave
+  module _ (next : Input) (buffer : List ℕ) (read : Read at next buffer) (step : Step) (h : Turned (next .last) m words buffer step) where
+    -- what a step says of the read
+    fed-bytes : (f : Fed) → step ≡ step-cases.Fed f
+        → (n : ℕ) × ((next .last ≡ Bytes n) × (fed f ≡ fedUnder (m .key) (feedTable (m .key) (markIn m) words (whole (take n buffer)))))
+    fed-bytes f e = go (next .last) refl h
+      where
+        go : (g : Got) → next .last ≡ g → Turned g m words buffer step
+            → (n : ℕ) × ((next .last ≡ Bytes n) × (fed f ≡ fedUnder (m .key) (feedTable (m .key) (markIn m) words (whole (take n buffer)))))
+        go (Bytes n) t u = let same : u .0 ≡ f = cc in (n, (t, ap fed (sym same) ∙ u .1 .1))
+        go End t u = absurd (let z : _≡_ {A = ℕ} 0 1 = cc in omega arith)
+        go Interrupted t u = absurd (let z : _≡_ {A = ℕ} 0 1 = cc in omega arith)
+        go Failed t u = absurd (let z : _≡_ {A = ℕ} 0 1 = cc in omega arith)
 
-  pub turn-next : (next : Running) → f ≡ fed-cases.Next next → SoFar start words next
-  turn-next next e = next-turn start words m s (take n buffer) next some-bytes (ap fed (sym e) ∙ turned .1)
+    pub turn-end : step ≡ step-cases.End → next .last ≡ End
+    turn-end e = go (next .last) refl h
+      where
+        go : (g : Got) → next .last ≡ g → Turned g m words buffer step → next .last ≡ End
+        go (Bytes n) t u = absurd (let z : _≡_ {A = ℕ} 0 1 = cc (u .1 .0) in omega arith)
+        go End t u = t
+        go Interrupted t u = absurd (let z : _≡_ {A = ℕ} 0 1 = cc in omega arith)
+        go Failed t u = absurd (let z : _≡_ {A = ℕ} 0 1 = cc in omega arith)
 
-  pub turn-refused : (r : Refusal) (kept : Running) → f ≡ fed-cases.Refused r kept → FedInParts start words (marked-cases.Refused r)
-  turn-refused r kept e = last-turn start words m s (take n buffer) r kept some-bytes (ap fed (sym e) ∙ turned .1)
+    pub turn-failed : step ≡ step-cases.Failed → (next .last ≡ Interrupted → ⊥) → next .last ≡ Failed
+    turn-failed e never = go (next .last) refl h
+      where
+        go : (g : Got) → next .last ≡ g → Turned g m words buffer step → next .last ≡ Failed
+        go (Bytes n) t u = absurd (let z : _≡_ {A = ℕ} 0 1 = cc (u .1 .0) in omega arith)
+        go End t u = absurd (let z : _≡_ {A = ℕ} 0 1 = cc in omega arith)
+        go Interrupted t u = absurd (never t)
+        go Failed t u = t
+
+    pub turn-none : given (next .last) ≡ 0 → SoFar start words input m next
+    turn-none z = no-more next (read-none at next buffer read z)
+
+    module _ (f : Fed) (is : step ≡ step-cases.Fed f) where
+      abbrev count : ℕ
+      count = fed-bytes f is .0
+
+      abbrev part : List ℕ
+      part = take count buffer
+
+      gave : Gave input (s .1 .0 ++ part ∷ []) next
+      gave = gave-append input at next (s .1 .0) (part ∷ []) (s .1 .1 .0) (gave-one at next buffer count read (fed-bytes f is .1 .0))
+
+      pub turn-next : (now : Running) → f ≡ fed-cases.Next now → SoFar start words input now next
+      turn-next now e =
+          let h = fed-next (m .key) (feedTable (m .key) (markIn m) words (whole part)) now (ap fed (sym e) ∙ fed-bytes f is .1 .1) in
+          (h .0 ∙ s .0, (s .1 .0 ++ part ∷ [], (gave, one-more part ∙ h .1)))
+
+      -- number 7 bounds the mark, and it is longer than before
+      pub turn-less : (now : Running) → f ≡ fed-cases.Next now → (m .length < now .length) × (now .length ≤ longest)
+      turn-less now e =
+          let b = read-bytes at next buffer read count (fed-bytes f is .1 .0) in
+          let h = fed-next (m .key) (feedTable (m .key) (markIn m) words (whole part)) now (ap fed (sym e) ∙ fed-bytes f is .1 .1) in
+          let g = fed-longer (m .key) (markIn m) words part (markIn now) (h .1) in
+          (omega (arith, g .0, b .0 .0, b .0 .1 .1), g .1)
+
+      pub turn-refused : (r : Refusal) (kept : Running) → f ≡ fed-cases.Refused r kept → FedInParts start words input (refused r next)
+      turn-refused r kept e = (
+        s .1 .0 ++ part ∷ [],
+        (
+          gave,
+          ap (begunUnder (start .key))
+              (ap stateless (one-more part)
+              ∙ fed-refused (m .key) (feedTable (m .key) (markIn m) words (whole part)) r kept (ap fed (sym e) ∙ fed-bytes f is .1 .1)),
+        ),
+      )
 
 -- ---- feeding the parts is marking the file
 
@@ -225,14 +301,15 @@ done-refused e = let z : _≡_ {A = ℕ} 0 1 = cc in omega arith
 
 module _ (key : Key) where
   -- a key that is refused
-  pub begun-refused : (first : List ℕ) (r : Refusal) → Refused r tt ≡ begunUnder key (begin key) → MarkedInParts key first (marked-cases.Refused r)
+  pub begun-refused : (first : List ℕ) (input : Input) (r : Refusal) → Refused r tt ≡ begunUnder key (begin key)
+      → MarkedInParts key first input (refused r input)
   unfolding begin markFile
-  begun-refused first r e =
+  begun-refused first input r e =
       let file = first ++ flatten [] in
       let p = polynomialOf key in (
         [],
         (
-          tt,
+          gave-none input input refl,
           ap (begunUnder key)
               (more-refused (keyTests key) (passes (8 * length file ∷ []) ⇒ TooLong ∷ []) tt tt (markOf p []) (markOf p (bits file)) r
               (go (begin key) refl e)),
@@ -273,19 +350,20 @@ module _ (key : Key) where
       fed-marked parts =
           rw (begun-clear m begun-is .1, table-words) (feeds-marked key clear (first ∷ parts))
 
-      pub first-refused : (r : Refusal) (kept : Running) → Refused r kept ≡ fedUnder (m .key) (feedTable (m .key) (markIn m) words (whole first))
-          → MarkedInParts key first (marked-cases.Refused r)
-      first-refused r kept u = (
+      pub first-refused : (input : Input) (r : Refusal) (kept : Running)
+          → Refused r kept ≡ fedUnder (m .key) (feedTable (m .key) (markIn m) words (whole first)) → MarkedInParts key first input (refused r input)
+      first-refused input r kept u = (
         [],
         (
-          tt,
+          gave-none input input refl,
           sym (fed-marked []) ∙ ap (begunUnder key) (fed-refused (m .key) (feedTable (m .key) (markIn m) words (whole first)) r kept u),
         ),
       )
 
-      pub rest-marked : (next : Running) (r : Marked) → Done next ≡ fedUnder (m .key) (feedTable (m .key) (markIn m) words (whole first))
-          → FedInParts next words r → MarkedInParts key first r
-      rest-marked next r u p = (p .0, (p .1 .0, subst (Gives r) same (p .1 .1)))
+      pub rest-marked : (input : Input) (next : Running) (r : Marking)
+          → Done next ≡ fedUnder (m .key) (feedTable (m .key) (markIn m) words (whole first)) → FedInParts next words input r
+          → MarkedInParts key first input r
+      rest-marked input next r u p = (p .0, (p .1 .0, subst (Gives (r .marked) (r .input .last)) same (p .1 .1)))
         where
           fed-is : (next .key ≡ m .key) × (feedTable (m .key) (markIn m) words (whole first) ≡ Done (markIn next))
           fed-is = fed-next (m .key) (feedTable (m .key) (markIn m) words (whole first)) next u

@@ -1,18 +1,21 @@
 // What the printing program reads, fed to a running mark. The head of the program (mark) says what is proved of it. These functions are for the
-// project's own crates.
+// project's own crates: what they require, every caller proves.
 use acceptance::Key;
-use input_reading::Got;
+use input_calls::Got;
+use input_calls::Input;
 use marks::Begun;
 use marks::Fed;
 use marks::Running;
 use refusals::Refusal;
 use refusals::Reply;
-ghost use Rattle.input_feeding.specs.Turns.{Stepped};
-ghost use Rattle.input_feeding.specs.Marking.{FedInParts, MarkedInParts};
+ghost use mathlib.Core.Path.{_≡_};
+ghost use Rattle.input_calls.specs.Reading.{InFront};
+ghost use Rattle.input_feeding.specs.Turns.{Turned};
+ghost use Rattle.input_feeding.specs.Marking.{FedInParts, MarkedInParts, refused};
 
-// One turn: the number of bytes that were read, and the answer to feeding them.
+// One turn: the answer to feeding the bytes that were read, or that there were none.
 enum Step {
-    Fed(usize, Fed),
+    Fed(Fed),
     End,
     Failed,
 }
@@ -24,59 +27,86 @@ pub enum Marked {
     Unread,
 }
 
-// One read, whose bytes are fed to the running mark by its key's table.
-fn feed_some(m: Running, words: &[u64], buffer: &mut [u8]) -> Step
-    ensures { λ r. ⌜ Stepped m (now (words .entry)) (now (buffer .exit)) r ⌝ }
+// The same, and the input as it was left.
+pub struct Marking {
+    pub marked: Marked,
+    pub input: Input,
+}
+
+// What a turn makes of what a read gave: bytes at the front of the buffer are fed to the running mark by its key's table.
+fn turn(got: Got, m: Running, words: &[u64], buffer: &[u8]) -> Step
+    requires { ⌜ InFront got (now buffer) ⌝ }
+    ensures { λ r. ⌜ Turned got m (now (words .entry)) (now (buffer .entry)) r ⌝ }
 {
-    match input_reading::read_some(buffer) {
-        Got::Bytes(n) => Step::Fed(n, m.feed_table(words, &buffer[..n], 8)),
+    match got {
+        Got::Bytes(n) => Step::Fed(m.feed_table(words, &buffer[..n], 8)),
         Got::End => Step::End,
-        _ => Step::Failed,
+        Got::Interrupted => Step::Failed,
+        Got::Failed => Step::Failed,
     }
 }
 
-// Feeds the rest of the input. It counts its turns as `read_some` does: where none is left, the input was not read to its end.
-fn feed_rest(start: Running, words: &[u64]) -> Marked
-    ensures { λ r. ⌜ FedInParts start (now (words .entry)) r ⌝ }
+// Feeds the rest of the input, until a read gives the end or fails, or a feed is refused. It ends: each part makes the mark longer, and number 7 bounds it.
+fn feed_rest(start: Running, words: &[u64], input: Input) -> Marking
+    ensures { λ r. ⌜ FedInParts start (now (words .entry)) input r ⌝ }
 {
     let mut buffer = [0u8; 262144];
     let mut m = start;
-    let mut turns = u64::MAX;
-    while turns > 0 {
-        match feed_some(m, words, &mut buffer) {
-            Step::Fed(_, answer) => match answer {
+    let mut at = input;
+    let mut more = true;
+    while more {
+        at = input_reading::read_some(at, &mut buffer);
+        match turn(input_calls::last(at), m, words, &buffer) {
+            Step::Fed(answer) => match answer {
                 Fed::Next(next) => {
                     m = next;
                 }
                 Fed::Refused(r, _) => {
-                    return Marked::Refused(r);
+                    return Marking {
+                        marked: Marked::Refused(r),
+                        input: at,
+                    };
                 }
             },
             Step::End => {
-                return Marked::Done(m);
+                more = false;
             }
             Step::Failed => {
-                return Marked::Unread;
+                return Marking {
+                    marked: Marked::Unread,
+                    input: at,
+                };
             }
         }
-        turns -= 1;
     }
-    Marked::Unread
+    Marking {
+        marked: Marked::Done(m),
+        input: at,
+    }
 }
 
 // The mark of the file that begins with the first bytes and goes on to the input's end, fed by the table of the key.
-pub fn mark_file(key: Key, first: &[u8]) -> Marked
-    ensures { λ r. ⌜ MarkedInParts key (now (first .entry)) r ⌝ }
+pub fn mark_file(key: Key, first: &[u8], input: Input) -> Marking
+    ensures { λ r. ⌜ MarkedInParts key (now (first .entry)) input r ⌝ }
 {
     let mut words = [0u64; 1024];
     match Running::begin(key) {
-        Begun::Refused(r) => Marked::Refused(r),
+        Begun::Refused(r) => refused(r, input),
         Begun::Started(m) => match tables::make(key, &mut words) {
-            Reply::Refused(r) => Marked::Refused(r),
+            Reply::Refused(r) => refused(r, input),
             Reply::Done => match m.feed_table(&words, first, 8) {
-                Fed::Refused(r, _) => Marked::Refused(r),
-                Fed::Next(next) => feed_rest(next, &words),
+                Fed::Refused(r, _) => refused(r, input),
+                Fed::Next(next) => feed_rest(next, &words, input),
             },
         },
+    }
+}
+
+fn refused(r: Refusal, input: Input) -> Marking
+    ensures { λ m. ⌜ m ≡ refused r input ⌝ }
+{
+    Marking {
+        marked: Marked::Refused(r),
+        input: input,
     }
 }

@@ -1,94 +1,39 @@
-// The printing program's reads of standard input. The head of the program (mark) says what is proved of them. These functions are for the project's own
-// crates: what they require, every caller proves.
-use libc::STDIN_FILENO;
+// Reads of standard input, made again where a signal interrupts them. The head of `input_calls` says what a state of the input is. These functions are for
+// the project's own crates: what they require, every caller proves.
+use input_calls::Got;
+use input_calls::Input;
 ghost use mathlib.Core.Path.{_≡_};
-ghost use Prim.Native.Nat.{_≤_};
+ghost use Prim.Native.Nat.{_<_};
 ghost use lib.ListN.{length, take, drop};
-ghost use Rattle.input_reading.specs.Reading.{outcome, InFront};
-ghost use Rattle.input_reading.specs.Heads.{Filled};
+ghost use Rattle.input_calls.specs.declared.Got.the-variants.{Interrupted};
+ghost use Rattle.input_calls.specs.Reading.{Read};
 
-// What a read gave.
-pub enum Got {
-    Bytes(usize),
-    End,
-    Interrupted,
-    Failed,
-}
-
-// A number of bytes at the front of a buffer, or that standard input cannot be read.
-pub enum Front {
-    Bytes(usize),
-    Unread,
-}
-
-// What a call of read answered, with the error number, which means something only where the call failed.
-fn outcome(count: isize, error: i32, buffer: &[u8]) -> Got
-    ensures { λ r. ⌜ r ≡ outcome count error (length (now (buffer .entry))) ⌝ }
+// One read; where a signal interrupts it, another one. A proved loop has to end: it counts its turns down from a number that no run uses up.
+pub fn read_some(input: Input, buffer: &mut [u8]) -> Input
+    requires { ⌜ 0 < length (now buffer) ⌝ }
+    ensures { λ r. ⌜ Read input r (now (buffer .exit)) ⌝ }
+    ensures { λ r. ⌜ (r .last ≡ Interrupted → ⊥) ⌝ }
 {
-    if count > 0 {
-        return Got::Bytes(io::count(count, buffer));
-    }
-    if count == 0 {
-        return Got::End;
-    }
-    if error == libc::EINTR {
-        return Got::Interrupted;
-    }
-    Got::Failed
-}
-
-// One call of read on standard input.
-fn read_once(buffer: &mut [u8]) -> Got
-    ensures { λ r. ⌜ InFront r (now (buffer .exit)) ⌝ }
-{
-    let count = libc::read(STDIN_FILENO, buffer);
-    let error = os::errno();
-    outcome(count, error, buffer)
-}
-
-// The same, again where a signal interrupted the call. A proved loop has to end: it counts its turns down from a number that no run uses up.
-pub fn read_some(buffer: &mut [u8]) -> Got
-    ensures { λ r. ⌜ InFront r (now (buffer .exit)) ⌝ }
-    ensures { λ r. ⌜ (r ≡ Got.Interrupted → ⊥) ⌝ }
-{
+    let mut at = input;
     let mut turns = u64::MAX;
     while turns > 0 {
-        let got = read_once(buffer);
+        at = input_calls::read_once(at, buffer);
+        let got = input_calls::last(at);
         if let Got::Interrupted = got {
             turns -= 1;
         } else {
-            return got;
+            return at;
         }
     }
-    Got::Failed
+    input_calls::abandon(at)
 }
 
 // Reads behind the first bytes of a buffer, which stay.
-fn read_behind(buffer: &mut [u8], done: usize) -> Got
-    requires { ⌜ done ≤ length (now buffer) ⌝ }
-    ensures { λ r. ⌜ InFront r (drop done (now (buffer .exit))) ⌝ }
+pub fn read_behind(input: Input, buffer: &mut [u8], done: usize) -> Input
+    requires { ⌜ done < length (now buffer) ⌝ }
+    ensures { λ r. ⌜ Read input r (drop done (now (buffer .exit))) ⌝ }
+    ensures { λ r. ⌜ (r .last ≡ Interrupted → ⊥) ⌝ }
     ensures { λ _. ⌜ take done (now (buffer .exit)) ≡ take done (now (buffer .entry)) ⌝ }
 {
-    read_some(&mut buffer[done..])
-}
-
-// Reads until the buffer is full or the input ends.
-pub fn read_head(buffer: &mut [u8]) -> Front
-    ensures { λ r. ⌜ Filled r (now (buffer .exit)) ⌝ }
-{
-    let mut done = 0;
-    while done < buffer.len() {
-        match read_behind(buffer, done) {
-            Got::Bytes(n) => {
-                done += n;
-            }
-            Got::End => {
-                return Front::Bytes(done);
-            }
-            _ => {
-                return Front::Unread;
-            }
-        }
-    }
-    Front::Bytes(done)
+    read_some(input, &mut buffer[done..])
 }

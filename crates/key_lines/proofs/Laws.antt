@@ -11,7 +11,7 @@ use native.Mathlib.Numerals.{add-one}
 use native.Mathlib.Omega.{arith}
 use lib.Dec.{leb, ltb, eqb}
 use lib.ListN.{length, getD, take, drop, length-take, length-append}
-use lib.Seq.{drop-cons, take-length, take-take, take-append-le, take-append-seam}
+use lib.Seq.{drop-cons, take-length, take-take, take-append-le, take-append-seam, take-append-add}
 use borrow.Author.Tests.{ltb-true, lt-ltb, le-ltb, le-leb, lt-leb}
 use Rattle.bytes.specs.Bytes.{indexOf, indexAfter, slice}
 use Rattle.lists.proofs.Truth.{and-both}
@@ -19,7 +19,7 @@ use Rattle.gf2.specs.Polynomials.{monic}
 use Rattle.acceptance.specs.declared.Key.{Key}
 use Rattle.acceptance.specs.Keys.{keyOf}
 use Rattle.acceptance.proofs.Laws.{within-range, range-key}
-use Rattle.key_lines.specs.KeyLines.{digit, allDigits, hexFrom, lineOf, keyBefore, keyLine}
+use Rattle.key_lines.specs.KeyLines.{digit, allDigits, hexFrom, lineOf, keyBefore, keyLine, undecided}
 use Rattle.key_lines.specs.declared.KeyLine.{KeyLine}
 use Rattle.key_lines.specs.declared.KeyLine.the-variants as line-cases
 
@@ -223,3 +223,55 @@ large-stays input more e = line-settled input more line-cases.TooLarge apart e
   where
     apart : line-cases.TooLarge ≡ line-cases.NoKey → ⊥
     apart f = let z : _≡_ {A = ℕ} 2 0 = cc in omega arith
+
+-- ---- bytes that decide the line
+
+front-other : (b c d : Bool) → (c ≡ false → d ≡ false) → (b && c) ≡ false → (b && d) ≡ false
+front-other true c d h e = h e
+front-other false c d h e = refl
+
+digits-front : (xs ys : List ℕ) → allDigits xs ≡ false → allDigits (xs ++ ys) ≡ false
+unfolding allDigits
+digits-front [] ys e = absurd (let z : _≡_ {A = ℕ} 0 1 = cc in omega arith)
+digits-front (x ∷ xs) ys e = front-other (ltb (digit x) 16) (allDigits xs) (allDigits (xs ++ ys)) (λ f. digits-front xs ys f) e
+
+-- the two tests, by the length
+pub many-decided : (input : List ℕ) → 18 ≤ length input → undecided input ≡ false
+unfolding undecided
+many-decided input h = rw (le-ltb (length input) 18 h)
+
+pub few-undecided : (input : List ℕ) → length input < 18 → undecided input ≡ allDigits input
+unfolding undecided
+few-undecided input h = rw (lt-ltb (length input) 18 h)
+
+-- eighteen bytes
+long-decided : (input more : List ℕ) → 18 ≤ length input → keyLine (input ++ more) ≡ keyLine input
+long-decided input more h = sym (head-decides (input ++ more)) ∙ ap keyLine (take-append-le 18 input more h) ∙ head-decides input
+
+-- a byte that is no digit, the newline too
+other-decided : (input more : List ℕ) → allDigits input ≡ false → keyLine (input ++ more) ≡ keyLine input
+unfolding keyLine
+other-decided input more e = go (decLt (indexOf 10 input) (length input))
+  where
+    go : Dec (indexOf 10 input < length input) → keyBefore (indexOf 10 (input ++ more)) (input ++ more) ≡ keyBefore (indexOf 10 input) input
+    go (yes h) = rw (index-stays 10 input more h) (line-stays (indexOf 10 input) input more h)
+    go (no h) =
+        let n = indexOf 10 (input ++ more) in
+        let at : indexOf 10 input ≡ min (length input) n
+        = ap (indexOf 10) (sym (take-append-seam input more)) ∙ index-take 10 (length input) (input ++ more) in
+        let behind : n ≡ length input + (n - length input) = omega (arith, at) in
+        let front = ap (λ (k : ℕ). take k (input ++ more)) behind ∙ take-append-add input more (n - length input) in
+        other-bytes n (input ++ more) (ap allDigits front ∙ digits-front input (take (n - length input) more) e)
+        ∙ sym (no-newline (indexOf 10 input) input (omega arith))
+
+pub decided-stays : (input more : List ℕ) → undecided input ≡ false → keyLine (input ++ more) ≡ keyLine input
+decided-stays input more e = go (decLe 18 (length input))
+  where
+    go : Dec (18 ≤ length input) → keyLine (input ++ more) ≡ keyLine input
+    go (yes h) = long-decided input more h
+    go (no h) = other-decided input more (sym (few-undecided input (omega arith)) ∙ e)
+
+-- bytes that do not decide it are fewer than 18
+pub undecided-short : (input : List ℕ) → undecided input ≡ true → length input < 18
+unfolding undecided
+undecided-short input e = ltb-true (length input) 18 (and-both (ltb (length input) 18) (allDigits input) e .0)

@@ -4,7 +4,7 @@ ghost use mathlib.Core.Path.{_≡_};
 ghost use mathlib.Core.Bool.{true};
 ghost use Prim.Native.Nat.{_≤_};
 ghost use lib.ListN.{length};
-ghost use Rattle.key_lines.specs.KeyLines.{digit, allDigits, hexFrom, lineOf, keyLine};
+ghost use Rattle.key_lines.specs.KeyLines.{digit, allDigits, hexFrom, lineOf, keyLine, undecided};
 
 // What the first line of an input says: the key, and the place where the file begins; or a number of 2^65 or more.
 pub enum KeyLine {
@@ -103,4 +103,14 @@ pub fn key_line(input: &[u8]) -> KeyLine
         return KeyLine::NoKey;
     }
     line_of(line, n + 1)
+}
+
+// Whether what comes behind these bytes can still change what the first line says.
+pub fn undecided(input: &[u8]) -> bool
+    ensures { λ r. ⌜ r ≡ undecided (now (input .entry)) ⌝ }
+{
+    if 18 <= input.len() {
+        return false;
+    }
+    all_digits(input)
 }

@@ -1,32 +1,110 @@
 // The printing program: standard input is a line with the key in hexadecimal and then a file's bytes, standard output the file's mark under the key.
 //
-// Proved: what the answer of a call of read means (`input_reading::outcome`), and that later bytes of the head leave its first ones in place
-// (`input_reading::read_behind`); that a turn feeds, of the bytes at the front of the buffer as it is afterwards, as many as it says were read, and at
-// least one (`input_feeding::feed_some`); and that the text at the front of `out` is what `printed` says of the head and of some parts behind it
-// (`answer`).
-// Not proved, since no contract reaches behind a read: that libc::read puts the input's next bytes at the front of the buffer, which is assumed; that
-// the parts are all that was read and in its order, that a failure is handed on, and that `main` prints what `answer` gives: tools/test-program tests it.
+// Proved, of `run` and of all that it calls: what the answer of a call of read means (`input_calls::outcome`); that the bytes that a read gave, at the front
+// of its buffer, are fed, an end is taken for the end and a failure for a failure (`input_feeding::turn`); that no read is made behind the end
+// (`input_calls::read_once`); and that the text is what `printed` says of parts with as many bytes as the reads gave, where the last read gave the end or
+// where no further byte changes the text, or that there is none because a read failed. The state of the input, which says what the reads gave, is made by
+// `read_once` alone.
+// Not proved, since no contract reaches behind a read: that libc::read puts the input's next bytes at the front of the buffer, which is assumed; that the
+// parts are these bytes from one call to the next; and that `main` prints what `run` gives: tools/test-program tests it.
+use input_calls::Got;
+use input_calls::Input;
 use input_feeding::Marked;
-use input_reading::Front;
 use key_lines::KeyLine;
 use libc::STDERR_FILENO;
 use libc::STDOUT_FILENO;
 use refusals::Refusal;
-ghost use Rattle.mark.specs.Program.{PrintedInParts};
+ghost use mathlib.Core.Path.{_≡_};
+ghost use Prim.Native.Nat.{_≤_};
+ghost use lib.ListN.{length};
+ghost use Rattle.mark.specs.Program.{Ran};
+ghost use Rattle.mark.specs.Heads.{HeadRead, Known, Answered, told};
 
-// The text for an input that begins with the bytes of head, which are the first 18, or all where there are fewer: with 18 bytes the key's line is
-// decided. Answers its length.
-fn answer(head: &[u8], out: &mut [u8; 96]) -> Front
-    ensures { λ r. ⌜ PrintedInParts (now (head .entry)) (now (out .entry)) (now (out .exit)) r ⌝ }
+// The length of the text at the front of a buffer, or that standard input cannot be read.
+enum Front {
+    Bytes(usize),
+    Unread,
+}
+
+// The same, and the input as it was left.
+struct Text {
+    front: Front,
+    input: Input,
+}
+
+// The bytes at the front of the head, and the input behind them.
+struct Head {
+    count: usize,
+    input: Input,
+}
+
+// Reads until the first bytes decide what the key's line says, or a read gives the end or fails. It reads no more than 18 bytes: these decide it.
+fn read_head(input: Input, head: &mut [u8]) -> Head
+    requires { ⌜ 18 ≡ length (now head) ⌝ }
+    ensures { λ r. ⌜ HeadRead input (now (head .exit)) r ⌝ }
+{
+    let mut at = input;
+    let mut done = 0;
+    let mut more = true;
+    while more {
+        at = input_reading::read_behind(at, head, done);
+        match input_calls::last(at) {
+            Got::Bytes(n) => {
+                done += n;
+                more = key_lines::undecided(&head[..done]);
+            }
+            _ => {
+                more = false;
+            }
+        }
+    }
+    Head {
+        count: done,
+        input: at,
+    }
+}
+
+fn told(front: Front, input: Input) -> Text
+    ensures { λ r. ⌜ r ≡ told front input ⌝ }
+{
+    Text {
+        front: front,
+        input: input,
+    }
+}
+
+// The text for an input that begins with the bytes of head, which decide what the key's line says or are the whole input. Answers its length.
+fn answer(head: &[u8], input: Input, out: &mut [u8; 96]) -> Text
+    requires { ⌜ Known (now head) input ⌝ }
+    ensures { λ r. ⌜ Answered (now (head .entry)) input (now (out .entry)) (now (out .exit)) r ⌝ }
 {
     match key_lines::key_line(head) {
-        KeyLine::NoKey => Front::Bytes(printing::no_key(out)),
-        KeyLine::Key(key, at) => match input_feeding::mark_file(key, &head[at..]) {
-            Marked::Done(m) => Front::Bytes(printing::report(m, out)),
-            Marked::Refused(r) => Front::Bytes(printing::refusal(r, out)),
-            Marked::Unread => Front::Unread,
-        },
-        KeyLine::TooLarge => Front::Bytes(printing::refusal(Refusal::KeyRange, out)),
+        KeyLine::NoKey => told(Front::Bytes(printing::no_key(out)), input),
+        KeyLine::Key(key, at) => {
+            let marking = input_feeding::mark_file(key, &head[at..], input);
+            let marked = marking.marked;
+            match marked {
+                Marked::Done(m) => told(Front::Bytes(printing::report(m, out)), marking.input),
+                Marked::Refused(r) => told(Front::Bytes(printing::refusal(r, out)), marking.input),
+                Marked::Unread => told(Front::Unread, marking.input),
+            }
+        }
+        KeyLine::TooLarge => told(
+            Front::Bytes(printing::refusal(Refusal::KeyRange, out)),
+            input,
+        ),
+    }
+}
+
+// The text for the input, at the front of out.
+fn run(input: Input, out: &mut [u8; 96]) -> Text
+    ensures { λ r. ⌜ Ran input (now (out .entry)) (now (out .exit)) r ⌝ }
+{
+    let mut head = [0u8; 18];
+    let read = read_head(input, &mut head);
+    match input_calls::last(read.input) {
+        Got::Failed => told(Front::Unread, read.input),
+        _ => answer(&head[..read.count], read.input, out),
     }
 }
 
@@ -43,13 +121,11 @@ fn unread() {
 }
 
 fn main() {
-    let mut head = [0u8; 18];
     let mut out = [0u8; 96];
-    match input_reading::read_head(&mut head) {
+    let text = run(input_calls::unread(), &mut out);
+    let front = text.front;
+    match front {
         Front::Unread => unread(),
-        Front::Bytes(n) => match answer(&head[..n], &mut out) {
-            Front::Unread => unread(),
-            Front::Bytes(k) => print(&out[..k]),
-        },
+        Front::Bytes(k) => print(&out[..k]),
     }
 }

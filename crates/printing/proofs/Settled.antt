@@ -1,4 +1,4 @@
--- Where the program stops reading, what comes behind changes nothing: without a key in 18 bytes, where the number is too large for one, and
+-- Where the program stops reading, what comes behind changes nothing: without a key in bytes that decide the line, where the number is too large for one, and
 -- where the file is refused.
 use mathlib.Core.Path.{_≡_, refl, sym, ap, _∙_}
 use mathlib.Core.Bool.{Bool, true, false, _||_}
@@ -7,7 +7,7 @@ use Prim.Native.Nat.{ℕ, _*_, _≤_}
 use native.Mathlib.Omega.{arith}
 use lib.Dec.{ltb}
 use lib.ListN.{length, drop, length-append}
-use lib.Seq.{drop-append-le, take-append-le}
+use lib.Seq.{drop-append-le}
 use borrow.Author.Tests.{lt-ltb, ltb-true}
 use Rattle.refusals.specs.declared.Refusal.{Refusal}
 use Rattle.refusals.specs.declared.Refusal.the-variants.{KeyRange, KeyReducible, TooLong}
@@ -20,17 +20,14 @@ use Rattle.marks.specs.declared.Running.{Running}
 use Rattle.marks.specs.Answers.{begunUnder}
 use Rattle.key_lines.specs.declared.KeyLine.{KeyLine}
 use Rattle.key_lines.specs.declared.KeyLine.the-variants as line-cases
-use Rattle.key_lines.specs.KeyLines.{keyLine}
+use Rattle.key_lines.specs.KeyLines.{keyLine, undecided}
 use Rattle.printing.specs.Printing.{answerText, markFile, printedAfter, printed}
-use Rattle.key_lines.proofs.Laws.{key-within, key-stays, large-stays, head-decides}
+use Rattle.key_lines.proofs.Laws.{key-within, key-stays, large-stays, decided-stays}
 
-pub none-settled : (input more : List ℕ) → 18 ≤ length input → keyLine input ≡ line-cases.NoKey → printed (input ++ more) ≡ printed input
+pub none-settled : (input more : List ℕ) → undecided input ≡ false → keyLine input ≡ line-cases.NoKey → printed (input ++ more) ≡ printed input
 unfolding printed
 none-settled input more h e =
-    ap (λ (l : KeyLine). printedAfter l (input ++ more)) (line ∙ e) ∙ ap (λ (l : KeyLine). printedAfter l input) (sym e)
-  where
-    line : keyLine (input ++ more) ≡ keyLine input
-    line = sym (head-decides (input ++ more)) ∙ ap keyLine (take-append-le 18 input more h) ∙ head-decides input
+    ap (λ (l : KeyLine). printedAfter l (input ++ more)) (decided-stays input more h ∙ e) ∙ ap (λ (l : KeyLine). printedAfter l input) (sym e)
 
 pub large-settled : (input more : List ℕ) → keyLine input ≡ line-cases.TooLarge → printed (input ++ more) ≡ printed input
 unfolding printed

@@ -121,6 +121,10 @@ more-refused [] us s t v w q e = absurd (let z : _≡_ {A = ℕ} 0 1 = cc in ome
 more-refused (true ⇒ r ∷ ts) us s t v w q e = let d : r ≡ q = cc in rw d
 more-refused (false ⇒ r ∷ ts) us s t v w q e = more-refused ts us s t v w q e
 
+pub clear-behind : (ts us : List Test) → Clear (ts ++ us) → Clear us
+clear-behind [] us h = h
+clear-behind (b ⇒ r ∷ ts) us h = clear-behind ts us (h .1)
+
 pub more-clear : {B : Type 0} {S : Type 0} (ts us : List Test) (s : S) (w : B) → Clear ts → firstOf (ts ++ us) s w ≡ firstOf us s w
 more-clear [] us s w c = refl
 more-clear (b ⇒ r ∷ ts) us s w c = rw (c .0) (more-clear ts us s w (c .1))

@@ -3,10 +3,10 @@ use mathlib.Core.Path.{_≡_, refl, sym, ap, subst, _∙_}
 use mathlib.Core.Bool.{Bool, true, false, cond}
 use mathlib.Core.List.{List}
 use mathlib.Core.Logic.{_⊎_, ⊎-elim}
-use Prim.Native.Nat.{ℕ, zero, suc, _+_, _-_, _≤_, _<_, min}
-use native.Mathlib.Nat.{min-eq-left}
+use Prim.Native.Nat.{ℕ, zero, suc, _+_, _-_, _^_, _≤_, _<_, min}
+use native.Mathlib.Nat.{add-zero, min-eq-left}
 use native.Mathlib.Omega.{arith}
-use lib.Dec.{eqb}
+use lib.Dec.{eqb, ltb}
 use lib.ListN.{length, drop, length-drop}
 use lib.Seq.{length-take-le}
 use lib.IntN.{ℤ, pos, negsuc}
@@ -14,17 +14,15 @@ use lib.Signed.{ltZ}
 use mir.Syntax.{w32, w64}
 use mir.Val.{SFits, ofZ, toZ}
 use mir.ValLaws.{toZ-ofZ}
-use borrow.Author.Tests.{lt-ltb, ne-eqb}
+use borrow.Author.Tests.{lt-ltb, le-ltb, ne-eqb}
 use Rattle.libc.specs.Io.{Moved}
 use Rattle.io.specs.Counts.{Counts, clamped}
-use Rattle.input_reading.specs.declared.Got.{Got}
-use Rattle.input_reading.specs.declared.Got.the-variants.{Bytes, End, Interrupted, Failed}
-use Rattle.input_reading.specs.declared.Front.{Front}
-use Rattle.input_reading.specs.declared.Front.the-variants as front-cases
-use Rattle.input_reading.specs.Reading.{failure, outcome, InFront}
-use Rattle.input_reading.specs.Heads.{Filled}
+use Rattle.input_calls.specs.declared.Got.{Got}
+use Rattle.input_calls.specs.declared.Got.the-variants.{Bytes, End, Interrupted, Failed}
+use Rattle.input_calls.specs.declared.Input.{Input}
+use Rattle.input_calls.specs.Reading.{failure, outcome, given, over, abandoned, after, InFront, Reading, Read}
 
-true-false : true ≡ false → ⊥
+pub true-false : true ≡ false → ⊥
 true-false e = let z : _≡_ {A = ℕ} 0 1 = cc in omega arith
 
 -- ---- the tests of `outcome`: the machine compares the bits of a signed number
@@ -100,12 +98,32 @@ more-fits r n at l h f e =
     let b = bytes-front r n (drop at l) f e in
     (b .0, omega (arith, b .1 .0, length-drop at l))
 
-pub filled : (r : Front) (n : ℕ) (l : List ℕ) → Filled r l → r ≡ front-cases.Bytes n → Counts n l
-filled r n l h e = subst (λ (g : Front). Filled g l) e h
+-- ---- the input behind a call
 
--- a number that is 0, 1 or 3 is not 2
-pub not-two : (x : ℕ) → (x ≡ 0) ⊎ ((x ≡ 1) ⊎ (x ≡ 3)) → x ≡ 2 → ⊥
-not-two x k e = ⊎-elim (λ a. omega arith) (λ b. ⊎-elim (λ a. omega arith) (λ a. omega arith) b) k
+module _ (input : Input) (got g : Got) (is : got ≡ g) where
+  pub after-small : input .bytes + given g < 2 ^ 64 → record { bytes = input .bytes + given g; last = g } ≡ after input got
+  after-small h = rw (is, lt-ltb (input .bytes + given g) (2 ^ 64) h)
 
-pub not-failed : Failed ≡ Interrupted → ⊥
-not-failed e = let z : _≡_ {A = ℕ} 0 1 = cc in omega arith
+  pub after-large : 2 ^ 64 ≤ input .bytes + given g → abandoned input ≡ after input got
+  after-large h = rw (is, le-ltb (input .bytes + given g) (2 ^ 64) h)
+
+  -- of a call that gave no bytes
+  pub after-none : given g ≡ 0 → input .bytes < 2 ^ 64 → record { bytes = input .bytes; last = g } ≡ after input got
+  after-none z h =
+      let e : input .bytes ≡ input .bytes + given g = omega arith in
+      ap (λ (n : ℕ). record { bytes = n; last = g }) e ∙ after-small (omega arith)
+
+-- no call is made
+pub over-read : (input : Input) (l : List ℕ) → over (input .last) ≡ true → Read input input l
+over-read input l e = rw e refl
+
+-- what a call gave is counted
+pub after-read : (input : Input) (got : Got) (l : List ℕ) → over (input .last) ≡ false → InFront got l → Read input (after input got) l
+after-read input got l more h = rw more (go (ltb (input .bytes + given got) (2 ^ 64)))
+  where
+    next : Bool → Input
+    next b = cond b (record { bytes = input .bytes + given got; last = got }) (abandoned input)
+
+    go : (b : Bool) → InFront (next b .last) l × (next b .bytes ≡ input .bytes + given (next b .last))
+    go true = (h, refl)
+    go false = (tt, sym (add-zero (input .bytes)))

@@ -1,11 +1,11 @@
--- `input_reading::outcome` meets its contract, test by test.
+-- `input_calls::outcome` meets its contract, test by test.
 use mathlib.Core.Path.{_≡_, _∙_}
 use lib.ListN.{length}
 use borrow.Author.Needs.{needs}
-use Rattle.input_reading.specs.Reading.{failure, outcome}
-use Rattle.input_reading.proofs.Answers.{some, none, failed, interrupted, other}
-use Rattle.input_reading.proofs.outcome.Statement.{statement}
-use Rattle.input_reading.proofs.outcome.Tie as tie
+use Rattle.input_calls.specs.Reading.{failure, outcome}
+use Rattle.input_calls.proofs.Answers.{some, none, failed, interrupted, other}
+use Rattle.input_calls.proofs.outcome.Statement.{statement}
+use Rattle.input_calls.proofs.outcome.Tie as tie
 
 -- ---- the places: from each one to an earlier one
 
