@@ -23,7 +23,7 @@ use Rattle.acceptance.specs.Keys.{accepted, keyOf}
 use Rattle.acceptance.proofs.Laws.{accepted-iff, accepted-pos}
 use Rattle.lists.specs.Counts.{countFrom}
 use Rattle.lists.proofs.Counts.{count-is-sum, sum-same, sum-times, count-all, count-one, count-none, count-twice}
-use Rattle.fields.specs.Fields.{Prime, Field}
+use Rattle.fields.specs.Primes.{Prime, Field}
 use Rattle.fields.proofs.Primes.{firstDivisor, prime-by-test}
 use Rattle.fields.proofs.Conjugates.{field-four}
 use Rattle.fields.proofs.Pigeonhole.{Found}

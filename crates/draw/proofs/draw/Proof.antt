@@ -15,7 +15,7 @@ use Rattle.acceptance.specs.declared.Key.{Key}
 use Rattle.acceptance.specs.Keys.{keyOf}
 use Rattle.lists.specs.Inner.{among}
 use Rattle.lists.proofs.Truth.{or-neither}
-use Rattle.fields.specs.Fields.{Field}
+use Rattle.fields.specs.Primes.{Field}
 use Rattle.stock.specs.Stock.{stockKey, stockWord}
 use Rattle.stock.proofs.Table.{stock-whole}
 use Rattle.draw.specs.Drawing.{degrees, drawn, drawnKey, draw}
