@@ -150,4 +150,5 @@ pub word-not-zero : WordNotZero
 word-not-zero p a e =
     let i = accepted-iff p .0 a in
     let pos = accepted-pos p a in
-    no-power p (degree p) (degree p) (i .2) (degree-is p pos) (omega (arith, i .0)) (dvd-by (dvd-refl p) (sym (whole-key p pos) ∙ only-power (degree p) (keyOf p .word) e))
+    no-power p (degree p) (degree p) (i .2) (degree-is p pos) (omega (arith, i .0))
+    (dvd-by (dvd-refl p) (sym (whole-key p pos) ∙ only-power (degree p) (keyOf p .word) e))
