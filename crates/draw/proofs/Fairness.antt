@@ -11,7 +11,7 @@ use lib.Dec.{T, leb, ltb, leb→le, eqb}
 use borrow.Author.Tests.{eqb-true, eq-eqb, ne-eqb, not-false, ltb-false, leb-false}
 use Rattle.gf2.specs.Polynomials.{degree}
 use Rattle.lists.specs.Searches.{firstFrom}
-use Rattle.lists.specs.Inner.{among}
+use Rattle.lists.specs.Members.{among}
 use Rattle.lists.proofs.Truth.{or-neither}
 use Rattle.lists.proofs.Searches.{all-among}
 use Rattle.lists.proofs.Lists.{every, all-by-test}

@@ -3,7 +3,7 @@ ghost use mathlib.Core.Path.{_≡_};
 ghost use mathlib.Core.Bool.{_||_};
 ghost use Prim.Native.Nat.{_^_, _<_};
 ghost use lib.Dec.{leb, ltb};
-ghost use Rattle.lists.specs.Inner.{among};
+ghost use Rattle.lists.specs.Members.{among};
 ghost use Rattle.gf2.specs.Polynomials.{_⊗_, rem};
 ghost use Rattle.gf2.specs.Moduli.{polynomial, Proper};
 ghost use Rattle.basis.specs.Rows.{Matrix};

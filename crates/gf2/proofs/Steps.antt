@@ -14,7 +14,7 @@ use lib.Count.{leadingZeros, leading-length}
 use lib.Pow.{pow-pos, pow-mono, pow-lt, split, shl-exact, high, low, mod-pow-add}
 use borrow.Author.Tests.{le-leb, lt-leb, lt-ltb, le-ltb}
 use Rattle.gf2.specs.Polynomials.{_⊕_, monic, rem, _⊗_, StepIs}
-use Rattle.gf2.specs.Degrees.{_⊗^_}
+use Rattle.gf2.specs.Powers.{_⊗^_}
 use Rattle.gf2.specs.Moduli.{polynomial, Proper}
 use Rattle.gf2.specs.declared.Modulus.{Modulus}
 use Rattle.gf2.proofs.Sums.{⊕-append, ⊕-comm}
