@@ -10,15 +10,17 @@ use lib.Pow.{pow-mono, pow-pos}
 use borrow.Author.Tests.{leb-true, eqb-true, le-leb, eq-eqb, not-true, le-ltb, lt-ltb, lt-leb, leb-false, ltb-false}
 use Rattle.lists.proofs.Truth.{and-both, or-neither, by-cases}
 use Rattle.lists.proofs.Searches.{any-false, any-none}
-use Rattle.gf2.specs.Polynomials.{halvings, degree, rem, Divides, Irreducible}
+use Rattle.gf2.specs.Polynomials.{halvings, degree, monic, rem, Divides, Irreducible}
 use Rattle.gf2.specs.Degrees.{Degree}
 use Rattle.gf2.proofs.Degrees.{degree-is, degree-from, deg-lo, deg-hi, deg-le}
 use Rattle.gf2.proofs.Monics.{monic-degree, monic-word, word-degree, word-whole}
 use Rattle.gf2.proofs.Residues.{rem-of-dvd, dvd-of-rem-zero}
+use Rattle.gf2.proofs.Divisors.{dvd-by, dvd-refl}
 use Rattle.gf2.proofs.Irreducibles.{irreducible, no-divisor}
+use Rattle.gf2.proofs.Congruences.{no-power}
 use Rattle.acceptance.specs.declared.Key.{Key}
 use Rattle.acceptance.specs.Keys.{reducible, accepted, polynomialOf, keyOf, outside}
-use Rattle.acceptance.specs.Claims.{AcceptedIff, AcceptedWords, KeyIff, WordOutside}
+use Rattle.acceptance.specs.Claims.{AcceptedIff, AcceptedWords, KeyIff, WordOutside, WordNotZero}
 
 big : (p : ℕ) → 1 ≤ degree p → 1 < p
 unfolding degree halvings
@@ -138,3 +140,15 @@ word-outside (suc n) l = go (decLe 256 (suc n))
         within-range (keyOf (suc n)) (degree-from 8 (suc n) h) (omega (arith, word-degree (suc n) pos l)) (mod-lt (suc n) (pow-pos (degree (suc n))))
         ∙ sym (le-ltb (suc n) 256 h)
     go (no h) = rw (lt-ltb (suc n) 256 (omega arith), lt-ltb (degree (suc n)) 8 (deg-le (suc n) (degree (suc n)) 8 is (omega arith)))
+
+only-power : (k c : ℕ) → c ≡ 0 → monic k c ≡ 2 ^ k
+unfolding monic
+only-power k c z = omega (arith, z)
+
+-- a key of the word 0 would be a power of t
+pub word-not-zero : WordNotZero
+word-not-zero p a e =
+    let i = accepted-iff p .0 a in
+    let pos = accepted-pos p a in
+    no-power p (degree p) (degree p) (i .2) (degree-is p pos) (omega (arith, i .0))
+    (dvd-by (dvd-refl p) (sym (whole-key p pos) ∙ only-power (degree p) (keyOf p .word) e))

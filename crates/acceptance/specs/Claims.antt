@@ -1,7 +1,7 @@
 -- What is claimed of accepted keys (document 01, "Polynomials and keys"; document 02, wish 8), beside their definition; proofs/Laws.antt
 -- proves it.
 use mathlib.Core.Path.{_≡_}
-use mathlib.Core.Logic.{_↔_}
+use mathlib.Core.Logic.{_≢_, _↔_}
 use mathlib.Core.Bool.{true, false}
 use Prim.Native.Nat.{ℕ, _^_, _≤_, _<_}
 use lib.Dec.{ltb}
@@ -25,3 +25,7 @@ KeyIff =
 -- of a number of 64 bits, as sheets of versions 1 to 3 hold a key: number 1 is document 01's, "key below 256"
 abbrev pub WordOutside : Type 0
 WordOutside = (n : ℕ) → n < 2 ^ 64 → outside (keyOf n) ≡ ltb n 256
+
+-- no accepted key has the word 0, so that 0 can stand for no key in a list of words
+abbrev pub WordNotZero : Type 0
+WordNotZero = (p : ℕ) → accepted p ≡ true → keyOf p .word ≢ 0

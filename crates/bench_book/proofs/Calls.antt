@@ -18,7 +18,7 @@ use Rattle.keys.specs.Testing.{testKey}
 use Rattle.tables.specs.Tables.{makeTable, testTable}
 use Rattle.mark_tests.specs.MarkTests.{feedTests}
 use Rattle.marks.specs.Feeding.{begin, feedBits, feedTable, feedHouse}
-use Rattle.bench_book.specs.Calls.{EachCall}
+use Rattle.bench_book.specs.Calls.{EachCall, CallsLowest}
 
 module _ (x : Key) (m : Mark) (words : List ℕ) (part : Part) where
   abbrev key : ℕ
@@ -32,9 +32,9 @@ module _ (x : Key) (m : Mark) (words : List ℕ) (part : Part) where
       rw (length-list (word 8 houseKey) 0 1024)
       (skip (keyTests x) (differs (word 8 key) 0 houseWords ⇒ TableWord ∷ feedTests key m part) TableSize m (fedMark key m part))
 
-  pub each-call : EachCall x m words part
+  calls : EachCall x m words part
   unfolding testKey begin feedBits makeTable testTable feedTable rising
-  each-call =
+  calls =
       record {
         test-key = gives-lowest tt (asModulus x) refl refl tt;
         begin-mark = gives-lowest tt (markOf key []) refl refl tt;
@@ -44,3 +44,6 @@ module _ (x : Key) (m : Mark) (words : List ℕ) (part : Part) where
         feed-table = gives-lowest m (fedMark key m part) refl refl tt;
         feed-house = gives-lowest m (fedMark key m part) without-5 refl tt;
       }
+
+pub each-call : CallsLowest
+each-call x m words part = calls x m words part

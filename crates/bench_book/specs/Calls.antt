@@ -28,3 +28,7 @@ pub record EachCall (x : Key) (m : Mark) (words : List ℕ) (part : Part) : Type
   -- the house key's words are 1,024, so that number 5 never applies: its test is left out
   pub feed-house : GivesLowest (1 ∷ 2 ∷ 6 ∷ 7 ∷ 8 ∷ 19 ∷ [])
       (keyTests x ++ differs (word 8 (polynomialOf x)) 0 houseWords ⇒ TableWord ∷ feedTests (polynomialOf x) m part) (feedHouse x m part)
+
+-- whatever is handed in
+abbrev pub CallsLowest : Type 0
+CallsLowest = (x : Key) (m : Mark) (words : List ℕ) (part : Part) → EachCall x m words part

@@ -1,15 +1,17 @@
 -- Joining marks and changing a page in a file's mark (document 01, "Marks"; pages: document 02, wish 7): each call is its tests, in the
 -- order of their numbers, and its value. A key is handed in as x; all but its own tests go by its polynomial.
+use mathlib.Core.Path.{_≡_}
 use mathlib.Core.Bool.{_||_, not}
 use mathlib.Core.List.{List, [], _∷_, _++_}
 use Prim.Native.Nat.{ℕ, _+_, _*_}
 use lib.Dec.{ltb, eqb}
+use lib.ListN.{take, drop}
 use Rattle.refusals.specs.declared.Refusal.the-variants.{TooLong, MarkNotReduced, PageLengthsDiffer, PagePastEnd, FinalByte}
-use Rattle.refusals.specs.Refusals.{Answer, Test, _⇒_, firstOf, passes}
+use Rattle.refusals.specs.Refusals.{Answer, Done, Test, _⇒_, firstOf, passes}
 use Rattle.acceptance.specs.declared.Key.{Key}
 use Rattle.acceptance.specs.Keys.{polynomialOf, keyTests}
 use Rattle.files.specs.declared.Mark.{Mark}
-use Rattle.files.specs.Files.{unreduced, Part, partLength, misused, joined, replaced}
+use Rattle.files.specs.Files.{True, unreduced, Part, partLength, partBits, misused, joined, replaced}
 use Rattle.mark_tests.specs.MarkTests.{sumTest}
 
 -- numbers 7 and 8 of two marks
@@ -40,3 +42,24 @@ unfoldable pub replacePage : Key → Mark → ℕ → Part → Part → Answer M
 replacePage x m place old new =
     let key = polynomialOf x in
     firstOf (keyTests x ++ pageTests key m place old new) m (replaced key m place old new)
+
+-- ---- claims: of true marks, where the call is not refused
+
+-- joining gives the mark of the two files, the other one behind,
+abbrev pub BehindTrue : Type 0
+BehindTrue =
+    (x : Key) (file its : List ℕ) (m other after : Mark) → True (polynomialOf x) file m → True (polynomialOf x) its other
+    → joinBehind x m other ≡ Done after → True (polynomialOf x) (file ++ its) after
+
+-- or in front;
+abbrev pub InFrontTrue : Type 0
+InFrontTrue =
+    (x : Key) (file its : List ℕ) (m other after : Mark) → True (polynomialOf x) file m → True (polynomialOf x) its other
+    → joinInFront x m other ≡ Done after → True (polynomialOf x) (its ++ file) after
+
+-- a page change gives the mark of the file with the new page where the old one stood
+abbrev pub PageTrue : Type 0
+PageTrue =
+    (x : Key) (file : List ℕ) (m after : Mark) (place : ℕ) (old new : Part) → True (polynomialOf x) file m
+    → take (partLength old) (drop (8 * place) file) ≡ partBits old → replacePage x m place old new ≡ Done after
+    → True (polynomialOf x) (take (8 * place) file ++ partBits new ++ drop (8 * place + partLength old) file) after

@@ -16,7 +16,8 @@ use Rattle.gf2.proofs.Degrees.{degree-is, degree-eq, deg-lo, deg-hi, deg-pos}
 use Rattle.gf2.proofs.Divisors.{dvd-by, dvd-refl, dvd-small}
 use Rattle.gf2.proofs.Residues.{rem-lt, rem-of-dvd, dvd-of-rem-zero, dvd-of-rem}
 use Rattle.gf2.proofs.Irreducibles.{euclid-lemma, pos-left, factor-degrees}
-use Rattle.fields.specs.Fields.{compose, at, Field}
+use Rattle.fields.specs.Fields.{compose, at}
+use Rattle.fields.specs.Primes.{Field}
 use Rattle.fields.proofs.Values.{compose-zero, compose-step, compose-⊗, compose-id, compose-cong}
 use Rattle.fields.proofs.Squaring.{power, squares}
 use Rattle.fields.proofs.Fermat.{fermat, fermat-all, frobenius-degree, frobenius-at, positive, one-lt, residues-differ}

@@ -15,7 +15,8 @@ use Rattle.gf2.proofs.Degrees.{degree-eq, deg-lo, deg-hi, deg-intro, deg-pos, d
 use Rattle.gf2.proofs.Divisors.{dvd-by, dvd-⊕}
 use Rattle.gf2.proofs.Residues.{rem-lt, rem-small, rem-dvd, rem-cong, rem-of-dvd, dvd-of-rem-zero}
 use Rattle.gf2.proofs.Irreducibles.{irreducible, euclid-lemma, pos-left, factor-lt}
-use Rattle.fields.specs.Fields.{compose, at, Field}
+use Rattle.fields.specs.Fields.{compose, at}
+use Rattle.fields.specs.Primes.{Field}
 use Rattle.fields.proofs.Values.{compose-⊗, compose-cong, at-⊕}
 use Rattle.fields.proofs.Squaring.{power, compose-power, dvd-power, squares, squares-power}
 use Rattle.fields.proofs.Conjugates.{field-pos, field-degree, field-four, conjugates-differ}

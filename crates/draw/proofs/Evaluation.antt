@@ -17,7 +17,8 @@ use Rattle.gf2.proofs.Linear.{Additive}
 use Rattle.gf2.proofs.Residues.{rem-⊕}
 use Rattle.gf2.proofs.Steps.{residue-word, shift-next}
 use Rattle.basis.specs.Rows.{sumOf, NoRelation, Matrix}
-use Rattle.fields.specs.Fields.{compose, at, Field}
+use Rattle.fields.specs.Fields.{compose, at}
+use Rattle.fields.specs.Primes.{Field}
 use Rattle.fields.proofs.Values.{at-⊕, at-one, at-dbl}
 use Rattle.draw.specs.Drawing.{Draws, drawn}
 use Rattle.draw.proofs.Draws.{no-smaller, draw, drawn-is}

@@ -11,7 +11,7 @@ use lib.Dec.{T, leb, ltb, leb→le, eqb}
 use borrow.Author.Tests.{eqb-true, eq-eqb, ne-eqb, not-false, ltb-false, leb-false}
 use Rattle.gf2.specs.Polynomials.{degree}
 use Rattle.lists.specs.Searches.{firstFrom}
-use Rattle.lists.specs.Inner.{among}
+use Rattle.lists.specs.Members.{among}
 use Rattle.lists.proofs.Truth.{or-neither}
 use Rattle.lists.proofs.Searches.{all-among}
 use Rattle.lists.proofs.Lists.{every, all-by-test}
@@ -23,7 +23,7 @@ use Rattle.acceptance.specs.Keys.{accepted, keyOf}
 use Rattle.acceptance.proofs.Laws.{accepted-iff, accepted-pos}
 use Rattle.lists.specs.Counts.{countFrom}
 use Rattle.lists.proofs.Counts.{count-is-sum, sum-same, sum-times, count-all, count-one, count-none, count-twice}
-use Rattle.fields.specs.Fields.{Prime, Field}
+use Rattle.fields.specs.Primes.{Prime, Field}
 use Rattle.fields.proofs.Primes.{firstDivisor, prime-by-test}
 use Rattle.fields.proofs.Conjugates.{field-four}
 use Rattle.fields.proofs.Pigeonhole.{Found}

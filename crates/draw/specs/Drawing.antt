@@ -9,7 +9,7 @@ use Rattle.fields.specs.Fields.{at}
 use Rattle.refusals.specs.declared.Refusal.the-variants.{DegreeNotListed, ElementOutOfRange}
 use Rattle.refusals.specs.Refusals.{Answer, Test, _⇒_, firstOf}
 use Rattle.lists.specs.Searches.{firstFrom}
-use Rattle.lists.specs.Inner.{among}
+use Rattle.lists.specs.Members.{among}
 use Rattle.lists.specs.Counts.{countFrom}
 use Rattle.acceptance.specs.declared.Key.{Key}
 use Rattle.acceptance.specs.Keys.{keyOf}

@@ -14,7 +14,7 @@ use Rattle.gf2.proofs.Residues.{rem-cong, rem-small}
 use Rattle.gf2.proofs.Criterion.{irreducible-rigid}
 use Rattle.fields.proofs.Squaring.{power, power-zero, power-suc, power-power, power-cong, same-power}
 use Rattle.fields.proofs.Fermat.{fermat-all}
-use Rattle.fields.specs.Fields.{Field}
+use Rattle.fields.specs.Primes.{Field}
 
 -- the modulus of a field is not 0 and has its degree, which is at least 2
 module _ (f k : ℕ) (h : Field f k) where

@@ -7,7 +7,7 @@ use lib.Dec.{T, eqb, eqb→eq}
 use borrow.Author.Tests.{eq-eqb}
 use Rattle.lists.specs.Searches.{firstFrom}
 use Rattle.lists.proofs.Searches.{none-before}
-use Rattle.fields.specs.Fields.{Prime}
+use Rattle.fields.specs.Primes.{Prime}
 
 unfoldable pub firstDivisor : ℕ → ℕ
 firstDivisor k = firstFrom (λ d. eqb (k % d) 0) 2 k

@@ -18,7 +18,7 @@ use Rattle.gf2.proofs.Degrees.{degree-is, deg-hi}
 use Rattle.gf2.proofs.Congruences.{Congruent, Shifted, congruent-count, congruent-equal}
 use Rattle.files.specs.Files.{valueFrom, value, fingerprint, Bits}
 use Rattle.files.specs.Bursts.{Burst}
-use Rattle.files.proofs.Values.{value-lt, value-change, value-degree, value-inj}
+use Rattle.files.proofs.Values.{value-lt, value-change, value-deg, value-inj}
 
 -- ---- strings of bits
 
@@ -52,7 +52,7 @@ burst-shifted k a b s =
     string-shifted (s .first) k a b (s .same-length) (outside a b (s .first) (s .last) k (s .near) (s .between))
 
 pub value-below : (n : ℕ) (a : List ℕ) → length a ≤ n → value a < 2 ^ suc n
-value-below n a l = lt-of-lt-of-le (deg-hi (value a) (length a) (value-degree a)) (pow-mono (suc-le-suc l))
+value-below n a l = lt-of-lt-of-le (deg-hi (value a) (length a) (value-deg a)) (pow-mono (suc-le-suc l))
 
 -- p is irreducible, of degree k, and the fingerprints under it are equal
 pub record Confusing (k : ℕ) (a b : List ℕ) (p : ℕ) : Type 0 where

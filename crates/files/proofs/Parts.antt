@@ -15,6 +15,7 @@ use borrow.Author.Tests.{ltb-false, eqb-true, not-false, le-leb, lt-leb, lt-ltb,
 use Rattle.lists.proofs.Truth.{or-neither}
 use Rattle.lists.proofs.Lists.{all-take, all-append}
 use Rattle.files.specs.Files.{lowBits, bits, Bits, Part, asPart, whole, usedBits, partLength, partBits, misused, bytesFor}
+use Rattle.files.specs.Files.{BitsOfPart, BytesOfPart, BitsOfWhole}
 use Rattle.files.specs.Ends.{wholeBytes, endBits, countedLength}
 use Rattle.files.proofs.Values.{length-bits, length-low}
 
@@ -83,12 +84,12 @@ part-range p = go (decLt 0 (length (p .bytes)))
     go (no h) = let e = none-long p (omega arith) in (omega (arith, e), omega (arith, e))
 
 -- as many bits as the length says
-pub part-length : (p : Part) → length (partBits p) ≡ partLength p
+pub part-length : BitsOfPart
 unfolding partBits
 part-length p = length-take-le (partLength p) (bits (p .bytes)) (rw (length-bits (p .bytes)) (part-range p .0))
 
 -- and as many bytes
-pub part-bytes : (p : Part) → bytesFor (partLength p) ≡ length (p .bytes)
+pub part-bytes : BytesOfPart
 part-bytes p = omega (arith, part-range p .0, part-range p .1)
 
 -- whole bytes
@@ -100,7 +101,7 @@ whole-long bytes = go (decLt 0 (length bytes))
     go (yes h) = some-long (whole bytes) h ∙ omega arith
     go (no h) = none-long (whole bytes) (omega arith) ∙ omega arith
 
-pub whole-bits : (bytes : List ℕ) → partBits (whole bytes) ≡ bits bytes
+pub whole-bits : BitsOfWhole
 unfolding partBits
 whole-bits bytes = take-all (partLength (whole bytes)) (bits bytes) (omega (arith, whole-long bytes, length-bits bytes))
 

@@ -13,9 +13,9 @@ use Rattle.gf2.specs.Polynomials.{_⊕_, rem}
 use Rattle.gf2.specs.Degrees.{Degree}
 use Rattle.gf2.proofs.Sums.{⊕-self, ⊕-append, ⊕-shl, xor}
 use Rattle.gf2.proofs.Products.{shl-suc}
-use Rattle.gf2.proofs.Degrees.{deg-unique}
+use Rattle.gf2.proofs.Degrees.{deg-unique, degree-eq}
 use Rattle.gf2.proofs.Residues.{rem-lt, rem-small, rem-append}
-use Rattle.files.specs.Files.{lowBits, bits, valueFrom, value, Bits, ValuesDiffer}
+use Rattle.files.specs.Files.{lowBits, bits, valueFrom, value, Bits, ValuesDiffer, ValueDegree}
 
 pub value-append : (s : ℕ) (a b : List ℕ) → valueFrom s (a ++ b) ≡ valueFrom (valueFrom s a) b
 unfolding valueFrom
@@ -113,9 +113,12 @@ value-change s u pre x y post e =
 
 -- ---- different files have different values
 
-pub value-degree : (file : List ℕ) → Degree (value file) (length file)
+pub value-deg : (file : List ℕ) → Degree (value file) (length file)
 unfolding value
-value-degree file = ap (λ (v : ℕ). v / 2 ^ length file) (value-split 1 file) ∙ digits-div 1 (value-lt file)
+value-deg file = ap (λ (v : ℕ). v / 2 ^ length file) (value-split 1 file) ∙ digits-div 1 (value-lt file)
+
+pub value-degree : ValueDegree
+value-degree file = degree-eq (value file) (length file) (value-deg file)
 
 bit-eq : (s t x y : ℕ) → x < 2 → y < 2 → s * 2 + x % 2 ≡ t * 2 + y % 2 → (s ≡ t) × (x ≡ y)
 bit-eq s t x y hx hy e = omega arith
@@ -131,7 +134,7 @@ from-inj (x ∷ a) (y ∷ b) s t l ha hb e =
     (d .0, ap₂ {C = List ℕ} (λ (z : ℕ) (c : List ℕ). z ∷ c) (d .1) (ih .1))
 
 pub value-length : (a b : List ℕ) → value a ≡ value b → length a ≡ length b
-value-length a b e = omega (arith, deg-unique (value a) (length a) (length b) (value-degree a) (rw e (value-degree b)))
+value-length a b e = omega (arith, deg-unique (value a) (length a) (length b) (value-deg a) (rw e (value-deg b)))
 
 pub value-inj : ValuesDiffer
 unfolding value

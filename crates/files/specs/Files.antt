@@ -3,9 +3,9 @@
 use mathlib.Core.Path.{_≡_}
 use mathlib.Core.Bool.{Bool, cond, _&&_, _||_, not}
 use mathlib.Core.List.{List, [], _∷_, _++_}
-use Prim.Native.Nat.{ℕ, zero, suc, _+_, _-_, _*_, _/_, _%_, _^_, _<_}
+use Prim.Native.Nat.{ℕ, zero, suc, _+_, _-_, _*_, _/_, _%_, _^_, _≤_, _<_}
 use lib.Dec.{leb, ltb, eqb}
-use lib.ListN.{length, getD, take}
+use lib.ListN.{length, getD, take, drop}
 use Rattle.gf2.specs.Polynomials.{_⊕_, degree, rem}
 use Rattle.lists.specs.Lists.{All}
 use Rattle.files.specs.declared.Mark.{Mark}
@@ -111,3 +111,30 @@ replaced key m place old new =
 -- no two files have one value
 abbrev pub ValuesDiffer : Type 0
 ValuesDiffer = (a b : List ℕ) → Bits a → Bits b → value a ≡ value b → a ≡ b
+
+-- the value's degree is the file's length
+abbrev pub ValueDegree : Type 0
+ValueDegree = (file : List ℕ) → degree (value file) ≡ length file
+
+-- a part has as many bits as its length says,
+abbrev pub BitsOfPart : Type 0
+BitsOfPart = (p : Part) → length (partBits p) ≡ partLength p
+
+-- and as many bytes as these bits take;
+abbrev pub BytesOfPart : Type 0
+BytesOfPart = (p : Part) → bytesFor (partLength p) ≡ length (p .bytes)
+
+-- the bits of whole bytes are those of the bytes
+abbrev pub BitsOfWhole : Type 0
+BitsOfWhole = (bytes : List ℕ) → partBits (whole bytes) ≡ bits bytes
+
+-- true marks joined are true of the files joined
+abbrev pub JoinedTrue : Type 0
+JoinedTrue = (key : ℕ) (a b : List ℕ) (x y : Mark) → 0 < key → True key a x → True key b y → True key (a ++ b) (joined key x y)
+
+-- a true mark with a page replaced is true of the file with the new page: "It is right where the old bytes are what stood there"
+abbrev pub ReplacedTrue : Type 0
+ReplacedTrue =
+    (key : ℕ) (file : List ℕ) (m : Mark) (place : ℕ) (old new : Part) → 0 < key → True key file m
+    → partLength old ≡ partLength new → 8 * place + partLength old ≤ length file → take (partLength old) (drop (8 * place) file) ≡ partBits old
+    → True key (take (8 * place) file ++ partBits new ++ drop (8 * place + partLength old) file) (replaced key m place old new)

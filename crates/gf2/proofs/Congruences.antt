@@ -53,7 +53,7 @@ congruent-count k n a b ne la lb ps d all = go (eq-zero-or-pos (a ⊕ b))
 -- ---- powers of t
 
 -- a polynomial of degree 2 or more that is irreducible divides no power of t
-no-power : (p k s : ℕ) → Irreducible p → Degree p k → 2 ≤ k → Divides p (2 ^ s) → ⊥
+pub no-power : (p k s : ℕ) → Irreducible p → Degree p k → 2 ≤ k → Divides p (2 ^ s) → ⊥
 no-power p k zero i d l h = absurd (omega (arith, dvd-small k {a = 1} d h (lt-of-lt-of-le (omega arith) (pow-mono {i = 2} l))))
 no-power p k (suc s) i d l h = go (euclid-lemma p 2 (2 ^ s) i (dvd-by h (pow-succ' 2 s ∙ sym (⊗-pow s 2)))) (no-power p k s i d l)
   where

@@ -4,7 +4,7 @@ use Prim.Native.Nat.{ℕ, zero, suc, _+_, _*_, _^_, _<_}
 use native.Mathlib.Nat.{add-zero, zero-add, add-comm, suc-add, mul-zero, mul-suc, pow-suc}
 use lib.Pow.{pow-pos}
 use Rattle.gf2.specs.Polynomials.{_⊕_, _⊗_, rem}
-use Rattle.gf2.specs.Degrees.{_⊗^_}
+use Rattle.gf2.specs.Powers.{_⊗^_}
 use Rattle.gf2.proofs.Sums.{⊕-zero}
 use Rattle.gf2.proofs.Products.{one-⊗, ⊗-comm, ⊗-assoc, ⊗-pow}
 use Rattle.gf2.proofs.Residues.{rem-⊗, rem-lt, rem-small, rem-append}

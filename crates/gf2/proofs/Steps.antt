@@ -13,8 +13,8 @@ use lib.Dec.{leb, ltb, lit<}
 use lib.Count.{leadingZeros, leading-length}
 use lib.Pow.{pow-pos, pow-mono, pow-lt, split, shl-exact, high, low, mod-pow-add}
 use borrow.Author.Tests.{le-leb, lt-leb, lt-ltb, le-ltb}
-use Rattle.gf2.specs.Polynomials.{_⊕_, monic, rem, _⊗_}
-use Rattle.gf2.specs.Degrees.{_⊗^_}
+use Rattle.gf2.specs.Polynomials.{_⊕_, monic, rem, _⊗_, StepIs}
+use Rattle.gf2.specs.Powers.{_⊗^_}
 use Rattle.gf2.specs.Moduli.{polynomial, Proper}
 use Rattle.gf2.specs.declared.Modulus.{Modulus}
 use Rattle.gf2.proofs.Sums.{⊕-append, ⊕-comm}
@@ -108,7 +108,7 @@ bit-mul-le c b l = go (bit-cases b l)
     go (inl e) = rw (e, mul-zero) zero-le
     go (inr e) = rw (e, mul-one) (le-refl c)
 
-pub step-is : (k c f b : ℕ) → 0 < k → c < 2 ^ k → f < 2 ^ k → b < 2 → rem (monic k c) (f * 2 + b) ≡ (f % 2 ^ (k - 1) * 2 + b) ⊕ c * (f / 2 ^ (k - 1))
+pub step-is : StepIs
 step-is zero c f b p h l m = absurd (omega arith)
 step-is (suc j) c f b p h l m =
     rw less-one

@@ -1,4 +1,5 @@
 pub mod Polynomials
 pub mod Degrees
+pub mod Powers
 pub mod Moduli
 pub mod Criterion

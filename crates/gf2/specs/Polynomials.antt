@@ -2,7 +2,7 @@
 -- So 2 is t, 2 ^ n is t^n, x * 2 ^ n is the product of x and t^n, and the numbers below 2 ^ k are the polynomials of degree less than k.
 use mathlib.Core.Path.{_≡_}
 use mathlib.Core.Logic.{_⊎_, _↔_}
-use Prim.Native.Nat.{ℕ, zero, suc, _+_, _*_, _/_, _%_, _^_, _<_}
+use Prim.Native.Nat.{ℕ, zero, suc, _+_, _-_, _*_, _/_, _%_, _^_, _<_}
 use lib.Bits.{bitXor}
 
 -- ---- the sum: exclusive or
@@ -61,6 +61,12 @@ pub record Divides (d a : ℕ) : Type 0 where
 -- The residue of a is below 2^k, k being the degree of p, and differs from a by a multiple of p; no other number does both.
 abbrev pub RemIs : Type 0
 RemIs = (p : ℕ) → 0 < p → (a r : ℕ) → (rem p a ≡ r) ↔ ((r < 2 ^ degree p) × Divides p (a ⊕ r))
+
+-- One bit b comes in behind a residue f modulo t^k with the coefficients c below it: c times the bit that falls out at t^k is added.
+abbrev pub StepIs : Type 0
+StepIs =
+    (k c f b : ℕ) → 0 < k → c < 2 ^ k → f < 2 ^ k → b < 2
+    → rem (monic k c) (f * 2 + b) ≡ (f % 2 ^ (k - 1) * 2 + b) ⊕ c * (f / 2 ^ (k - 1))
 
 -- of degree at least 1, and with no divisor but 1 and itself (over the field of two elements no other constant is left)
 pub record Irreducible (p : ℕ) : Type 0 where

@@ -11,12 +11,16 @@ use Rattle.acceptance.specs.Keys.{accepted, polynomialOf, asModulus}
 use Rattle.acceptance.specs.declared.Key.{Key}
 use Rattle.acceptance.specs.Opened.{Opened}
 use Rattle.acceptance.proofs.Laws.{within-range}
-use Rattle.house.specs.House.{houseKey, houseWords}
+use Rattle.house.specs.House.{houseKey, houseWords, HouseStock, HouseAccepted}
 use Rattle.stock.proofs.Table.{stock-smallest, stock-61}
 use Rattle.house.proofs.Rows.{rows, table-by-test}
 
--- it is the stock list's entry for degree 61, so it is accepted: lists under it exist
-pub house-accepted : accepted houseKey ≡ true
+-- it is the stock list's entry for degree 61,
+pub house-stock : HouseStock
+house-stock = stock-61
+
+-- so it is accepted: lists under it exist
+pub house-accepted : HouseAccepted
 house-accepted = rw stock-61 at (stock-smallest 61 (omega arith) (omega arith) .is-accepted)
 
 -- a key handed in with its degree and its word: its polynomial is the house key, and it is opened

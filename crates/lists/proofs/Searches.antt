@@ -12,7 +12,7 @@ use borrow.Author.Tests.{eqb-true, eq-eqb, ne-eqb}
 use types.Run.{OneOf}
 use Rattle.lists.specs.Lists.{All, anyBelow}
 use Rattle.lists.specs.Searches.{firstFrom}
-use Rattle.lists.specs.Inner.{among}
+use Rattle.lists.specs.Members.{among}
 use Rattle.lists.proofs.Truth.{or-neither}
 
 -- ---- whether some number below n passes

@@ -1,4 +1,5 @@
 pub mod Lists
 pub mod Searches
 pub mod Counts
+pub mod Members
 pub mod Inner

@@ -13,11 +13,11 @@ use Rattle.refusals.proofs.Laws.{Clear, skip, clear-done, done-clear, more-refu
 use Rattle.acceptance.specs.declared.Key.{Key}
 use Rattle.acceptance.specs.Keys.{accepted, polynomialOf, keyOf}
 use Rattle.acceptance.specs.Opened.{Opened}
-use Rattle.acceptance.proofs.Laws.{accepted-pos, whole-key}
+use Rattle.acceptance.proofs.Laws.{accepted-iff, accepted-pos, whole-key}
 use Rattle.acceptance.proofs.Opened.{open-accepted, opened-first, opened-whole, residue-below}
 use Rattle.files.specs.declared.Mark.{Mark}
 use Rattle.files.specs.Files.{valueFrom, markOf, unreduced, Part, partLength, partBits, misused, fedMark}
-use Rattle.files.proofs.Marks.{mark-eq, true-reduced}
+use Rattle.files.proofs.Marks.{mark-eq, true-reduced, empty-mark}
 use Rattle.mark_tests.specs.declared.Measured.{Measured}
 use Rattle.mark_tests.specs.declared.Measured.the-variants as measured-cases
 use Rattle.mark_tests.specs.MarkTests.{feedTests}
@@ -27,7 +27,7 @@ use Rattle.table_tests.specs.TableTests.{tableTests}
 use Rattle.table_tests.proofs.Laws.{clear-table}
 use Rattle.house.specs.House.{houseKey, houseWords}
 use Rattle.house.proofs.House.{house-accepted}
-use Rattle.marks.specs.Feeding.{begin, feedBits, feedTable, feedHouse}
+use Rattle.marks.specs.Feeding.{begin, feedBits, feedTable, feedHouse, BeginsTrue, EmptyIsOne, HouseFirst, HouseBits}
 use Rattle.marks.specs.Answers.{fedUnder}
 
 -- ---- what a caller of `mark_tests::judge` knows in each arm
@@ -73,27 +73,36 @@ leave-out-8 key pos file ts us vs x y =
     ∙ skip (ts ++ us) vs MarkNotReduced x y
     ∙ ap (λ (l : List Test). firstOf l x y) (append-assoc ts us vs)
 
-pub begins : (key : ℕ) → accepted key ≡ true → begin (keyOf key) ≡ Done (markOf key [])
+pub begins : BeginsTrue
 unfolding begin
 begins key a =
     opened-first (open-accepted key a) [] tt (markOf (polynomialOf (keyOf key)) [])
     ∙ ap (λ (q : ℕ). Done (markOf q [])) (whole-key key (accepted-pos key a))
 
+pub empty-is-one : EmptyIsOne
+unfolding markOf
+empty-is-one key a = ap (λ (m : Mark). m .fingerprint) (empty-mark key (accepted-iff key .0 a .2 .proper))
+
 -- ---- the house key's constant words
 
 -- under the house key no test of key and words holds
-pub house-first : {x : Key} {p : Modulus} → Opened x p → polynomialOf x ≡ houseKey → (m : Mark) (part : Part)
+pub house-clear : {x : Key} {p : Modulus} → Opened x p → polynomialOf x ≡ houseKey → (m : Mark) (part : Part)
     → feedHouse x m part ≡ firstOf (feedTests (polynomialOf x) m part) m (fedMark (polynomialOf x) m part)
 unfolding feedHouse feedTable
-house-first {x} h e m part =
+house-clear {x} h e m part =
     let key = polynomialOf x in
     opened-first h (tableTests key houseWords ++ feedTests key m part) m (fedMark key m part)
     ∙ more-clear (tableTests key houseWords) (feedTests key m part) m (fedMark key m part) (clear-table houseWords key (ap table (sym e)))
 
+pub house-first : HouseFirst
+house-first m part =
+    let e = whole-key houseKey (accepted-pos houseKey house-accepted) in
+    house-clear (open-accepted houseKey house-accepted) e m part ∙ ap (λ (q : ℕ). firstOf (feedTests q m part) m (fedMark q m part)) e
+
 -- so feeding by the house key's words, under that key, is feeding by bits
-pub house-bits : (m : Mark) (part : Part) → feedHouse (keyOf houseKey) m part ≡ feedBits (keyOf houseKey) m part
+pub house-bits : HouseBits
 unfolding feedBits
 house-bits m part =
     let h = open-accepted houseKey house-accepted in
     let key = polynomialOf (keyOf houseKey) in
-    house-first h (whole-key houseKey (accepted-pos houseKey house-accepted)) m part ∙ sym (opened-first h (feedTests key m part) m (fedMark key m part))
+    house-clear h (whole-key houseKey (accepted-pos houseKey house-accepted)) m part ∙ sym (opened-first h (feedTests key m part) m (fedMark key m part))

@@ -1,14 +1,16 @@
 -- Beginning a mark and feeding it, by bits and by tables (document 01, "Marks", "Tables"; parts: document 02, wish 7): each call is its
 -- tests, in the order of their numbers, and its value. A key is handed in as x; all but its own tests go by its polynomial.
+use mathlib.Core.Path.{_≡_}
+use mathlib.Core.Bool.{true}
 use mathlib.Core.List.{List, [], _++_}
 use Prim.Native.Nat.{ℕ}
-use Rattle.refusals.specs.Refusals.{Answer, firstOf}
+use Rattle.refusals.specs.Refusals.{Answer, Done, firstOf}
 use Rattle.acceptance.specs.declared.Key.{Key}
-use Rattle.acceptance.specs.Keys.{polynomialOf, keyTests}
+use Rattle.acceptance.specs.Keys.{accepted, polynomialOf, keyOf, keyTests}
 use Rattle.table_tests.specs.TableTests.{tableTests}
-use Rattle.house.specs.House.{houseWords}
+use Rattle.house.specs.House.{houseKey, houseWords}
 use Rattle.files.specs.declared.Mark.{Mark}
-use Rattle.files.specs.Files.{markOf, Part, fedMark}
+use Rattle.files.specs.Files.{fingerprint, markOf, Part, fedMark}
 use Rattle.mark_tests.specs.MarkTests.{feedTests}
 
 -- the mark of the empty file
@@ -27,3 +29,21 @@ feedTable x m words part =
 -- under the house key's constant words: feeding by them, whatever the key
 unfoldable pub feedHouse : Key → Mark → Part → Answer Mark Mark
 feedHouse x m part = feedTable x m houseWords part
+
+-- ---- claims
+
+-- beginning gives the mark of the empty file, whose fingerprint is 1
+abbrev pub BeginsTrue : Type 0
+BeginsTrue = (key : ℕ) → accepted key ≡ true → begin (keyOf key) ≡ Done (markOf key [])
+
+-- "The empty file has fingerprint 1."
+abbrev pub EmptyIsOne : Type 0
+EmptyIsOne = (key : ℕ) → accepted key ≡ true → fingerprint key [] ≡ 1
+
+-- under the house key no number of key and words can apply to feeding by its words,
+abbrev pub HouseFirst : Type 0
+HouseFirst = (m : Mark) (part : Part) → feedHouse (keyOf houseKey) m part ≡ firstOf (feedTests houseKey m part) m (fedMark houseKey m part)
+
+-- which then is feeding by bits
+abbrev pub HouseBits : Type 0
+HouseBits = (m : Mark) (part : Part) → feedHouse (keyOf houseKey) m part ≡ feedBits (keyOf houseKey) m part

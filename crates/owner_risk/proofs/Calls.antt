@@ -5,8 +5,8 @@ use Rattle.lists.proofs.Lists.{rising}
 use Rattle.refusals.proofs.Laws.{gives-lowest}
 use Rattle.acceptance.specs.Keys.{keyOf}
 use Rattle.draw.specs.Drawing.{drawnKey, draw}
-use Rattle.owner_risk.specs.Calls.{EachCall}
+use Rattle.owner_risk.specs.Calls.{CallLowest}
 
-pub each-call : (k e : ℕ) → EachCall k e
+pub each-call : CallLowest
 unfolding draw rising
 each-call k e = record { draw-key = gives-lowest tt (keyOf (drawnKey k e)) refl refl tt }

@@ -7,3 +7,7 @@ use Rattle.draw.specs.Drawing.{drawTests, draw}
 
 pub record EachCall (k e : ℕ) : Type 0 where
   pub draw-key : GivesLowest (3 ∷ 4 ∷ []) (drawTests k e) (draw k e)
+
+-- whatever is handed in
+abbrev pub CallLowest : Type 0
+CallLowest = (k e : ℕ) → EachCall k e

@@ -13,7 +13,7 @@ use Rattle.refusals.specs.Refusals.{Done}
 use Rattle.acceptance.specs.Keys.{accepted, keyOf}
 use Rattle.files.specs.Files.{Bits}
 use Rattle.files.specs.Bursts.{Burst}
-use Rattle.lists.specs.Inner.{among}
+use Rattle.lists.specs.Members.{among}
 use Rattle.lists.specs.Counts.{countFrom}
 use Rattle.book.specs.Confusions.{Routes, Confuses, confused}
 use Rattle.stock.specs.Stock.{stockKey}

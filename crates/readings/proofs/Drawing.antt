@@ -9,7 +9,7 @@ use Rattle.stock.specs.Stock.{stockKey}
 use Rattle.stock.proofs.Sieve.{left}
 use Rattle.stock.proofs.Table.{divisors, stock-whole, entry-word}
 use Rattle.fields.specs.Fields.{terms, compose, at}
-use Rattle.lists.specs.Inner.{among}
+use Rattle.lists.specs.Members.{among}
 use Rattle.draw.specs.Drawing.{draw}
 use Rattle.draw.proofs.Fairness.{key-only}
 

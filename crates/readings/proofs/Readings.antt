@@ -3,7 +3,7 @@ use mathlib.Core.Path.{_≡_, refl}
 use mathlib.Core.Bool.{true}
 use native.Mathlib.Omega.{arith}
 use Rattle.lists.specs.Lists.{anyBelow}
-use Rattle.lists.specs.Inner.{among}
+use Rattle.lists.specs.Members.{among}
 use Rattle.gf2.specs.Polynomials.{_⊕_, halvings, degree, monic, reduce, longDivision, rem}
 use Rattle.refusals.specs.Refusals.{Done}
 use Rattle.refusals.proofs.Laws.{clear-done}

@@ -14,9 +14,9 @@ use Rattle.compose.specs.Composing.{joinBehind, joinInFront, replacePage}
 use Rattle.search.specs.Searching.{counts, search}
 use Rattle.sheets.specs.Layout.{newest, sheetLength, pageCount, sheetBytes, contentsIn}
 use Rattle.sheets.specs.Sheets.{contentsOf, lengthFor, writeSheet, readSheet, readPages, compared, checkSheet}
-use Rattle.site_book.specs.Calls.{EachMarkCall, EachFileCall}
+use Rattle.site_book.specs.Calls.{MarkCallsLowest, FileCallsLowest}
 
-pub each-mark-call : (x : Key) (m other : Mark) (place : ℕ) (old new : Part) → EachMarkCall x m other place old new
+pub each-mark-call : MarkCallsLowest
 unfolding joinBehind joinInFront replacePage rising
 each-mark-call x m other place old new =
     record {
@@ -25,7 +25,7 @@ each-mark-call x m other place old new =
       replace-page = gives-lowest m (replaced (polynomialOf x) m place old new) refl refl tt;
     }
 
-pub each-file-call : (x : Key) (n s : ℕ) (file : Part) (text pattern sheet buffer words : List ℕ) → EachFileCall x n s file text pattern sheet buffer words
+pub each-file-call : FileCallsLowest
 unfolding search lengthFor writeSheet readSheet readPages checkSheet rising
 each-file-call x n s file text pattern sheet buffer words =
     record {

@@ -21,7 +21,7 @@ use Rattle.sheets.proofs.Routes.{written-page, written-last, read-fingerprint, 
 use Rattle.fed_parts.specs.Parts as feeds
 use Rattle.bench_book.proofs.Guarantee as bench-level
 use Rattle.site_book.specs.Book.{Call, Feeding, Behind, InFront, Page, step, bookTests, site}
-use Rattle.site_book.specs.Book.{fieldAt, Route, OfBench, ByCalls, InSheet, InPageField, ByReading, ByReadingPages}
+use Rattle.site_book.specs.Book.{fieldAt, Route, OfBench, ByCalls, InSheet, InPageField, ByReading, ByReadingPages, BenchLists}
 use Rattle.site_book.proofs.StepLaws.{keeps}
 
 -- the book's tests stand in the order of their numbers
@@ -42,7 +42,7 @@ pub lowest : Lowest site
 lowest = any-level.lowest-first site in-order
 
 -- the Bench level's lists are lists of this level, so that its `parts` holds here too
-pub bench-lists : (key : ℕ) (m : Mark) (calls : List feeds.Feed) → run (step key) m (map Feeding calls) ≡ run (feeds.step key) m calls
+pub bench-lists : BenchLists
 unfolding step
 bench-lists key m calls = run-map (feeds.step key) (step key) Feeding (λ s c. refl) m calls
 

@@ -1,5 +1,5 @@
 -- One call of the Site level beside one step of the book.
-use mathlib.Core.Path.{_≡_, sym, ap, _∙_}
+use mathlib.Core.Path.{_≡_, refl, ap, _∙_}
 use mathlib.Core.Bool.{Bool, not, _||_}
 use mathlib.Core.List.{List, [], _∷_, _++_, append-assoc}
 use Prim.Native.Nat.{ℕ, _+_, _*_, _^_, _≤_, _<_}
@@ -16,7 +16,7 @@ use Rattle.acceptance.specs.Keys.{polynomialOf, keyOf, keyTests}
 use Rattle.acceptance.proofs.Laws.{whole-key}
 use Rattle.files.specs.declared.Mark.{Mark}
 use Rattle.files.specs.Files.{fingerprint, markOf, True, unreduced, Part, partLength, partBits, misused, joined, replaced}
-use Rattle.files.proofs.Marks.{mark-eq, page, true-reduced, joined-true}
+use Rattle.files.proofs.Marks.{page, true-reduced, joined-true}
 use Rattle.files.proofs.Parts.{part-length}
 use Rattle.mark_tests.specs.MarkTests.{sumTest}
 use Rattle.marks.proofs.Laws.{leave-out-8}
@@ -67,49 +67,6 @@ module _ (key : ℕ) (pos : 0 < key) (file : List ℕ) where
       (join-tests other (markOf key file) (λ (q : ℕ). joined q other (markOf key file)))
       (λ e. ap (λ (x : Mark). joined key x (markOf key file)) (h e) ∙ joined-true pos its file)
 
-  -- a page replaced in a file that has the old one there
-  replaced-is : (place : ℕ) (old new : Part) → partLength old ≡ partLength new → 8 * place + partLength old ≤ length file
-      → take (partLength old) (drop (8 * place) file) ≡ partBits old
-      → replaced key (markOf key file) place old new ≡ markOf key (take (8 * place) file ++ partBits new ++ drop (8 * place + partLength old) file)
-  unfolding replaced markOf
-  replaced-is place old new e l t =
-      mark-eq
-      (ap (λ (n : ℕ). rem key (fingerprint key file ⊕ change * 2 ^ n)) (sym (length-drop (at + partLength old) file))
-      ∙ ap (λ (f : List ℕ). rem key (fingerprint key f ⊕ change * 2 ^ length after)) (sym whole)
-      ∙ page pos (take at file) (partBits old) (partBits new) after (part-length old ∙ e ∙ sym (part-length new)))
-      size
-    where
-      at : ℕ
-      at = 8 * place
-
-      after : List ℕ
-      after = drop (at + partLength old) file
-
-      change : ℕ
-      change = fingerprint key (partBits old) ⊕ fingerprint key (partBits new)
-
-      whole : take at file ++ partBits old ++ after ≡ file
-      whole =
-          append-assoc (take at file) (partBits old) after
-          ∙ ap (λ (r : List ℕ). take at file ++ r)
-          (ap (λ (r : List ℕ). r ++ after) (sym t)
-          ∙ ap (λ (r : List ℕ). take (partLength old) (drop at file) ++ r) (sym (drop-drop (partLength old) at file))
-          ∙ take-append-drop (partLength old) (drop at file))
-          ∙ take-append-drop at file
-
-      size : length file ≡ length (take at file ++ partBits new ++ after)
-      size =
-          omega (
-            arith,
-            length-append (take at file ++ partBits new) after,
-            length-append (take at file) (partBits new),
-            length-take-le at file (omega (arith, l)),
-            length-drop (at + partLength old) file,
-            part-length new,
-            e,
-            l,
-          )
-
   page-agrees : (place : ℕ) (old new : Part)
       → (numberOf (bookStep site key file (Page place old new)) ≡ 0 → take (partLength old) (drop (8 * place) file) ≡ partBits old)
       → Agrees key (step key (markOf key file) (Page place old new)) (bookStep site key file (Page place old new))
@@ -121,7 +78,7 @@ module _ (key : ℕ) (pos : 0 < key) (file : List ℕ) where
       (replaced q (markOf key file) place old new)) is-key
       ∙ leave-out-8 key pos file (keyTests (keyOf key)) (seven ∷ []) (nine ∷ ten ∷ nineteen ∷ []) (markOf key file)
       (replaced key (markOf key file) place old new))
-      (λ e. replaced-is place old new (same e) (inside e) (h e))
+      (λ e. page key file (markOf key file) place old new pos refl (same e) (inside e) (h e))
     where
       seven : Test
       seven = passes (length file ∷ partLength old ∷ partLength new ∷ []) ⇒ TooLong

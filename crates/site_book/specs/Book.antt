@@ -2,7 +2,7 @@
 -- and the routes to a file's fingerprint.
 use mathlib.Core.Path.{_≡_}
 use mathlib.Core.Bool.{_||_, not}
-use mathlib.Core.List.{List, [], _∷_, _++_}
+use mathlib.Core.List.{List, [], _∷_, _++_, map}
 use Prim.Native.Nat.{ℕ, _+_, _*_, _<_}
 use lib.Dec.{ltb, eqb}
 use lib.ListN.{length, getD, take, drop}
@@ -16,7 +16,7 @@ use Rattle.compose.specs.Composing.{joinBehind, joinInFront, replacePage}
 use Rattle.big_endian.specs.Numbers.{numberAt}
 use Rattle.sheets.specs.Layout.{fingerprintWidth, Layout, newest, layoutOf, pagePlace, pagesFor, Contents}
 use Rattle.sheets.specs.Sheets.{pageOf, writeSheet, readSheet, readPages, pagesNow}
-use Rattle.book.specs.Runs.{Level, Leaves}
+use Rattle.book.specs.Runs.{Level, run, Leaves}
 use Rattle.fed_parts.specs.Parts as feeds
 use Rattle.bench_book.specs.Book as bench-level
 
@@ -99,3 +99,9 @@ pub data Route (key : ℕ) (file : List ℕ) (f : ℕ) : Type 0 where
   ByReadingPages : (whole sheet words after : List ℕ) (x : Contents) (i : ℕ) → TruePages key whole sheet x → readPages sheet words ≡ Done after
       → i < length (x .pages) → i < length words
       → file ≡ pageIn (layoutOf (x .version)) (x .pageSize) whole i → getD after i 0 ≡ f → Route key file f
+
+-- ---- claims
+
+-- the Bench level's lists are lists of this level
+abbrev pub BenchLists : Type 0
+BenchLists = (key : ℕ) (m : Mark) (calls : List feeds.Feed) → run (step key) m (map Feeding calls) ≡ run (feeds.step key) m calls

@@ -28,3 +28,10 @@ pub record EachFileCall (x : Key) (n s : ℕ) (file : Part) (text pattern sheet 
   pub read-sheet : GivesFirst (14 ∷ 1 ∷ 2 ∷ 12 ∷ 14 ∷ []) (readTests layouts sheet) (readSheet sheet)
   pub read-pages : GivesFirst (14 ∷ 1 ∷ 2 ∷ 12 ∷ 14 ∷ []) (readTests layouts sheet) (readPages sheet words)
   pub check-file : GivesFirst (14 ∷ 1 ∷ 2 ∷ 12 ∷ 14 ∷ 7 ∷ 19 ∷ []) (checkTests sheet file) (checkSheet sheet file)
+
+-- whatever is handed in
+abbrev pub MarkCallsLowest : Type 0
+MarkCallsLowest = (x : Key) (m other : Mark) (place : ℕ) (old new : Part) → EachMarkCall x m other place old new
+
+abbrev pub FileCallsLowest : Type 0
+FileCallsLowest = (x : Key) (n s : ℕ) (file : Part) (text pattern sheet buffer words : List ℕ) → EachFileCall x n s file text pattern sheet buffer words

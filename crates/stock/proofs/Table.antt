@@ -10,7 +10,7 @@ use Rattle.gf2.specs.Polynomials.{monic}
 use Rattle.gf2.proofs.Degrees.{degree-is}
 use Rattle.gf2.proofs.Monics.{monic-of}
 use Rattle.acceptance.proofs.Laws.{accepted-pos}
-use Rattle.stock.specs.Stock.{stockKey, stockWord, Smallest}
+use Rattle.stock.specs.Stock.{stockKey, stockWord, Smallest, StockSmallest, StockAt64}
 use Rattle.stock.proofs.Sieve.{stockedTable, left, smallest-at}
 use Rattle.stock.proofs.Searches.{stock-is}
 
@@ -102,25 +102,28 @@ module _ (k : ℕ) (lo : 8 ≤ k) (hi : k ≤ 64) where
   entry-stock : monic k word ≡ stockKey k
   entry-stock = sym (stock-is k (monic k word) entry-smallest)
 
-  -- for each degree 8 to 64 the stock key is accepted, has that degree, and is the smallest such number
-  pub stock-smallest : Smallest k (stockKey k)
-  stock-smallest = rw entry-stock at entry-smallest
+  entry-is : Smallest k (stockKey k)
+  entry-is = rw entry-stock at entry-smallest
 
   -- the stock key is t^k and its word
   pub stock-whole : monic k (stockWord k) ≡ stockKey k
   unfolding stockWord
   stock-whole =
-      monic-of k (stockKey k) (rw (stock-smallest .of-degree) at (degree-is (stockKey k) (accepted-pos (stockKey k) (stock-smallest .is-accepted))))
+      monic-of k (stockKey k) (rw (entry-is .of-degree) at (degree-is (stockKey k) (accepted-pos (stockKey k) (entry-is .is-accepted))))
 
   pub entry-word : word ≡ stockWord k
   unfolding monic
   entry-word = omega (arith, entry-stock, stock-whole)
+
+-- for each degree 8 to 64 the stock key is accepted, has that degree, and is the smallest such number
+pub stock-smallest : StockSmallest
+stock-smallest k lo hi = entry-is k lo hi
 
 -- the house key, and the key of degree 64
 pub stock-61 : stockKey 61 ≡ 0x2000000000000027
 unfolding divisors left
 stock-61 = sym (entry-stock 61 (omega arith) (omega arith))
 
-pub stock-64 : stockKey 64 ≡ 0x1000000000000001b
+pub stock-64 : StockAt64
 unfolding divisors left
 stock-64 = sym (entry-stock 64 (omega arith) (omega arith))

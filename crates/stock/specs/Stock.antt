@@ -22,3 +22,10 @@ pub record Smallest (k p : ℕ) : Type 0 where
   pub of-degree : degree p ≡ k
   pub is-accepted : accepted p ≡ true
   pub least : (q : ℕ) → degree q ≡ k → accepted q ≡ true → p ≤ q
+
+abbrev pub StockSmallest : Type 0
+StockSmallest = (k : ℕ) → 8 ≤ k → k ≤ 64 → Smallest k (stockKey k)
+
+-- the entry that wish 8 adds
+abbrev pub StockAt64 : Type 0
+StockAt64 = stockKey 64 ≡ 0x1000000000000001B

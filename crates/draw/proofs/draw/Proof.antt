@@ -13,9 +13,9 @@ use Rattle.gf2.specs.Moduli.{Proper}
 use Rattle.refusals.specs.Refusals.{Done}
 use Rattle.acceptance.specs.declared.Key.{Key}
 use Rattle.acceptance.specs.Keys.{keyOf}
-use Rattle.lists.specs.Inner.{among}
+use Rattle.lists.specs.Members.{among}
 use Rattle.lists.proofs.Truth.{or-neither}
-use Rattle.fields.specs.Fields.{Field}
+use Rattle.fields.specs.Primes.{Field}
 use Rattle.stock.specs.Stock.{stockKey, stockWord}
 use Rattle.stock.proofs.Table.{stock-whole}
 use Rattle.draw.specs.Drawing.{degrees, drawn, drawnKey, draw}

@@ -6,7 +6,7 @@ use native.Mathlib.Omega.{arith}
 use lib.Pow.{pow-lt}
 use borrow.Author.Needs.{needs}
 use Rattle.gf2.specs.Polynomials.{_⊗_, rem}
-use Rattle.gf2.specs.Degrees.{_⊗^_}
+use Rattle.gf2.specs.Powers.{_⊗^_}
 use Rattle.gf2.specs.Moduli.{polynomial}
 use Rattle.gf2.proofs.Products.{⊗-pow}
 use Rattle.gf2.proofs.Powers.{pow-t}

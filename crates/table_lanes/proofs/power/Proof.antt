@@ -5,7 +5,7 @@ use native.Mathlib.Nat.{add-zero, div-one}
 use native.Mathlib.Omega.{arith}
 use lib.Pow.{pow-lt}
 use Rattle.gf2.specs.Polynomials.{_⊗_, degree, rem}
-use Rattle.gf2.specs.Degrees.{_⊗^_}
+use Rattle.gf2.specs.Powers.{_⊗^_}
 use Rattle.gf2.specs.Moduli.{polynomial}
 use Rattle.gf2.proofs.Products.{⊗-pow}
 use Rattle.gf2.proofs.Powers.{pow-word}

@@ -6,7 +6,7 @@ use Rattle.acceptance.specs.Keys.{asModulus}
 use Rattle.files.specs.Files.{asPart}
 use Rattle.house.proofs.House.{house-polynomial, house-opened}
 use Rattle.marks.specs.Answers.{markIn, fedUnder}
-use Rattle.marks.proofs.Laws.{house-first}
+use Rattle.marks.proofs.Laws.{house-clear}
 use Rattle.marks.proofs.Running.feed_house.Statement.{statement}
 use Rattle.marks.proofs.Running.feed_house.Tie as tie
 
@@ -31,7 +31,7 @@ returns c =
     let key = s .args .self .key in
     let h = house (c .before) in
     c .feed-alone .ensures
-    ∙ sym (ap (fedUnder key) (house-first (opened-house (c .before)) (house-polynomial key (h .0) (h .1)) (markIn (s .args .self))
+    ∙ sym (ap (fedUnder key) (house-clear (opened-house (c .before)) (house-polynomial key (h .0) (h .1)) (markIn (s .args .self))
     (asPart (s .args .part .now) (s .args .used))))
 
 pub feed-house-spec : {M : Type 1} → statement M
