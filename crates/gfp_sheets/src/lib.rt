@@ -118,24 +118,22 @@ pub extern "C" fn gfp_check_file(
         ≡ valueOr (now (outcome .entry) ∷ now (page .entry) ∷ []) (mapped outcomeIn (checkSheet (now (sheet .entry)) (asPart (now (file .entry)) used))))
         ⌝ }
 {
-    match sheet_checking::check(sheet, file, used) {
-        Checked::Same => {
+    let answer = sheet_checking::check(sheet, file, used);
+    let Checked::Page(i) = answer else {
+        if let Checked::Refused(r) = answer {
+            return refusals::number(r);
+        }
+        *page = 0;
+        if let Checked::Same = answer {
             *outcome = 0;
-            *page = 0;
-            0
+            return 0;
         }
-        Checked::Page(i) => {
-            *outcome = 1;
-            *page = i;
-            0
-        }
-        Checked::OtherLength => {
-            *outcome = 2;
-            *page = 0;
-            0
-        }
-        Checked::Refused(r) => refusals::number(r),
-    }
+        *outcome = 2;
+        return 0;
+    };
+    *outcome = 1;
+    *page = i;
+    0
 }
 
 // The bytes of the first changed page of a file, from the first to before the last: outcome 0 for same, 1 for a page, 2 for another length;

@@ -1,4 +1,5 @@
--- Lists of calls with the book beside them, each kind of call refused and not: the claims of Guarantee.antt are not empty.
+-- Lists of calls with the book beside them, each kind of call refused and not, and a route of each kind: the claims of Guarantee.antt are
+-- not empty.
 use mathlib.Core.Path.{_≡_, refl, sym, ap, ap₂, _∙_}
 use mathlib.Core.Bool.{true, false}
 use mathlib.Core.List.{List, [], _∷_, _++_, append-nil}
@@ -17,7 +18,7 @@ use Rattle.files.proofs.Marks.{empty-mark}
 use Rattle.files.proofs.Parts.{whole-long}
 use Rattle.acceptance.proofs.Opened.{open-accepted, opened-first}
 use Rattle.mark_tests.specs.MarkTests.{sumTest}
-use Rattle.marks.specs.Feeding.{feedBits}
+use Rattle.marks.specs.Feeding.{begin, feedBits}
 use Rattle.lookups.specs.Rule.{word, differs}
 use Rattle.printing.specs.Printing.{ascii}
 use Rattle.printing.proofs.Readings.{example-line, example-report}
@@ -28,7 +29,7 @@ use Rattle.book.specs.Runs.{bookStep, run, Honest}
 use Rattle.book.specs.Confusions.{Confuses}
 use Rattle.fed_parts.specs.Parts.{Feed, ByBits, ByTable, step, AllUsable}
 use Rattle.fed_parts.proofs.Parts.{parts, cut-anywhere}
-use Rattle.bench_book.specs.Book.{bookTests, bench, Route, Printed}
+use Rattle.bench_book.specs.Book.{bookTests, bench, Route, ByCalls, Beginning, Printed}
 use Rattle.bench_book.proofs.StepLaws.{taken}
 use Rattle.bench_book.proofs.Guarantee.{lists, reaches}
 
@@ -200,7 +201,24 @@ module _ (key : ℕ) (a : accepted key ≡ true) (file : List ℕ) (full : lengt
   unfolding misused partBits partLength bits
   none-more = taken key a file (ByBits (whole [])) refl (omega (arith, full)) ∙ ap Done (append-nil file)
 
--- ---- the printing program: document 01's example
+-- ---- a route of each kind: the list above, the beginning of a mark, and the printing program on document 01's example
+
+pub by-calls : Route 0x11B (bits (0x41 ∷ 0x42 ∷ [])) 0x9D
+by-calls =
+    ByCalls
+    (record {
+      first = [];
+      mark = begun;
+      calls = calls;
+      begins = sym (empty-mark 0x11B (omega arith));
+      honest = the-list-is-honest;
+      ends = ap (λ (x : List ℕ × List ℕ). x .0) the-book;
+      leaves = ap (λ (x : Mark × List ℕ). x .0 .fingerprint) the-list;
+    })
+
+pub beginning : Route 0x11B [] 0x01
+unfolding begin markOf fingerprint value valueFrom monic reducible anyBelow rem longDivision reduce degree halvings _⊕_
+beginning = Beginning refl refl
 
 pub printed-9D : Route 0x11B (bits (0x41 ∷ 0x42 ∷ [])) 0x9D
 unfolding ascii bits lowBits

@@ -1,16 +1,19 @@
 -- Lists of calls under the key 0x11B, from the empty file, with the book beside them: each kind of call refused and not. And a route
 -- of each kind. So the claims of Guarantee.antt are not empty.
-use mathlib.Core.Path.{_≡_, refl, subst, _∙_}
+use mathlib.Core.Path.{_≡_, refl, sym, ap, subst, _∙_}
+use mathlib.Core.Bool.{true}
 use mathlib.Core.List.{List, [], _∷_, _++_, map, zipWith, flatten}
-use Prim.Native.Nat.{ℕ}
+use Prim.Native.Nat.{ℕ, _%_, _≤_}
 use native.Mathlib.Omega.{arith}
 use lib.Dec.{ltb, ltb→lt}
 use lib.ListN.{length, take, replicate}
 use Rattle.refusals.specs.Refusals.{Done}
 use Rattle.big_endian.specs.Numbers.{bytesOf, fieldsOf, numberAt, numbersAt, bytesIn}
-use Rattle.sheets.specs.Layout.{version1, version4, newest, known, layoutAmong, sheetBytes, contentsIn}
+use Rattle.sheets.specs.Layout.{version1, version4, newest, layouts, known, layoutAmong, sheetBytes, contentsIn}
 use Rattle.sheets.specs.Layout.{sheetLength, pagesFor, keyNumber, keyFrom}
 use Rattle.sheets.specs.Sheets.{filled, pageFingerprints, contentsOf, writeSheet, joinedPages, someUnreduced, readSheet, readPages}
+use Rattle.sheets.specs.Claims.{highest, Holds}
+use Rattle.sheets.proofs.Versions.{of-each}
 use Rattle.sheets.proofs.Guarantee.{written-reads}
 use Rattle.lists.proofs.Lists.{all-map, every, all-by-test}
 use Rattle.gf2.specs.Polynomials.{_⊕_, halvings, degree, monic, reduce, longDivision, rem}
@@ -19,6 +22,7 @@ use Rattle.acceptance.specs.Keys.{reducible, keyOf}
 use Rattle.files.specs.declared.Mark.{Mark}
 use Rattle.files.specs.Files.{lowBits, bits, valueFrom, value, fingerprint, markOf, asPart, whole, usedBits, partLength, partBits, misused}
 use Rattle.files.specs.Files.{fedMark, joined, replaced}
+use Rattle.files.proofs.Marks.{empty-mark}
 use Rattle.files.proofs.Parts.{whole-bits}
 use Rattle.lookups.specs.Rule.{differs}
 use Rattle.marks.specs.Feeding.{feedBits, feedTable}
@@ -29,7 +33,7 @@ use Rattle.fed_parts.specs.Parts as feeds
 use Rattle.bench_book.specs.Book as bench-level
 use Rattle.level_examples.proofs.Bench as bench-examples
 use Rattle.site_book.specs.Book.{Call, Feeding, Behind, InFront, Page, step, bookTests, written, site}
-use Rattle.site_book.specs.Book.{TruePages, Route, OfBench, InSheet, InPageField, ByReading, ByReadingPages}
+use Rattle.site_book.specs.Book.{TruePages, Route, OfBench, ByCalls, InSheet, InPageField, ByReading, ByReadingPages}
 use Rattle.site_book.proofs.Guarantee.{bench-lists}
 
 abbrev mark : ℕ → ℕ → Mark
@@ -104,6 +108,24 @@ unfolding replacePage replaced monic reducible anyBelow fingerprint value valueF
     rem longDivision reduce degree halvings _⊕_
 three-bits = refl
 
+-- ---- routes: the list above; and the beginning of a mark, which is one of the Bench level's
+
+pub by-calls : Route 0x11B (bits (0x41 ∷ 0x00 ∷ 0x00 ∷ [])) (fingerprint 0x11B (bits (0x41 ∷ 0x00 ∷ 0x00 ∷ [])))
+by-calls =
+    ByCalls
+    (record {
+      first = [];
+      mark = mark 0x01 0;
+      calls = calls;
+      begins = sym (empty-mark 0x11B (omega arith));
+      honest = the-list-is-honest;
+      ends = ap (λ (x : List ℕ × List ℕ). x .0) the-book;
+      leaves = ap (λ (x : Mark × List ℕ). x .0 .fingerprint) the-list;
+    })
+
+pub beginning : Route 0x11B [] 0x01
+beginning = OfBench bench-examples.beginning
+
 -- ---- routes through the sheets of the file 41 42, with pages of 16 bytes: its one page is not whole
 
 abbrev two : List ℕ
@@ -118,6 +140,19 @@ pairField = 0x08 ∷ field 0x1B
 
 abbrev keyField : List ℕ
 keyField = 0x00 ∷ 0x00 ∷ 0x00 ∷ 0x00 ∷ 0x00 ∷ 0x00 ∷ 0x01 ∷ 0x1B ∷ []
+
+-- the premises of what is claimed of the sheet of a file in each version
+pub two-held : (version : ℕ) → known layouts version ≡ true → Holds version 0x11B 16 two
+unfolding bits lowBits degree halvings
+two-held version known =
+    record {
+      is-known = known;
+      is-accepted = bench-examples.accepted-11B;
+      has-room = of-each (λ v. degree 0x11B ≤ highest v) (omega arith) (omega arith) (omega arith) (omega arith) version;
+      within = omega arith;
+      whole = of-each (λ v. length two % v .lengthUnit ≡ 0) refl refl refl refl version;
+      page-size = (omega arith, omega arith);
+    }
 
 -- what is written: version 4, the length in bits, the page as it is. 40 bytes.
 sheet : List ℕ

@@ -14,23 +14,23 @@ use Rattle.lists.proofs.Lists.{all-take, all-drop}
 use Rattle.gf2.specs.Polynomials.{rem, degree}
 use Rattle.gf2.proofs.Congruences.{shift-cancels}
 use Rattle.refusals.specs.Refusals.{Done, longest}
-use Rattle.refusals.proofs.Laws.{done-eq}
+use Rattle.refusals.proofs.Laws.{done-clear, done-eq}
 use Rattle.acceptance.specs.Keys.{accepted, polynomialOf, keyOf}
-use Rattle.acceptance.proofs.Laws.{accepted-iff, accepted-pos, accepted-range, whole-key}
-use Rattle.files.specs.Files.{fingerprint, markOf, Bits, Part, partBits, misused}
+use Rattle.acceptance.proofs.Laws.{accepted-iff, accepted-pos, whole-key}
+use Rattle.files.specs.Files.{fingerprint, markOf, Bits, partBits}
 use Rattle.files.specs.Bursts.{Burst}
 use Rattle.files.proofs.Confusions.{burst-differs}
 use Rattle.files.proofs.Bursts.{part-burst}
 use Rattle.files.proofs.Parts.{part-bits-are}
-use Rattle.sheets.specs.Layout.{Layout, layoutOf, pageCount, pagesFor, Contents, sheetBytes}
-use Rattle.sheets.specs.Sheets.{filled, pageOf, pageFingerprints, contentsOf, joinedPages, Same, pagesNow, compared, checkSheet}
+use Rattle.sheets.specs.Layout.{Layout, layoutOf, pageCount, pagesFor, Contents, sheetBytes, contentsIn}
+use Rattle.sheets.specs.Sheets.{filled, pageOf, pageFingerprints, contentsOf, joinedPages, Same, pagesNow, compared, checkTests, checkSheet}
 use Rattle.sheets.specs.Inner.{zerosBehind}
-use Rattle.sheets.specs.Claims.{SoundContents, WellFormed, First, FirstAltered, SomeAltered, BurstFound, NoBurstSame}
+use Rattle.sheets.specs.Claims.{SoundContents, First, SameFingerprint, FirstAltered, SomeAltered, BurstFound, NoBurstSame}
 use Rattle.sheets.proofs.Keys.{key-pos}
 use Rattle.sheets.proofs.Pages.{pages-count, count-le, length-pages, page-at, fingerprint-lt, with-zeros, pages-joined-print, zeros-are}
-use Rattle.sheets.proofs.Sound.{file-sound}
+use Rattle.sheets.proofs.Sound.{formed, holds-sound}
 use Rattle.sheets.proofs.Changes.{not-same, other-not-same}
-use Rattle.sheets.proofs.Guarantee.{checks, other-length, page-iff, same-iff}
+use Rattle.sheets.proofs.Guarantee.{contents-back, checks, other-length, page-iff, same-iff}
 
 -- ---- a comparison that says same
 
@@ -80,11 +80,12 @@ module _ (x : Contents) (sound : SoundContents x) (file : List ℕ) (says : comp
       some = omega (arith, sound .pageSize .0)
 
 -- so where a check says same, the file's fingerprint is the sheet's
-pub same-fingerprint : (sheet : List ℕ) (w : WellFormed sheet) (file : Part) → length (partBits file) ≤ longest → misused file ≡ false
-    → checkSheet sheet file ≡ Done Same → fingerprint (polynomialOf (w .contents .key)) (partBits file) ≡ w .contents .fingerprint
-same-fingerprint sheet w file fits used same =
+pub same-fingerprint : SameFingerprint
+unfolding checkSheet
+same-fingerprint sheet w file same =
     told-fingerprint (w .contents) (w .sound) (partBits file)
-    (done-eq (compared (w .contents) (partBits file)) Same (sym (checks sheet w file fits used) ∙ same))
+    (ap (λ (x : Contents). compared x (partBits file)) (sym (contents-back sheet w))
+    ∙ done-clear (checkTests sheet file) tt (compared (contentsIn sheet) (partBits file)) Same same .1)
 
 -- ---- the first page that differs
 
@@ -185,16 +186,18 @@ module _ (v : Layout) (key s : ℕ) (a b : List ℕ) (acc : accepted key ≡ tru
 -- it is found on the first page that it alters
 pub burst-found : BurstFound
 unfolding contentsOf
-burst-found version key s a part kn acc held n u lo hi ha used burst i f =
+burst-found version key s a part h ha used burst i f =
     let b = partBits part in
     let v = layoutOf version in
     let x = contentsOf version (keyOf key) s a in
+    let acc = h .is-accepted in
     let whole : polynomialOf (keyOf key) ≡ key = whole-key key (accepted-pos key acc) in
-    let sound = file-sound version (keyOf key) s a kn (accepted-range key acc) (ap accepted whole ∙ acc) held n u lo hi in
-    let w : WellFormed (sheetBytes x) = record { contents = x; sound = sound; bytes = refl } in
+    let sound = holds-sound version key s a h in
+    let some : 0 < s = omega (arith, h .page-size .0) in
+    let fits : length b ≤ longest = omega (arith, burst .same-length, h .within) in
     let c = pagesFor s (length a) in
-    let first = first-differs v key (8 * s) a b acc (omega arith) ha (part-bits-are part) burst i f c (pages-count s (length a) (omega arith)) in
-    checks (sheetBytes x) w part (omega (arith, burst .same-length)) used
+    let first = first-differs v key (8 * s) a b acc (omega arith) ha (part-bits-are part) burst i f c (pages-count s (length a) some) in
+    checks (sheetBytes x) (formed x sound) part fits used
     ∙ ap Done
     (page-iff x sound b (sym (burst .same-length)) i .1
     (rw whole
@@ -202,6 +205,6 @@ burst-found version key s a part kn acc held n u lo hi ha used burst i f =
 
 -- so no file that differs inside k neighbouring bits is told as the same
 pub no-burst-same : NoBurstSame
-no-burst-same version key s a b kn acc held n u lo hi ha used burst ne same =
-    let r = some-altered (8 * s) a (partBits b) (omega arith) (burst .same-length) ne in
-    not-same (done-eq _ _ (sym (burst-found version key s a b kn acc held n u lo hi ha used burst (r .0) (r .1)) ∙ same))
+no-burst-same version key s a b h ha used burst ne same =
+    let r = some-altered (8 * s) a (partBits b) (omega (arith, h .page-size .0)) (burst .same-length) ne in
+    not-same (done-eq _ _ (sym (burst-found version key s a b h ha used burst (r .0) (r .1)) ∙ same))

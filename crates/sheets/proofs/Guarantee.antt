@@ -20,28 +20,28 @@ use Rattle.refusals.specs.Refusals.{Done, _⇒_, passes, longest}
 use Rattle.refusals.proofs.Laws.{Clear, clear-done, clear-append, done-clear}
 use Rattle.lists.proofs.Truth.{or-neither}
 use Rattle.acceptance.specs.declared.Key.{Key}
-use Rattle.acceptance.specs.Keys.{polynomialOf}
+use Rattle.acceptance.specs.Keys.{polynomialOf, keyOf}
 use Rattle.acceptance.proofs.Laws.{in-range, key-iff}
 use Rattle.big_endian.specs.Numbers.{numberAt}
 use Rattle.sheets.specs.Layout.{versionIn, fingerprintWidth, Layout, version1, version2, version3, newest, layouts, known, layoutOf}
 use Rattle.sheets.specs.Layout.{pagePlace, sheetLength, pageCount, pagesFor, Contents, sheetBytes, contentsIn}
 use Rattle.sheets.specs.Sheets.{pageFingerprints, contentsOf, joinedPages, writeTests, writeSheet, readTests, readSheet, readPages, Page}
-use Rattle.sheets.specs.Claims.{highest, SoundContents, WellFormed, First, ReadIff, OtherVersion, PagesGiven, WrittenReads, WrittenFingerprint}
-use Rattle.sheets.specs.Claims.{OlderRefuses}
-use Rattle.sheets.specs.Claims.{Checks, OtherLengthTold, PagesGiveFile, OwnCompared, FilledCompared, PageIff, SameIff}
+use Rattle.sheets.specs.Claims.{highest, SoundContents, WellFormed, Reads, ReadIff, FileReads, OtherVersion, PagesGiven, PagesGiveFile, OwnCompared}
+use Rattle.sheets.specs.Claims.{FilledCompared, WrittenReads, WrittenFingerprint, OlderRefuses, Checks, OtherLengthTold, First, PageIff, SameIff}
+use Rattle.sheets.specs.Claims.{UnchangedSame}
 use Rattle.sheets.specs.Inner.{zerosBehind}
 use Rattle.sheets.specs.Sheets.{firstChange, pagesNow, compared, checkTests, checkSheet}
 use Rattle.sheets.proofs.Keys.{key-pos}
 use Rattle.sheets.proofs.Versions.{newest-is, newest-known}
 use Rattle.sheets.proofs.Layouts.{length-sheet, fingerprint-back, version-back}
 use Rattle.sheets.proofs.Pages.{pages-count, length-pages, own-joined, joined-length, zeros-are}
-use Rattle.sheets.proofs.Sound.{size-bounds, sound-fits, sound-back, sound-clear, clear-sound, file-sound}
+use Rattle.sheets.proofs.Sound.{size-bounds, sound-fits, sound-back, sound-clear, clear-sound, formed, file-sound, holds-sound}
 use Rattle.sheets.proofs.Changes.{same-equal, equal-same, page-first, first-page}
 
 -- ---- reading
 
 -- a well-formed sheet is read, as the numbers that it is made of
-pub reads : (sheet : List ℕ) (w : WellFormed sheet) → readSheet sheet ≡ Done (w .contents)
+pub reads : Reads
 unfolding readSheet
 reads sheet w =
     rw (w .bytes)
@@ -60,11 +60,17 @@ read-iff sheet b = (there, back)
     back : WellFormed sheet → readSheet sheet ≡ Done (contentsIn sheet)
     back w = clear-done (readTests layouts sheet) tt (contentsIn sheet) (rw (← (w .bytes)) at (sound-clear (w .contents) (w .sound)))
 
+-- in each version, the sheet of a file reads as its numbers
+pub file-reads : FileReads
+file-reads version key s file h =
+    let x = contentsOf version (keyOf key) s file in
+    reads (sheetBytes x) (formed x (holds-sound version key s file h))
+
 -- a sheet of a version that the reader's list has not is refused with 14
 pub other-version : OtherVersion
 other-version vs sheet x e = rw (e, or-true)
 
-contents-back : (sheet : List ℕ) (w : WellFormed sheet) → contentsIn sheet ≡ w .contents
+pub contents-back : (sheet : List ℕ) (w : WellFormed sheet) → contentsIn sheet ≡ w .contents
 contents-back sheet w = ap contentsIn (w .bytes) ∙ sound-back (w .contents) (w .sound)
 
 -- the page fingerprints of a well-formed sheet are given in lent words
@@ -78,11 +84,11 @@ pages-given sheet w words =
 
 pub pages-give-file : PagesGiveFile
 unfolding contentsOf
-pages-give-file x s file some =
+pages-give-file version x s file f some =
     let key = polynomialOf x in
-    let v = layoutOf (newest .version) in
+    let v = layoutOf version in
     ap (λ (c : ℕ). joinedPages v key (8 * s) (length file) (markOf key []) (pageFingerprints v key (8 * s) c file)) (pages-count s (length file) some)
-    ∙ own-joined (key-pos x) v (ap (λ (v : Layout). v .filled) newest-is) (8 * s) file (omega arith)
+    ∙ own-joined (key-pos x) v f (8 * s) file (omega arith)
 
 pub own-compared : OwnCompared
 own-compared x f some count small =
@@ -161,7 +167,7 @@ pub written-reads : WrittenReads
 written-reads x s part buffer after done =
     let y = contentsOf (newest .version) x s (partBits part) in
     rw (written-bytes x s part buffer after done)
-    (reads (sheetBytes y) (record { contents = y; sound = sound x s part buffer after done; bytes = refl }))
+    (reads (sheetBytes y) (formed y (sound x s part buffer after done)))
 
 pub written-fingerprint : WrittenFingerprint
 unfolding contentsOf
@@ -225,3 +231,12 @@ same-iff x sound file e = (
   λ h. same-equal 0 (x .pages) (pagesNow x file) (as-many x sound file e) (sym (by-pages x sound file e) ∙ h),
   λ h. by-pages x sound file e ∙ equal-same 0 (x .pages) (pagesNow x file) h,
 )
+
+-- an unchanged file is told as the same
+pub unchanged-same : UnchangedSame
+unfolding contentsOf
+unchanged-same version key s part h used =
+    let file = partBits part in
+    let x = contentsOf version (keyOf key) s file in
+    let sound = holds-sound version key s file h in
+    checks (sheetBytes x) (formed x sound) part (h .within) used ∙ ap Done (same-iff x sound file refl .1 refl)

@@ -8,4 +8,5 @@ pub mod Changes
 pub mod Guarantee
 pub mod Damages
 pub mod Known
+pub mod Answers
 pub mod Routes

@@ -15,15 +15,15 @@ use Rattle.lists.proofs.Lists.{all-map}
 use Rattle.refusals.specs.Refusals.{longest}
 use Rattle.refusals.proofs.Laws.{Clear}
 use Rattle.acceptance.specs.declared.Key.{Key}
-use Rattle.acceptance.specs.Keys.{accepted, polynomialOf, outside}
+use Rattle.acceptance.specs.Keys.{accepted, polynomialOf, keyOf, outside}
 use Rattle.lists.proofs.Truth.{or-neither}
-use Rattle.acceptance.proofs.Laws.{accepted-iff, range-key, key-iff}
+use Rattle.acceptance.proofs.Laws.{accepted-iff, accepted-pos, accepted-range, range-key, whole-key, key-iff}
 use Rattle.files.specs.Files.{Bytes, fingerprint, markOf}
 use Rattle.big_endian.specs.Numbers.{numberAt}
 use Rattle.sheets.specs.Layout.{letters, lettersWidth, versionIn, fingerprintWidth, Layout, layouts, known, layoutOf}
 use Rattle.sheets.specs.Layout.{pagePlace, sheetLength, pagesFor, Contents, sheetBytes, fieldIn, keyIn, lengthIn, pagesIn, contentsIn}
 use Rattle.sheets.specs.Sheets.{pageFingerprints, contentsOf, joinedPages, someUnreduced, pagesJoined, fileFilled, headWrong, readTests}
-use Rattle.sheets.specs.Claims.{highest, SoundContents, WellFormed}
+use Rattle.sheets.specs.Claims.{highest, SoundContents, WellFormed, Holds}
 use Rattle.big_endian.proofs.Numbers.{number-lt, length-numbersAt}
 use Rattle.sheets.proofs.Keys.{key-pos, keyWidth, key-narrow, key-fits, key-back, number-back, degree-held}
 use Rattle.sheets.proofs.Versions.{widths-are, three-wide, unit-some, length-fits, length-from, least-needed, known-small}
@@ -212,6 +212,10 @@ module _ (sheet : List ℕ) (c : Clear (readTests layouts sheet)) where
             (number-back (v .paired) (fieldIn v 2 sheet) in-range));
       }
 
+-- the bytes of sound numbers
+abbrev pub formed : (x : Contents) → SoundContents x → WellFormed (sheetBytes x)
+formed x h = record { contents = x; sound = h; bytes = refl }
+
 -- ---- the numbers of a file's sheet are sound
 
 pub file-sound : (version : ℕ) (x : Key) (s : ℕ) (file : List ℕ) → known layouts version ≡ true
@@ -242,3 +246,9 @@ file-sound version x s file v r a d n u lo hi =
           ∙ pages-joined-print pos l (8 * s) file (omega arith)
           ∙ ap (λ (m : ℕ). rem key (fingerprint key file * 2 ^ m)) (sym (zeros-are l key (8 * s) (length file) _ (omega arith) (c ∙ e)));
     }
+
+pub holds-sound : (version key s : ℕ) (file : List ℕ) → Holds version key s file → SoundContents (contentsOf version (keyOf key) s file)
+holds-sound version key s file h =
+    file-sound version (keyOf key) s file (h .is-known) (accepted-range key (h .is-accepted))
+    (ap accepted (whole-key key (accepted-pos key (h .is-accepted))) ∙ h .is-accepted)
+    (h .has-room) (h .within) (h .whole) (h .page-size .0) (h .page-size .1)

@@ -52,9 +52,28 @@ pub record WellFormed (sheet : List ℕ) : Type 0 where
   pub sound : SoundContents contents
   pub bytes : sheet ≡ sheetBytes contents
 
+-- what is read of a sheet is the numbers that it is made of
+abbrev pub Reads : Type 0
+Reads = (sheet : List ℕ) (w : WellFormed sheet) → readSheet sheet ≡ Done (w .contents)
+
 -- bytes are read exactly where they are a sheet
 abbrev pub ReadIff : Type 0
 ReadIff = (sheet : List ℕ) → Bytes sheet → (readSheet sheet ≡ Done (contentsIn sheet)) ↔ WellFormed sheet
+
+-- a version that is read, with room for a key and for a file's length, and a page size that is not refused
+pub record Holds (version key size : ℕ) (file : List ℕ) : Type 0 where
+  pub is-known : known layouts version ≡ true
+  pub is-accepted : accepted key ≡ true
+  pub has-room : degree key ≤ highest (layoutOf version)
+  pub within : length file ≤ longest
+  pub whole : length file % layoutOf version .lengthUnit ≡ 0
+  pub page-size : (16 ≤ size) × (size ≤ 4096)
+
+-- in each version that is read, the sheet of a file reads as that file's numbers: "versions 1 to 3 are read as before"
+abbrev pub FileReads : Type 0
+FileReads =
+    (version key size : ℕ) (file : List ℕ) → Holds version key size file
+    → let x = contentsOf version (keyOf key) size file in readSheet (sheetBytes x) ≡ Done x
 
 -- a sheet of another version is refused with 14 by a reader of any list of layouts
 abbrev pub OtherVersion : Type 0
@@ -68,19 +87,21 @@ PagesGiven = (sheet : List ℕ) (w : WellFormed sheet) (words : List ℕ) → re
 
 -- ---- the page marks joined, in each version
 
--- "The page marks of a sheet, each with its own length, joined, must give the file's fingerprint": those of a written sheet do,
+-- "The page marks of a sheet, each with its own length, joined, must give the file's fingerprint": those of a file do, where pages are not
+-- filled up,
 abbrev pub PagesGiveFile : Type 0
 PagesGiveFile =
-    (x : Key) (size : ℕ) (file : List ℕ) → 0 < size → pagesJoined (contentsOf (newest .version) x size file) ≡ markOf (polynomialOf x) file
+    (version : ℕ) (x : Key) (size : ℕ) (file : List ℕ) → layoutOf version .filled ≡ false → 0 < size
+    → pagesJoined (contentsOf version x size file) ≡ markOf (polynomialOf x) file
 
--- "and number 14 reads so": where pages are not filled up, it compares them with the file's fingerprint as it stands,
+-- "and number 14 reads so": it compares them with the file's fingerprint as it stands there;
 abbrev pub OwnCompared : Type 0
 OwnCompared =
     (x : Contents) → layoutOf (x .version) .filled ≡ false → 0 < x .pageSize
     → lib.ListN.length (x .pages) ≡ pagesFor (x .pageSize) (x .length) → x .fingerprint < 2 ^ degree (polynomialOf (x .key))
     → fileFilled x ≡ x .fingerprint
 
--- where they are, with the file's fingerprint times t^(c × 8 × size − n), n being the length in bits, as document 01 has it
+-- where pages are filled up, with the file's fingerprint times t^(c × 8 × size − n), n being the length in bits, as document 01 has it
 abbrev pub FilledCompared : Type 0
 FilledCompared =
     (x : Contents) → layoutOf (x .version) .filled ≡ true
@@ -137,6 +158,18 @@ SameIff =
     (x : Contents) → SoundContents x → (file : List ℕ) → length file ≡ x .length
     → (compared x file ≡ Same) ↔ (x .pages ≡ pagesNow x file)
 
+-- where a check says same, the file's fingerprint is the sheet's
+abbrev pub SameFingerprint : Type 0
+SameFingerprint =
+    (sheet : List ℕ) (w : WellFormed sheet) (file : Part) → checkSheet sheet file ≡ Done Same
+    → fingerprint (polynomialOf (w .contents .key)) (partBits file) ≡ w .contents .fingerprint
+
+-- an unchanged file is told as the same, against its sheet in each version that is read
+abbrev pub UnchangedSame : Type 0
+UnchangedSame =
+    (version key size : ℕ) (file : Part) → Holds version key size (partBits file) → misused file ≡ false
+    → checkSheet (sheetBytes (contentsOf version (keyOf key) size (partBits file))) file ≡ Done Same
+
 -- ---- a change inside k neighbouring bits, against the sheet of a file in each version
 
 -- page i, of `pageBits` bits, is the first that differs in two files
@@ -148,19 +181,16 @@ pub record FirstAltered (pageBits : ℕ) (a b : List ℕ) (i : ℕ) : Type 0 whe
 abbrev pub SomeAltered : Type 0
 SomeAltered = (pageBits : ℕ) (a b : List ℕ) → 0 < pageBits → length a ≡ length b → a ≢ b → (i : ℕ) × FirstAltered pageBits a b i
 
--- "A change that keeps the length and lies inside k neighbouring bits is found on the first page that it alters", in a file whose length
--- the version can hold and under a key that it can hold
+-- "A change that keeps the length and lies inside k neighbouring bits is found on the first page that it alters"
 abbrev pub BurstFound : Type 0
 BurstFound =
-    (version key size : ℕ) (a : List ℕ) (b : Part) → known layouts version ≡ true → accepted key ≡ true
-    → degree key ≤ highest (layoutOf version) → length a ≤ longest → length a % layoutOf version .lengthUnit ≡ 0 → 16 ≤ size → size ≤ 4096
-    → Bits a → misused b ≡ false → Burst (degree key) a (partBits b) → (i : ℕ) → FirstAltered (8 * size) a (partBits b) i
+    (version key size : ℕ) (a : List ℕ) (b : Part) → Holds version key size a → Bits a → misused b ≡ false
+    → Burst (degree key) a (partBits b) → (i : ℕ) → FirstAltered (8 * size) a (partBits b) i
     → checkSheet (sheetBytes (contentsOf version (keyOf key) size a)) b ≡ Done (Page i)
 
 -- so a file that differs inside k neighbouring bits is never told as the same
 abbrev pub NoBurstSame : Type 0
 NoBurstSame =
-    (version key size : ℕ) (a : List ℕ) (b : Part) → known layouts version ≡ true → accepted key ≡ true
-    → degree key ≤ highest (layoutOf version) → length a ≤ longest → length a % layoutOf version .lengthUnit ≡ 0 → 16 ≤ size → size ≤ 4096
-    → Bits a → misused b ≡ false → Burst (degree key) a (partBits b) → a ≢ partBits b
+    (version key size : ℕ) (a : List ℕ) (b : Part) → Holds version key size a → Bits a → misused b ≡ false
+    → Burst (degree key) a (partBits b) → a ≢ partBits b
     → checkSheet (sheetBytes (contentsOf version (keyOf key) size a)) b ≡ Done Same → ⊥

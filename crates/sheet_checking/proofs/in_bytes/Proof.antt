@@ -1,33 +1,20 @@
 -- `in_bytes` meets its contract.
 use mathlib.Core.Path.{sym, ap, ap₂, _∙_}
 use mathlib.Core.List.{[], _∷_}
-use mathlib.Core.Logic.{inl, inr}
 use Prim.Native.Nat.{ℕ, _+_, _*_, _^_, _<_, min}
 use native.Mathlib.Omega.{arith}
-use types.Run
-use denote.Enum.Declared
 use Rattle.refusals.specs.Refusals.{Done}
-use Rattle.sheets.proofs.Checked as CheckedT
 use Rattle.sheets.specs.declared.Checked.{Checked}
-use Rattle.sheets.specs.declared.Checked.the-variants as cases
 use Rattle.sheets.specs.Answers.{checkAnswer}
-use Rattle.sheets.specs.Inner.{NoPage, ranged}
+use Rattle.sheets.specs.Inner.{ranged}
+use Rattle.sheets.proofs.Answers.{no-page}
 use Rattle.sheet_checking.proofs.Laws.{range-fits}
 use borrow.Author.Needs.{needs}
 use Rattle.sheet_checking.proofs.in_bytes.Statement.{statement}
 use Rattle.sheet_checking.proofs.in_bytes.Tie as tie
 
--- the answers that the `else` stands for
-other : (o : Checked) → Run.OneOf (0 ∷ 2 ∷ 3 ∷ []) (Declared.tagOf CheckedT.the-type o) → NoPage o
-other cases.Same h = tt
-other cases.OtherLength h = tt
-other (cases.Refused r) h = tt
-other (cases.Page i) (inl e) = absurd (omega arith)
-other (cases.Page i) (inr (inl e)) = absurd (omega arith)
-other (cases.Page i) (inr (inr e)) = absurd (omega arith)
-
 without-page-requires : tie.Need-without-page-requires
-without-page-requires c κs = other (c .before .args .answer) (c .match .keys2)
+without-page-requires c κs = no-page (c .before .args .answer) (c .match .keys2)
 
 returns : tie.Need-returns
 returns c x ex h = c .without-page .ensures x
