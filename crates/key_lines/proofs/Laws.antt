@@ -19,7 +19,8 @@ use Rattle.gf2.specs.Polynomials.{monic}
 use Rattle.acceptance.specs.declared.Key.{Key}
 use Rattle.acceptance.specs.Keys.{keyOf}
 use Rattle.acceptance.proofs.Laws.{within-range, range-key}
-use Rattle.key_lines.specs.KeyLines.{digit, allDigits, hexFrom, lineOf, keyBefore, keyLine, undecided}
+use Rattle.key_lines.specs.KeyLines.{digit, allDigits, hexFrom, lineOf, keyBefore, keyLine}
+use Rattle.key_lines.specs.Deciding.{undecided}
 use Rattle.key_lines.specs.declared.KeyLine.{KeyLine}
 use Rattle.key_lines.specs.declared.KeyLine.the-variants as line-cases
 

@@ -34,7 +34,3 @@ keyBefore n input =
 
 unfoldable pub keyLine : List ℕ → KeyLine
 keyLine input = keyBefore (indexOf 10 input) input
-
--- whether what comes behind these bytes can still change what the line says: fewer than 18, all of them digits
-unfoldable pub undecided : List ℕ → Bool
-undecided input = ltb (length input) 18 && allDigits input

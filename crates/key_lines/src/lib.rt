@@ -4,7 +4,8 @@ ghost use mathlib.Core.Path.{_≡_};
 ghost use mathlib.Core.Bool.{true};
 ghost use Prim.Native.Nat.{_≤_};
 ghost use lib.ListN.{length};
-ghost use Rattle.key_lines.specs.KeyLines.{digit, allDigits, hexFrom, lineOf, keyLine, undecided};
+ghost use Rattle.key_lines.specs.KeyLines.{digit, allDigits, hexFrom, lineOf, keyLine};
+ghost use Rattle.key_lines.specs.Deciding.{undecided};
 
 // What the first line of an input says: the key, and the place where the file begins; or a number of 2^65 or more.
 pub enum KeyLine {

@@ -9,7 +9,7 @@ use lib.ListN.{length, take, drop, length-drop}
 use lib.Seq.{take-add, length-take-le}
 use denote.Enum.Declared.{tagOf}
 use Rattle.io.specs.Counts.{Counts}
-use Rattle.key_lines.specs.KeyLines.{undecided}
+use Rattle.key_lines.specs.Deciding.{undecided}
 use Rattle.key_lines.proofs.Laws.{undecided-short}
 use Rattle.input_calls.specs.declared.Got.{Got}
 use Rattle.input_calls.specs.declared.Got.the-variants.{Bytes, End, Interrupted, Failed}

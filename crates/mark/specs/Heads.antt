@@ -6,7 +6,7 @@ use mathlib.Core.Logic.{_⊎_}
 use Prim.Native.Nat.{ℕ}
 use lib.ListN.{take}
 use Rattle.io.specs.Counts.{Counts}
-use Rattle.key_lines.specs.KeyLines.{undecided}
+use Rattle.key_lines.specs.Deciding.{undecided}
 use Rattle.input_calls.specs.declared.Got.the-variants.{End}
 use Rattle.input_calls.specs.declared.Input.{Input}
 use Rattle.input_calls.specs.Reading.{over, Gave}
