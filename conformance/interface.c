@@ -540,6 +540,7 @@ static void drawing(void) {
  * or a write would end the program */
 
 static const struct key EMPTY_KEYS[4] = {{KEY}, {HOUSE}, {31, 9}, {KEY_64}};
+static const char *const EMPTY_WAYS[3] = {"NULL, feed", "NULL, feed_table", "NULL, feed_house"};
 
 static void empty_parts_and_tables(void) {
     uint64_t f = 5, n = 48;
@@ -550,9 +551,9 @@ static void empty_parts_and_tables(void) {
         same("make_table", gfp_make_table(k, word, words, GFP_TABLE_WORDS), GFP_OK);
         for (way = 0; way < 3; way++) {
             const int mine = way != 2 || k == GFP_HOUSE_DEGREE;
-            marked("NULL, feeding", fed(way, k, word, &f, &n, NULL, 0, 8), mine ? GFP_OK : GFP_TABLE_WORD, &f, &n, 5,
+            marked(EMPTY_WAYS[way], fed(way, k, word, &f, &n, NULL, 0, 8), mine ? GFP_OK : GFP_TABLE_WORD, &f, &n, 5,
                    48);
-            marked("NULL, feeding", fed(way, k, word, &f, &n, NULL, 0, 3), mine ? GFP_FINAL_BYTE : GFP_TABLE_WORD, &f,
+            marked(EMPTY_WAYS[way], fed(way, k, word, &f, &n, NULL, 0, 3), mine ? GFP_FINAL_BYTE : GFP_TABLE_WORD, &f,
                    &n, 5, 48);
         }
         marked("NULL, replace_page", gfp_replace_page(k, word, &f, &n, 6, NULL, 0, 8, NULL, 0, 8), GFP_OK, &f, &n, 5,
