@@ -7,7 +7,7 @@ ROUNDS = 1
 
 # The main job on an embedded sample: the printing program reads a key and a file and prints the file's mark.
 run:
-	@echo 'Proving the printing program and what it stands on first: a line a crate, two to three minutes in all; nothing the next time.' >&2
+	@echo 'Proving the printing program and what it stands on first: a line a crate, two to three minutes in all on two quiet cores; nothing the next time.' >&2
 	@tools/prove mark
 	@printf '2000000000000027\nGauge 7, offset -0.0125 m\n' | target/bin/mark
 
@@ -20,17 +20,22 @@ test:
 libraries: target/staticlib/made
 
 target/staticlib/made: crates.txt tools/libraries $(shell find crates)
+	@echo 'Proving the libraries and what they stand on first: a line a crate, about four minutes in all on two quiet cores; less the next time.' >&2
 	@tools/libraries
 
-# The libraries, the header, the Rust wrapper and the printing program, where a C or Rust project finds them.
+# The libraries, the header, the Rust wrapper, the printing program and the document that the header names, where a C or Rust project finds
+# them.
 install: libraries
-	@tools/prove mark 2> /dev/null
-	@mkdir -p $(PREFIX)/lib/pkgconfig $(PREFIX)/include $(PREFIX)/bin $(PREFIX)/share/gfp
+	@echo 'Proving the printing program: a line a crate.' >&2
+	@tools/prove mark
+	@mkdir -p $(PREFIX)/lib/pkgconfig $(PREFIX)/include $(PREFIX)/bin $(PREFIX)/share/gfp $(PREFIX)/share/doc/gfp
 	@cp $(LIBRARIES:%=target/staticlib/lib%.a) $(PREFIX)/lib/
 	@cp include/gfp.h $(PREFIX)/include/
 	@cp bindings/rust/gfp.rs $(PREFIX)/share/gfp/
+	@cp docs/SECURITY.md $(PREFIX)/share/doc/gfp/
 	@cp target/bin/mark $(PREFIX)/bin/
 	@sed 's,@PREFIX@,$(PREFIX),' tools/gfp.pc.in > $(PREFIX)/lib/pkgconfig/gfp.pc
+	@echo 'Installed in $(PREFIX): lib, include, bin, share.' >&2
 
 # The C interface against a second implementation in Rust. More rounds compare more: make conformance ROUNDS=20
 conformance: libraries

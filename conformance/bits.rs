@@ -163,7 +163,7 @@ impl KeyTable {
         let parts = [pack(&file[..cut]), pack(&file[cut..])];
         let [front, back] = [parts[0].part(), parts[1].part()];
         let empty = gfp::Mark { fingerprint: 1, bits: 0 };
-        let what = format!("{:?}, {} bits cut at {cut}", self.key, file.len());
+        let what = format!("{:x}, {} bits cut at {cut}", self.key, file.len());
         for way in self.ways() {
             let fed = after(empty, |m| self.feed(way, m, front).and(self.feed(way, m, back)));
             tally.same(format_args!("{what}, fed by way {way}"), fed, (whole, 0));
@@ -207,7 +207,7 @@ fn random_cuts(tally: &mut Tally, generator: &mut Generator) {
     }
     let fingerprint = reference::divide(reference::polynomial(key.key), start.fingerprint, file.iter().copied());
     let whole = gfp::Mark { fingerprint, bits: start.bits + n as u64 };
-    tally.same(format_args!("{:?}, {n} bits in parts", key.key), (mark, numbers), (whole, Ok(())));
+    tally.same(format_args!("{:x}, {n} bits in parts", key.key), (mark, numbers), (whole, Ok(())));
 }
 
 // ---- u and the final byte
@@ -233,7 +233,7 @@ fn parts(generator: &mut Generator) -> Vec<(Vec<u8>, u32)> {
 /// Every call that takes one part or file.
 fn one_part(tally: &mut Tally, key: &KeyTable, part: Part, generator: &mut Generator) {
     let mark = Mark { fingerprint: generator.residue(key.key.degree), bits: generator.below(100) };
-    let what = format!("{:?}, {mark:?}, {part:?}", key.key);
+    let what = format!("{:x}, {mark:?}, {part:?}", key.key);
     for way in key.ways() {
         let given = after(ours(mark), |m| key.feed(way, m, part));
         let second = outcome(mark, reference::feed(key.key, mark, part));
@@ -280,7 +280,7 @@ fn small_pages(tally: &mut Tally) {
 
 fn page_change(tally: &mut Tally, key: Key, mark: Mark, place: u64, old: Part, new: Part) {
     tally.same(
-        format_args!("page at {place}, {old:?} by {new:?}, {key:?}, {mark:?}"),
+        format_args!("page at {place}, {old:?} by {new:?}, {key:x}, {mark:?}"),
         after(ours(mark), |m| m.replace_page(key, place, old, new)),
         outcome(mark, reference::replace_page(key, mark, place, old, new)),
     );

@@ -22,7 +22,7 @@ fn page_change(tally: &mut Tally, generator: &mut Generator, key: Key, mark: ref
     let (old, new) = (Part { bytes: &old, used: old_used }, Part { bytes: &new, used: new_used });
     let place = place(generator, mark, old);
     tally.same(
-        &format!("replace page at {place}, {old:?} by {new:?}, {key:?}, mark {mark:?}"),
+        &format!("replace page at {place}, {old:?} by {new:?}, {key:x}, mark {mark:?}"),
         after(ours(mark), |m| m.replace_page(key, place, old, new)),
         outcome(mark, reference::replace_page(key, mark, place, old, new)),
     );
@@ -33,7 +33,7 @@ fn calls(tally: &mut Tally, generator: &mut Generator) {
     let key = generator.key();
     let mark = generator.mark(key);
     let other = generator.mark(key);
-    let what = format!("{key:?}, mark {mark:?}, other {other:?}");
+    let what = format!("{key:x}, mark {mark:?}, other {other:?}");
     tally.same(
         &format!("join behind, {what}"),
         after(ours(mark), |m| m.join_behind(key, ours(other))),
@@ -143,10 +143,10 @@ fn list(tally: &mut Tally, generator: &mut Generator) {
     for _ in 0..calls {
         let bad = generator.one_in(4);
         let (given, number) = if bad { book.bad_call(generator) } else { (book.good_call(generator), 0) };
-        tally.same(&format!("refusal in a list, {key:?}"), given.err().unwrap_or(0), number);
+        tally.same(&format!("refusal in a list, {key:x}"), given.err().unwrap_or(0), number);
     }
     let whole = book.true_mark(&book.file);
-    tally.same(&format!("mark after a list of {calls} calls, {key:?}"), book.mark, whole);
+    tally.same(&format!("mark after a list of {calls} calls, {key:x}"), book.mark, whole);
 }
 
 pub fn run(tally: &mut Tally, rounds: u64) {
@@ -155,7 +155,7 @@ pub fn run(tally: &mut Tally, rounds: u64) {
     for (degree, front, back, whole) in [(8, 0x5a, 0x59, 0x9d), (64, 0x141, 0x142, 0x14142)] {
         let (key, mark) = (Key { degree, word: 0x1b }, |fingerprint, bits| gfp::Mark { fingerprint, bits });
         let joined = after(mark(front, 8), |m| m.join_behind(key, mark(back, 8)));
-        tally.same(&format!("reading, 41 and 42 joined, {key:?}"), joined, (mark(whole, 16), 0));
+        tally.same(&format!("reading, 41 and 42 joined, {key:x}"), joined, (mark(whole, 16), 0));
     }
     for _ in 0..rounds * 3000 {
         calls(tally, &mut generator);

@@ -79,7 +79,7 @@ impl KeyTable {
             FeedHouse => m.feed_house(self.key, part),
         });
         let expected = gfp::Mark { fingerprint, bits: start.bits + part.length() as u64 };
-        let name = format_args!("{call:?}, {:?}, start {start:?}, {what}, part of {part:?}", self.key);
+        let name = format_args!("{call:?}, {:x}, start {start:?}, {what}, part of {part:?}", self.key);
         tally.same(name, given, (expected, 0));
     }
 
@@ -122,7 +122,7 @@ fn byte_steps(generator: &mut Generator) {
             let steps = ByteSteps::new(key);
             let by_bytes = (steps.divide(start.fingerprint, &part), steps.behind_each(start.fingerprint, &part)[n]);
             let by_bits = reference::feed(key, start, &part).expect("a mark that can be fed").fingerprint;
-            assert_eq!(by_bytes, (by_bits, by_bits), "the second implementation by bytes and by bits, {key:?}, start {start:?}, part of {n} bytes");
+            assert_eq!(by_bytes, (by_bits, by_bits), "the second implementation by bytes and by bits, {key:x}, start {start:?}, part of {n} bytes");
         }
     }
 }

@@ -1,5 +1,6 @@
-/* Calls every function of gfp.h as a C programmer would: good input, each refusal, and refusals with everything lent on
- * a page that cannot be written to. Compiles as C99 and as C++. Prints what is wrong, and "N right, M wrong".
+/* Calls every function of gfp.h as a C programmer would: good input, each refusal, buffers of length 0 at NULL, and
+ * refusals with everything lent on a page that cannot be written to. Compiles as C99 and as C++. Prints what is wrong,
+ * and "N right, M wrong".
  * interface stack: prints instead how many bytes of stack each function takes, measured on a stack of its own. */
 #define _DEFAULT_SOURCE
 #include "gfp.h"
@@ -535,6 +536,117 @@ static void drawing(void) {
     same("draw", gfp_test_key(11, word), GFP_OK);
 }
 
+/* ---- buffers of length 0 at NULL: every function that takes a buffer takes them, and none is read or written. A read
+ * or a write would end the program */
+
+static const struct key EMPTY_KEYS[4] = {{KEY}, {HOUSE}, {31, 9}, {KEY_64}};
+static const char *const EMPTY_WAYS[3] = {"NULL, feed", "NULL, feed_table", "NULL, feed_house"};
+
+static void empty_parts_and_tables(void) {
+    uint64_t f = 5, n = 48;
+    int way, i;
+    for (i = 0; i < 4; i++) {
+        const uint32_t k = EMPTY_KEYS[i].degree;
+        const uint64_t word = EMPTY_KEYS[i].word;
+        same("make_table", gfp_make_table(k, word, words, GFP_TABLE_WORDS), GFP_OK);
+        for (way = 0; way < 3; way++) {
+            const int mine = way != 2 || k == GFP_HOUSE_DEGREE;
+            marked(EMPTY_WAYS[way], fed(way, k, word, &f, &n, NULL, 0, 8), mine ? GFP_OK : GFP_TABLE_WORD, &f, &n, 5,
+                   48);
+            marked(EMPTY_WAYS[way], fed(way, k, word, &f, &n, NULL, 0, 3), mine ? GFP_FINAL_BYTE : GFP_TABLE_WORD, &f,
+                   &n, 5, 48);
+        }
+        marked("NULL, replace_page", gfp_replace_page(k, word, &f, &n, 6, NULL, 0, 8, NULL, 0, 8), GFP_OK, &f, &n, 5,
+               48);
+        marked("NULL, replace_page", gfp_replace_page(k, word, &f, &n, 6, NULL, 0, 8, NULL, 0, 7), GFP_FINAL_BYTE, &f,
+               &n, 5, 48);
+        marked("NULL, replace_page", gfp_replace_page(k, word, &f, &n, 0, NULL, 0, 8, AB, 2, 8),
+               GFP_PAGE_LENGTHS_DIFFER, &f, &n, 5, 48);
+        marked("NULL, replace_page", gfp_replace_page(k, word, &f, &n, 0, AB, 2, 8, NULL, 0, 8),
+               GFP_PAGE_LENGTHS_DIFFER, &f, &n, 5, 48);
+        same("NULL, make_table", gfp_make_table(k, word, NULL, 0), GFP_TABLE_SIZE);
+        same("NULL, test_table", gfp_test_table(k, word, NULL, 0), GFP_TABLE_SIZE);
+        marked("NULL, feed_table", gfp_feed_table(k, word, &f, &n, NULL, 0, AB, 2, 8), GFP_TABLE_SIZE, &f, &n, 5, 48);
+        marked("NULL, feed_table", gfp_feed_table(k, word, &f, &n, NULL, 0, NULL, 0, 8), GFP_TABLE_SIZE, &f, &n, 5, 48);
+    }
+    same("make_table", gfp_make_table(KEY, words, GFP_TABLE_WORDS), GFP_OK);
+}
+
+static void empty_texts(void) {
+    static const uint8_t text[3] = {'a', 'a', 'a'};
+    uint32_t places[1], count, alarms;
+    int i;
+    for (i = 0; i < 4; i++) {
+        const uint32_t k = EMPTY_KEYS[i].degree;
+        const uint64_t word = EMPTY_KEYS[i].word;
+        places[0] = 7, count = alarms = NONE32;
+        same("NULL, search", gfp_search(k, word, text, 3, NULL, 0, places, 1, &count, &alarms), GFP_EMPTY_PATTERN);
+        same("NULL, search", gfp_search(k, word, NULL, 0, NULL, 0, NULL, 0, &count, &alarms), GFP_EMPTY_PATTERN);
+        same("NULL, search", count == NONE32 && alarms == NONE32, 1);
+        same("NULL, search", gfp_search(k, word, NULL, 0, text, 2, places, 1, &count, &alarms), GFP_OK);
+        same("NULL, search", count == 0 && alarms == 0 && places[0] == 7, 1);
+        count = alarms = NONE32;
+        same("NULL, search", gfp_search(k, word, NULL, 0, text, 2, NULL, 0, &count, &alarms), GFP_OK);
+        same("NULL, search", count == 0 && alarms == 0, 1);
+        same("NULL, search", gfp_search(k, word, text, 3, text, 2, NULL, 0, &count, &alarms), GFP_OK);
+        same("NULL, search", count == 2 && alarms == 0, 1);
+    }
+}
+
+/* a sheet of a file without bytes, or of 41 42, checked with no file and read into no words */
+static void empty_checked(const uint8_t *sheet, size_t sheet_length, uint32_t expected) {
+    uint64_t from = NONE, to = NONE;
+    uint32_t outcome = NONE32, page = NONE32;
+    same("NULL, read_pages", gfp_read_pages(sheet, sheet_length, NULL, 0), GFP_OK);
+    same("NULL, check_file", gfp_check_file(sheet, sheet_length, NULL, 0, 8, &outcome, &page), GFP_OK);
+    same("NULL, check_file", outcome == expected && page == 0, 1);
+    outcome = NONE32;
+    same("NULL, changed_range", gfp_changed_range(sheet, sheet_length, NULL, 0, 8, &outcome, &from, &to), GFP_OK);
+    same("NULL, changed_range", outcome == expected && from == 0 && to == 0, 1);
+    same("NULL, check_file", gfp_check_file(sheet, sheet_length, NULL, 0, 7, &outcome, &page), GFP_FINAL_BYTE);
+    same("NULL, changed_range", gfp_changed_range(sheet, sheet_length, NULL, 0, 7, &outcome, &from, &to),
+         GFP_FINAL_BYTE);
+}
+
+static void empty_sheets(void) {
+    /* of a file without bytes in version 1; version 2 has the same fields, version 3 four bytes of length more */
+    static const uint8_t OLD[31] = {'G', 'F', 'P', 0, 1, 0, 0, 0, 0, 0, 0, 1, 0x1b, 0, 0, 0, 0, 0, 16, 0, 0, 0, 0, 0, 0,
+                                    0, 1};
+    uint8_t sheet[40], other[GFP_SHEET_BYTES];
+    uint64_t from = NONE, to = NONE;
+    uint32_t outcome = NONE32, page = NONE32;
+    int i;
+    for (i = 0; i < 4; i++) {
+        const uint32_t k = EMPTY_KEYS[i].degree;
+        const uint64_t word = EMPTY_KEYS[i].word;
+        same("NULL, write_sheet", gfp_write_sheet(k, word, 16, NULL, 0, 8, NULL, 0), GFP_BUFFER_SHORT);
+        same("NULL, write_sheet", gfp_write_sheet(k, word, 16, AB, 2, 8, NULL, 0), GFP_BUFFER_SHORT);
+        same("NULL, write_sheet", gfp_write_sheet(k, word, 16, NULL, 0, 7, sheet, GFP_SHEET_BYTES), GFP_FINAL_BYTE);
+        same("NULL, write_sheet", gfp_write_sheet(k, word, 16, NULL, 0, 8, sheet, GFP_SHEET_BYTES), GFP_OK);
+        same("write_sheet", gfp_write_sheet(k, word, 16, AB, 0, 8, other, GFP_SHEET_BYTES), GFP_OK);
+        same("NULL, write_sheet", memcmp(sheet, other, GFP_SHEET_BYTES) == 0, 1);
+        empty_checked(sheet, GFP_SHEET_BYTES, GFP_SAME);
+        same("write_sheet", gfp_write_sheet(k, word, 16, AB, 2, 8, sheet, 40), GFP_OK);
+        empty_checked(sheet, 40, GFP_OTHER_LENGTH);
+    }
+    memcpy(sheet, OLD, 27);
+    empty_checked(sheet, 27, GFP_SAME);
+    sheet[4] = 2;
+    empty_checked(sheet, 27, GFP_SAME);
+    memset(sheet + 13, 0, 18);
+    sheet[4] = 3, sheet[22] = 16, sheet[30] = 1;
+    empty_checked(sheet, 31, GFP_SAME);
+    same("NULL, read_sheet", read_all(NULL, 0), GFP_SHEET_MALFORMED);
+    same("NULL, read_sheet", nothing_read(), 1);
+    same("NULL, read_pages", gfp_read_pages(NULL, 0, NULL, 0), GFP_SHEET_MALFORMED);
+    same("NULL, read_pages", gfp_read_pages(NULL, 0, &from, 1), GFP_SHEET_MALFORMED);
+    same("NULL, check_file", gfp_check_file(NULL, 0, AB, 2, 8, &outcome, &page), GFP_SHEET_MALFORMED);
+    same("NULL, check_file", gfp_check_file(NULL, 0, NULL, 0, 8, &outcome, &page), GFP_SHEET_MALFORMED);
+    same("NULL, changed_range", gfp_changed_range(NULL, 0, AB, 2, 8, &outcome, &from, &to), GFP_SHEET_MALFORMED);
+    same("NULL, changed_range", gfp_changed_range(NULL, 0, NULL, 0, 8, &outcome, &from, &to), GFP_SHEET_MALFORMED);
+    same("NULL, sheets", outcome == NONE32 && page == NONE32 && from == NONE && to == NONE, 1);
+}
+
 /* ---- refusals with everything lent on a page that cannot be written to: a write would end the program */
 
 static void read_only(void) {
@@ -835,6 +947,9 @@ int main(int argc, char **argv) {
     ranges(8);
     ranges(1);
     drawing();
+    empty_parts_and_tables();
+    empty_texts();
+    empty_sheets();
     read_only();
     printf("%u right, %u wrong\n", right, wrong);
     return wrong != 0;

@@ -105,10 +105,10 @@ fn entries(list: &'static str) -> impl Iterator<Item = &'static str> {
 /// The number of a key beside the second implementation's, by Ben-Or's test and by Rabin's.
 fn compare(tally: &mut Tally, what: &str, key: Key) {
     let second = reference::test_key(key).err().unwrap_or(0);
-    tally.same(format_args!("{what}, {key:?}"), number(key), second);
+    tally.same(format_args!("{what}, {key:x}"), number(key), second);
     if second != 1 {
         let by_rabin = reference::irreducible_by_rabin(reference::polynomial(key));
-        tally.same(format_args!("{what}, {key:?}, by Rabin's test"), by_rabin, second == 0);
+        tally.same(format_args!("{what}, {key:x}, by Rabin's test"), by_rabin, second == 0);
     }
 }
 
@@ -119,7 +119,7 @@ fn readings(tally: &mut Tally) {
     }
     for (degree, word, refusal) in PAIRS {
         let key = Key { degree, word };
-        tally.same(format_args!("reading, {key:?}"), number(key), refusal);
+        tally.same(format_args!("reading, {key:x}"), number(key), refusal);
         compare(tally, "reading", key);
     }
     for (k, count) in COUNTS {
@@ -136,8 +136,8 @@ fn lists(tally: &mut Tally) {
     for (line, degree) in entries(CONWAY).zip(8..) {
         let (k, written) = line.split_once(" 0x").expect("a degree and a number");
         let key = Key::of(u128::from_str_radix(written, 16).expect("a number"));
-        tally.same(format_args!("degree of the Conway polynomial {key:?}"), (k.parse(), key.degree), (Ok(degree), degree));
-        tally.same(format_args!("Conway polynomial {key:?}"), number(key), 0);
+        tally.same(format_args!("degree of the Conway polynomial {key:x}"), (k.parse(), key.degree), (Ok(degree), degree));
+        tally.same(format_args!("Conway polynomial {key:x}"), number(key), 0);
     }
     tally.same("Conway polynomials", (entries(CONWAY).count(), entries(LOW_WEIGHT).count()), (57, 57));
     for (written, irreducible) in RESTIC {
@@ -146,7 +146,7 @@ fn lists(tally: &mut Tally) {
     for line in entries(DEGREE_64) {
         let (word, judgement) = line.split_once(' ').expect("a word and a judgement");
         let key = Key { degree: 64, word: u64::from_str_radix(word, 16).expect("a word") };
-        tally.same(format_args!("list of degree 64, {key:?}"), number(key), if judgement == "irreducible" { 0 } else { 2 });
+        tally.same(format_args!("list of degree 64, {key:x}"), number(key), if judgement == "irreducible" { 0 } else { 2 });
         compare(tally, "list of degree 64", key);
     }
     tally.same("words of degree 64", entries(DEGREE_64).count(), 46);
@@ -162,7 +162,7 @@ fn pairs(tally: &mut Tally) {
             let key = Key { degree, word };
             compare(tally, "pair", key);
             let range = (8..=64).contains(&degree) && u128::from(word) < 1 << degree;
-            tally.same(format_args!("{key:?}, number 1"), number(key) == 1, !range);
+            tally.same(format_args!("{key:x}, number 1"), number(key) == 1, !range);
         }
     }
 }
@@ -182,7 +182,21 @@ fn written(tally: &mut Tally, generator: &mut Generator) {
     }
     tally.same("the house key", gfp::HOUSE_KEY, reference::HOUSE_KEY);
     tally.same("the house key as a number", gfp::HOUSE_KEY.number(), 0x2000_0000_0000_0027);
-    tally.same("a key as it is shown", format!("{:?}", gfp::HOUSE_KEY), "Key { degree: 61, word: 0x27 }".to_string());
+    let sheet = gfp::Sheet { key: gfp::HOUSE_KEY, ..Default::default() };
+    let told = "Sheet { version: 0, key: Key(hidden), bits: 0, page_size: 0, pages: 0, fingerprint: 0 }";
+    tally.same("a key as {:?} shows it", format!("{:?}, {:#?}", gfp::HOUSE_KEY, gfp::HOUSE_KEY), "Key(hidden), Key(hidden)".to_string());
+    tally.same("a sheet as {:?} shows it", format!("{sheet:?}"), told.to_string());
+    for (key, shown) in [
+        (gfp::HOUSE_KEY, "2000000000000027"),
+        (Key::of(0x11b), "11b"),
+        (Key::of(0x1_0000_0000_0000_001b), "1000000000000001b"),
+        (Key { degree: 8, word: 0x11b }, "degree 8, word 11b"),
+        (Key { degree: 8, word: 0x21b }, "degree 8, word 21b"),
+        (Key { degree: 7, word: 3 }, "degree 7, word 3"),
+        (Key { degree: 200, word: 3 }, "degree 200, word 3"),
+    ] {
+        tally.same("a key as {:x} shows it", format!("{key:x}"), shown.to_string());
+    }
 }
 
 fn stock(tally: &mut Tally) {
@@ -203,7 +217,7 @@ fn products(tally: &mut Tally, generator: &mut Generator) {
         for a in 1..=k / 2 {
             let [one, other] = [a, k - a].map(|n| reference::polynomial(Key { degree: n, word: generator.residue(n) | 1 }) as u64);
             let product = reference::key_of(reference::multiply(one, other));
-            tally.same(format_args!("product of degrees {a} and {}, {product:?}", k - a), (product.degree, number(product)), (k, 2));
+            tally.same(format_args!("product of degrees {a} and {}, {product:x}", k - a), (product.degree, number(product)), (k, 2));
         }
         for _ in 0..20 {
             let root = reference::polynomial(generator.accepted(k / 2)) as u64;
@@ -228,9 +242,9 @@ pub fn run(tally: &mut Tally, rounds: u64) {
     for round in 0..rounds * 57 * 400 {
         let k = 8 + (round % 57) as u32;
         let random = generator.of_degree(k);
-        tally.same(format_args!("random {random:?}"), number(random), reference::test_key(random).err().unwrap_or(0));
+        tally.same(format_args!("random {random:x}"), number(random), reference::test_key(random).err().unwrap_or(0));
         let odd = Key { degree: k, word: random.word | 1 };
-        tally.same(format_args!("random {odd:?}"), number(odd), reference::test_key(odd).err().unwrap_or(0));
+        tally.same(format_args!("random {odd:x}"), number(odd), reference::test_key(odd).err().unwrap_or(0));
     }
     for _ in 0..rounds * 300 {
         compare(tally, "random key of degree 64", generator.accepted(64));

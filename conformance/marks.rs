@@ -53,10 +53,10 @@ const READINGS_64: [(&[u8], u64); 7] = [
 
 fn readings_under(tally: &mut Tally, key: Key, table_words: &[(usize, u64)], files: &[(&[u8], u64)]) {
     let mut words = vec![0; gfp::TABLE_WORDS];
-    tally.same(&format!("table of {key:?}"), gfp::make_table(key, &mut words), Ok(()));
+    tally.same(&format!("table of {key:x}"), gfp::make_table(key, &mut words), Ok(()));
     for &(n, word) in table_words {
-        tally.same(&format!("reading, {key:?}, table word {n}"), words[n], word);
-        tally.same(&format!("reading, {key:?}, table word {n}"), reference::table_word(key, n), word);
+        tally.same(&format!("reading, {key:x}, table word {n}"), words[n], word);
+        tally.same(&format!("reading, {key:x}, table word {n}"), reference::table_word(key, n), word);
     }
     for &(file, fingerprint) in files {
         let empty = gfp::begin(key).expect("an accepted key");
@@ -100,7 +100,7 @@ fn large_fingerprints(tally: &mut Tally, generator: &mut Generator) {
                     ),
                 ];
                 for (i, (given, second)) in answers.into_iter().enumerate() {
-                    let what = format!("call {i}, {key:?}, fingerprint {fingerprint:#x}");
+                    let what = format!("call {i}, {key:x}, fingerprint {fingerprint:#x}");
                     tally.same(&what, given, second);
                     tally.same(&what, given.1, number);
                 }
@@ -121,15 +121,15 @@ fn cuts(tally: &mut Tally, generator: &mut Generator) {
         let (front, back) = file.split_at(cut);
         let by_bits = after(gfp::begin(key).expect("an accepted key"), |m| m.feed(key, front).and(m.feed(key, back)));
         let by_table = after(gfp::begin(key).expect("an accepted key"), |m| m.feed_table(key, &words, front).and(m.feed_table(key, &words, back)));
-        tally.same(&format!("key {key:?}, file of {n} bytes cut at {cut}, by bits"), by_bits, (whole, 0));
-        tally.same(&format!("key {key:?}, file of {n} bytes cut at {cut}, by table"), by_table, (whole, 0));
+        tally.same(&format!("key {key:x}, file of {n} bytes cut at {cut}, by bits"), by_bits, (whole, 0));
+        tally.same(&format!("key {key:x}, file of {n} bytes cut at {cut}, by table"), by_table, (whole, 0));
     }
 }
 
 /// A part fed by the house key's words under any key.
 fn house(tally: &mut Tally, key: Key, mark: reference::Mark, part: Part) {
     tally.same(
-        &format!("feed by the house key's words, key {key:?}, mark {mark:?}, part of {part:?}"),
+        &format!("feed by the house key's words, key {key:x}, mark {mark:?}, part of {part:?}"),
         after(ours(mark), |m| m.feed_house(key, part)),
         outcome(mark, reference::feed_house(key, mark, part)),
     );
@@ -141,15 +141,15 @@ fn shared_words(tally: &mut Tally, generator: &mut Generator) {
     let pair = |degree: u32, word: u64| Key { degree, word };
     for (one, other) in [(pair(60, 3), pair(63, 3)), (gfp::HOUSE_KEY, pair(42, 0x27)), (SIXTY_FOUR, pair(41, 0x1b))] {
         let words = reference::table(one);
-        tally.same(&format!("tables of {one:?} and {other:?}"), reference::table(other), words.clone());
+        tally.same(&format!("tables of {one:x} and {other:x}"), reference::table(other), words.clone());
         for key in [one, other] {
             let (mut made, part) = (vec![0; gfp::TABLE_WORDS], generator.bytes(5000));
-            tally.same(&format!("table of {key:?}"), (gfp::make_table(key, &mut made), made), (Ok(()), words.clone()));
+            tally.same(&format!("table of {key:x}"), (gfp::make_table(key, &mut made), made), (Ok(()), words.clone()));
             let whole = ours(reference::mark_of(key, &part));
             let empty = gfp::begin(key).expect("an accepted key");
-            tally.same(&format!("shared table, key {key:?}"), after(empty, |m| m.feed_table(key, &words, &part)), (whole, 0));
+            tally.same(&format!("shared table, key {key:x}"), after(empty, |m| m.feed_table(key, &words, &part)), (whole, 0));
             let expected = if one == gfp::HOUSE_KEY { (whole, 0) } else { (empty, 6) };
-            tally.same(&format!("the house key's words, key {key:?}"), after(empty, |m| m.feed_house(key, &part)), expected);
+            tally.same(&format!("the house key's words, key {key:x}"), after(empty, |m| m.feed_house(key, &part)), expected);
         }
     }
 }
@@ -163,9 +163,9 @@ fn calls(tally: &mut Tally, generator: &mut Generator) {
     let bytes = generator.bytes_used(n as usize, used);
     let part = Part { bytes: &bytes, used };
     let words = generator.table(key);
-    let what = format!("key {key:?}, mark {mark:?}, part of {part:?}");
+    let what = format!("key {key:x}, mark {mark:?}, part of {part:?}");
     let second_begin = reference::begin(key).map(ours);
-    tally.same(&format!("begin, key {key:?}"), gfp::begin(key), second_begin);
+    tally.same(&format!("begin, key {key:x}"), gfp::begin(key), second_begin);
     tally.same(
         &format!("feed, {what}"),
         after(ours(mark), |m| m.feed(key, part)),
@@ -176,14 +176,14 @@ fn calls(tally: &mut Tally, generator: &mut Generator) {
         after(ours(mark), |m| m.feed_table(key, &words, part)),
         outcome(mark, reference::feed_table(key, mark, &words, part)),
     );
-    tally.same(&format!("test of table, key {key:?}"), gfp::test_table(key, &words), reference::test_table(key, &words));
+    tally.same(&format!("test of table, key {key:x}"), gfp::test_table(key, &words), reference::test_table(key, &words));
     house(tally, gfp::HOUSE_KEY, generator.mark(gfp::HOUSE_KEY), part);
     house(tally, key, mark, part);
     let mut made = words.clone();
     let number = gfp::make_table(key, &mut made).err().unwrap_or(0);
     let second = reference::make_table(key, &words);
-    tally.same(&format!("make table, key {key:?}"), number, second.clone().err().unwrap_or(0));
-    tally.same(&format!("words made, key {key:?}"), made, second.unwrap_or(words));
+    tally.same(&format!("make table, key {key:x}"), number, second.clone().err().unwrap_or(0));
+    tally.same(&format!("words made, key {key:x}"), made, second.unwrap_or(words));
 }
 
 /// Each bit of each word of a table, changed: the table is refused.
@@ -191,11 +191,11 @@ fn damaged_tables(tally: &mut Tally, generator: &mut Generator) {
     for k in [8, 31, 61, 63, 64] {
         let key = generator.accepted(k);
         let words = reference::table(key);
-        tally.same(&format!("table of {key:?}"), gfp::test_table(key, &words), Ok(()));
+        tally.same(&format!("table of {key:x}"), gfp::test_table(key, &words), Ok(()));
         for n in 0..1024 {
             let mut damaged = words.clone();
             damaged[n] ^= 1 << generator.below(64);
-            tally.same(&format!("table of {key:?}, word {n} changed"), gfp::test_table(key, &damaged), Err(6));
+            tally.same(&format!("table of {key:x}, word {n} changed"), gfp::test_table(key, &damaged), Err(6));
         }
     }
 }

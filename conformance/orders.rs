@@ -57,7 +57,7 @@ fn marks_under(tally: &mut Tally, long: &[u8], key: Key, good: Part) {
         let bits = if fault(2) { reference::LIMIT + 1 } else if fault(4) { reference::LIMIT } else { 5 };
         let mark = reference::Mark { fingerprint: if fault(5) { 0x100 } else { 0x5a }, bits };
         let part = or_long(good, fault(3), long);
-        let what = format!("order, {key:?}, mark {mark:?}, {} words, part of {part:?}", words.len());
+        let what = format!("order, {key:x}, mark {mark:?}, {} words, part of {part:?}", words.len());
         tally.same(
             &what,
             after(ours(mark), |m| m.feed(key, part)),
@@ -80,7 +80,7 @@ fn house_under(tally: &mut Tally, long: &[u8], key: Key, above: u32, good: Part)
         let bits = if fault(0) { reference::LIMIT + 1 } else if fault(2) { reference::LIMIT } else { 5 };
         let mark = reference::Mark { fingerprint: if fault(3) { 1 << above } else { 0x5a }, bits };
         let part = or_long(good, fault(1), long);
-        let what = format!("order, the house key's words, {key:?}, mark {mark:?}, part of {part:?}");
+        let what = format!("order, the house key's words, {key:x}, mark {mark:?}, part of {part:?}");
         let answer = after(ours(mark), |m| m.feed_house(key, part));
         tally.same(&what, answer, outcome(mark, reference::feed_house(key, mark, part)));
         if key == GOOD || key == KEYS[1] {
@@ -91,7 +91,7 @@ fn house_under(tally: &mut Tally, long: &[u8], key: Key, above: u32, good: Part)
 
 fn marks(tally: &mut Tally, long: &[u8]) {
     for key in KEYS {
-        tally.same(&format!("order, begin, {key:?}"), gfp::begin(key), reference::begin(key).map(ours));
+        tally.same(&format!("order, begin, {key:x}"), gfp::begin(key), reference::begin(key).map(ours));
         for part in PARTS {
             marks_under(tally, long, key, part);
         }
@@ -112,7 +112,7 @@ fn joining(tally: &mut Tally, key: Key) {
         let mark = reference::Mark { fingerprint: if fault(3) { 0x100 } else { 0x5a }, bits };
         let other_bits = if fault(1) { 1 << 63 } else { 2 };
         let other = reference::Mark { fingerprint: if fault(4) { 0x1ff } else { 0x59 }, bits: other_bits };
-        let what = format!("order, {key:?}, mark {mark:?}, other {other:?}");
+        let what = format!("order, {key:x}, mark {mark:?}, other {other:?}");
         tally.same(
             &what,
             after(ours(mark), |m| m.join_behind(key, ours(other))),
@@ -136,7 +136,7 @@ fn page_change(tally: &mut Tally, long: &[u8], key: Key, old_used: u32, new_used
         let new_bytes: &[u8] = if fault(4) { b"A" } else { b"CD" };
         let new = or_long(Part { bytes: new_bytes, used: new_used }, fault(2), long);
         let place = if fault(5) { u64::MAX } else { 7 };
-        let what = format!("order, {key:?}, mark {mark:?}, place {place}, {old:?} by {new:?}");
+        let what = format!("order, {key:x}, mark {mark:?}, place {place}, {old:?} by {new:?}");
         tally.same(
             &what,
             after(ours(mark), |m| m.replace_page(key, place, old, new)),
@@ -164,7 +164,7 @@ fn search(tally: &mut Tally, long: &[u8]) {
             let refused = reference::test_key(key).is_err() || fault(0) || fault(1) || fault(2);
             let mut words = [7; 2];
             let answer = gfp::search(key, text, pattern, &mut words);
-            let what = format!("order, search, {key:?}, {} bytes in {}", pattern.len(), text.len());
+            let what = format!("order, search, {key:x}, {} bytes in {}", pattern.len(), text.len());
             if refused {
                 let number = reference::test_key(key).err().unwrap_or(if fault(0) || fault(1) { 7 } else { 11 });
                 tally.same(&what, (answer.map(|c| c.places), words), (Err(number), [7; 2]));
@@ -188,7 +188,7 @@ fn writing(tally: &mut Tally, long: &[u8], key: Key, good: Part) {
         let faults = [(7, fault(0)), (12, fault(1)), (13, fault(2)), (19, good != PARTS[0])];
         let lowest = faults.into_iter().find(|(_, applies)| *applies).map_or(0, |(number, _)| number);
         let expected = reference::test_key(key).err().unwrap_or(lowest);
-        let what = format!("order, write, {key:?}, {file:?}, page size {size}, {} lent", before.len());
+        let what = format!("order, write, {key:x}, {file:?}, page size {size}, {} lent", before.len());
         tally.same(&what, number, expected);
         tally.same(&what, sheet == before, expected != 0);
         tally.same(&what, number, reference::write_sheet(key, size, file, &before).err().unwrap_or(0));

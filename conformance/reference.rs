@@ -449,7 +449,7 @@ impl Version {
 
     /// The bytes of the key field.
     pub fn key_field(self, key: Key) -> Vec<u8> {
-        assert!(self.holds(key), "{key:?} in {self:?}");
+        assert!(self.holds(key), "{:x} in {self:?}", polynomial(key));
         if self.pair {
             [&[key.degree as u8], &key.word.to_be_bytes()[..]].concat()
         } else {

@@ -12,7 +12,7 @@ fn compare(tally: &mut Tally, what: &str, key: Key, text: &[u8], pattern: &[u8],
             *word = *place;
         }
     }
-    let what = format!("{what}, {key:?}, {} bytes in {}, {room} words", pattern.len(), text.len());
+    let what = format!("{what}, {key:x}, {} bytes in {}, {room} words", pattern.len(), text.len());
     tally.same(&what, answer, second.map(|(places, alarms)| (places.len() as u64, alarms)));
     tally.same(&format!("words, {what}"), words, after);
 }

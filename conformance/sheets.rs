@@ -40,7 +40,7 @@ fn range(sheet: &[u8], file: Part) -> Result<gfp::Changed, u32> {
 
 /// Writes a sheet on both sides, with room to spare or too little, and compares what was written.
 fn write(tally: &mut Tally, key: Key, size: u64, file: Part, room: usize) -> Vec<u8> {
-    let what = format!("sheet of {file:?}, page size {size}, {key:?}, {room} bytes lent");
+    let what = format!("sheet of {file:?}, page size {size}, {key:x}, {room} bytes lent");
     let before: Vec<u8> = (0..room).map(|i| i as u8 ^ 0xa5).collect();
     let mut ours = before.clone();
     let number = gfp::write_sheet(key, size, file, &mut ours).err().unwrap_or(0);
@@ -120,7 +120,7 @@ fn judge_versions(tally: &mut Tally, key: Key, size: u64, file: Part, places: &[
     let mut written = write(tally, key, size, file, total + 8);
     written.truncate(total);
     for sheet in in_older_versions(key, size, file).into_iter().chain([written]) {
-        let what = format!("{file:?}, page size {size}, {key:?}, version {:?}", sheet.get(3..5));
+        let what = format!("{file:?}, page size {size}, {key:x}, version {:?}", sheet.get(3..5));
         judge_files(tally, &what, &sheet, file, places);
     }
 }
@@ -153,7 +153,7 @@ fn random(tally: &mut Tally, generator: &mut Generator) {
     written.truncate(total);
     let place = (n > 0).then(|| generator.below(n as u64) as usize);
     for mut sheet in in_older_versions(key, size, file).into_iter().chain([written]) {
-        judge_files(tally, &format!("page size {size}, {key:?}"), &sheet, file, place.as_slice());
+        judge_files(tally, &format!("page size {size}, {key:x}"), &sheet, file, place.as_slice());
         if !sheet.is_empty() {
             let at = generator.below(sheet.len() as u64) as usize;
             sheet[at] ^= 1 << generator.below(8);
@@ -231,7 +231,7 @@ fn last_page(version: Version, sheet: &[u8]) -> Result<Option<u64>, u32> {
 /// in every version. Where pages are filled up, the two last pages have equal fingerprints. Else they are f and f times
 /// a power of t, which are equal only where f is 0.
 fn lost_zero(tally: &mut Tally, version: Version, key: Key, size: usize, file: Part, shorter: Part) {
-    let what = format!("zero lost, {file:?}, page size {size}, {key:?}, {version:?}");
+    let what = format!("zero lost, {file:?}, page size {size}, {key:x}, {version:?}");
     let sheets = [file, shorter].map(|file| reference::sheet(version, key, size as u64, file));
     for (sheet, other) in sheets.iter().zip([shorter, file]) {
         tally.same(&format!("check, {what}"), gfp::check_file(sheet, other), Ok(gfp::Check::OtherLength));
@@ -314,7 +314,7 @@ fn with_other_number(tally: &mut Tally, key: Key, size: usize, file: &[u8]) {
     for (version, sheet) in &sheets {
         for other in VERSIONS.into_iter().filter(|other| other != version) {
             let (from, to) = (version.number, other.number);
-            let what = format!("number {from} changed to {to}, {} bytes, page size {size}, {key:?}", file.len());
+            let what = format!("number {from} changed to {to}, {} bytes, page size {size}, {key:x}", file.len());
             let mut sheet = sheet.clone();
             sheet[4] = to as u8;
             judge(tally, &what, &sheet, file);
@@ -396,7 +396,7 @@ fn bursts_in(tally: &mut Tally, generator: &mut Generator, key: Key, size: usize
             let bits = generator.residue(width as u32) | 1 << (width - 1) | 1;
             let changed = with_bits(file.bytes, place, bits.into(), width);
             let page = file.bytes.iter().zip(&changed).position(|(a, b)| a != b).map(|at| at / size);
-            let what = format!("{width} bits from {place} on, {file:?}, page size {size}, {key:?}");
+            let what = format!("{width} bits from {place} on, {file:?}, page size {size}, {key:x}");
             first_change(tally, &what, &sheets, Part { bytes: &changed, used: file.used }, size, page);
         }
     }
@@ -413,7 +413,7 @@ fn key_added(tally: &mut Tally, generator: &mut Generator) {
             let sheets = sheets_of(key, size, file);
             for place in 0..=file.length() as usize - width {
                 let (first, last) = (place / 8 / size, (place + width - 1) / 8 / size);
-                let what = format!("{key:?} added from bit {place} on");
+                let what = format!("{key:x} added from bit {place} on");
                 let page = (first != last).then_some(first);
                 let changed = with_bits(&bytes, place, reference::polynomial(key), width);
                 first_change(tally, &what, &sheets, Part { bytes: &changed, used }, size, page);
@@ -454,7 +454,7 @@ fn longest(tally: &mut Tally) {
             pages: reference::LIMIT_BYTES.div_ceil(size),
             fingerprint: reference::power_of_t(reference::polynomial(key), n),
         };
-        let what = format!("the longest file, {n} bits, {key:?}, {version:?}");
+        let what = format!("the longest file, {n} bits, {key:x}, {version:?}");
         tally.same(&what, gfp::read_sheet(&sheet), Ok(expected));
         let last = sheet.len() - 9;
         sheet[last] ^= 1;
@@ -669,7 +669,7 @@ fn reading(tally: &mut Tally, version: Version, key: Key, sheet: &[u8], fingerpr
     let number = version.number as u32;
     let expected = gfp::Sheet { version: number, key, bits: 16, page_size: 16, pages: 1, fingerprint };
     let second = reference::sheet(version, key, 16, b"AB");
-    let what = format!("reading, {key:?}, {version:?}");
+    let what = format!("reading, {key:x}, {version:?}");
     tally.same(&format!("{what}, by the second implementation"), &second[..], sheet);
     tally.same(&what, gfp::read_sheet(sheet), Ok(expected));
     tally.same(&format!("{what}, checked"), gfp::check_file(sheet, b"AB"), Ok(gfp::Check::Same));

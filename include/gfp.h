@@ -1,18 +1,21 @@
 /* Rabin fingerprints of logger files, proved.
  *
- * Every function but gfp_stock_key returns 0 (GFP_OK), or the number of the refusal: docs/API.md says what each number
- * means and what to mend. The lowest number that applies is given; gfp_read_sheet says its own order.
+ * Every function but gfp_stock_key returns 0 (GFP_OK), or the number of the refusal: the comment on each number below
+ * says what is wrong and what to mend. The lowest number that applies is given; gfp_read_sheet says its own order.
  * On a refusal nothing is written: every place and buffer lent to the call keeps what it held, and may be memory that
  * cannot be written to.
+ *
+ * A file with its mark gives its key away, and so does a page sheet or a table alone: share/doc/gfp/SECURITY.md, which
+ * is installed with this header, says who may hold what.
  *
  * No function keeps memory, allocates, or reads or writes anything but what it is lent and its stack. Two calls may run
  * at the same time where neither writes to what the other is lent. The libraries call memcpy and memset, and nothing
  * else. Each comment below says how many bytes of stack the function takes at most, what it calls included; that is
  * measured, on x86-64.
  *
- * Places and buffers that are lent must not be NULL and must be aligned, a buffer of length 0 too: any address that is
- * aligned will do. What a call only reads (const) may overlap, as a pattern inside its text or two pages. What a call
- * writes to must not overlap anything else that is lent to the same call.
+ * Places and buffers that are lent must be aligned. A buffer of length 0 may be NULL: it is neither read nor written.
+ * Every other buffer, and every place, must not be NULL. What a call only reads (const) may overlap, as a pattern
+ * inside its text or two pages. What a call writes to must not overlap anything else that is lent to the same call.
  *
  * A key is a polynomial over the field of two elements, of degree 8 to 64. It is two arguments in every declaration
  * that takes one: its degree, and the word of its coefficients below t^degree, bit i being that of t^i. No bit of the
@@ -56,23 +59,42 @@ extern "C" {
  * said above. A new function is no break; the minor number of the pkg-config version counts these additions. */
 #define GFP_INTERFACE 5
 
-/* What a function returns: not refused, or one of 15 refusals. */
+/* What a function returns: not refused, or one of 15 refusals. 15 to 18 are not given. */
 #define GFP_OK 0
 /* The degree is not 8 to 64, or a bit of the word stands at t^degree or above. To mend: pass a key of degree 8 to 64,
  * and its word without the bit at t^degree. */
 #define GFP_KEY_RANGE 1
+/* The key has a divisor, so that nothing is promised under it. To mend: check that it was copied whole; draw another,
+ * or take a stock key. */
 #define GFP_KEY_REDUCIBLE 2
+/* No key of this degree is drawn. To mend: pass 11, 13, 17, 19, 23, 29, 31, 37, 41, 43, 47, 53, 59 or 61. */
 #define GFP_DEGREE_NOT_LISTED 3
+/* The element is 0, 1, or not below 2^degree. To mend: take another random number with as many bits as the degree. */
 #define GFP_ELEMENT_OUT_OF_RANGE 4
+/* The table does not have GFP_TABLE_WORDS words. To mend: lend so many, and pass that number. */
 #define GFP_TABLE_SIZE 5
+/* A word of the table is not this key's. To mend: make the table again under this key; if it recurs, the memory is
+ * damaged or shared. In gfp_feed_house: pass the house key, or feed by this key's own table. */
 #define GFP_TABLE_WORD 6
+/* A length handed in, or the resulting one, passes 34359738360 bits, which are 4294967295 bytes. To mend: split the
+ * file; check that the length is the right field, and that bits were not multiplied by 8 once more. */
 #define GFP_TOO_LONG 7
+/* A mark's fingerprint is not below 2^degree. To mend: check that the mark was taken under this key, and copied
+ * whole. */
 #define GFP_MARK_NOT_REDUCED 8
+/* The old and the new page do not have the same number of bits. To mend: pass both with one length and one used. */
 #define GFP_PAGE_LENGTHS_DIFFER 9
+/* The page ends past the file's end: 8 * place and the page's bits are more than the mark's bits. To mend: check the
+ * place, which is in bytes, the page's used, and the mark's length, which is in bits. */
 #define GFP_PAGE_PAST_END 10
+/* The pattern has no bytes. To mend: search for at least one. */
 #define GFP_EMPTY_PATTERN 11
+/* The page size is not 16 to 4096 bytes. To mend: choose one in that range. */
 #define GFP_PAGE_SIZE 12
+/* The lent bytes are fewer than the sheet's. To mend: lend as many as gfp_sheet_length gives. */
 #define GFP_BUFFER_SHORT 13
+/* The bytes are no page sheet of a version that this library reads: cut, damaged, of another kind, of a later version.
+ * To mend: fetch the sheet again; read a later version with a later library. */
 #define GFP_SHEET_MALFORMED 14
 /* The final byte of a part, page or file: used is not 1 to 8, or is not 8 and there are no bytes, or a low bit that is
  * not used is 1. To mend: pass 8 for whole bytes and for none; else the number of bits, counted from the high end, and
@@ -149,8 +171,9 @@ uint32_t gfp_replace_page(uint32_t degree, uint64_t word, uint64_t *fingerprint,
 
 /* All places of the pattern in the text, byte offsets from 0, overlaps included, rising: the first ones into the lent
  * places, as far as they reach; further ones keep their value. The number of places goes to *count, however many were
- * lent, and the number of windows with the pattern's fingerprint and other bytes to *alarms. Where many windows match,
- * each is compared byte by byte: docs/API.md says what that costs.
+ * lent, and the number of windows with the pattern's fingerprint and other bytes to *alarms. A window that matches is
+ * compared byte by byte: where many do, the time grows with the product of both lengths. Bound the pattern's length, or
+ * the text's, where the text comes from an untrusted source.
  * Refusals: 1, 2, 7, 11. Stack: 6,656 bytes. */
 uint32_t gfp_search(uint32_t degree, uint64_t word, const uint8_t *text, size_t text_length, const uint8_t *pattern,
                     size_t pattern_length, uint32_t *places, size_t places_length, uint32_t *count, uint32_t *alarms);
@@ -223,7 +246,7 @@ uint32_t gfp_changed_range(const uint8_t *sheet, size_t sheet_length, const uint
  * element a random number from 2 to 2^degree - 1. The key drawn has that degree and the word that is written to *word.
  * A uniform element draws a uniform key: each accepted key of the degree is drawn by as many elements as the degree.
  * Take the element from the system's random source (getrandom), as many bits as the degree, and try again on
- * GFP_ELEMENT_OUT_OF_RANGE.
+ * GFP_ELEMENT_OUT_OF_RANGE. Keep it as secret as the key: it gives the key.
  * Refusals: 3, 4. Stack: 1,536 bytes. */
 uint32_t gfp_draw(uint32_t degree, uint64_t element, uint64_t *word);
 

@@ -1,10 +1,11 @@
 //! Safe Rust over the C interface of include/gfp.h. Each function answers what the C function writes, or the refusal's
 //! number. A part of a file, a page and a file for a sheet are a `Part`; whole bytes are passed as `&[u8]`, `&Vec<u8>`
-//! or `&[u8; N]`.
+//! or `&[u8; N]`. Marks, sheets and tables give their key away: share/doc/gfp/SECURITY.md, which is installed with this
+//! file, says who may hold what. Compiles in editions 2021 and 2024, from Rust 1.82 on.
 #![allow(dead_code)]
 
 mod raw {
-    extern "C" {
+    unsafe extern "C" {
         pub fn gfp_test_key(degree: u32, word: u64) -> u32;
         pub fn gfp_stock_key(degree: u32) -> u64;
         pub fn gfp_begin(degree: u32, word: u64, fingerprint: *mut u64, bits: *mut u64) -> u32;
@@ -67,20 +68,37 @@ pub type Refusal = u32;
 /// The names of the refusals.
 pub mod refusal {
     use super::Refusal;
-    /// The degree is not 8 to 64, or a bit of the word stands at t^degree or above.
+    /// The degree is not 8 to 64, or a bit of the word stands at t^degree or above. To mend: `Key::of` splits a key
+    /// that is written as one number.
     pub const KEY_RANGE: Refusal = 1;
+    /// The key has a divisor. To mend: check that it was copied whole; draw another, or take a stock key.
     pub const KEY_REDUCIBLE: Refusal = 2;
+    /// No key of this degree is drawn. To mend: pass 11, 13, 17, 19, 23, 29, 31, 37, 41, 43, 47, 53, 59 or 61.
     pub const DEGREE_NOT_LISTED: Refusal = 3;
+    /// The element is 0, 1, or not below 2^degree. To mend: take another random number with as many bits as the degree.
     pub const ELEMENT_OUT_OF_RANGE: Refusal = 4;
+    /// The table does not have `TABLE_WORDS` words. To mend: lend so many.
     pub const TABLE_SIZE: Refusal = 5;
+    /// A word of the table is not this key's. To mend: make the table again under this key. In `feed_house`: pass
+    /// `HOUSE_KEY`, or feed by this key's own table.
     pub const TABLE_WORD: Refusal = 6;
+    /// A length handed in, or the resulting one, passes 34,359,738,360 bits. To mend: split the file; check that bits
+    /// were not multiplied by 8 once more.
     pub const TOO_LONG: Refusal = 7;
+    /// A mark's fingerprint is not below 2^degree. To mend: check that the mark was taken under this key.
     pub const MARK_NOT_REDUCED: Refusal = 8;
+    /// The old and the new page do not have the same number of bits. To mend: pass both with one length and one `used`.
     pub const PAGE_LENGTHS_DIFFER: Refusal = 9;
+    /// The page ends past the file's end. To mend: check the place, which is in bytes, and the mark's length, in bits.
     pub const PAGE_PAST_END: Refusal = 10;
+    /// The pattern has no bytes. To mend: search for at least one.
     pub const EMPTY_PATTERN: Refusal = 11;
+    /// The page size is not 16 to 4,096 bytes. To mend: choose one in that range.
     pub const PAGE_SIZE: Refusal = 12;
+    /// The lent bytes are fewer than the sheet's. To mend: lend as many as `sheet_length` gives.
     pub const BUFFER_SHORT: Refusal = 13;
+    /// The bytes are no page sheet of a version that this library reads. To mend: fetch the sheet again; read a later
+    /// version with a later library.
     pub const SHEET_MALFORMED: Refusal = 14;
     /// The final byte of a `Part`: `used` is not 1 to 8, or is not 8 and there are no bytes, or a low bit that is not
     /// used is 1. To mend: pass the bytes alone where all their bits count; else clear the 8 − `used` low bits of the
@@ -103,7 +121,8 @@ pub const TABLE_WORDS: usize = 1024;
 pub const SHEET_VERSION: u16 = 4;
 
 /// A key: a polynomial of degree 8 to 64 over the field of two elements, as its degree and the word of its coefficients
-/// below t^degree, bit i being that of t^i. Other pairs can be passed, and are refused with 1.
+/// below t^degree, bit i being that of t^i. Other pairs can be passed, and are refused with 1. `{:?}` shows no key;
+/// whoever has to show one writes `{:x}`.
 #[derive(Clone, Copy, Default, PartialEq, Eq, Hash)]
 pub struct Key {
     pub degree: u32,
@@ -130,10 +149,22 @@ impl Key {
     }
 }
 
-/// The word is shown in hexadecimal.
+/// Shows no key, so that none gets into a log: not here, and not in what holds one, as `Sheet` does.
 impl std::fmt::Debug for Key {
     fn fmt(&self, f: &mut std::fmt::Formatter) -> std::fmt::Result {
-        write!(f, "Key {{ degree: {}, word: {:#x} }}", self.degree, self.word)
+        f.write_str("Key(hidden)")
+    }
+}
+
+/// The key as one number, as `of` takes it; a pair that is no key's, which is refused with 1, as degree and word.
+impl std::fmt::LowerHex for Key {
+    fn fmt(&self, f: &mut std::fmt::Formatter) -> std::fmt::Result {
+        let number = self.number();
+        if (8..65).contains(&self.degree) && Key::of(number) == *self {
+            std::fmt::LowerHex::fmt(&number, f)
+        } else {
+            write!(f, "degree {}, word {:x}", self.degree, self.word)
+        }
     }
 }
 

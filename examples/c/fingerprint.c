@@ -1,5 +1,7 @@
 /* The mark of a file as it is read: fingerprint KEY < FILE, the key in hexadecimal, 1 to 17 digits, or the stock key of
- * degree 61. A file of whole bytes has 8 used bits in the final byte of each part. Bench level. */
+ * degree 61. A file of whole bytes has 8 used bits in the final byte of each part. The exit status is 0 only where all
+ * of the file was read and the line was written. Other users of the machine can read KEY: do not pass a drawn one so.
+ * Bench level. */
 #include "gfp.h"
 #include <inttypes.h>
 #include <stdio.h>
@@ -27,6 +29,15 @@ static int split(const char *text, uint32_t *degree, uint64_t *word) {
     return 1;
 }
 
+/* What a program printed is written only once standard output is closed without an error. */
+static int closing(int status) {
+    if (ferror(stdout) || fclose(stdout) != 0) {
+        fprintf(stderr, "fingerprint: standard output cannot be written\n");
+        return 1;
+    }
+    return status;
+}
+
 int main(int argc, char **argv) {
     static uint64_t words[GFP_TABLE_WORDS];
     static uint8_t part[65536];
@@ -34,7 +45,7 @@ int main(int argc, char **argv) {
     uint64_t word = gfp_stock_key(degree), fingerprint, bits;
     if (argc > 1 && !split(argv[1], &degree, &word)) {
         printf("no key\n");
-        return 1;
+        return closing(1);
     }
     uint32_t refusal = gfp_begin(degree, word, &fingerprint, &bits);
     if (refusal == GFP_OK)
@@ -43,8 +54,13 @@ int main(int argc, char **argv) {
         refusal = gfp_feed_table(degree, word, &fingerprint, &bits, words, GFP_TABLE_WORDS, part, n, 8);
     if (refusal != GFP_OK) {
         printf("refused %" PRIu32 "\n", refusal);
+        return closing(1);
+    }
+    /* fread gives 0 at the end and where a read failed: the mark is the file's only in the first case */
+    if (ferror(stdin)) {
+        fprintf(stderr, "fingerprint: standard input cannot be read\n");
         return 1;
     }
     printf("%" PRIu64 " bytes, fingerprint %" PRIx64 "\n", bits / 8, fingerprint);
-    return 0;
+    return closing(0);
 }

@@ -1,5 +1,6 @@
 /* A stream that stops inside a byte: readings of 11 bits arrive in two parts, and the second goes on at the next bit.
- * The marks of the two parts, joined, give the same. Site level. */
+ * The marks of the two parts, joined, give the same. The exit status is 0 only where they do and the line was written.
+ * Site level. */
 #include "gfp.h"
 #include <inttypes.h>
 #include <stdio.h>
@@ -43,5 +44,10 @@ int main(void) {
         return 1;
     int fed_same = stream == whole && bits == whole_bits, joined_same = joined == whole && joined_bits == whole_bits;
     printf("%s, %s\n", fed_same ? "as fed whole" : "differs", joined_same ? "and so joined" : "joined differs");
-    return 0;
+    /* what was printed is written only once standard output is closed without an error */
+    if (ferror(stdout) || fclose(stdout) != 0) {
+        fprintf(stderr, "tilt_stream: standard output cannot be written\n");
+        return 1;
+    }
+    return !fed_same || !joined_same;
 }
