@@ -20,7 +20,7 @@ test:
 libraries: target/staticlib/made
 
 target/staticlib/made: crates.txt tools/libraries $(shell find crates)
-	@echo 'Proving the libraries and what they stand on first: a line a crate, about four minutes in all on two quiet cores; less the next time.' >&2
+	@echo 'Proving the libraries and what they stand on first: a line a crate, less than five minutes in all on two quiet cores; less the next time.' >&2
 	@tools/libraries
 
 # The libraries, the header, the Rust wrapper, the printing program and the document that the header names, where a C or Rust project finds
