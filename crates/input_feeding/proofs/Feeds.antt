@@ -99,11 +99,17 @@ Closed false at = at .last ≡ End
 pub still-more : (more : Bool) (at : Input) → more ≡ true → Closed more at
 still-more more at e = rw e tt
 
-pub closes : (n : ℕ) (more : Bool) → more ≡ true → n + cond false 1 0 < n + cond more 1 0
-closes n more e = rw e (omega arith)
-
 pub at-first : (start : Running) (words : List ℕ) (input : Input) → SoFar start words input start input
 at-first start words input = (refl, ([], (gave-none input input refl, refl)))
+
+-- what a turn leaves, by its step
+pub record Turn (start : Running) (words : List ℕ) (input : Input) (m : Running) (next : Input) (step : Step) : Type 0 where
+  pub ends : step ≡ step-cases.End → SoFar start words input m next × (next .last ≡ End)
+  pub fails : step ≡ step-cases.Failed → FedInParts start words input (record { marked = marked-cases.Unread; input = next })
+  pub goes-on : (f : Fed) → step ≡ step-cases.Fed f → (now : Running) → f ≡ fed-cases.Next now
+      → SoFar start words input now next × ((m .length < now .length) × (now .length ≤ longest))
+  pub stops : (f : Fed) → step ≡ step-cases.Fed f → (r : Refusal) (kept : Running) → f ≡ fed-cases.Refused r kept
+      → FedInParts start words input (refused r next)
 
 module _ (start : Running) (words : List ℕ) (input : Input) (m : Running) (at : Input) (s : SoFar start words input m at) where
   -- one part more
@@ -114,7 +120,7 @@ module _ (start : Running) (words : List ℕ) (input : Input) (m : Running) (at 
       ∙ ap (λ (k : Key). feedTable k (markIn m) words (whole part)) (sym (s .0))
 
   -- a read that gave nothing
-  pub no-more : (next : Input) → next .bytes ≡ at .bytes → SoFar start words input m next
+  no-more : (next : Input) → next .bytes ≡ at .bytes → SoFar start words input m next
   no-more next e = (s .0, (s .1 .0, ((s .1 .1 .0 .0, e ∙ s .1 .1 .0 .1), s .1 .1 .1)))
 
   pub at-end : at .last ≡ End → FedInParts start words input (record { marked = marked-cases.Done m; input = at })
@@ -130,9 +136,6 @@ module _ (start : Running) (words : List ℕ) (input : Input) (m : Running) (at 
     ),
   )
 
-  pub at-failure : at .last ≡ Failed → FedInParts start words input (record { marked = marked-cases.Unread; input = at })
-  at-failure e = (s .1 .0, (s .1 .1 .0, e))
-
   -- one read, and the turn that feeds what it gave
   module _ (next : Input) (buffer : List ℕ) (read : Read at next buffer) (step : Step) (h : Turned (next .last) m words buffer step) where
     -- what a step says of the read
@@ -147,7 +150,7 @@ module _ (start : Running) (words : List ℕ) (input : Input) (m : Running) (at 
         go Interrupted t u = absurd (let z : _≡_ {A = ℕ} 0 1 = cc in omega arith)
         go Failed t u = absurd (let z : _≡_ {A = ℕ} 0 1 = cc in omega arith)
 
-    pub turn-end : step ≡ step-cases.End → next .last ≡ End
+    turn-end : step ≡ step-cases.End → next .last ≡ End
     turn-end e = go (next .last) refl h
       where
         go : (g : Got) → next .last ≡ g → Turned g m words buffer step → next .last ≡ End
@@ -156,7 +159,7 @@ module _ (start : Running) (words : List ℕ) (input : Input) (m : Running) (at 
         go Interrupted t u = absurd (let z : _≡_ {A = ℕ} 0 1 = cc in omega arith)
         go Failed t u = absurd (let z : _≡_ {A = ℕ} 0 1 = cc in omega arith)
 
-    pub turn-failed : step ≡ step-cases.Failed → (next .last ≡ Interrupted → ⊥) → next .last ≡ Failed
+    turn-failed : step ≡ step-cases.Failed → (next .last ≡ Interrupted → ⊥) → next .last ≡ Failed
     turn-failed e never = go (next .last) refl h
       where
         go : (g : Got) → next .last ≡ g → Turned g m words buffer step → next .last ≡ Failed
@@ -165,7 +168,7 @@ module _ (start : Running) (words : List ℕ) (input : Input) (m : Running) (at 
         go Interrupted t u = absurd (never t)
         go Failed t u = t
 
-    pub turn-none : given (next .last) ≡ 0 → SoFar start words input m next
+    turn-none : given (next .last) ≡ 0 → SoFar start words input m next
     turn-none z = no-more next (read-none at next buffer read z)
 
     module _ (f : Fed) (is : step ≡ step-cases.Fed f) where
@@ -178,20 +181,20 @@ module _ (start : Running) (words : List ℕ) (input : Input) (m : Running) (at 
       gave : Gave input (s .1 .0 ++ part ∷ []) next
       gave = gave-append input at next (s .1 .0) (part ∷ []) (s .1 .1 .0) (gave-one at next buffer count read (fed-bytes f is .1 .0))
 
-      pub turn-next : (now : Running) → f ≡ fed-cases.Next now → SoFar start words input now next
+      turn-next : (now : Running) → f ≡ fed-cases.Next now → SoFar start words input now next
       turn-next now e =
           let h = fed-next (m .key) (feedTable (m .key) (markIn m) words (whole part)) now (ap fed (sym e) ∙ fed-bytes f is .1 .1) in
           (h .0 ∙ s .0, (s .1 .0 ++ part ∷ [], (gave, one-more part ∙ h .1)))
 
       -- number 7 bounds the mark, and it is longer than before
-      pub turn-less : (now : Running) → f ≡ fed-cases.Next now → (m .length < now .length) × (now .length ≤ longest)
+      turn-less : (now : Running) → f ≡ fed-cases.Next now → (m .length < now .length) × (now .length ≤ longest)
       turn-less now e =
           let b = read-bytes at next buffer read count (fed-bytes f is .1 .0) in
           let h = fed-next (m .key) (feedTable (m .key) (markIn m) words (whole part)) now (ap fed (sym e) ∙ fed-bytes f is .1 .1) in
           let g = fed-longer (m .key) (markIn m) words part (markIn now) (h .1) in
           (omega (arith, g .0, b .0 .0, b .0 .1 .1), g .1)
 
-      pub turn-refused : (r : Refusal) (kept : Running) → f ≡ fed-cases.Refused r kept → FedInParts start words input (refused r next)
+      turn-refused : (r : Refusal) (kept : Running) → f ≡ fed-cases.Refused r kept → FedInParts start words input (refused r next)
       turn-refused r kept e = (
         s .1 .0 ++ part ∷ [],
         (
@@ -201,6 +204,14 @@ module _ (start : Running) (words : List ℕ) (input : Input) (m : Running) (at 
               ∙ fed-refused (m .key) (feedTable (m .key) (markIn m) words (whole part)) r kept (ap fed (sym e) ∙ fed-bytes f is .1 .1)),
         ),
       )
+
+    pub turn-of : (next .last ≡ Interrupted → ⊥) → Turn start words input m next step
+    turn-of never = record {
+      ends = λ e. let l = turn-end e in (turn-none (ap given l), l);
+      fails = λ e. let l = turn-failed e never in let so = turn-none (ap given l) in (so .1 .0, (so .1 .1 .0, l));
+      goes-on = λ f is now e. (turn-next f is now e, turn-less f is now e);
+      stops = turn-refused;
+    }
 
 -- ---- feeding the parts is marking the file
 

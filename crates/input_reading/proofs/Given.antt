@@ -1,6 +1,6 @@
 -- Laws of reads: what one gave, one that is made again, and what several gave one after another.
 use mathlib.Core.Path.{_≡_, refl, sym, ap, subst, _∙_}
-use mathlib.Core.Bool.{Bool, true, false}
+use mathlib.Core.Bool.{Bool, true, false, cond}
 use mathlib.Core.List.{List, [], _∷_, _++_, flatten, append-nil, append-assoc}
 use mathlib.Core.Logic.{_⊎_, inl, inr}
 use Prim.Native.Nat.{ℕ, _+_, _-_, _^_, _<_}
@@ -113,6 +113,12 @@ gave-one input next l n r e =
     let b = read-bytes input next l r n e in
     let one = ap length (flatten-one (take n l)) in
     ((omega (arith, b .0 .0, b .0 .1 .1), tt), omega (arith, b .0 .1 .1, b .1, one))
+
+-- ---- loops that go on while there is more to read
+
+-- nothing more: the measure falls
+pub closes : (n : ℕ) (more : Bool) → more ≡ true → n + cond false 1 0 < n + cond more 1 0
+closes n more e = rw e (omega arith)
 
 -- ---- variants
 

@@ -92,6 +92,3 @@ fuller done n b more p l e = go b
     go : (b : Bool) → 18 - (done + n) + cond b 1 0 < 18 - done + cond more 1 0
     go true = rw e (omega arith)
     go false = rw e (omega arith)
-
-pub closes : (n : ℕ) (more : Bool) → more ≡ true → n + cond false 1 0 < n + cond more 1 0
-closes n more e = rw e (omega arith)

@@ -8,10 +8,14 @@ use Rattle.input_calls.proofs.after.Statement.{statement}
 use Rattle.input_calls.proofs.after.Tie as tie
 
 returns : tie.Need-returns
-returns c = c .abandon .ensures ∙ after-large (c .before .before .before .before .before .args .input) _ (Bytes _) (c .before .before .before .got .given .1) (omega arith)
+returns c =
+    let g = c .before .before .before in
+    c .abandon .ensures ∙ after-large (g .before .before .args .input) _ (Bytes _) (g .got .given .1) (omega arith)
 
 returns-2 : tie.Need-returns-2
-returns-2 c = after-small (c .before .before .before .before .args .input) _ (Bytes _) (c .before .before .got .given .1) (omega arith)
+returns-2 c =
+    let g = c .before .before in
+    after-small (g .before .before .args .input) _ (Bytes _) (g .got .given .1) (omega arith)
 
 returns-3 : tie.Need-returns-3
 returns-3 c = after-none (c .before .before .args .input) _ End (c .enum-told .given .1) refl (omega arith)

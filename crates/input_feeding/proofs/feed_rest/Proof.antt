@@ -8,18 +8,12 @@ use lib.ListN.{length}
 use borrow.Author.Needs.{needs}
 use Rattle.refusals.specs.Refusals.{longest}
 use Rattle.input_calls.specs.declared.Got.{Got}
-use Rattle.input_calls.specs.declared.Got.the-variants.{End, Failed}
+use Rattle.input_calls.specs.declared.Got.the-variants.{End}
 use Rattle.input_calls.specs.declared.Input.{Input}
-use Rattle.input_calls.specs.Reading.{given, InFront, Read}
-use Rattle.marks.specs.declared.Running.{Running}
-use Rattle.marks.specs.declared.Fed.{Fed}
-use Rattle.marks.specs.declared.Fed.the-variants as fed-cases
-use Rattle.refusals.specs.declared.Refusal.{Refusal}
-use Rattle.input_feeding.specs.declared.Step.the-variants as step-cases
-use Rattle.input_feeding.specs.Marking.{FedInParts, refused}
-use Rattle.input_reading.proofs.Given.{read-front}
+use Rattle.input_calls.specs.Reading.{InFront}
+use Rattle.input_reading.proofs.Given.{read-front, closes}
 use Rattle.input_feeding.specs.Turns.{Turned}
-use Rattle.input_feeding.proofs.Feeds.{SoFar, Closed, still-more, closes, at-first, turn-end, turn-failed, turn-none, turn-next, turn-less, turn-refused, at-end, at-failure}
+use Rattle.input_feeding.proofs.Feeds.{SoFar, Closed, still-more, at-first, Turn, turn-of, at-end}
 use Rattle.input_feeding.proofs.feed_rest.Statement.{statement}
 use Rattle.input_feeding.proofs.feed_rest.Tie as tie
 
@@ -78,48 +72,15 @@ turn-requires c κs =
     subst (λ (g : Got). InFront g (r .read-some .last .1 .0)) (sym (l .last .ensures))
     (read-front (read→loop r .loop .at) (r .read-some .result) (r .read-some .last .1 .0) (r .read-some .ensures .0))
 
--- what a turn that went on leaves
-module _ (c : tie.After-turn Inv-loop μ-loop) where
-  abbrev start : Running
-  start = loop→start (loop-of c) .args .start
-
-  abbrev words : List ℕ
-  words = loop→start (loop-of c) .args .words .now
-
-  abbrev input : Input
-  input = loop→start (loop-of c) .args .input
-
-  abbrev read : Read (loop-of c .loop .at) (next c) (filled c)
-  read = last→read (turn→last c) .read-some .ensures .0
-
-  module _ (f : Fed) (is : c .turn .result ≡ step-cases.Fed f) where
-    goes-on : (now : Running) → f ≡ fed-cases.Next now → SoFar start words input now (next c)
-    goes-on =
-        turn-next start words input (loop-of c .loop .m) (loop-of c .loop .at) (loop-of c .loop .inv .1 .0) (next c) (filled c) read (c .turn .result) (turned c)
-        f is
-
-    longer : (now : Running) → f ≡ fed-cases.Next now → (loop-of c .loop .m .length < now .length) × (now .length ≤ longest)
-    longer =
-        turn-less start words input (loop-of c .loop .m) (loop-of c .loop .at) (loop-of c .loop .inv .1 .0) (next c) (filled c) read (c .turn .result) (turned c)
-        f is
-
-    stops : (r : Refusal) (kept : Running) → f ≡ fed-cases.Refused r kept → FedInParts start words input (refused r (next c))
-    stops =
-        turn-refused start words input (loop-of c .loop .m) (loop-of c .loop .at) (loop-of c .loop .inv .1 .0) (next c) (filled c) read (c .turn .result) (turned c)
-        f is
-
-  ends : c .turn .result ≡ step-cases.End → next c .last ≡ End
-  ends =
-      turn-end start words input (loop-of c .loop .m) (loop-of c .loop .at) (loop-of c .loop .inv .1 .0) (next c) (filled c) read (c .turn .result) (turned c)
-
-  fails : c .turn .result ≡ step-cases.Failed → next c .last ≡ Failed
-  fails e =
-      turn-failed start words input (loop-of c .loop .m) (loop-of c .loop .at) (loop-of c .loop .inv .1 .0) (next c) (filled c) read (c .turn .result) (turned c)
-      e (last→read (turn→last c) .read-some .ensures .1)
-
-  none : given (next c .last) ≡ 0 → SoFar start words input (loop-of c .loop .m) (next c)
-  none =
-      turn-none start words input (loop-of c .loop .m) (loop-of c .loop .at) (loop-of c .loop .inv .1 .0) (next c) (filled c) read (c .turn .result) (turned c)
+-- what the turn left
+facts : (c : tie.After-turn Inv-loop μ-loop)
+    → let s = loop→start (loop-of c) in Turn (s .args .start) (s .args .words .now) (s .args .input) (loop-of c .loop .m) (next c) (c .turn .result)
+facts c =
+    let s = loop→start (loop-of c) in
+    let l = loop-of c in
+    let r = last→read (turn→last c) .read-some .ensures in
+    turn-of (s .args .start) (s .args .words .now) (s .args .input) (l .loop .m) (l .loop .at) (l .loop .inv .1 .0) (next c) (filled c) (r .0)
+    (c .turn .result) (turned c) (r .1)
 
 more-of : (c : tie.After-turn Inv-loop μ-loop) → loop-of c .loop .more ≡ true
 more-of c = last→read (turn→last c) .before .before .loop-test .taken
@@ -127,31 +88,25 @@ more-of c = last→read (turn→last c) .before .before .loop-test .taken
 loop-less : tie.Need-loop-less Inv-loop μ-loop
 loop-less c =
     let a = answer2→answer (c .before) in
-    omega (arith, longer (answer→turn a) _ (a .answer .given .1) _ (c .before .answer2 .given .1))
+    omega (arith, facts (answer→turn a) .goes-on _ (a .answer .given .1) _ (c .before .answer2 .given .1) .1)
 
 loop-again : tie.Need-loop-again Inv-loop μ-loop
 loop-again c =
     let a = answer2→answer (c .before) in
     let t = answer→turn a in
-    (search needs, (goes-on t _ (a .answer .given .1) _ (c .before .answer2 .given .1), still-more _ (next t) (more-of t)))
+    (search needs, (facts t .goes-on _ (a .answer .given .1) _ (c .before .answer2 .given .1) .0, still-more _ (next t) (more-of t)))
 
 returns : tie.Need-returns Inv-loop μ-loop
-returns c = let a = answer3→answer (c .before) in stops (answer→turn a) _ (a .answer .given .1) _ _ (c .before .answer3 .given .1)
+returns c = let a = answer3→answer (c .before) in facts (answer→turn a) .stops _ (a .answer .given .1) _ _ (c .before .answer3 .given .1)
 
 loop-less-2 : tie.Need-loop-less-2 Inv-loop μ-loop
 loop-less-2 c = let t = c .before .before in closes (longest - loop-of t .loop .m .length) (loop-of t .loop .more) (more-of t)
 
 loop-again-2 : tie.Need-loop-again-2 Inv-loop μ-loop
-loop-again-2 c =
-    let t = c .before .before in
-    let e = ends t (c .enum-told .given .1) in
-    (search needs, (none t (ap given e), e))
+loop-again-2 c = (search needs, facts (c .before .before) .ends (c .enum-told .given .1))
 
 returns-2 : tie.Need-returns-2 Inv-loop μ-loop
-returns-2 c =
-    let t = c .before .before in
-    let e = fails t (c .enum-told2 .given .1) in
-    at-failure (start t) (words t) (input t) (loop-of t .loop .m) (next t) (none t (ap given e)) e
+returns-2 c = facts (c .before .before) .fails (c .enum-told2 .given .1)
 
 returns-3 : tie.Need-returns-3 Inv-loop μ-loop
 returns-3 c =

@@ -37,7 +37,8 @@ returns : tie.Need-returns
 returns c =
     let b = c .before .before .before .before in
     let s = b .before .before in
-    told s _ _ (c .refused .ensures) (begun-refused _ (s .args .first .now) (s .args .input) _ (ap begun (sym (c .before .before .r .given .1)) ∙ b .begin .ensures))
+    told s _ _ (c .refused .ensures)
+    (begun-refused _ (s .args .first .now) (s .args .input) _ (ap begun (sym (c .before .before .r .given .1)) ∙ b .begin .ensures))
 
 returns-2 : tie.Need-returns-2
 returns-2 c =

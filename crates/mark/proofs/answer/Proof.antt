@@ -70,7 +70,8 @@ report-requires c κs =
     let m = c .before .before in
     let f = m→mark-file m in
     let k = mark-file→key f in
-    marked-range _ (drop (k .key .given .0 .1 .0) (head-at k)) (key-line→start (key→key-line k) .args .input) (f .mark-file .result) _ (file f) (m .marked .given .1)
+    marked-range _ (drop (k .key .given .0 .1 .0) (head-at k)) (key-line→start (key→key-line k) .args .input) (f .mark-file .result) _ (file f)
+    (m .marked .given .1)
 
 returns : tie.Need-returns
 returns c =

@@ -14,7 +14,8 @@ use Rattle.input_calls.specs.declared.Got.{Got}
 use Rattle.input_calls.specs.declared.Got.the-variants.{Bytes}
 use Rattle.input_calls.specs.declared.Input.{Input}
 use Rattle.input_calls.proofs.Got.{the-type}
-use Rattle.mark.proofs.Heads.{Stands, Going, room, none-stands, bytes-fit, bytes-stand, goes, none-more, over-now, read-so, fuller, closes}
+use Rattle.input_reading.proofs.Given.{closes}
+use Rattle.mark.proofs.Heads.{Stands, Going, room, none-stands, bytes-fit, bytes-stand, goes, none-more, over-now, read-so, fuller}
 use Rattle.mark.proofs.read_head.Statement.{statement}
 use Rattle.mark.proofs.read_head.Tie as tie
 
@@ -117,7 +118,8 @@ loop-again-2 c =
     let a = c .before in
     let r = last→read a in
     let l = read→loop r in
-    let o = over-now (next r .last) (subst (λ (g : Got). OneOf (1 ∷ 2 ∷ 3 ∷ []) (tagOf the-type g)) (a .last .ensures) (c .match .keys2)) (r .read-behind .ensures .1 .0) in (
+    let keys = subst (λ (g : Got). OneOf (1 ∷ 2 ∷ 3 ∷ []) (tagOf the-type g)) (a .last .ensures) (c .match .keys2) in
+    let o = over-now (next r .last) keys (r .read-behind .ensures .1 .0) in (
       full r,
       (
         within r,
