@@ -4,6 +4,7 @@ use libc::STDIN_FILENO;
 ghost use mathlib.Core.Path.{_≡_};
 ghost use Prim.Native.Nat.{_<_};
 ghost use lib.ListN.{length};
+ghost use Rattle.input_calls.specs.declared.Got.the-variants.{Interrupted};
 ghost use Rattle.input_calls.specs.Reading.{outcome, over, unread, after, abandoned, Read};
 
 // What a read gave.
@@ -15,7 +16,7 @@ pub enum Got {
 }
 
 // Standard input as far as it was read: how many bytes the calls gave, and what the last one gave. No other crate can make one: whoever hands on one that
-// says End was given the end by a read.
+// says End, or Failed, was given it behind a read.
 pub struct Input {
     bytes: u64,
     last: Got,
@@ -38,8 +39,9 @@ pub fn last(input: Input) -> Got
     input.last
 }
 
-// The input, given up: nothing more is read of it.
+// The input, given up behind a read that was interrupted: nothing more is read of it.
 pub fn abandon(input: Input) -> Input
+    requires { ⌜ input .last ≡ Interrupted ⌝ }
     ensures { λ r. ⌜ r ≡ abandoned input ⌝ }
 {
     Input {
@@ -84,7 +86,10 @@ fn after(input: Input, got: Got) -> Input
     match got {
         Got::Bytes(n) => {
             if u64::MAX - bytes < n as u64 {
-                return abandon(input);
+                return Input {
+                    bytes: bytes,
+                    last: Got::Failed,
+                };
             }
             Input {
                 bytes: bytes + n as u64,

@@ -77,6 +77,13 @@ module _ (input at : Input) (turns : ℕ) (w : Waiting input at turns) where
       let s = read-on next l r in
       inr (made input next l s (ap over e), (e, read-none input next l s (ap given e)))
 
+  pub interrupted-last : turns ≡ 0 → at .last ≡ Interrupted
+  interrupted-last z = go w
+    where
+      go : Waiting input at turns → at .last ≡ Interrupted
+      go (inl e) = absurd (omega (arith, e .1))
+      go (inr e) = e .1 .0
+
   pub given-up : (l : List ℕ) → turns ≡ 0 → Read input (abandoned at) l
   given-up l z = go w
     where

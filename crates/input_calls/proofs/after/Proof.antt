@@ -9,8 +9,8 @@ use Rattle.input_calls.proofs.after.Tie as tie
 
 returns : tie.Need-returns
 returns c =
-    let g = c .before .before .before in
-    c .abandon .ensures ∙ after-large (g .before .before .args .input) _ (Bytes _) (g .got .given .1) (omega arith)
+    let g = c .before .before in
+    after-large (g .before .before .args .input) _ (Bytes _) (g .got .given .1) (omega arith)
 
 returns-2 : tie.Need-returns-2
 returns-2 c =
@@ -32,7 +32,6 @@ after-spec =
     (tie.spec
     (λ c. search needs)
     (λ c. omega arith)
-    (λ c κs. search needs)
     returns
     (λ c. omega arith)
     (λ c. search needs)

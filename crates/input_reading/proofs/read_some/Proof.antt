@@ -8,7 +8,7 @@ use borrow.Author.Needs.{needs}
 use Rattle.input_calls.specs.declared.Input.{Input}
 use Rattle.input_calls.specs.Reading.{Read}
 use Rattle.input_calls.proofs.Got.{the-type}
-use Rattle.input_reading.proofs.Given.{Waiting, read-on, wait-on, given-up, not-two, not-failed}
+use Rattle.input_reading.proofs.Given.{Waiting, read-on, wait-on, interrupted-last, given-up, not-two, not-failed}
 use Rattle.input_reading.proofs.read_some.Statement.{statement}
 use Rattle.input_reading.proofs.read_some.Tie as tie
 
@@ -49,6 +49,9 @@ returns c =
       λ e. not-two _ (c .match .keys2) (ap (tagOf the-type) (l .last .ensures ∙ e)),
     )
 
+abandon-requires : tie.Need-abandon-requires Inv-loop μ-loop
+abandon-requires c κs = interrupted-last _ _ _ (c .before .loop .inv .1) (omega arith)
+
 returns-2 : tie.Need-returns-2 Inv-loop μ-loop
 returns-2 c =
     let l = c .before .before in (
@@ -72,6 +75,6 @@ read-some-spec =
     loop-again
     (λ c. search needs)
     returns
-    (λ c κs. search needs)
+    abandon-requires
     (λ c. search needs)
     returns-2)
