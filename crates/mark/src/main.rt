@@ -1,12 +1,12 @@
 // The printing program: standard input is a line with the key in hexadecimal and then a file's bytes, standard output the file's mark under the key.
 //
 // Proved, of `run` and of all that it calls: what the answer of a call of read means (`input_calls::outcome`); that the bytes that a read gave, at the front
-// of its buffer, are fed, an end is taken for the end and a failure for a failure (`input_feeding::turn`); that no read is made behind the end
-// (`input_calls::read_once`); and that the text is what `printed` says of parts with as many bytes as the reads gave, where the last read gave the end or
-// where no further byte changes the text, or that there is none because a read failed. The state of the input, which says what the reads gave, is made by
-// `read_once` alone.
+// of the buffer as it is then, are fed, an end is taken for the end and a failure for a failure (`input_feeding::turn`); that behind the end the state of the
+// input stays (`input_calls::read_once`); and that the text is what `printed` says of parts with as many bytes as the reads gave, where the last read gave
+// the end or where no further byte changes the text, or that there is none because a read failed. The state of the input, which says what the reads gave, is
+// made in `input_calls` alone.
 // Not proved, since no contract reaches behind a read: that libc::read puts the input's next bytes at the front of the buffer, which is assumed; that the
-// parts are these bytes from one call to the next; and that `main` prints what `run` gives: tools/test-program tests it.
+// parts are these bytes, in their order; that no call of read is made behind the end; and that `main` prints what `run` gives: tools/test-program tests it.
 use input_calls::Got;
 use input_calls::Input;
 use input_feeding::Marked;
@@ -15,7 +15,6 @@ use libc::STDERR_FILENO;
 use libc::STDOUT_FILENO;
 use refusals::Refusal;
 ghost use mathlib.Core.Path.{_≡_};
-ghost use Prim.Native.Nat.{_≤_};
 ghost use lib.ListN.{length};
 ghost use Rattle.mark.specs.Program.{Ran};
 ghost use Rattle.mark.specs.Heads.{HeadRead, Known, Answered, told};
