@@ -64,8 +64,8 @@ extern "C" {
 /* The degree is not 8 to 64, or a bit of the word stands at t^degree or above. To mend: pass a key of degree 8 to 64,
  * and its word without the bit at t^degree. */
 #define GFP_KEY_RANGE 1
-/* The key has a divisor, so that nothing is promised under it. To mend: check that it was copied whole; draw another,
- * or take a stock key. */
+/* The key is a product of two polynomials of lower degree: no promise says how few files it confuses. To mend: check
+ * that it was copied whole; draw another, or take a stock key. */
 #define GFP_KEY_REDUCIBLE 2
 /* No key of this degree is drawn. To mend: pass 11, 13, 17, 19, 23, 29, 31, 37, 41, 43, 47, 53, 59 or 61. */
 #define GFP_DEGREE_NOT_LISTED 3

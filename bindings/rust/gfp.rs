@@ -1,7 +1,8 @@
 //! Safe Rust over the C interface of include/gfp.h. Each function answers what the C function writes, or the refusal's
 //! number. A part of a file, a page and a file for a sheet are a `Part`; whole bytes are passed as `&[u8]`, `&Vec<u8>`
-//! or `&[u8; N]`. Marks, sheets and tables give their key away: share/doc/gfp/SECURITY.md, which is installed with this
-//! file, says who may hold what. Compiles in editions 2021 and 2024, from Rust 1.82 on.
+//! or `&[u8; N]`. A file with its mark gives its key away, and so does a sheet or a table alone:
+//! share/doc/gfp/SECURITY.md, which is installed with this file, says who may hold what. Compiles in editions 2021 and
+//! 2024, from Rust 1.82 on.
 #![allow(dead_code)]
 
 mod raw {
@@ -71,7 +72,8 @@ pub mod refusal {
     /// The degree is not 8 to 64, or a bit of the word stands at t^degree or above. To mend: `Key::of` splits a key
     /// that is written as one number.
     pub const KEY_RANGE: Refusal = 1;
-    /// The key has a divisor. To mend: check that it was copied whole; draw another, or take a stock key.
+    /// The key is a product of two of lower degree. To mend: check that it was copied whole; draw another, or take a
+    /// stock key.
     pub const KEY_REDUCIBLE: Refusal = 2;
     /// No key of this degree is drawn. To mend: pass 11, 13, 17, 19, 23, 29, 31, 37, 41, 43, 47, 53, 59 or 61.
     pub const DEGREE_NOT_LISTED: Refusal = 3;

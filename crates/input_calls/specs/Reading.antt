@@ -52,7 +52,7 @@ InFront End buffer = Unit {0}
 InFront Interrupted buffer = Unit {0}
 InFront Failed buffer = Unit {0}
 
--- the input before and behind a read, and the buffer behind it: what the read gave is counted; behind the end or a failure none is made
+-- the input before and behind a read, and the buffer behind it: what the read gave is counted; behind the end or a failure the state stays
 abbrev pub Reading : Bool → Input → Input → List ℕ → Type 0
 Reading true input next buffer = next ≡ input
 Reading false input next buffer = InFront (next .last) buffer × (next .bytes ≡ input .bytes + given (next .last))
