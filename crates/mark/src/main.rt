@@ -2,11 +2,11 @@
 //
 // Proved, of `run` and of all that it calls: what the answer of a call of read means (`input_calls::outcome`); that the bytes that a read gave, at the front
 // of the buffer as it is then, are fed, an end is taken for the end and a failure for a failure (`input_feeding::turn`); that behind the end the state of the
-// input stays (`input_calls::read_once`); and that the text is what `printed` says of parts with as many bytes as the reads gave, where the last read gave
-// the end or where no further byte changes the text, or that there is none because a read failed. The state of the input, which says what the reads gave, is
-// made in `input_calls` alone.
-// Not proved, since no contract reaches behind a read: that libc::read puts the input's next bytes at the front of the buffer, which is assumed; that the
-// parts are these bytes, in their order; that no call of read is made behind the end; and that `main` prints what `run` gives: tools/test-program tests it.
+// input stays (`input_calls::read_once`); and that the text is what `printed` says of parts with as many bytes as the state of the input counts, where that
+// state says End or where no further byte changes the text, or that there is none because it says Failed. A state is made in `input_calls` alone.
+// Not proved, since no contract reaches behind a read: that libc::read puts the input's next bytes at the front of the buffer, which is assumed; that
+// `read_once` hands on what its call answered; that no read's state is dropped, so that none is left out and none made behind the end; that the parts are the
+// bytes that were read; that no more is read than the text needs; and that `main` prints what `run` gives: tools/test-form and tools/test-program test these.
 use input_calls::Got;
 use input_calls::Input;
 use input_feeding::Marked;
