@@ -16,7 +16,7 @@ pub enum Got {
 }
 
 // Standard input as far as it was read: how many bytes the calls gave, and what the last one gave. No other crate can make one: whoever hands on one that
-// says End, or Failed, was given it behind a read.
+// says End, or Failed, was given it by `read_once` or `abandon`.
 pub struct Input {
     bytes: u64,
     last: Got,
