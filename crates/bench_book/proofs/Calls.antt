@@ -12,12 +12,14 @@ use Rattle.acceptance.specs.declared.Key.{Key}
 use Rattle.acceptance.specs.Keys.{polynomialOf, asModulus, keyTests}
 use Rattle.files.specs.declared.Mark.{Mark}
 use Rattle.files.specs.Files.{markOf, Part, fedMark}
+use Rattle.files.specs.PlainMarks.{plainMarkOf, turned}
 use Rattle.lookups.specs.Rule.{word, differs}
 use Rattle.house.specs.House.{houseKey, houseWords}
 use Rattle.keys.specs.Testing.{testKey}
 use Rattle.tables.specs.Tables.{makeTable, testTable}
 use Rattle.mark_tests.specs.MarkTests.{feedTests}
-use Rattle.marks.specs.Feeding.{begin, feedBits, feedTable, feedHouse}
+use Rattle.marks.specs.Feeding.{beginFrom, feedBits, feedTable, feedHouse}
+use Rattle.marks.specs.PlainMarks.{turn}
 use Rattle.bench_book.specs.Calls.{EachCall, CallsLowest}
 
 module _ (x : Key) (m : Mark) (words : List ℕ) (part : Part) where
@@ -33,11 +35,13 @@ module _ (x : Key) (m : Mark) (words : List ℕ) (part : Part) where
       (skip (keyTests x) (differs (word 8 key) 0 houseWords ⇒ TableWord ∷ feedTests key m part) TableSize m (fedMark key m part))
 
   calls : EachCall x m words part
-  unfolding testKey begin feedBits makeTable testTable feedTable rising
+  unfolding testKey beginFrom turn feedBits makeTable testTable feedTable rising
   calls =
       record {
         test-key = gives-lowest tt (asModulus x) refl refl tt;
         begin-mark = gives-lowest tt (markOf key []) refl refl tt;
+        begin-plain = gives-lowest tt (plainMarkOf key []) refl refl tt;
+        turn-mark = gives-lowest m (turned key m) refl refl tt;
         feed = gives-lowest m (fedMark key m part) refl refl tt;
         make-table = gives-lowest words (listFrom (word 8 key) 0 1024) refl refl tt;
         test-table = gives-lowest tt tt refl refl tt;

@@ -1,3 +1,4 @@
 pub mod StepLaws
 pub mod Guarantee
+pub mod PlainMarks
 pub mod Calls

@@ -7,10 +7,13 @@ use lib.ListN.{length, drop}
 use Rattle.refusals.specs.declared.Refusal.the-variants.{FinalByte}
 use Rattle.refusals.specs.Refusals.{Done, Test, _⇒_}
 use Rattle.acceptance.specs.Keys.{keyOf, keyTests}
-use Rattle.files.specs.Files.{bits, partLength, partBits, misused}
+use Rattle.files.specs.declared.Mark.{Mark}
+use Rattle.files.specs.Files.{bits, markFrom, partLength, partBits, misused}
+use Rattle.files.specs.PlainMarks.{PlainTrue}
 use Rattle.table_tests.specs.TableTests.{tableTests}
 use Rattle.mark_tests.specs.MarkTests.{sumTest}
 use Rattle.marks.specs.Feeding.{begin}
+use Rattle.marks.specs.PlainMarks.{turn}
 use Rattle.key_lines.specs.declared.KeyLine.the-variants.{Key}
 use Rattle.key_lines.specs.KeyLines.{keyLine}
 use Rattle.printing.specs.Printing.{report, printed}
@@ -32,13 +35,20 @@ written file (ByTable words part) = file ++ partBits part
 abbrev pub Brings : ℕ → List ℕ → Feed → Type 0
 Brings key file c = Unit {0}
 
-abbrev pub bench : Level
-bench = record { Call = Feed; step = step; tests = bookTests; written = written; Brings = Brings }
+-- the level of marks with the start s: the calls are the same, and what is true differs
+abbrev pub benchFrom : ℕ → Level
+benchFrom s =
+    record { Kept = List ℕ; size = length; State = Mark; truth = markFrom s; Call = Feed; step = step; tests = bookTests; written = written; Brings = Brings }
 
--- The routes: a list of calls, and "any other call of ours that gives a file's fingerprint": the beginning of a mark, which gives
--- the empty file's, and the printing program.
+abbrev pub bench : Level
+bench = benchFrom 1
+
+-- The routes: a list of calls, and "any other call of ours that gives a file's fingerprint": the turning of a plain mark, the beginning of a
+-- mark, which gives the empty file's, and the printing program.
 pub data Route (key : ℕ) (file : List ℕ) (f : ℕ) : Type 0 where
-  ByCalls : Leaves bench key file f → Route key file f
+  ByCalls : (m : Mark) → Leaves bench key file m → m .fingerprint ≡ f → Route key file f
+  -- the other kind's true mark, turned (document 02, wish 9)
+  ByTurning : (m n : Mark) → PlainTrue key file m → turn (keyOf key) m ≡ Done n → n .fingerprint ≡ f → Route key file f
   Beginning : file ≡ [] → begin (keyOf key) ≡ Done (record { fingerprint = f; length = 0 }) → Route key file f
   -- of an input whose first line is the key and whose other bytes are the file; the program prints bytes
   Printed : (input : List ℕ) (at : ℕ) → keyLine input ≡ Key (keyOf key) at → bits (drop at input) ≡ file

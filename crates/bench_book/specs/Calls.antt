@@ -16,10 +16,13 @@ use Rattle.table_tests.specs.TableTests.{tableSizeTest, tableTests}
 use Rattle.tables.specs.Tables.{makeTable, testTable}
 use Rattle.mark_tests.specs.MarkTests.{feedTests}
 use Rattle.marks.specs.Feeding.{begin, feedBits, feedTable, feedHouse}
+use Rattle.marks.specs.PlainMarks.{beginPlain, turnTests, turn}
 
 pub record EachCall (x : Key) (m : Mark) (words : List ℕ) (part : Part) : Type 0 where
   pub test-key : GivesLowest (1 ∷ 2 ∷ []) (keyTests x) (testKey x)
   pub begin-mark : GivesLowest (1 ∷ 2 ∷ []) (keyTests x) (begin x)
+  pub begin-plain : GivesLowest (1 ∷ 2 ∷ []) (keyTests x) (beginPlain x)
+  pub turn-mark : GivesLowest (1 ∷ 2 ∷ 7 ∷ 8 ∷ []) (keyTests x ++ turnTests (polynomialOf x) m) (turn x m)
   pub feed : GivesLowest (1 ∷ 2 ∷ 7 ∷ 8 ∷ 19 ∷ []) (keyTests x ++ feedTests (polynomialOf x) m part) (feedBits x m part)
   pub make-table : GivesLowest (1 ∷ 2 ∷ 5 ∷ []) (keyTests x ++ tableSizeTest words ∷ []) (makeTable x words)
   pub test-table : GivesLowest (1 ∷ 2 ∷ 5 ∷ 6 ∷ []) (keyTests x ++ tableTests (polynomialOf x) words) (testTable x words)

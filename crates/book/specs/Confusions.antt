@@ -6,7 +6,7 @@ use Prim.Native.Nat.{ℕ}
 use lib.Dec.{eqb}
 use Rattle.gf2.specs.Polynomials.{degree}
 use Rattle.acceptance.specs.Keys.{accepted}
-use Rattle.files.specs.Files.{fingerprint}
+use Rattle.files.specs.Files.{fingerprint, fingerprintFrom}
 
 -- The ways in which our calls give a file's fingerprint under a key: `Route key file f`. Each level has its own; a list of calls
 -- (`Leaves`) is one.
@@ -28,9 +28,15 @@ confused a b key = accepted key && eqb (fingerprint key a) (fingerprint key b)
 -- ---- claims
 
 -- what a route leaves is the file's fingerprint
-abbrev pub Sound : Routes → Type 0
-Sound Route = (key : ℕ) (file : List ℕ) (f : ℕ) → accepted key ≡ true → Route key file f → f ≡ fingerprint key file
+abbrev pub SoundFrom : ℕ → Routes → Type 0
+SoundFrom s Route = (key : ℕ) (file : List ℕ) (f : ℕ) → accepted key ≡ true → Route key file f → f ≡ fingerprintFrom s key file
 
 -- and there is a route to every file
+abbrev pub ReachesFrom : ℕ → Routes → Type 0
+ReachesFrom s Route = (key : ℕ) (file : List ℕ) → Route key file (fingerprintFrom s key file)
+
+abbrev pub Sound : Routes → Type 0
+Sound Route = SoundFrom 1 Route
+
 abbrev pub Reaches : Routes → Type 0
-Reaches Route = (key : ℕ) (file : List ℕ) → Route key file (fingerprint key file)
+Reaches Route = ReachesFrom 1 Route

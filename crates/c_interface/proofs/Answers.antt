@@ -24,10 +24,18 @@ stored x before a y n m k e h = (
   h .1 ∙ ap (λ (z : Answer Running Running). markOr before z) e ∙ fed-value x before a ∙ k,
 )
 
-pub begun-number : (x : Key) (a : Answer Unit Mark) → numberOf (begunUnder x a) ≡ numberOf a
+begun-number : (x : Key) (a : Answer Unit Mark) → numberOf (begunUnder x a) ≡ numberOf a
 begun-number x (Done m) = refl
 begun-number x (Refused r s) = refl
 
-pub begun-value : (x : Key) (before : Mark) (a : Answer Unit Mark) → markOr before (begunUnder x a) ≡ valueOr before a
+begun-value : (x : Key) (before : Mark) (a : Answer Unit Mark) → markOr before (begunUnder x a) ≡ valueOr before a
 begun-value x before (Done m) = refl
 begun-value x before (Refused r s) = refl
+
+-- the same of `store_begun`: what the answer holds, or what the places held
+pub stored-begun : (x : Key) (before : Mark) (a : Answer Unit Mark) (y : Answer Unit Running) (n : ℕ) (m : Mark)
+    → y ≡ begunUnder x a → (n ≡ numberOf y) × (m ≡ markOr before y) → (n ≡ numberOf a) × (m ≡ valueOr before a)
+stored-begun x before a y n m e h = (
+  h .0 ∙ ap numberOf e ∙ begun-number x a,
+  h .1 ∙ ap (λ (z : Answer Unit Running). markOr before z) e ∙ begun-value x before a,
+)

@@ -10,11 +10,14 @@ use lib.Dec.{leb, ltb}
 use borrow.Author.Tests.{eq-eqb, ne-eqb, le-leb, lt-leb, lt-ltb, le-ltb}
 use Rattle.lists.proofs.Truth.{or-left-comm}
 use Rattle.refusals.specs.declared.Refusal.the-variants.{TooLong, MarkNotReduced, PageLengthsDiffer, PagePastEnd, FinalByte}
-use Rattle.refusals.specs.Refusals.{Done, Refused, _⇒_, firstOf, longest, passes}
+use Rattle.refusals.specs.Refusals.{Done, Refused, stateOf, valueOr, _⇒_, firstOf, longest, passes}
 use Rattle.refusals.proofs.Lengths.{counted}
+use Rattle.refusals.proofs.Replies.{first-keeps}
+use Rattle.acceptance.specs.declared.Key.{Key}
+use Rattle.acceptance.specs.Keys.{polynomialOf}
 use Rattle.files.specs.declared.Mark.{Mark}
-use Rattle.files.specs.Files.{unreduced, Part, partLength, misused}
-use Rattle.compose.specs.Composing.{marksTests, pageTests}
+use Rattle.files.specs.Files.{unreduced, Part, partLength, misused, joinedFrom}
+use Rattle.compose.specs.Composing.{marksTests, joinTests, joinBehindFrom, joinInFrontFrom, pageTests}
 
 -- ---- they do not depend on the order of the marks
 
@@ -76,3 +79,13 @@ last-place length place n h = go (decLe place ((length - n) / 8))
     go : Dec (place ≤ (length - n) / 8) → leb place ((length - n) / 8) ≡ not (ltb length (8 * place + n))
     go (yes l) = rw (le-leb place ((length - n) / 8) l, le-ltb length (8 * place + n) (omega arith))
     go (no l) = rw (lt-leb place ((length - n) / 8) (omega arith), lt-ltb length (8 * place + n) (omega arith))
+
+-- ---- on refusal the state is the mark that was handed in
+
+pub behind-keeps : (s : ℕ) (x : Key) (m other : Mark) → valueOr m (joinBehindFrom s x m other) ≡ stateOf (joinBehindFrom s x m other)
+unfolding joinBehindFrom
+behind-keeps s x m other = first-keeps (joinTests x m other) m (joinedFrom s (polynomialOf x) m other)
+
+pub front-keeps : (s : ℕ) (x : Key) (m other : Mark) → valueOr m (joinInFrontFrom s x m other) ≡ stateOf (joinInFrontFrom s x m other)
+unfolding joinInFrontFrom
+front-keeps s x m other = first-keeps (joinTests x m other) m (joinedFrom s (polynomialOf x) other m)

@@ -8,20 +8,22 @@ use marks::Running;
 use refusals::Refusal;
 ghost use mathlib.Core.Path.{_≡_};
 ghost use mathlib.Core.Bool.{not};
-ghost use Prim.Native.Nat.{_+_, _*_};
+ghost use Prim.Native.Nat.{_+_, _*_, _<_};
 ghost use lib.Dec.{ltb};
 ghost use Rattle.refusals.specs.Refusals.{firstOf};
 ghost use Rattle.acceptance.specs.Keys.{polynomialOf};
 ghost use Rattle.acceptance.specs.Opened.{Opened};
-ghost use Rattle.files.specs.Files.{asPart, joined, replaced};
+ghost use Rattle.files.specs.Files.{asPart, joinedFrom, replaced};
 ghost use Rattle.marks.specs.Answers.{markIn, fed, fedUnder};
-ghost use Rattle.compose.specs.Composing.{marksTests, joinTests, joinBehind, joinInFront, pageTests, replacePage};
+ghost use Rattle.compose.specs.Composing.{marksTests, joinTests, joinBehindFrom, joinBehind, joinInFrontFrom, joinInFront};
+ghost use Rattle.compose.specs.Composing.{pageTests, replacePage};
+ghost use Rattle.compose.specs.PlainMarks.{joinPlainBehind, joinPlainInFront};
 
 // Two marks joined, after the test of the key. The running mark m goes back where they are refused. A key is copied field by field, as in `marks`.
-fn join_under(p: Modulus, m: Running, first: Mark, second: Mark) -> Fed
-    requires { ⌜ Opened (m .key) p ⌝ }
+fn join_under(p: Modulus, start: u64, m: Running, first: Mark, second: Mark) -> Fed
+    requires { ⌜ Opened (m .key) p × (start < 2) ⌝ }
     ensures { λ r. ⌜ fed r ≡ fedUnder (m .key) (firstOf (marksTests (polynomialOf (m .key)) first second) (markIn m)
-        (joined (polynomialOf (m .key)) first second)) ⌝ }
+        (joinedFrom start (polynomialOf (m .key)) first second)) ⌝ }
 {
     let key = Key {
         degree: m.key.degree,
@@ -42,14 +44,15 @@ fn join_under(p: Modulus, m: Running, first: Mark, second: Mark) -> Fed
     }
     Fed::Next(Running {
         key: key,
-        fingerprint: files::joined_residue(p, f, g, b),
+        fingerprint: files::joined_residue(p, start, f, g, b),
         length: a + b,
     })
 }
 
 // Two marks joined.
-fn join(m: Running, first: Mark, second: Mark) -> Fed
-    ensures { λ r. ⌜ fed r ≡ fedUnder (m .key) (firstOf (joinTests (m .key) first second) (markIn m) (joined (polynomialOf (m .key)) first second)) ⌝ }
+fn join(start: u64, m: Running, first: Mark, second: Mark) -> Fed
+    requires { ⌜ start < 2 ⌝ }
+    ensures { λ r. ⌜ fed r ≡ fedUnder (m .key) (firstOf (joinTests (m .key) first second) (markIn m) (joinedFrom start (polynomialOf (m .key)) first second)) ⌝ }
 {
     let key = Key {
         degree: m.key.degree,
@@ -57,7 +60,7 @@ fn join(m: Running, first: Mark, second: Mark) -> Fed
     };
     match keys::test(key) {
         Tested::Refused(r) => Fed::Refused(r, m),
-        Tested::Accepted(p) => join_under(p, m, first, second),
+        Tested::Accepted(p) => join_under(p, start, m, first, second),
     }
 }
 
@@ -115,18 +118,48 @@ fn replace(
     })
 }
 
+// The other mark's file goes behind the running mark's, both with one start.
+fn join_behind_from(start: u64, m: Running, other: Mark) -> Fed
+    requires { ⌜ start < 2 ⌝ }
+    ensures { λ r. ⌜ fed r ≡ fedUnder (m .key) (joinBehindFrom start (m .key) (markIn m) other) ⌝ }
+{
+    join(start, m, m.mark(), other)
+}
+
+// The other mark's file goes in front of the running mark's, both with one start.
+fn join_in_front_from(start: u64, m: Running, other: Mark) -> Fed
+    requires { ⌜ start < 2 ⌝ }
+    ensures { λ r. ⌜ fed r ≡ fedUnder (m .key) (joinInFrontFrom start (m .key) (markIn m) other) ⌝ }
+{
+    join(start, m, other, m.mark())
+}
+
 // The other mark's file goes behind the running mark's. Numbers 1, 2, 7, 8.
 pub fn join_behind(m: Running, other: Mark) -> Fed
     ensures { λ r. ⌜ fed r ≡ fedUnder (m .key) (joinBehind (m .key) (markIn m) other) ⌝ }
 {
-    join(m, m.mark(), other)
+    join_behind_from(1, m, other)
 }
 
 // The other mark's file goes in front of the running mark's. Numbers 1, 2, 7, 8.
 pub fn join_in_front(m: Running, other: Mark) -> Fed
     ensures { λ r. ⌜ fed r ≡ fedUnder (m .key) (joinInFront (m .key) (markIn m) other) ⌝ }
 {
-    join(m, other, m.mark())
+    join_in_front_from(1, m, other)
+}
+
+// The same of plain marks: the other mark's file goes behind. Numbers 1, 2, 7, 8.
+pub fn join_plain_behind(m: Running, other: Mark) -> Fed
+    ensures { λ r. ⌜ fed r ≡ fedUnder (m .key) (joinPlainBehind (m .key) (markIn m) other) ⌝ }
+{
+    join_behind_from(0, m, other)
+}
+
+// The same of plain marks: the other mark's file goes in front. Numbers 1, 2, 7, 8.
+pub fn join_plain_in_front(m: Running, other: Mark) -> Fed
+    ensures { λ r. ⌜ fed r ≡ fedUnder (m .key) (joinPlainInFront (m .key) (markIn m) other) ⌝ }
+{
+    join_in_front_from(0, m, other)
 }
 
 // The new page stands where the old one stood, from the byte at the given place on, each with the used bits of its final byte. Numbers 1, 2, 7, 8,

@@ -1,5 +1,5 @@
-// Joining and page changes, printed and compared with their figures: the fingerprint and the length in bits, or the refusal's number with the
-// mark that went back. Under key 0x11B where nothing else is said.
+// Joining and page changes, of our marks and of plain marks, printed and compared with their figures: the fingerprint and the length in bits, or
+// the refusal's number with the mark that went back. Under key 0x11B where nothing else is said.
 use acceptance::Key;
 use files::Mark;
 use marks::Running;
@@ -39,6 +39,20 @@ fn join(what: &[u8], key: Key, f: u64, a: u64, g: u64, b: u64) {
     vectors::fed_or_refused(compose::join_behind(m, other));
     vectors::text(b"  in front: ");
     vectors::fed_or_refused(compose::join_in_front(m, other));
+}
+
+// The same of two plain marks.
+fn join_plain(what: &[u8], key: Key, f: u64, a: u64, g: u64, b: u64) {
+    let m = running(key, f, a);
+    let other = Mark {
+        fingerprint: g,
+        length: b,
+    };
+    vectors::text(what);
+    vectors::text(b"\n  behind: ");
+    vectors::fed_or_refused(compose::join_plain_behind(m, other));
+    vectors::text(b"  in front: ");
+    vectors::fed_or_refused(compose::join_plain_in_front(m, other));
 }
 
 // A page of whole bytes changed in the mark of fingerprint f and length a.
@@ -88,12 +102,61 @@ fn joins_at_the_largest_degree() {
     join(b"all ones and 42, degree 64", key, LAST, 64, 0x142, 8);
 }
 
+// By 003's equation (10) as it stands. The fingerprints 5A and 59 are ours of 41 and 42: joined as plain marks they give 86, not 9D.
+fn plain_joins() {
+    join_plain(b"plain marks of 41 and 42", KEY, 0x41, 8, 0x42, 8);
+    join_plain(b"5A and 59 as plain marks", KEY, 0x5A, 8, 0x59, 8);
+    join_plain(b"plain marks, cut behind 3 bits", KEY, 2, 3, 0x59, 13);
+    join_plain(b"plain marks of 41 and no bits", KEY, 0x41, 8, 0, 0);
+    let largest = vectors::key(64, 0x1B);
+    join_plain(b"plain marks, degree 64", largest, 0x41, 8, 0x42, 8);
+}
+
+fn plain_joins_refused() {
+    let limit = refusals::LONGEST;
+    join_plain(b"plain marks, one bit too many", KEY, 0x41, limit, 1, 1);
+    join_plain(b"plain marks, 2^63 bits twice", KEY, 0x100, HALF, 1, HALF);
+    join_plain(
+        b"plain marks, a fingerprint of 9 bits",
+        KEY,
+        0x41,
+        8,
+        0x100,
+        8,
+    );
+    join_plain(
+        b"plain marks, key 80",
+        vectors::key(7, 0),
+        0x41,
+        8,
+        0x100,
+        HALF,
+    );
+    join_plain(
+        b"plain marks, key 101",
+        vectors::key(8, 1),
+        0x41,
+        8,
+        0x100,
+        HALF,
+    );
+}
+
 fn changes() {
     let a0: [u8; 1] = [0xA0];
     change(b"41 42, 42 becomes 43: ", 0x9D, 16, 1, b"B", b"C");
     change(b"41 42, 41 becomes 40: ", 0x9D, 16, 0, b"A", b"@");
     change(b"41 42 becomes 00 00: ", 0x9D, 16, 0, b"AB", b"\0\0");
     change_bits(b"3 bits at place 1, 40 becomes A0: ", 1, b"@", 3, &a0, 3);
+}
+
+// In the plain mark of 41 42.
+fn plain_changes() {
+    let a0: [u8; 1] = [0xA0];
+    let m = running(KEY, 0xC3, 16);
+    change(b"plain mark, 42 becomes 43: ", 0xC3, 16, 1, b"B", b"C");
+    vectors::text(b"plain mark, 3 bits at place 1, 40 becomes A0: ");
+    vectors::fed_or_refused(compose::replace_page(m, 1, b"@", 3, &a0, 3));
 }
 
 fn changes_at_the_end() {
@@ -124,7 +187,10 @@ fn main() {
     joins_at_the_limit();
     joins_refused();
     joins_at_the_largest_degree();
+    plain_joins();
+    plain_joins_refused();
     changes();
+    plain_changes();
     changes_at_the_end();
     changes_refused();
     changes_misused();

@@ -12,7 +12,7 @@ use Rattle.acceptance.specs.Keys.{accepted, polynomialOf, keyOf}
 use Rattle.acceptance.proofs.Laws.{accepted-pos, whole-key}
 use Rattle.acceptance.proofs.Opened.{open-accepted, opened-first}
 use Rattle.files.specs.declared.Mark.{Mark}
-use Rattle.files.specs.Files.{markOf, Part, partLength, partBits, misused, fedMark}
+use Rattle.files.specs.Files.{markFrom, Part, partLength, partBits, misused, fedMark}
 use Rattle.files.proofs.Marks.{true-reduced, fed-true}
 use Rattle.files.proofs.Parts.{part-length}
 use Rattle.mark_tests.specs.MarkTests.{feedTests}
@@ -23,34 +23,35 @@ use Rattle.book.specs.Runs.{run}
 use Rattle.book.proofs.RunLaws.{run-next}
 use Rattle.fed_parts.specs.Parts.{Feed, ByBits, ByTable, step, partOf, Usable, AllUsable, partsJoined, zeros, PartsJoined, CutAnywhere}
 
-module _ (key : ℕ) (a : accepted key ≡ true) where
+module _ (s key : ℕ) (a : accepted key ≡ true) where
   pos : 0 < key
   pos = accepted-pos key a
 
   -- numbers 7, 8 and 19 do not apply to a true mark and a part that fits
   none : (file : List ℕ) (part : Part) → misused part ≡ false → length file + length (partBits part) ≤ longest
-      → Clear (feedTests key (markOf key file) part)
-  unfolding markOf
-  none file part w l = (sum-fits (length file) (partLength part) (omega (arith, part-length part)), (true-reduced key pos file, (w, tt)))
+      → Clear (feedTests key (markFrom s key file) part)
+  unfolding markFrom
+  none file part w l = (sum-fits (length file) (partLength part) (omega (arith, part-length part)), (true-reduced s key pos file, (w, tt)))
 
   -- so the mark is that of the file with the part behind it
   behind : (file : List ℕ) (part : Part) → misused part ≡ false → length file + length (partBits part) ≤ longest
-      → firstOf (feedTests key (markOf key file) part) (markOf key file) (fedMark key (markOf key file) part) ≡ Done (markOf key (file ++ partBits part))
+      → firstOf (feedTests key (markFrom s key file) part) (markFrom s key file) (fedMark key (markFrom s key file) part)
+      ≡ Done (markFrom s key (file ++ partBits part))
   behind file part w l =
-      let m = markOf key file in
-      clear-done (feedTests key m part) m (fedMark key m part) (none file part w l) ∙ ap Done (fed-true key pos file part)
+      let m = markFrom s key file in
+      clear-done (feedTests key m part) m (fedMark key m part) (none file part w l) ∙ ap Done (fed-true s key pos file part)
 
   taken : (file : List ℕ) (c : Feed) → Usable key c → length file + length (partBits (partOf c)) ≤ longest
-      → step key (markOf key file) c ≡ Done (markOf key (file ++ partBits (partOf c)))
+      → step key (markFrom s key file) c ≡ Done (markFrom s key (file ++ partBits (partOf c)))
   unfolding step feedBits feedTable
   taken file (ByBits part) u l =
-      let m = markOf key file in
+      let m = markFrom s key file in
       let q = polynomialOf (keyOf key) in
       opened-first (open-accepted key a) (feedTests q m part) m (fedMark q m part)
       ∙ ap (λ (k : ℕ). firstOf (feedTests k m part) m (fedMark k m part)) (whole-key key pos)
       ∙ behind file part u l
   taken file (ByTable words part) u l =
-      let m = markOf key file in
+      let m = markFrom s key file in
       let q = polynomialOf (keyOf key) in
       opened-first (open-accepted key a) (tableTests q words ++ feedTests q m part) m (fedMark q m part)
       ∙ ap (λ (k : ℕ). firstOf (tableTests k words ++ feedTests k m part) m (fedMark k m part)) (whole-key key pos)
@@ -58,24 +59,24 @@ module _ (key : ℕ) (a : accepted key ≡ true) where
       ∙ behind file part (u .1) l
 
   one-by-one : (file : List ℕ) (cs : List Feed) → AllUsable key cs → length file + length (partsJoined cs) ≤ longest
-      → run (step key) (markOf key file) cs ≡ (markOf key (file ++ partsJoined cs), zeros cs)
-  one-by-one file [] u l = unfold run in (ap {B = Mark × List ℕ} (λ (f : List ℕ). (markOf key f, [])) (sym (append-nil file)))
+      → run (step key) (markFrom s key file) cs ≡ (markFrom s key (file ++ partsJoined cs), zeros cs)
+  one-by-one file [] u l = unfold run in (ap {B = Mark × List ℕ} (λ (f : List ℕ). (markFrom s key f, [])) (sym (append-nil file)))
   one-by-one file (c ∷ cs) u l =
       let part = partBits (partOf c) in
       let long = length-append part (partsJoined cs) in
-      run-next (step key) (markOf key file) c cs (Done (markOf key (file ++ part))) (taken file c (u .0) (omega (arith, long)))
+      run-next (step key) (markFrom s key file) c cs (Done (markFrom s key (file ++ part))) (taken file c (u .0) (omega (arith, long)))
       ∙ ap {B = Mark × List ℕ} (λ (r : Mark × List ℕ). (r .0, 0 ∷ r .1))
       (one-by-one (file ++ part) cs (u .1) (omega (arith, long, length-append file part)))
-      ∙ ap {B = Mark × List ℕ} (λ (f : List ℕ). (markOf key f, 0 ∷ zeros cs)) (append-assoc file part (partsJoined cs))
+      ∙ ap {B = Mark × List ℕ} (λ (f : List ℕ). (markFrom s key f, 0 ∷ zeros cs)) (append-assoc file part (partsJoined cs))
 
 pub parts : PartsJoined
-parts key file m cs a t u l = ap (λ (x : Mark). run (step key) x cs) t ∙ one-by-one key a file cs u l
+parts s key file m cs a t u l = ap (λ (x : Mark). run (step key) x cs) t ∙ one-by-one s key a file cs u l
 
 -- a file cut anywhere: two parts
 pub cut-anywhere : CutAnywhere
-cut-anywhere key before file m p q a t hp hq e l =
-    parts key before m (ByBits p ∷ ByBits q ∷ []) a t (hp, (hq, tt)) (rw both l)
-    ∙ ap {B = Mark × List ℕ} (λ (f : List ℕ). (markOf key (before ++ f), 0 ∷ 0 ∷ [])) both
+cut-anywhere s key before file m p q a t hp hq e l =
+    parts s key before m (ByBits p ∷ ByBits q ∷ []) a t (hp, (hq, tt)) (rw both l)
+    ∙ ap {B = Mark × List ℕ} (λ (f : List ℕ). (markFrom s key (before ++ f), 0 ∷ 0 ∷ [])) both
   where
     both : partBits p ++ (partBits q ++ []) ≡ file
     both = ap (λ (l : List ℕ). partBits p ++ l) (append-nil (partBits q)) ∙ e

@@ -8,7 +8,7 @@ use lib.ListN.{length}
 use Rattle.refusals.specs.Refusals.{Answer, longest}
 use Rattle.acceptance.specs.Keys.{accepted, keyOf}
 use Rattle.files.specs.declared.Mark.{Mark}
-use Rattle.files.specs.Files.{markOf, True, Part, partBits, misused}
+use Rattle.files.specs.Files.{markFrom, TrueFrom, Part, partBits, misused}
 use Rattle.lookups.specs.Rule.{table}
 use Rattle.marks.specs.Feeding.{feedBits, feedTable}
 use Rattle.book.specs.Runs.{run}
@@ -47,15 +47,15 @@ abbrev pub zeros : List Feed → List ℕ
 zeros [] = []
 zeros (c ∷ cs) = 0 ∷ zeros cs
 
--- from any true mark, in any parts and by any mixture of bits and tables, where the length fits
+-- from any true mark, whatever its start, in any parts and by any mixture of bits and tables, where the length fits
 abbrev pub PartsJoined : Type 0
 PartsJoined =
-    (key : ℕ) (file : List ℕ) (m : Mark) (calls : List Feed) → accepted key ≡ true → True key file m → AllUsable key calls
-    → length file + length (partsJoined calls) ≤ longest → run (step key) m calls ≡ (markOf key (file ++ partsJoined calls), zeros calls)
+    (s key : ℕ) (file : List ℕ) (m : Mark) (calls : List Feed) → accepted key ≡ true → TrueFrom s key file m → AllUsable key calls
+    → length file + length (partsJoined calls) ≤ longest → run (step key) m calls ≡ (markFrom s key (file ++ partsJoined calls), zeros calls)
 
 -- a file of bits cut anywhere, also inside a byte: its two parts, fed one after the other, give the mark of both joined
 abbrev pub CutAnywhere : Type 0
 CutAnywhere =
-    (key : ℕ) (before file : List ℕ) (m : Mark) (p q : Part) → accepted key ≡ true → True key before m → misused p ≡ false → misused q ≡ false
+    (s key : ℕ) (before file : List ℕ) (m : Mark) (p q : Part) → accepted key ≡ true → TrueFrom s key before m → misused p ≡ false → misused q ≡ false
     → partBits p ++ partBits q ≡ file → length before + length file ≤ longest
-    → run (step key) m (ByBits p ∷ ByBits q ∷ []) ≡ (markOf key (before ++ file), 0 ∷ 0 ∷ [])
+    → run (step key) m (ByBits p ∷ ByBits q ∷ []) ≡ (markFrom s key (before ++ file), 0 ∷ 0 ∷ [])

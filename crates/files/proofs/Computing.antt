@@ -9,12 +9,12 @@ use lib.Dec.{eqb}
 use lib.ListN.{length, getD, take, drop, length-drop}
 use lib.Pow.{shr-lt}
 use Rattle.gf2.specs.Polynomials.{_⊕_, monic, rem, _⊗_}
-use Rattle.gf2.proofs.Sums.{⊕-self, ⊕-zero, ⊕-assoc, ⊕-swap, ⊕-shr, ⊕-shl, ⊕-append, ⊕-lt}
+use Rattle.gf2.proofs.Sums.{⊕-self, ⊕-zero, ⊕-assoc, ⊕-swap, ⊕-shr, ⊕-shl, ⊕-append, ⊕-lt, xor}
 use Rattle.gf2.proofs.Residues.{rem-⊕}
 use Rattle.gf2.proofs.Powers.{rem-⊗-pow}
 use Rattle.gf2.proofs.Monics.{monic-pos}
 use Rattle.gf2.proofs.Steps.{residue-small}
-use Rattle.files.specs.Files.{lowBits, bits, valueFrom, value, fingerprint, Part, asPart, usedBits, partLength, partBits}
+use Rattle.files.specs.Files.{lowBits, bits, valueFrom, fingerprint, Part, asPart, usedBits, partLength, partBits, fingerprintFrom}
 use Rattle.files.specs.Ends.{wholeBytes, endBits}
 use Rattle.files.proofs.Values.{length-bits, value-append, value-low, rem-from, value-next, value-starts}
 use Rattle.files.proofs.Parts.{part-length, whole-bits, WellUsed, whole-front, end-split, end-none, end-low}
@@ -45,14 +45,18 @@ module _ {p : ℕ} (pos : 0 < p) where
 -- ---- two files joined, and a page changed
 
 module _ (k c : ℕ) (h : c < 2 ^ k) where
-  pub joined-is : (f g n : ℕ) → g < 2 ^ k
-      → rem (monic k c) (f * 2 ^ n ⊕ g ⊕ 2 ^ n) ≡ rem (monic k c) (f ⊗ rem (monic k c) (2 ^ n)) ⊕ g ⊕ rem (monic k c) (2 ^ n)
-  joined-is f g n l =
-      rw (rem-⊕ (monic-pos k c h) (f * 2 ^ n ⊕ g) (2 ^ n), rem-⊕ (monic-pos k c h) (f * 2 ^ n) g, residue-small k c h g l, rem-⊗-pow (monic-pos k c h) f n)
+  pub joined-is : (s f g n : ℕ) → g < 2 ^ k → rem (monic k c) (f * 2 ^ n ⊕ g ⊕ s * 2 ^ n) ≡ rem (monic k c) ((f ⊕ s) * 2 ^ n) ⊕ g
+  joined-is s f g n l =
+      ap (rem (monic k c)) (sym (rw (⊕-shl n f s) (simp xor)))
+      ∙ rem-⊕ (monic-pos k c h) ((f ⊕ s) * 2 ^ n) g
+      ∙ ap (λ (x : ℕ). rem (monic k c) ((f ⊕ s) * 2 ^ n) ⊕ x) (residue-small k c h g l)
 
   pub replaced-is : (f d n : ℕ) → f < 2 ^ k
       → rem (monic k c) (f ⊕ d * 2 ^ n) ≡ f ⊕ rem (monic k c) (d ⊗ rem (monic k c) (2 ^ n))
   replaced-is f d n l = rw (rem-⊕ (monic-pos k c h) f (d * 2 ^ n), residue-small k c h f l, rem-⊗-pow (monic-pos k c h) d n)
+
+  pub turned-is : (f n : ℕ) → f < 2 ^ k → rem (monic k c) (f ⊕ 2 ^ n) ≡ f ⊕ rem (monic k c) (2 ^ n)
+  turned-is f n l = rw (rem-⊕ (monic-pos k c h) f (2 ^ n), residue-small k c h f l)
 
 -- ---- a part: its whole bytes, and the used bits behind them
 
@@ -74,7 +78,7 @@ part-behind {k} pos f part w x ew ex =
 -- the leading 1 of each falls out
 pub pages-begin : {p : ℕ} (pos : 0 < p) (x y : List ℕ) → length x ≡ length y
     → rem p (valueFrom 0 x ⊕ valueFrom 0 y) ≡ fingerprint p x ⊕ fingerprint p y
-unfolding fingerprint value
+unfolding fingerprintFrom
 pages-begin {p} pos x y e =
     ap (rem p) (value-starts 0 0 1 1 x y e (⊕-self 0 ∙ sym (⊕-self 1))) ∙ rem-⊕ pos (valueFrom 1 x) (valueFrom 1 y)
 

@@ -16,7 +16,7 @@ use Rattle.gf2.specs.Degrees.{Degree}
 use Rattle.gf2.proofs.Sums.{⊕-lt}
 use Rattle.gf2.proofs.Degrees.{degree-is, deg-hi}
 use Rattle.gf2.proofs.Congruences.{Congruent, Shifted, congruent-count, congruent-equal}
-use Rattle.files.specs.Files.{valueFrom, value, fingerprint, Bits}
+use Rattle.files.specs.Files.{valueFrom, value, fingerprint, Bits, fingerprintFrom}
 use Rattle.files.specs.Bursts.{Burst}
 use Rattle.files.proofs.Values.{value-lt, value-change, value-deg, value-inj}
 
@@ -47,7 +47,6 @@ module _ (first k : ℕ) (x y : List ℕ) (len : length x ≡ length y)
 -- ---- files
 
 pub burst-shifted : (k : ℕ) (a b : List ℕ) → Burst k a b → Shifted k (value a ⊕ value b)
-unfolding value
 burst-shifted k a b s =
     string-shifted (s .first) k a b (s .same-length) (outside a b (s .first) (s .last) k (s .near) (s .between))
 
@@ -61,7 +60,7 @@ pub record Confusing (k : ℕ) (a b : List ℕ) (p : ℕ) : Type 0 where
   pub prints : fingerprint p a ≡ fingerprint p b
 
 congruent : (k : ℕ) (a b : List ℕ) (p : ℕ) → Confusing k a b p → Congruent k (value a) (value b) p
-unfolding fingerprint
+unfolding fingerprintFrom
 congruent k a b p c = record { irreducible = c .irreducible; of-degree = c .of-degree; residues = c .prints }
 
 module _ (k : ℕ) (a b : List ℕ) (ha : Bits a) (hb : Bits b) (ne : a ≢ b) where

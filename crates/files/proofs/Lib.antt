@@ -1,6 +1,7 @@
 pub mod Values
 pub mod Parts
 pub mod Marks
+pub mod Turning
 pub mod Confusions
 pub mod Bursts
 pub mod Computing

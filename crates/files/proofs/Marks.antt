@@ -1,9 +1,8 @@
--- Laws of fingerprints: of a file with a part behind it, of two files joined, and of a file with a page replaced.
+-- Laws of fingerprints, whatever the start: of a file with a part behind it, of two files joined, and of a file with a page replaced.
 use mathlib.Core.Path.{_≡_, refl, sym, ap, ap₂, _∙_}
 use mathlib.Core.Bool.{false}
 use mathlib.Core.List.{List, [], _++_, append-assoc}
 use Prim.Native.Nat.{ℕ, _+_, _*_, _^_, _≤_, _<_}
-use native.Mathlib.Nat.{one-mul}
 use native.Mathlib.Omega.{arith}
 use lib.ListN.{length, take, drop, length-append, length-drop, take-append-drop}
 use lib.Pow.{pow-lt}
@@ -14,8 +13,8 @@ use Rattle.gf2.proofs.Degrees.{degree-from}
 use Rattle.gf2.proofs.Sums.{⊕-move, xor}
 use Rattle.gf2.proofs.Residues.{rem-⊕, rem-small, rem-lt}
 use Rattle.gf2.proofs.Powers.{rem-rem, rem-shl}
-use Rattle.files.specs.Files.{valueFrom, value, fingerprint, markOf, unreduced, Part, partLength, partBits, fedMark, joined, replaced}
-use Rattle.files.specs.Files.{JoinedTrue, ReplacedTrue}
+use Rattle.files.specs.Files.{valueFrom, fingerprintFrom, fingerprint, markFrom, markOf, unreduced, Part, partLength, partBits}
+use Rattle.files.specs.Files.{fedMark, joinedFrom, replaced, JoinedTrue, ReplacedTrue}
 use Rattle.files.specs.declared.Mark.{Mark}
 use Rattle.files.proofs.Values.{value-append, value-⊕, rem-from, value-change}
 use Rattle.files.proofs.Parts.{part-length}
@@ -24,65 +23,66 @@ pub mark-eq : {f g : ℕ} {m n : ℕ} → f ≡ g → m ≡ n → _≡_ {A = Mar
 mark-eq e d = ap₂ {C = Mark} (λ (f m : ℕ). record { fingerprint = f; length = m }) e d
 
 module _ {p : ℕ} (pos : 0 < p) where
-  pub fed : (file part : List ℕ) → rem p (valueFrom (fingerprint p file) part) ≡ fingerprint p (file ++ part)
-  unfolding fingerprint value
-  fed file part = rem-from pos (valueFrom 1 file) part ∙ ap (rem p) (sym (value-append 1 file part))
+  pub fed : (s : ℕ) (file part : List ℕ) → rem p (valueFrom (fingerprintFrom s p file) part) ≡ fingerprintFrom s p (file ++ part)
+  unfolding fingerprintFrom
+  fed s file part = rem-from pos (valueFrom s file) part ∙ ap (rem p) (sym (value-append s file part))
 
   -- the value of two files joined
-  value-joined : (a b : List ℕ) → value (a ++ b) ≡ value a * 2 ^ length b ⊕ value b ⊕ 2 ^ length b
-  unfolding value
-  value-joined a b = value-append 1 a b ∙ rw (value-⊕ (valueFrom 1 a) b, value-⊕ 1 b, one-mul) (simp xor)
+  value-joined : (s : ℕ) (a b : List ℕ) → valueFrom s (a ++ b) ≡ valueFrom s a * 2 ^ length b ⊕ valueFrom s b ⊕ s * 2 ^ length b
+  value-joined s a b = value-append s a b ∙ rw (value-⊕ (valueFrom s a) b, value-⊕ s b) (simp xor)
 
-  -- the fingerprint of two files joined, from theirs: the second file's leading 1 is taken off again
-  joined-print : (a b : List ℕ) → rem p (fingerprint p a * 2 ^ length b ⊕ fingerprint p b ⊕ 2 ^ length b) ≡ fingerprint p (a ++ b)
-  unfolding fingerprint
-  joined-print a b = residue ∙ ap (rem p) (sym (value-joined a b))
+  -- the fingerprint of two files joined, from theirs: the second file's start is taken off again
+  joined-print : (s : ℕ) (a b : List ℕ)
+      → rem p (fingerprintFrom s p a * 2 ^ length b ⊕ fingerprintFrom s p b ⊕ s * 2 ^ length b) ≡ fingerprintFrom s p (a ++ b)
+  unfolding fingerprintFrom
+  joined-print s a b = residue ∙ ap (rem p) (sym (value-joined s a b))
     where
-      residue : rem p (rem p (value a) * 2 ^ length b ⊕ rem p (value b) ⊕ 2 ^ length b) ≡ rem p (value a * 2 ^ length b ⊕ value b ⊕ 2 ^ length b)
+      residue : rem p (rem p (valueFrom s a) * 2 ^ length b ⊕ rem p (valueFrom s b) ⊕ s * 2 ^ length b)
+          ≡ rem p (valueFrom s a * 2 ^ length b ⊕ valueFrom s b ⊕ s * 2 ^ length b)
       residue = simp (rem-⊕ pos, rem-shl pos, rem-rem pos)
 
   -- the same file with another page
-  value-page : (pre old new post : List ℕ) → length old ≡ length new
-      → value (pre ++ new ++ post) ≡ value (pre ++ old ++ post) ⊕ (value old ⊕ value new) * 2 ^ length post
-  unfolding value
-  value-page pre old new post e =
-      ⊕-move (valueFrom 1 (pre ++ old ++ post)) (valueFrom 1 (pre ++ new ++ post)) ((valueFrom 1 old ⊕ valueFrom 1 new) * 2 ^ length post)
-      (value-change 1 1 pre old new post e)
+  value-page : (s : ℕ) (pre old new post : List ℕ) → length old ≡ length new
+      → valueFrom s (pre ++ new ++ post) ≡ valueFrom s (pre ++ old ++ post) ⊕ (valueFrom 1 old ⊕ valueFrom 1 new) * 2 ^ length post
+  value-page s pre old new post e =
+      ⊕-move (valueFrom s (pre ++ old ++ post)) (valueFrom s (pre ++ new ++ post)) ((valueFrom 1 old ⊕ valueFrom 1 new) * 2 ^ length post)
+      (value-change s 1 pre old new post e)
 
-  replaced-print : (pre old new post : List ℕ) → length old ≡ length new
-      → rem p (fingerprint p (pre ++ old ++ post) ⊕ (fingerprint p old ⊕ fingerprint p new) * 2 ^ length post) ≡ fingerprint p (pre ++ new ++ post)
-  unfolding fingerprint
-  replaced-print pre old new post e =
-      rem-⊕ pos (rem p (value (pre ++ old ++ post))) ((rem p (value old) ⊕ rem p (value new)) * 2 ^ length post)
-      ∙ ap₂ (λ (x y : ℕ). x ⊕ y) (rem-rem pos (value (pre ++ old ++ post)))
-      (ap (λ (x : ℕ). rem p (x * 2 ^ length post)) (sym (rem-⊕ pos (value old) (value new))) ∙ rem-shl pos (value old ⊕ value new) (length post))
-      ∙ sym (rem-⊕ pos (value (pre ++ old ++ post)) ((value old ⊕ value new) * 2 ^ length post))
-      ∙ ap (rem p) (sym (value-page pre old new post e))
+  replaced-print : (s : ℕ) (pre old new post : List ℕ) → length old ≡ length new
+      → rem p (fingerprintFrom s p (pre ++ old ++ post) ⊕ (fingerprint p old ⊕ fingerprint p new) * 2 ^ length post) ≡ fingerprintFrom s p (pre ++ new ++ post)
+  unfolding fingerprintFrom
+  replaced-print s pre old new post e =
+      rem-⊕ pos (rem p (valueFrom s (pre ++ old ++ post))) ((rem p (valueFrom 1 old) ⊕ rem p (valueFrom 1 new)) * 2 ^ length post)
+      ∙ ap₂ (λ (x y : ℕ). x ⊕ y) (rem-rem pos (valueFrom s (pre ++ old ++ post)))
+      (ap (λ (x : ℕ). rem p (x * 2 ^ length post)) (sym (rem-⊕ pos (valueFrom 1 old) (valueFrom 1 new)))
+      ∙ rem-shl pos (valueFrom 1 old ⊕ valueFrom 1 new) (length post))
+      ∙ sym (rem-⊕ pos (valueFrom s (pre ++ old ++ post)) ((valueFrom 1 old ⊕ valueFrom 1 new) * 2 ^ length post))
+      ∙ ap (rem p) (sym (value-page s pre old new post e))
 
 -- ---- true marks
 
-module _ (key : ℕ) (pos : 0 < key) (file : List ℕ) where
+module _ (s key : ℕ) (pos : 0 < key) (file : List ℕ) where
   -- a true mark is reduced
-  pub true-reduced : unreduced key (markOf key file) ≡ false
-  unfolding markOf fingerprint
-  true-reduced = lt-leb (2 ^ degree key) (rem key (value file)) (rem-lt pos (value file))
+  pub true-reduced : unreduced key (markFrom s key file) ≡ false
+  unfolding markFrom fingerprintFrom
+  true-reduced = lt-leb (2 ^ degree key) (rem key (valueFrom s file)) (rem-lt pos (valueFrom s file))
 
   -- a true mark fed is true of the file with the part behind it
-  pub fed-true : (part : Part) → fedMark key (markOf key file) part ≡ markOf key (file ++ partBits part)
-  unfolding fedMark markOf
+  pub fed-true : (part : Part) → fedMark key (markFrom s key file) part ≡ markFrom s key (file ++ partBits part)
+  unfolding fedMark markFrom
   fed-true part =
-      mark-eq (fed pos file (partBits part)) (sym (length-append file (partBits part) ∙ ap (λ (n : ℕ). length file + n) (part-length part)))
+      mark-eq (fed pos s file (partBits part)) (sym (length-append file (partBits part) ∙ ap (λ (n : ℕ). length file + n) (part-length part)))
 
 -- true marks joined are true of the files joined
-pub joined-true : {p : ℕ} (pos : 0 < p) (a b : List ℕ) → joined p (markOf p a) (markOf p b) ≡ markOf p (a ++ b)
-unfolding joined markOf
-joined-true pos a b = mark-eq (joined-print pos a b) (sym (length-append a b))
+pub joined-true : (s : ℕ) {p : ℕ} (pos : 0 < p) (a b : List ℕ) → joinedFrom s p (markFrom s p a) (markFrom s p b) ≡ markFrom s p (a ++ b)
+unfolding joinedFrom markFrom
+joined-true s pos a b = mark-eq (joined-print pos s a b) (sym (length-append a b))
 
 pub join : JoinedTrue
-join key a b x y pos tx ty = ap₂ (joined key) tx ty ∙ joined-true pos a b
+join s key a b x y pos tx ty = ap₂ (joinedFrom s key) tx ty ∙ joined-true s pos a b
 
 -- a page replaced in a file that has the old one there
-module _ (key : ℕ) (pos : 0 < key) (file : List ℕ) (place : ℕ) (old new : Part) (e : partLength old ≡ partLength new)
+module _ (s key : ℕ) (pos : 0 < key) (file : List ℕ) (place : ℕ) (old new : Part) (e : partLength old ≡ partLength new)
     (l : 8 * place + partLength old ≤ length file) (t : take (partLength old) (drop (8 * place) file) ≡ partBits old) where
   abbrev at : ℕ
   at = 8 * place
@@ -115,19 +115,22 @@ module _ (key : ℕ) (pos : 0 < key) (file : List ℕ) (place : ℕ) (old new : 
         l,
       )
 
-  replaced-true : replaced key (markOf key file) place old new ≡ markOf key (take at file ++ partBits new ++ after)
-  unfolding replaced markOf
+  replaced-true : replaced key (markFrom s key file) place old new ≡ markFrom s key (take at file ++ partBits new ++ after)
+  unfolding replaced markFrom
   replaced-true =
       mark-eq
-      (ap (λ (n : ℕ). rem key (fingerprint key file ⊕ change * 2 ^ n)) (sym (length-drop (at + partLength old) file))
-      ∙ ap (λ (f : List ℕ). rem key (fingerprint key f ⊕ change * 2 ^ length after)) (sym there)
-      ∙ replaced-print pos (take at file) (partBits old) (partBits new) after (part-length old ∙ e ∙ sym (part-length new)))
+      (ap (λ (n : ℕ). rem key (fingerprintFrom s key file ⊕ change * 2 ^ n)) (sym (length-drop (at + partLength old) file))
+      ∙ ap (λ (f : List ℕ). rem key (fingerprintFrom s key f ⊕ change * 2 ^ length after)) (sym there)
+      ∙ replaced-print pos s (take at file) (partBits old) (partBits new) after (part-length old ∙ e ∙ sym (part-length new)))
       size
 
 pub page : ReplacedTrue
-page key file m place old new pos t e l h = ap (λ (x : Mark). replaced key x place old new) t ∙ replaced-true key pos file place old new e l h
+page s key file m place old new pos t e l h = ap (λ (x : Mark). replaced key x place old new) t ∙ replaced-true s key pos file place old new e l h
 
--- "The empty file has fingerprint 1."
+-- the empty file's fingerprint is its start: "The empty file has fingerprint 1."
+pub empty-from : (s key : ℕ) → s < 2 → 1 < key → markFrom s key [] ≡ record { fingerprint = s; length = 0 }
+unfolding markFrom fingerprintFrom valueFrom
+empty-from s key l h = mark-eq (rem-small (omega arith) s (omega (arith, l, pow-lt {i = 0} (degree-from 1 key h)))) refl
+
 pub empty-mark : (key : ℕ) → 1 < key → markOf key [] ≡ record { fingerprint = 1; length = 0 }
-unfolding markOf fingerprint value valueFrom
-empty-mark key h = mark-eq (rem-small (omega arith) 1 (pow-lt {i = 0} (degree-from 1 key h))) refl
+empty-mark key h = empty-from 1 key (omega arith) h

@@ -114,7 +114,6 @@ value-change s u pre x y post e =
 -- ---- different files have different values
 
 pub value-deg : (file : List ℕ) → Degree (value file) (length file)
-unfolding value
 value-deg file = ap (λ (v : ℕ). v / 2 ^ length file) (value-split 1 file) ∙ digits-div 1 (value-lt file)
 
 pub value-degree : ValueDegree
@@ -137,5 +136,4 @@ pub value-length : (a b : List ℕ) → value a ≡ value b → length a ≡ len
 value-length a b e = omega (arith, deg-unique (value a) (length a) (length b) (value-deg a) (rw e (value-deg b)))
 
 pub value-inj : ValuesDiffer
-unfolding value
 value-inj a b ha hb e = from-inj a b 1 1 (value-length a b e) ha hb e .1

@@ -1,5 +1,5 @@
--- Files, fingerprints and marks (document 01, "Marks"; 003, section 2, with the 1 in front always). A file is its list of bits
--- (document 02, wish 7).
+-- Files, fingerprints and marks (document 01, "Marks"; 003, section 2). A file is its list of bits (document 02, wish 7). The start s is
+-- what stands in front of these bits: 1 in our marks, 0 in plain marks (document 02, wish 9; PlainMarks.antt).
 use mathlib.Core.Path.{_≡_}
 use mathlib.Core.Bool.{Bool, cond, _&&_, _||_, not}
 use mathlib.Core.List.{List, [], _∷_, _++_}
@@ -26,7 +26,7 @@ valueFrom s [] = s
 valueFrom s (b ∷ bs) = valueFrom (s * 2 + b % 2) bs
 
 -- t^n plus the file's n bits
-unfoldable pub value : List ℕ → ℕ
+abbrev pub value : List ℕ → ℕ
 value file = valueFrom 1 file
 
 -- every entry is a bit
@@ -37,16 +37,26 @@ Bits file = All (λ b. b < 2) file
 abbrev pub Bytes : List ℕ → Type 0
 Bytes bytes = All (λ b. b < 256) bytes
 
--- Rabin's fingerprint, with Broder's order of bits and the leading 1
-unfoldable pub fingerprint : ℕ → List ℕ → ℕ
-fingerprint key file = rem key (value file)
+-- the residue of a file's bits behind the start s, and the mark that has it
+unfoldable pub fingerprintFrom : ℕ → ℕ → List ℕ → ℕ
+fingerprintFrom s key file = rem key (valueFrom s file)
 
-unfoldable pub markOf : ℕ → List ℕ → Mark
-markOf key file = record { fingerprint = fingerprint key file; length = length file }
+unfoldable pub markFrom : ℕ → ℕ → List ℕ → Mark
+markFrom s key file = record { fingerprint = fingerprintFrom s key file; length = length file }
+
+-- Rabin's fingerprint, with Broder's order of bits and the leading 1
+abbrev pub fingerprint : ℕ → List ℕ → ℕ
+fingerprint key file = fingerprintFrom 1 key file
+
+abbrev pub markOf : ℕ → List ℕ → Mark
+markOf key file = markFrom 1 key file
 
 -- the mark is true of the file under the key
+abbrev pub TrueFrom : ℕ → ℕ → List ℕ → Mark → Type 0
+TrueFrom s key file m = m ≡ markFrom s key file
+
 abbrev pub True : ℕ → List ℕ → Mark → Type 0
-True key file m = m ≡ markOf key file
+True key file m = TrueFrom 1 key file m
 
 -- ---- parts (document 02, wish 7): "bytes and u, the used bits of its final byte", "which stand at that byte's high end"
 
@@ -95,9 +105,13 @@ unreduced key m = leb (2 ^ degree key) (m .fingerprint)
 unfoldable pub fedMark : ℕ → Mark → Part → Mark
 fedMark key m part = record { fingerprint = rem key (valueFrom (m .fingerprint) (partBits part)); length = m .length + partLength part }
 
--- joined: F·t^b + G + t^b, and a + b, where a and b are lengths in bits
-unfoldable pub joined : ℕ → Mark → Mark → Mark
-joined key x y = record { fingerprint = rem key (x .fingerprint * 2 ^ y .length ⊕ y .fingerprint ⊕ 2 ^ y .length); length = x .length + y .length }
+-- joined: F·t^b + G + s·t^b, and a + b, where a and b are lengths in bits
+unfoldable pub joinedFrom : ℕ → ℕ → Mark → Mark → Mark
+joinedFrom s key x y =
+    record { fingerprint = rem key (x .fingerprint * 2 ^ y .length ⊕ y .fingerprint ⊕ s * 2 ^ y .length); length = x .length + y .length }
+
+abbrev pub joined : ℕ → Mark → Mark → Mark
+joined key x y = joinedFrom 1 key x y
 
 -- a page replaced, from the byte at a place on: the difference of the two pages' fingerprints, times t^(bits after the page), is added
 unfoldable pub replaced : ℕ → Mark → ℕ → Part → Part → Mark
@@ -128,13 +142,14 @@ BytesOfPart = (p : Part) → bytesFor (partLength p) ≡ length (p .bytes)
 abbrev pub BitsOfWhole : Type 0
 BitsOfWhole = (bytes : List ℕ) → partBits (whole bytes) ≡ bits bytes
 
--- true marks joined are true of the files joined
+-- true marks joined are true of the files joined, whatever the start
 abbrev pub JoinedTrue : Type 0
-JoinedTrue = (key : ℕ) (a b : List ℕ) (x y : Mark) → 0 < key → True key a x → True key b y → True key (a ++ b) (joined key x y)
+JoinedTrue =
+    (s key : ℕ) (a b : List ℕ) (x y : Mark) → 0 < key → TrueFrom s key a x → TrueFrom s key b y → TrueFrom s key (a ++ b) (joinedFrom s key x y)
 
 -- a true mark with a page replaced is true of the file with the new page: "It is right where the old bytes are what stood there"
 abbrev pub ReplacedTrue : Type 0
 ReplacedTrue =
-    (key : ℕ) (file : List ℕ) (m : Mark) (place : ℕ) (old new : Part) → 0 < key → True key file m
+    (s key : ℕ) (file : List ℕ) (m : Mark) (place : ℕ) (old new : Part) → 0 < key → TrueFrom s key file m
     → partLength old ≡ partLength new → 8 * place + partLength old ≤ length file → take (partLength old) (drop (8 * place) file) ≡ partBits old
-    → True key (take (8 * place) file ++ partBits new ++ drop (8 * place + partLength old) file) (replaced key m place old new)
+    → TrueFrom s key (take (8 * place) file ++ partBits new ++ drop (8 * place + partLength old) file) (replaced key m place old new)

@@ -1,3 +1,4 @@
 pub mod Files
+pub mod PlainMarks
 pub mod Bursts
 pub mod Ends

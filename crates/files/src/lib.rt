@@ -121,13 +121,20 @@ pub fn feed_end(p: Modulus, f: u64, part: &[u8], used: u32) -> u64
     feed_low(p, f, last >> (8 - used), used)
 }
 
-// The residue of two files joined: F·t^b + G + t^b, from their residues and the second file's length in bits.
-pub fn joined_residue(p: Modulus, f: u64, g: u64, b: u64) -> u64
-    requires { ⌜ Proper p × (f < 2 ^ p .degree) × (g < 2 ^ p .degree) ⌝ }
-    ensures { λ r. ⌜ r ≡ rem (polynomial p) (f * 2 ^ b ⊕ g ⊕ 2 ^ b) ⌝ }
+// The residue of a mark that is turned: t^n is added, from the residue and the length in bits.
+pub fn turned_residue(p: Modulus, f: u64, n: u64) -> u64
+    requires { ⌜ Proper p × (f < 2 ^ p .degree) ⌝ }
+    ensures { λ r. ⌜ r ≡ rem (polynomial p) (f ⊕ 2 ^ n) ⌝ }
 {
-    let shift = gf2::power_of_t(p, b);
-    gf2::product(p, f, shift) ^ g ^ shift
+    f ^ gf2::power_of_t(p, n)
+}
+
+// The residue of two files joined: F·t^b + G + s·t^b, from their residues and the second file's length in bits, s being the start of both.
+pub fn joined_residue(p: Modulus, start: u64, f: u64, g: u64, b: u64) -> u64
+    requires { ⌜ Proper p × (start < 2) × (f < 2 ^ p .degree) × (g < 2 ^ p .degree) ⌝ }
+    ensures { λ r. ⌜ r ≡ rem (polynomial p) (f * 2 ^ b ⊕ g ⊕ start * 2 ^ b) ⌝ }
+{
+    with_zeros(p, f ^ start, b) ^ g
 }
 
 // The residue of a file with n zeros behind it, F·t^n, from the file's residue.

@@ -7,11 +7,11 @@ ghost use Rattle.keys.specs.Testing.{testKey};
 ghost use Rattle.files.specs.Files.{asPart};
 ghost use Rattle.tables.specs.Tables.{makeTable, testTable};
 ghost use Rattle.marks.specs.Feeding.{begin, feedBits, feedTable, feedHouse};
+ghost use Rattle.marks.specs.PlainMarks.{beginPlain, turn};
 ghost use Rattle.stock.specs.Stock.{stockWord};
 ghost use Rattle.c_interface.specs.Interface.{keyAt, markAt};
 use acceptance::Key;
 use keys::Tested;
-use marks::Begun;
 use marks::Running;
 
 // Is the key accepted? Numbers 1, 2.
@@ -43,14 +43,41 @@ pub extern "C" fn gfp_begin(degree: u32, word: u64, fingerprint: &mut u64, bits:
         ⌝ }
 {
     let key = Key { degree, word };
-    match Running::begin(key) {
-        Begun::Started(m) => {
-            *fingerprint = m.fingerprint;
-            *bits = m.length;
-            0
-        }
-        Begun::Refused(r) => refusals::number(r),
-    }
+    c_interface::store_begun(Running::begin(key), fingerprint, bits)
+}
+
+// The plain mark of the empty file. Numbers 1, 2.
+#[no_mangle]
+pub extern "C" fn gfp_begin_plain(
+    degree: u32,
+    word: u64,
+    fingerprint: &mut u64,
+    bits: &mut u64,
+) -> u32
+    ensures { λ r. ⌜
+        (r ≡ numberOf (beginPlain (keyAt degree word)))
+        × (markAt (now (fingerprint .exit)) (now (bits .exit)) ≡ valueOr (markAt (now (fingerprint .entry)) (now (bits .entry))) (beginPlain (keyAt degree word)))
+        ⌝ }
+{
+    let key = Key { degree, word };
+    c_interface::store_begun(Running::begin_plain(key), fingerprint, bits)
+}
+
+// A plain mark turned into a mark with the leading 1, or such a mark into a plain mark. Numbers 1, 2, 7, 8.
+#[no_mangle]
+pub extern "C" fn gfp_turn(degree: u32, word: u64, fingerprint: &mut u64, bits: &mut u64) -> u32
+    ensures { λ r. ⌜
+        (r ≡ numberOf (turn (keyAt degree word) (markAt (now (fingerprint .entry)) (now (bits .entry)))))
+        × (markAt (now (fingerprint .exit)) (now (bits .exit)) ≡ stateOf (turn (keyAt degree word) (markAt (now (fingerprint .entry)) (now (bits .entry)))))
+        ⌝ }
+{
+    let key = Key { degree, word };
+    let m = Running {
+        key: key,
+        fingerprint: *fingerprint,
+        length: *bits,
+    };
+    c_interface::store(m.turn(), fingerprint, bits)
 }
 
 // The next part of a file, bit by bit. Numbers 1, 2, 7, 8, 19.

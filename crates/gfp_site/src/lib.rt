@@ -5,6 +5,7 @@ ghost use Rattle.refusals.specs.Refusals.{numberOf, stateOf};
 ghost use Rattle.files.specs.Files.{asPart};
 ghost use Rattle.c_interface.specs.Interface.{keyAt, markAt};
 ghost use Rattle.compose.specs.Composing.{joinBehind, joinInFront, replacePage};
+ghost use Rattle.compose.specs.PlainMarks.{joinPlainBehind, joinPlainInFront};
 use acceptance::Key;
 use files::Mark;
 use marks::Running;
@@ -64,6 +65,62 @@ pub extern "C" fn gfp_join_in_front(
         length: other_bits,
     };
     c_interface::store(compose::join_in_front(m, front), fingerprint, bits)
+}
+
+// The same of plain marks: the file of the other mark goes behind. Numbers 1, 2, 7, 8.
+#[no_mangle]
+pub extern "C" fn gfp_join_plain_behind(
+    degree: u32,
+    word: u64,
+    fingerprint: &mut u64,
+    bits: &mut u64,
+    other_fingerprint: u64,
+    other_bits: u64,
+) -> u32
+    ensures { λ r. ⌜
+        (r ≡ numberOf (joinPlainBehind (keyAt degree word) (markAt (now (fingerprint .entry)) (now (bits .entry))) (markAt «other_fingerprint» «other_bits»)))
+        × (markAt (now (fingerprint .exit)) (now (bits .exit)) ≡ stateOf (joinPlainBehind (keyAt degree word) (markAt (now (fingerprint .entry)) (now (bits .entry))) (markAt «other_fingerprint» «other_bits»)))
+        ⌝ }
+{
+    let key = Key { degree, word };
+    let m = Running {
+        key: key,
+        fingerprint: *fingerprint,
+        length: *bits,
+    };
+    let other = Mark {
+        fingerprint: other_fingerprint,
+        length: other_bits,
+    };
+    c_interface::store(compose::join_plain_behind(m, other), fingerprint, bits)
+}
+
+// The same of plain marks: the file of the other mark goes in front. Numbers 1, 2, 7, 8.
+#[no_mangle]
+pub extern "C" fn gfp_join_plain_in_front(
+    degree: u32,
+    word: u64,
+    fingerprint: &mut u64,
+    bits: &mut u64,
+    other_fingerprint: u64,
+    other_bits: u64,
+) -> u32
+    ensures { λ r. ⌜
+        (r ≡ numberOf (joinPlainInFront (keyAt degree word) (markAt (now (fingerprint .entry)) (now (bits .entry))) (markAt «other_fingerprint» «other_bits»)))
+        × (markAt (now (fingerprint .exit)) (now (bits .exit)) ≡ stateOf (joinPlainInFront (keyAt degree word) (markAt (now (fingerprint .entry)) (now (bits .entry))) (markAt «other_fingerprint» «other_bits»)))
+        ⌝ }
+{
+    let key = Key { degree, word };
+    let m = Running {
+        key: key,
+        fingerprint: *fingerprint,
+        length: *bits,
+    };
+    let other = Mark {
+        fingerprint: other_fingerprint,
+        length: other_bits,
+    };
+    c_interface::store(compose::join_plain_in_front(m, other), fingerprint, bits)
 }
 
 // The new page stands where the old one stood, from the byte at the given place on. Each page comes with the used bits of its final byte.

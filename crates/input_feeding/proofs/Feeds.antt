@@ -18,7 +18,7 @@ use Rattle.acceptance.specs.declared.Key.{Key}
 use Rattle.acceptance.specs.Keys.{polynomialOf, keyTests}
 use Rattle.acceptance.proofs.Laws.{accepted-pos, key-iff}
 use Rattle.files.specs.declared.Mark.{Mark}
-use Rattle.files.specs.Files.{bits, markOf, Part, whole, partLength, partBits, misused, unreduced, fedMark}
+use Rattle.files.specs.Files.{bits, markOf, Part, whole, partLength, partBits, misused, unreduced, fedMark, markFrom}
 use Rattle.files.proofs.Values.{length-bits, bits-append}
 use Rattle.files.proofs.Marks.{true-reduced, fed-true}
 use Rattle.files.proofs.Parts.{whole-long, whole-bits, whole-used}
@@ -30,7 +30,7 @@ use Rattle.marks.specs.declared.Running.{Running}
 use Rattle.marks.specs.declared.Fed.{Fed}
 use Rattle.marks.specs.declared.Fed.the-variants as fed-cases
 use Rattle.mark_tests.specs.MarkTests.{feedTests}
-use Rattle.marks.specs.Feeding.{begin, feedTable}
+use Rattle.marks.specs.Feeding.{beginFrom, begin, feedTable}
 use Rattle.marks.specs.Answers.{markIn, running, fed, begunUnder, fedUnder}
 use Rattle.printing.specs.Printing.{markFile}
 use Rattle.input_feeding.specs.declared.Marked.{Marked}
@@ -251,15 +251,15 @@ module _ (x : Key) (h : Clear (keyTests x)) where
     both-bits = ap (λ (l : List ℕ). bits file ++ l) (whole-bits part) ∙ sym (bits-append file part)
 
     feed-goes : 8 * length (file ++ part) ≤ longest → feedTable x before table (whole part) ≡ Done (markOf key (bits (file ++ part)))
-    unfolding markOf
+    unfolding markFrom
     feed-goes l =
         tested before (whole part)
         ∙ clear-done (feedTests key before (whole part)) before (fedMark key before (whole part))
-        (sum-fits (length (bits file)) (partLength (whole part)) (omega (arith, both-long)), (true-reduced key pos (bits file), (whole-used part, tt)))
-        ∙ ap Done (fed-true key pos (bits file) (whole part) ∙ ap (markOf key) both-bits)
+        (sum-fits (length (bits file)) (partLength (whole part)) (omega (arith, both-long)), (true-reduced 1 key pos (bits file), (whole-used part, tt)))
+        ∙ ap Done (fed-true 1 key pos (bits file) (whole part) ∙ ap (markOf key) both-bits)
 
     feed-stops : longest < 8 * length (file ++ part) → feedTable x before table (whole part) ≡ Refused TooLong before
-    unfolding markOf
+    unfolding markFrom
     feed-stops l =
         tested before (whole part)
         ∙ first-true _ TooLong (unreduced key before ⇒ MarkNotReduced ∷ misused (whole part) ⇒ FinalByte ∷ []) before (fedMark key before (whole part))
@@ -314,7 +314,7 @@ module _ (key : Key) where
   -- a key that is refused
   pub begun-refused : (first : List ℕ) (input : Input) (r : Refusal) → Refused r tt ≡ begunUnder key (begin key)
       → MarkedInParts key first input (refused r input)
-  unfolding begin markFile
+  unfolding beginFrom markFile
   begun-refused first input r e =
       let file = first ++ flatten [] in
       let p = polynomialOf key in (
@@ -333,7 +333,7 @@ module _ (key : Key) where
 
   -- a key that is accepted
   pub begun-clear : (m : Running) → Done m ≡ begunUnder key (begin key) → Clear (keyTests key) × (m ≡ running key (markOf (polynomialOf key) []))
-  unfolding begin
+  unfolding beginFrom
   begun-clear m e = go (begin key) refl e
     where
       go : (a : Answer Unit Mark) → begin key ≡ a → Done m ≡ begunUnder key a → Clear (keyTests key) × (m ≡ running key (markOf (polynomialOf key) []))

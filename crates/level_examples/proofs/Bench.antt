@@ -13,12 +13,13 @@ use Rattle.refusals.specs.Refusals.{Done, Refused, _⇒_, longest}
 use Rattle.refusals.proofs.Lengths.{sum-passes}
 use Rattle.acceptance.specs.Keys.{reducible, accepted, keyOf}
 use Rattle.files.specs.declared.Mark.{Mark}
-use Rattle.files.specs.Files.{lowBits, bits, valueFrom, value, fingerprint, markOf, Part, asPart, whole, usedBits, partLength, partBits, misused, fedMark}
+use Rattle.files.specs.Files.{lowBits, bits, valueFrom, fingerprintFrom, fingerprint, markFrom, markOf}
+use Rattle.files.specs.Files.{Part, asPart, whole, usedBits, partLength, partBits, misused, fedMark}
 use Rattle.files.proofs.Marks.{empty-mark}
 use Rattle.files.proofs.Parts.{whole-long}
 use Rattle.acceptance.proofs.Opened.{open-accepted, opened-first}
 use Rattle.mark_tests.specs.MarkTests.{sumTest}
-use Rattle.marks.specs.Feeding.{begin, feedBits}
+use Rattle.marks.specs.Feeding.{beginFrom, feedBits}
 use Rattle.lookups.specs.Rule.{word, differs}
 use Rattle.printing.specs.Printing.{ascii}
 use Rattle.printing.proofs.Readings.{example-line, example-report}
@@ -76,7 +77,7 @@ calls =
 
 by-bits : bookStep bench 0x11B [] (ByBits (whole (0x41 ∷ []))) ≡ Done byte-41
 unfolding misused partBits partLength usedBits bits lowBits
-by-bits = taken 0x11B accepted-11B [] (ByBits (whole (0x41 ∷ []))) refl (omega arith)
+by-bits = taken 1 0x11B accepted-11B [] (ByBits (whole (0x41 ∷ []))) refl (omega arith)
 
 too-long : bookStep bench 0x11B byte-41 (ByBits long) ≡ Refused TooLong byte-41
 unfolding bookStep bookTests
@@ -98,7 +99,7 @@ dirty-byte = refl
 
 right-words : bookStep bench 0x11B byte-41 (ByTable right (whole (0x42 ∷ []))) ≡ Done (bits (0x41 ∷ 0x42 ∷ []))
 unfolding right misused partBits partLength usedBits bits lowBits
-right-words = taken 0x11B accepted-11B byte-41 (ByTable right (whole (0x42 ∷ []))) (refl, refl) (omega arith)
+right-words = taken 1 0x11B accepted-11B byte-41 (ByTable right (whole (0x42 ∷ []))) (refl, refl) (omega arith)
 
 -- the book's file, and the numbers
 pub the-book : run (bookStep bench 0x11B) [] calls ≡ (bits (0x41 ∷ 0x42 ∷ []), 0 ∷ 7 ∷ 5 ∷ 6 ∷ 19 ∷ 0 ∷ [])
@@ -115,7 +116,7 @@ begun = record { fingerprint = 0x1; length = 0 }
 
 -- the marks' side, by the list theorem
 mark-41-42 : markOf 0x11B (bits (0x41 ∷ 0x42 ∷ [])) ≡ record { fingerprint = 0x9D; length = 16 }
-unfolding markOf fingerprint value valueFrom bits lowBits rem longDivision reduce degree halvings _⊕_
+unfolding markFrom fingerprintFrom valueFrom bits lowBits rem longDivision reduce degree halvings _⊕_
 mark-41-42 = refl
 
 pub the-list : run (step 0x11B) begun calls ≡ (record { fingerprint = 0x9D; length = 16 }, 0 ∷ 7 ∷ 5 ∷ 6 ∷ 19 ∷ 0 ∷ [])
@@ -126,10 +127,10 @@ the-list =
 
 -- ---- parts that end inside a byte (document 02, wish 7), under 0x11B: 41 42 cut behind its third bit
 
-abbrev front : Part
+abbrev pub front : Part
 front = asPart (0x40 ∷ []) 3
 
-abbrev back : Part
+abbrev pub back : Part
 back = asPart (0x0A ∷ 0x10 ∷ []) 5
 
 cut-41-42 : partBits front ++ partBits back ≡ bits (0x41 ∷ 0x42 ∷ [])
@@ -151,7 +152,7 @@ length-41-42 = refl
 -- the premises of `cut-anywhere` hold, and what it says is the mark of the whole file
 pub both-parts : run (step 0x11B) begun (ByBits front ∷ ByBits back ∷ []) ≡ (record { fingerprint = 0x9D; length = 16 }, 0 ∷ 0 ∷ [])
 both-parts =
-    cut-anywhere 0x11B [] (bits (0x41 ∷ 0x42 ∷ [])) begun front back accepted-11B (sym (empty-mark 0x11B (omega arith))) well-front well-back cut-41-42
+    cut-anywhere 1 0x11B [] (bits (0x41 ∷ 0x42 ∷ [])) begun front back accepted-11B (sym (empty-mark 0x11B (omega arith))) well-front well-back cut-41-42
     (omega (arith, length-41-42))
     ∙ ap {B = Mark × List ℕ} (λ (x : Mark). (x, 0 ∷ 0 ∷ [])) mark-41-42
 
@@ -179,13 +180,13 @@ house-usable = ((refl, refl), (refl, ((refl, refl), tt)))
 
 -- two bytes fit below t^61, so that the fingerprint is t^16 and the bits themselves
 mark-below-61 : markOf houseKey (bits (0x41 ∷ 0x42 ∷ [])) ≡ record { fingerprint = 0x14142; length = 16 }
-unfolding markOf fingerprint value valueFrom bits lowBits rem longDivision reduce degree halvings _⊕_
+unfolding markFrom fingerprintFrom valueFrom bits lowBits rem longDivision reduce degree halvings _⊕_
 mark-below-61 = refl
 
 pub the-house-list : run (step houseKey) begun house-calls ≡ (record { fingerprint = 0x14142; length = 16 }, 0 ∷ 0 ∷ 0 ∷ [])
 unfolding house-calls partBits partLength usedBits bits lowBits
 the-house-list =
-    parts houseKey [] begun house-calls house-accepted (sym (empty-mark houseKey (omega arith))) house-usable (omega arith)
+    parts 1 houseKey [] begun house-calls house-accepted (sym (empty-mark houseKey (omega arith))) house-usable (omega arith)
     ∙ ap {B = Mark × List ℕ} (λ (x : Mark). (x, 0 ∷ 0 ∷ 0 ∷ [])) mark-below-61
 
 -- ---- the limit: 34,359,738,360 bits plus one bit gives 7; plus none is accepted
@@ -199,25 +200,24 @@ module _ (key : ℕ) (a : accepted key ≡ true) (file : List ℕ) (full : lengt
 
   pub none-more : bookStep bench key file (ByBits (whole [])) ≡ Done file
   unfolding misused partBits partLength bits
-  none-more = taken key a file (ByBits (whole [])) refl (omega (arith, full)) ∙ ap Done (append-nil file)
+  none-more = taken 1 key a file (ByBits (whole [])) refl (omega (arith, full)) ∙ ap Done (append-nil file)
 
 -- ---- a route of each kind: the list above, the beginning of a mark, and the printing program on document 01's example
 
 pub by-calls : Route 0x11B (bits (0x41 ∷ 0x42 ∷ [])) 0x9D
 by-calls =
-    ByCalls
+    ByCalls (record { fingerprint = 0x9D; length = 16 })
     (record {
       first = [];
-      mark = begun;
       calls = calls;
-      begins = sym (empty-mark 0x11B (omega arith));
       honest = the-list-is-honest;
       ends = ap (λ (x : List ℕ × List ℕ). x .0) the-book;
-      leaves = ap (λ (x : Mark × List ℕ). x .0 .fingerprint) the-list;
-    })
+      leaves =
+          ap (λ (m : Mark). run (step 0x11B) m calls .0) (empty-mark 0x11B (omega arith)) ∙ ap (λ (x : Mark × List ℕ). x .0) the-list;
+    }) refl
 
 pub beginning : Route 0x11B [] 0x01
-unfolding begin markOf fingerprint value valueFrom monic reducible anyBelow rem longDivision reduce degree halvings _⊕_
+unfolding beginFrom markFrom fingerprintFrom valueFrom monic reducible anyBelow rem longDivision reduce degree halvings _⊕_
 beginning = Beginning refl refl
 
 pub printed-9D : Route 0x11B (bits (0x41 ∷ 0x42 ∷ [])) 0x9D
@@ -227,7 +227,7 @@ printed-9D = Printed (ascii "11b\nAB") 4 example-line refl example-report
 -- ---- a key that confuses two files: 00 00 and 01 1B under 0x11B
 
 pub both-5E : Confuses Route 8 (bits (0x00 ∷ 0x00 ∷ [])) (bits (0x01 ∷ 0x1B ∷ [])) 0x11B
-unfolding fingerprint value valueFrom bits lowBits rem longDivision reduce degree halvings _⊕_
+unfolding fingerprintFrom valueFrom bits lowBits rem longDivision reduce degree halvings _⊕_
 both-5E =
     record {
       is-accepted = accepted-11B;
@@ -255,7 +255,7 @@ abbrev pub nine-other : List ℕ
 nine-other = bits (0x01 ∷ 0x00 ∷ 0x00 ∷ 0x00 ∷ 0x00 ∷ 0x00 ∷ 0x00 ∷ 0x00 ∷ 0x1B ∷ [])
 
 pub both-1B00 : Confuses Route 64 nine-zeros nine-other key64
-unfolding fingerprint value valueFrom bits lowBits rem longDivision reduce degree halvings _⊕_
+unfolding fingerprintFrom valueFrom bits lowBits rem longDivision reduce degree halvings _⊕_
 both-1B00 =
     record {
       is-accepted = accepted-64;

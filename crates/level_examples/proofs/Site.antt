@@ -1,6 +1,6 @@
 -- Lists of calls under the key 0x11B, from the empty file, with the book beside them: each kind of call refused and not. And a route
 -- of each kind. So the claims of Guarantee.antt are not empty.
-use mathlib.Core.Path.{_≡_, refl, sym, ap, subst, _∙_}
+use mathlib.Core.Path.{_≡_, refl, ap, subst, _∙_}
 use mathlib.Core.Bool.{true}
 use mathlib.Core.List.{List, [], _∷_, _++_, map, zipWith, flatten}
 use Prim.Native.Nat.{ℕ, _%_, _≤_}
@@ -20,13 +20,13 @@ use Rattle.gf2.specs.Polynomials.{_⊕_, halvings, degree, monic, reduce, longD
 use Rattle.lists.specs.Lists.{listFrom, anyBelow, overlay}
 use Rattle.acceptance.specs.Keys.{reducible, keyOf}
 use Rattle.files.specs.declared.Mark.{Mark}
-use Rattle.files.specs.Files.{lowBits, bits, valueFrom, value, fingerprint, markOf, asPart, whole, usedBits, partLength, partBits, misused}
-use Rattle.files.specs.Files.{fedMark, joined, replaced}
+use Rattle.files.specs.Files.{lowBits, bits, valueFrom, fingerprintFrom, fingerprint, markFrom, asPart, whole, usedBits, partLength, partBits, misused}
+use Rattle.files.specs.Files.{fedMark, joinedFrom, replaced}
 use Rattle.files.proofs.Marks.{empty-mark}
 use Rattle.files.proofs.Parts.{whole-bits}
 use Rattle.lookups.specs.Rule.{differs}
 use Rattle.marks.specs.Feeding.{feedBits, feedTable}
-use Rattle.compose.specs.Composing.{joinBehind, joinInFront, replacePage}
+use Rattle.compose.specs.Composing.{joinBehindFrom, joinInFrontFrom, replacePage}
 use Rattle.book.specs.Runs.{bookStep, run, Honest}
 use Rattle.book.specs.Confusions.{Confuses}
 use Rattle.fed_parts.specs.Parts as feeds
@@ -41,7 +41,7 @@ mark f n = record { fingerprint = f; length = n }
 
 -- ---- feeding: the Bench level's list, by bits and by tables, refused and not
 
-pub the-feeding-list : run (step 0x11B) (mark 0x01 0) (map Feeding bench-examples.calls) ≡ (mark 0x9D 16, 0 ∷ 7 ∷ 5 ∷ 6 ∷ 19 ∷ 0 ∷ [])
+pub the-feeding-list : run (step 1 0x11B) (mark 0x01 0) (map Feeding bench-examples.calls) ≡ (mark 0x9D 16, 0 ∷ 7 ∷ 5 ∷ 6 ∷ 19 ∷ 0 ∷ [])
 the-feeding-list = bench-lists 0x11B (mark 0x01 0) bench-examples.calls ∙ bench-examples.the-list
 
 -- ---- joining and page change, refused and not, between feeding. Both sides are computed.
@@ -70,14 +70,14 @@ unfolding calls run bookStep bookTests written bench-level.bookTests bench-level
     halvings _⊕_ differs bits lowBits usedBits partLength partBits misused
 the-book = refl
 
-pub the-list : run (step 0x11B) (mark 0x01 0) calls ≡ (mark (fingerprint 0x11B (bits (0x41 ∷ 0x00 ∷ 0x00 ∷ []))) 24, numbers)
-unfolding calls run step feeds.step feedBits feedTable fedMark joinBehind joinInFront joined replacePage replaced
-    monic reducible anyBelow fingerprint value valueFrom bits lowBits usedBits partLength partBits misused rem longDivision reduce degree halvings _⊕_ differs
+pub the-list : run (step 1 0x11B) (mark 0x01 0) calls ≡ (mark (fingerprint 0x11B (bits (0x41 ∷ 0x00 ∷ 0x00 ∷ []))) 24, numbers)
+unfolding calls run step feeds.step feedBits feedTable fedMark joinBehindFrom joinInFrontFrom joinedFrom replacePage replaced
+    monic reducible anyBelow fingerprintFrom valueFrom bits lowBits usedBits partLength partBits misused rem longDivision reduce degree halvings _⊕_ differs
 the-list = refl
 
 pub the-list-is-honest : Honest site 0x11B [] calls
 unfolding calls bookStep bookTests written bench-level.bookTests bench-level.written
-    monic reducible anyBelow fingerprint value valueFrom bits lowBits usedBits partLength partBits misused markOf rem longDivision reduce degree
+    monic reducible anyBelow fingerprintFrom valueFrom bits lowBits usedBits partLength partBits misused markFrom rem longDivision reduce degree
     halvings _⊕_ differs
 the-list-is-honest = (
   λ e. tt,
@@ -104,7 +104,7 @@ the-list-is-honest = (
 
 -- the three first bits of the byte 42 changed in the mark of 41 42
 pub three-bits : replacePage (keyOf 0x11B) (mark 0x9D 16) 1 (asPart (0x40 ∷ []) 3) (asPart (0xA0 ∷ []) 3) ≡ Done (mark 0x7D 16)
-unfolding replacePage replaced monic reducible anyBelow fingerprint value valueFrom bits lowBits usedBits partLength partBits misused
+unfolding replacePage replaced monic reducible anyBelow fingerprintFrom valueFrom bits lowBits usedBits partLength partBits misused
     rem longDivision reduce degree halvings _⊕_
 three-bits = refl
 
@@ -112,16 +112,15 @@ three-bits = refl
 
 pub by-calls : Route 0x11B (bits (0x41 ∷ 0x00 ∷ 0x00 ∷ [])) (fingerprint 0x11B (bits (0x41 ∷ 0x00 ∷ 0x00 ∷ [])))
 by-calls =
-    ByCalls
+    ByCalls (mark (fingerprint 0x11B (bits (0x41 ∷ 0x00 ∷ 0x00 ∷ []))) 24)
     (record {
       first = [];
-      mark = mark 0x01 0;
       calls = calls;
-      begins = sym (empty-mark 0x11B (omega arith));
       honest = the-list-is-honest;
       ends = ap (λ (x : List ℕ × List ℕ). x .0) the-book;
-      leaves = ap (λ (x : Mark × List ℕ). x .0 .fingerprint) the-list;
-    })
+      leaves =
+          ap (λ (m : Mark). run (step 1 0x11B) m calls .0) (empty-mark 0x11B (omega arith)) ∙ ap (λ (x : Mark × List ℕ). x .0) the-list;
+    }) refl
 
 pub beginning : Route 0x11B [] 0x01
 beginning = OfBench bench-examples.beginning
@@ -160,7 +159,7 @@ sheet = 0x47 ∷ 0x46 ∷ 0x50 ∷ 0x00 ∷ 0x04 ∷ pairField ++ field 0x10 ++ 
 
 written-sheet : writeSheet (keyOf 0x11B) 16 (whole (0x41 ∷ 0x42 ∷ [])) (replicate 40 0) ≡ Done sheet
 unfolding sheet writeSheet overlay sheetBytes keyNumber layoutAmong bytesIn zipWith flatten fieldsOf bytesOf contentsOf pageFingerprints filled
-    monic reducible anyBelow fingerprint value valueFrom bits lowBits usedBits partLength partBits misused rem longDivision reduce degree halvings _⊕_
+    monic reducible anyBelow fingerprintFrom valueFrom bits lowBits usedBits partLength partBits misused rem longDivision reduce degree halvings _⊕_
 written-sheet = refl
 
 the-two : partBits (whole (0x41 ∷ 0x42 ∷ [])) ≡ two
@@ -188,7 +187,7 @@ true-pages =
     }
 
 pub read-9D : Route 0x11B two 0x9D
-unfolding contentsOf monic fingerprint value valueFrom bits lowBits rem longDivision reduce degree halvings _⊕_
+unfolding contentsOf monic fingerprintFrom valueFrom bits lowBits rem longDivision reduce degree halvings _⊕_
 read-9D = ByReading sheet (contentsOf 4 (keyOf 0x11B) 16 two) true-pages refl
 
 -- version 1 is read by its filling: document 01's sheet of 41 42, its length in bytes
@@ -197,7 +196,7 @@ old-sheet = 0x47 ∷ 0x46 ∷ 0x50 ∷ 0x00 ∷ 0x01 ∷ keyField ++ 0x00 ∷ 0x
 
 old-pages : TruePages 0x11B two old-sheet (contentsOf 1 (keyOf 0x11B) 16 two)
 unfolding old-sheet every overlay filled contentsOf pageFingerprints readSheet contentsIn keyFrom known layoutAmong numbersAt numberAt
-    fingerprint value valueFrom bits lowBits joinedPages joined someUnreduced markOf monic reducible anyBelow rem longDivision reduce degree halvings _⊕_
+    fingerprintFrom valueFrom bits lowBits joinedPages joinedFrom someUnreduced markFrom monic reducible anyBelow rem longDivision reduce degree halvings _⊕_
 old-pages =
     record {
       bytes = all-map (λ b t. ltb→lt b 256 t) old-sheet (all-by-test (λ b. ltb b 256) old-sheet tt);
@@ -209,7 +208,7 @@ old-pages =
 
 pub read-AC : Route 0x11B (two ++ replicate 112 0) 0xAC
 unfolding old-sheet overlay filled contentsOf pageFingerprints readPages readSheet contentsIn keyFrom known layoutAmong numbersAt numberAt
-    fingerprint value valueFrom bits lowBits joinedPages joined someUnreduced markOf monic reducible anyBelow rem longDivision reduce degree halvings _⊕_
+    fingerprintFrom valueFrom bits lowBits joinedPages joinedFrom someUnreduced markFrom monic reducible anyBelow rem longDivision reduce degree halvings _⊕_
 read-AC = ByReadingPages two old-sheet (0x00 ∷ []) (0xAC ∷ []) (contentsOf 1 (keyOf 0x11B) 16 two) 0 old-pages refl (omega arith) (omega arith) refl refl
 
 -- ---- the pages of the 17 bytes 00 to 10, the last of one byte: filled up in version 1, as it is in versions 2 to 4
@@ -218,15 +217,15 @@ abbrev seventeen : List ℕ
 seventeen = bits (listFrom (λ b. b) 0 17)
 
 pub filled-pages : pageFingerprints version1 0x11B 128 2 seventeen ≡ 0x6E ∷ 0x90 ∷ []
-unfolding listFrom pageFingerprints filled fingerprint value valueFrom bits lowBits rem longDivision reduce degree halvings _⊕_
+unfolding listFrom pageFingerprints filled fingerprintFrom valueFrom bits lowBits rem longDivision reduce degree halvings _⊕_
 filled-pages = refl
 
 pub own-pages : pageFingerprints version4 0x11B 128 2 seventeen ≡ 0x6E ∷ 0x0B ∷ []
-unfolding listFrom pageFingerprints filled fingerprint value valueFrom bits lowBits rem longDivision reduce degree halvings _⊕_
+unfolding listFrom pageFingerprints filled fingerprintFrom valueFrom bits lowBits rem longDivision reduce degree halvings _⊕_
 own-pages = refl
 
 pub their-file : fingerprint 0x11B seventeen ≡ 0x45
-unfolding listFrom fingerprint value valueFrom bits lowBits rem longDivision reduce degree halvings _⊕_
+unfolding listFrom fingerprintFrom valueFrom bits lowBits rem longDivision reduce degree halvings _⊕_
 their-file = refl
 
 -- ---- keys that confuse two files at Bench confuse them here

@@ -16,7 +16,7 @@ use Rattle.acceptance.specs.Opened.{Opened}
 use Rattle.acceptance.proofs.Laws.{accepted-iff, accepted-pos, whole-key}
 use Rattle.acceptance.proofs.Opened.{open-accepted, opened-first, opened-whole, residue-below}
 use Rattle.files.specs.declared.Mark.{Mark}
-use Rattle.files.specs.Files.{valueFrom, markOf, unreduced, Part, partLength, partBits, misused, fedMark}
+use Rattle.files.specs.Files.{valueFrom, markFrom, unreduced, Part, partLength, partBits, misused, fedMark}
 use Rattle.files.proofs.Marks.{mark-eq, true-reduced, empty-mark}
 use Rattle.mark_tests.specs.declared.Measured.{Measured}
 use Rattle.mark_tests.specs.declared.Measured.the-variants as measured-cases
@@ -27,7 +27,7 @@ use Rattle.table_tests.specs.TableTests.{tableTests}
 use Rattle.table_tests.proofs.Laws.{clear-table}
 use Rattle.house.specs.House.{houseKey, houseWords}
 use Rattle.house.proofs.House.{house-accepted}
-use Rattle.marks.specs.Feeding.{begin, feedBits, feedTable, feedHouse, BeginsTrue, EmptyIsOne, HouseFirst, HouseBits}
+use Rattle.marks.specs.Feeding.{beginFrom, feedBits, feedTable, feedHouse, BeginsTrue, EmptyIsOne, HouseFirst, HouseBits}
 use Rattle.marks.specs.Answers.{fedUnder}
 
 -- ---- what a caller of `mark_tests::judge` knows in each arm
@@ -65,22 +65,26 @@ module _ {x : Key} {p : Modulus} (h : Opened x p) (m : Mark) (part : Part) (r : 
 -- ---- marks of files
 
 -- a true mark is reduced, so number 8 may be left out, wherever it stands
-pub leave-out-8 : (key : ℕ) (pos : 0 < key) (file : List ℕ) (ts us vs : List Test) (x y : Mark)
-    → firstOf (ts ++ (us ++ unreduced key (markOf key file) ⇒ MarkNotReduced ∷ vs)) x y ≡ firstOf (ts ++ (us ++ vs)) x y
-leave-out-8 key pos file ts us vs x y =
-    ap (λ (l : List Test). firstOf l x y) (sym (append-assoc ts us (unreduced key (markOf key file) ⇒ MarkNotReduced ∷ vs)))
-    ∙ ap (λ (b : Bool). firstOf (ts ++ us ++ b ⇒ MarkNotReduced ∷ vs) x y) (true-reduced key pos file)
+pub leave-out-8 : (s key : ℕ) (pos : 0 < key) (file : List ℕ) (ts us vs : List Test) (x y : Mark)
+    → firstOf (ts ++ (us ++ unreduced key (markFrom s key file) ⇒ MarkNotReduced ∷ vs)) x y ≡ firstOf (ts ++ (us ++ vs)) x y
+leave-out-8 s key pos file ts us vs x y =
+    ap (λ (l : List Test). firstOf l x y) (sym (append-assoc ts us (unreduced key (markFrom s key file) ⇒ MarkNotReduced ∷ vs)))
+    ∙ ap (λ (b : Bool). firstOf (ts ++ us ++ b ⇒ MarkNotReduced ∷ vs) x y) (true-reduced s key pos file)
     ∙ skip (ts ++ us) vs MarkNotReduced x y
     ∙ ap (λ (l : List Test). firstOf l x y) (append-assoc ts us vs)
 
+-- beginning, behind any start
+pub begins-from : (s key : ℕ) → accepted key ≡ true → beginFrom s (keyOf key) ≡ Done (markFrom s key [])
+unfolding beginFrom
+begins-from s key a =
+    opened-first (open-accepted key a) [] tt (markFrom s (polynomialOf (keyOf key)) [])
+    ∙ ap (λ (q : ℕ). Done (markFrom s q [])) (whole-key key (accepted-pos key a))
+
 pub begins : BeginsTrue
-unfolding begin
-begins key a =
-    opened-first (open-accepted key a) [] tt (markOf (polynomialOf (keyOf key)) [])
-    ∙ ap (λ (q : ℕ). Done (markOf q [])) (whole-key key (accepted-pos key a))
+begins key a = begins-from 1 key a
 
 pub empty-is-one : EmptyIsOne
-unfolding markOf
+unfolding markFrom
 empty-is-one key a = ap (λ (m : Mark). m .fingerprint) (empty-mark key (accepted-iff key .0 a .2 .proper))
 
 -- ---- the house key's constant words

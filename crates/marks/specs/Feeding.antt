@@ -10,12 +10,15 @@ use Rattle.acceptance.specs.Keys.{accepted, polynomialOf, keyOf, keyTests}
 use Rattle.table_tests.specs.TableTests.{tableTests}
 use Rattle.house.specs.House.{houseKey, houseWords}
 use Rattle.files.specs.declared.Mark.{Mark}
-use Rattle.files.specs.Files.{fingerprint, markOf, Part, fedMark}
+use Rattle.files.specs.Files.{fingerprint, markFrom, markOf, Part, fedMark}
 use Rattle.mark_tests.specs.MarkTests.{feedTests}
 
--- the mark of the empty file
-unfoldable pub begin : Key → Answer Unit Mark
-begin x = firstOf (keyTests x) tt (markOf (polynomialOf x) [])
+-- the mark of the empty file, behind the start s
+unfoldable pub beginFrom : ℕ → Key → Answer Unit Mark
+beginFrom s x = firstOf (keyTests x) tt (markFrom s (polynomialOf x) [])
+
+abbrev pub begin : Key → Answer Unit Mark
+begin x = beginFrom 1 x
 
 unfoldable pub feedBits : Key → Mark → Part → Answer Mark Mark
 feedBits x m part = firstOf (keyTests x ++ feedTests (polynomialOf x) m part) m (fedMark (polynomialOf x) m part)

@@ -1,2 +1,3 @@
 pub mod Feeding
+pub mod PlainMarks
 pub mod Answers

@@ -1,5 +1,6 @@
 // Feeding a file to a running mark: with no table, by a lent table, and by the house key's constant words. Under the house key all three fold, and
-// read no table. A part comes as bytes and the used bits of the final one; feeding after an unfinished byte goes on at the next bit.
+// read no table. A part comes as bytes and the used bits of the final one; feeding after an unfinished byte goes on at the next bit. A mark has the
+// leading 1, or it is a plain mark: feeding is the same for both, and a mark can be turned into the other kind.
 use acceptance::Key;
 use files::Mark;
 use gf2::Modulus;
@@ -9,14 +10,17 @@ use refusals::Refusal;
 use refusals::Reply;
 ghost use mathlib.Core.Path.{_≡_};
 ghost use mathlib.Core.List.{_++_};
+ghost use Prim.Native.Nat.{_<_};
 ghost use Rattle.refusals.specs.Refusals.{firstOf};
 ghost use Rattle.acceptance.specs.Keys.{polynomialOf};
 ghost use Rattle.acceptance.specs.Opened.{Opened};
 ghost use Rattle.files.specs.Files.{asPart, fedMark};
+ghost use Rattle.files.specs.PlainMarks.{turned};
 ghost use Rattle.mark_tests.specs.MarkTests.{feedTests};
 ghost use Rattle.lookups.specs.Groups.{Table};
 ghost use Rattle.table_tests.specs.TableTests.{tableTests};
-ghost use Rattle.marks.specs.Feeding.{begin, feedBits, feedTable, feedHouse};
+ghost use Rattle.marks.specs.Feeding.{beginFrom, begin, feedBits, feedTable, feedHouse};
+ghost use Rattle.marks.specs.PlainMarks.{beginPlain, turnTests, turn};
 ghost use Rattle.marks.specs.Answers.{markIn, begun, begunUnder, fed, fedUnder};
 
 // A running mark (document 01's term): the state of a fingerprint that is taken as the file is read. The length is in bits. Numbers only.
@@ -106,6 +110,45 @@ fn feed_under(p: Modulus, m: Running, words: &[u64], part: &[u8], used: u32) -> 
     }
 }
 
+// The mark of the empty file behind a start.
+fn begin_from(start: u64, key: Key) -> Begun
+    requires { ⌜ start < 2 ⌝ }
+    ensures { λ r. ⌜ begun r ≡ begunUnder key (beginFrom start key) ⌝ }
+{
+    match keys::test(key) {
+        Tested::Refused(r) => Begun::Refused(r),
+        Tested::Accepted(_) => Begun::Started(Running {
+            key: key,
+            fingerprint: start,
+            length: 0,
+        }),
+    }
+}
+
+// A mark turned, after the test of the key.
+fn turn_under(p: Modulus, m: Running) -> Fed
+    requires { ⌜ Opened (m .key) p ⌝ }
+    ensures { λ r. ⌜ fed r ≡ fedUnder (m .key) (firstOf (turnTests (polynomialOf (m .key)) (markIn m)) (markIn m)
+        (turned (polynomialOf (m .key)) (markIn m))) ⌝ }
+{
+    if !refusals::bits_fit(m.length) {
+        return Fed::Refused(Refusal::TooLong, m);
+    }
+    if !gf2::is_residue(p, m.fingerprint) {
+        return Fed::Refused(Refusal::MarkNotReduced, m);
+    }
+    let key = Key {
+        degree: m.key.degree,
+        word: m.key.word,
+    };
+    let turned = files::turned_residue(p, m.fingerprint, m.length);
+    Fed::Next(Running {
+        key: key,
+        fingerprint: turned,
+        length: m.length,
+    })
+}
+
 impl Running {
     // Its mark, without the key.
     pub fn mark(self) -> Mark
@@ -121,13 +164,23 @@ impl Running {
     pub fn begin(key: Key) -> Begun
         ensures { λ r. ⌜ begun r ≡ begunUnder key (begin key) ⌝ }
     {
-        match keys::test(key) {
-            Tested::Refused(r) => Begun::Refused(r),
-            Tested::Accepted(_) => Begun::Started(Running {
-                key: key,
-                fingerprint: 1,
-                length: 0,
-            }),
+        begin_from(1, key)
+    }
+
+    // The plain mark of the empty file under a key. Numbers 1, 2.
+    pub fn begin_plain(key: Key) -> Begun
+        ensures { λ r. ⌜ begun r ≡ begunUnder key (beginPlain key) ⌝ }
+    {
+        begin_from(0, key)
+    }
+
+    // A plain mark turned into a mark with the leading 1, or such a mark into a plain mark: t^n is added, n being the length. Numbers 1, 2, 7, 8.
+    pub fn turn(self) -> Fed
+        ensures { λ r. ⌜ fed r ≡ fedUnder (self .key) (turn (self .key) (markIn self)) ⌝ }
+    {
+        match keys::test(self.key) {
+            Tested::Refused(r) => Fed::Refused(r, self),
+            Tested::Accepted(p) => turn_under(p, self),
         }
     }
 

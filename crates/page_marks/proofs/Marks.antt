@@ -8,7 +8,7 @@ use lib.ListN.{length, getD, set, take, drop, length-set}
 use lib.Seq.{drop-drop, take-add}
 use Rattle.gf2.specs.Polynomials.{rem}
 use Rattle.lists.proofs.Lists.{stored}
-use Rattle.files.specs.Files.{bits, valueFrom, value, fingerprint}
+use Rattle.files.specs.Files.{bits, valueFrom, fingerprintFrom, fingerprint}
 use Rattle.files.proofs.Values.{bits-append, rem-from}
 use Rattle.files.proofs.Marks.{fed}
 use Rattle.page_marks.specs.Marks.{pageFront, Begun, Reduced, Finished}
@@ -38,7 +38,7 @@ reduced-more key before marks i v l f e m b = stored 0 (λ n z. z ≡ rem key (g
 -- whole pages that are begun, and reduced
 pub cut-finished : (key s w n : ℕ) (pages before marks : List ℕ) → w ≡ s → Begun key s w n pages before → Reduced key n before marks
     → Finished key s n pages marks
-unfolding fingerprint value
+unfolding fingerprintFrom
 cut-finished key s w n pages before marks e b r i l = r i l ∙ b i l ∙ ap (λ (m : ℕ). rem key (valueFrom 1 (bits (pageFront s m pages i)))) e
 
 -- ---- the bytes of a page in the block
@@ -54,7 +54,7 @@ pub page-finished : {key : ℕ} (pos : 0 < key) (s w i : ℕ) (pages : List ℕ)
     → rem key x ≡ rem key (valueFrom 1 (bits (pageFront s w pages i)))
     → r ≡ rem key (valueFrom x (bits (take (i * s + s - (i * s + w)) (drop (i * s + w) pages))))
     → r ≡ fingerprint key (bits (pageFront s s pages i))
-unfolding fingerprint value
+unfolding fingerprintFrom
 page-finished {key} pos s w i pages x r l ex er =
     let e : i * s + s - (i * s + w) ≡ s - w = omega arith in
     let d : w + (s - w) ≡ s = omega arith in
@@ -63,7 +63,7 @@ page-finished {key} pos s w i pages x r l ex er =
     ∙ ap (λ (n : ℕ). rem key (valueFrom x (bits (take n (drop (i * s + w) pages))))) e
     ∙ sym (rem-from pos x (bits rest))
     ∙ ap (λ (y : ℕ). rem key (valueFrom y (bits rest))) ex
-    ∙ fed pos (bits (pageFront s w pages i)) (bits rest)
+    ∙ fed pos 1 (bits (pageFront s w pages i)) (bits rest)
     ∙ ap (fingerprint key) (sym (bits-append (pageFront s w pages i) rest))
     ∙ ap (λ (q : List ℕ). fingerprint key (bits q))
     (ap (λ (q : List ℕ). pageFront s w pages i ++ take (s - w) q) (sym (drop-drop w (i * s) pages))

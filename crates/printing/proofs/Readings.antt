@@ -7,7 +7,7 @@ use Rattle.bytes.specs.Bytes.{indexOf, indexAfter}
 use Rattle.gf2.specs.Polynomials.{_⊕_, halvings, degree, monic, reduce, longDivision, rem}
 use Rattle.lists.specs.Lists.{anyBelow}
 use Rattle.acceptance.specs.Keys.{reducible, keyOf}
-use Rattle.files.specs.Files.{bits, lowBits, value, valueFrom, fingerprint, markOf}
+use Rattle.files.specs.Files.{bits, lowBits, valueFrom, fingerprintFrom, fingerprint, markFrom}
 use Rattle.key_lines.specs.declared.KeyLine.the-variants.{Key}
 use Rattle.key_lines.specs.KeyLines.{keyLine, keyBefore, lineOf, allDigits, digit, hexFrom}
 use Rattle.numerals.specs.Numerals.{digitsOf, numeral}
@@ -16,7 +16,7 @@ use Rattle.numerals.proofs.Numerals.{numeral-is, numeral-64}
 
 pub example : printed (ascii "11b\nAB") ≡ ascii "key 8 11b\nbytes 2\nmark 9d\n"
 unfolding ascii printed keyLine keyBefore lineOf allDigits digit hexFrom digitsOf numeral report markFile
-    indexOf indexAfter degree halvings monic rem longDivision reduce _⊕_ reducible anyBelow bits lowBits value valueFrom fingerprint markOf
+    indexOf indexAfter degree halvings monic rem longDivision reduce _⊕_ reducible anyBelow bits lowBits valueFrom fingerprintFrom markFrom
 example = refl
 
 -- its key's line, and its answer as a report

@@ -19,7 +19,7 @@ use Rattle.acceptance.specs.Keys.{accepted, polynomialOf, keyOf}
 use Rattle.acceptance.proofs.Laws.{accepted-pos, whole-key}
 use Rattle.acceptance.proofs.Opened.{open-accepted, opened-first}
 use Rattle.files.specs.declared.Mark.{Mark}
-use Rattle.files.specs.Files.{bits, fingerprint, markOf}
+use Rattle.files.specs.Files.{bits, fingerprint, markOf, markFrom}
 use Rattle.marks.specs.declared.Running.{Running}
 use Rattle.marks.specs.Answers.{begunUnder}
 use Rattle.key_lines.specs.declared.KeyLine.{KeyLine}
@@ -85,7 +85,7 @@ no-report m e = omega (arith, ap (λ (text : List ℕ). getD text 0 0) e)
 pub printed-fingerprint : (input : List ℕ) (key at f : ℕ) → accepted key ≡ true → keyLine input ≡ line-cases.Key (keyOf key) at
     → printed input ≡ report (record { key = keyOf key; fingerprint = f; length = length (bits (drop at input)) })
     → f ≡ fingerprint key (bits (drop at input))
-unfolding printed markFile markOf
+unfolding printed markFile markFrom
 printed-fingerprint input key at f a line e =
     go (passes (8 * length file ∷ [])) (sym is ∙ e) ∙ ap (λ (k : ℕ). fingerprint k (bits (drop at input))) (whole-key key (accepted-pos key a))
   where

@@ -11,16 +11,16 @@ use Rattle.acceptance.specs.Keys.{reducible, accepted, keyOf, keyTests}
 use Rattle.acceptance.proofs.Opened.{open-accepted, opened-clear}
 use Rattle.stock.proofs.Table.{stock-smallest, stock-64}
 use Rattle.keys.specs.Testing.{testKey}
-use Rattle.files.specs.Files.{lowBits, bits, valueFrom, value, fingerprint, joined}
+use Rattle.files.specs.Files.{lowBits, bits, valueFrom, fingerprintFrom, joinedFrom}
 use Rattle.draw.specs.Drawing.{draw}
-use Rattle.compose.specs.Composing.{joinBehind}
+use Rattle.compose.specs.Composing.{joinBehindFrom}
 use Rattle.search.proofs.Readings.{collision-reading}
 use Rattle.readings.specs.Readings.{Readings, At64}
 use Rattle.readings.proofs.Drawing.{drawn-by-3}
 use Rattle.readings.proofs.Apart.{nine-bits, not-eight, sixty-five-bits, not-sixty-four}
 
 pub readings : Readings
-unfolding testKey reducible anyBelow fingerprint value valueFrom bits lowBits joinBehind joined monic rem longDivision reduce degree halvings _⊕_
+unfolding testKey reducible anyBelow fingerprintFrom valueFrom bits lowBits joinBehindFrom joinedFrom monic rem longDivision reduce degree halvings _⊕_
 readings = (refl, refl, refl, drawn-by-3, refl, refl, refl, refl, refl, refl, collision-reading, refl, nine-bits, not-eight)
 
 -- the stock key of degree 64
@@ -32,5 +32,5 @@ unfolding testKey degree halvings
 tested-64 = clear-done (keyTests (keyOf 0x1000000000000001B)) tt _ (opened-clear (open-accepted 0x1000000000000001B accepted-64))
 
 pub at-64 : At64
-unfolding testKey draw among fingerprint value valueFrom bits lowBits rem longDivision reduce degree halvings _⊕_
+unfolding testKey draw among fingerprintFrom valueFrom bits lowBits rem longDivision reduce degree halvings _⊕_
 at-64 = (accepted-64, tested-64, refl, refl, refl, refl, refl, refl, sixty-five-bits, not-sixty-four)

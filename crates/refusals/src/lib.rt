@@ -91,6 +91,13 @@ pub fn within(x: u64, y: u64, z: u64) -> bool
     z <= LONGEST
 }
 
+// Number 7 does not apply to a length of n bits.
+pub fn bits_fit(n: u64) -> bool
+    ensures { λ r. ⌜ r ≡ not (passes (n ∷ [])) ⌝ }
+{
+    n <= LONGEST
+}
+
 // Number 7 does not apply to n bytes, whose bits are not counted: 8n might not fit 64 bits.
 pub fn bytes_fit(n: u64) -> bool
     ensures { λ r. ⌜ r ≡ not (passes (8 * n ∷ [])) ⌝ }

@@ -2,7 +2,7 @@
 use mathlib.Core.Path.{_≡_, sym, ap, _∙_}
 use mathlib.Core.List.{List, [], _∷_, _++_}
 use Prim.Native.Nat.{ℕ, suc, _+_, _*_, _^_, _<_}
-use native.Mathlib.Nat.{add-zero, mul-one, one-mul, zero-mul, zero-add, mod-eq-of-lt}
+use native.Mathlib.Nat.{add-zero, mul-one, zero-mul, zero-add, mod-eq-of-lt}
 use native.Mathlib.Decide.{ℕ-discrete}
 use native.Mathlib.Numerals.{add-one}
 use native.Mathlib.Omega.{arith}
@@ -13,15 +13,16 @@ use lib.Pow.{pow-add}
 use Rattle.gf2.specs.Polynomials.{_⊕_, _⊗_, rem}
 use Rattle.gf2.specs.Moduli.{polynomial, Proper}
 use Rattle.gf2.specs.declared.Modulus.{Modulus}
-use Rattle.gf2.proofs.Sums.{⊕-cancel, ⊕-comm, ⊕-move}
+use Rattle.gf2.proofs.Sums.{⊕-comm, ⊕-move}
 use Rattle.gf2.proofs.Products.{⊗-pow}
 use Rattle.gf2.proofs.Residues.{rem-zero, rem-⊕}
 use Rattle.gf2.proofs.Powers.{rem-⊗-right, rem-shl}
 use Rattle.gf2.proofs.Monics.{monic-pos}
 use Rattle.gf2.proofs.Steps.{residue-below, residue-top}
 use Rattle.multiples.specs.Rows.{Multiples, Rows}
-use Rattle.files.specs.Files.{bits, valueFrom, value, fingerprint}
+use Rattle.files.specs.Files.{bits, valueFrom, fingerprint, fingerprintFrom}
 use Rattle.files.proofs.Values.{value-append, value-⊕, value-byte, length-bits, bits-append, rem-from}
+use Rattle.files.proofs.Turning.{equal-starts}
 use Rattle.rolling.specs.declared.Setup.{Setup}
 use Rattle.rolling.specs.Rolling.{window, residue, keyOf, ResidueAt}
 use Rattle.rolling.proofs.Windows.{window-length, window-more, window-front, window-none}
@@ -31,39 +32,30 @@ unfolding valueFrom bits
 one-byte s b h = value-byte s b [] ∙ ap (λ (x : ℕ). s * 256 + x) (mod-eq-of-lt h)
 
 module _ {p : ℕ} (pos : 0 < p) where
-  -- the leading 1 adds the same to all bytes of one length
-  fingerprint-residue : (a : List ℕ) → fingerprint p (bits a) ≡ rem p (2 ^ (8 * length a)) ⊕ residue p a
-  unfolding fingerprint value residue
-  fingerprint-residue a =
-      ap (rem p) (value-⊕ 1 (bits a) ∙ rw (one-mul, length-bits a))
-      ∙ rem-⊕ pos (2 ^ (8 * length a)) (valueFrom 0 (bits a))
-
-  -- so among them it plays no part
+  -- among bytes of one length the leading 1 plays no part
   pub without-one : (a b : List ℕ) → length a ≡ length b → eqb (fingerprint p (bits a)) (fingerprint p (bits b)) ≡ eqb (residue p a) (residue p b)
+  unfolding residue
   without-one a b e = go (ℕ-discrete (residue p a) (residue p b))
     where
-      u : ℕ
-      u = rem p (2 ^ (8 * length b))
-
-      left : fingerprint p (bits a) ≡ u ⊕ residue p a
-      left = fingerprint-residue a ∙ ap (λ (n : ℕ). rem p (2 ^ (8 * n)) ⊕ residue p a) e
+      same-length : length (bits a) ≡ length (bits b)
+      same-length = length-bits a ∙ ap (λ (n : ℕ). 8 * n) e ∙ sym (length-bits b)
 
       go : Dec (residue p a ≡ residue p b) → eqb (fingerprint p (bits a)) (fingerprint p (bits b)) ≡ eqb (residue p a) (residue p b)
       go (yes q) =
-          eq-eqb (fingerprint p (bits a)) (fingerprint p (bits b)) (left ∙ ap (λ (x : ℕ). u ⊕ x) q ∙ sym (fingerprint-residue b))
+          eq-eqb (fingerprint p (bits a)) (fingerprint p (bits b)) (equal-starts 0 1 p (bits a) (bits b) pos same-length q)
           ∙ sym (eq-eqb (residue p a) (residue p b) q)
       go (no q) =
-          ne-eqb (fingerprint p (bits a)) (fingerprint p (bits b)) (λ f. q (⊕-cancel u (residue p a) (residue p b) (sym left ∙ f ∙ fingerprint-residue b)))
+          ne-eqb (fingerprint p (bits a)) (fingerprint p (bits b)) (λ f. q (equal-starts 1 0 p (bits a) (bits b) pos same-length f))
           ∙ sym (ne-eqb (residue p a) (residue p b) q)
 
   -- ---- bytes appended, and the next window
 
   pub residue-none : residue p [] ≡ 0
-  unfolding residue bits valueFrom
+  unfolding residue fingerprintFrom bits valueFrom
   residue-none = rem-zero p
 
   pub residue-append : (a : List ℕ) (b : ℕ) → b < 256 → residue p (a ++ b ∷ []) ≡ rem p (residue p a * 256 + b)
-  unfolding residue
+  unfolding residue fingerprintFrom
   residue-append a b h =
       ap (rem p) (ap (valueFrom 0) (bits-append a (b ∷ [])) ∙ value-append 0 (bits a) (bits (b ∷ [])))
       ∙ sym (rem-from pos (valueFrom 0 (bits a)) (bits (b ∷ [])))
@@ -79,7 +71,7 @@ module _ {p : ℕ} (pos : 0 < p) where
       e = omega arith
 
   residue-front : (x : ℕ) (a : List ℕ) → x < 256 → residue p (x ∷ a) ≡ rem p (x ⊗ 2 ^ (8 * length a)) ⊕ residue p a
-  unfolding residue
+  unfolding residue fingerprintFrom
   residue-front x a h =
       ap (rem p) (value-byte 0 x a ∙ rw (zero-mul, zero-add, mod-eq-of-lt h) (value-⊕ x (bits a)))
       ∙ rem-⊕ pos (x * 2 ^ length (bits a)) (valueFrom 0 (bits a))
@@ -126,7 +118,7 @@ module _ (p : Modulus) (proper : Proper p) (text : List ℕ) (i : ℕ) where
   read-none = sym (rw window-none (residue-none pos))
 
   pub read-below : (j x : ℕ) → Read j x → x < 2 ^ p .degree
-  unfolding residue
+  unfolding residue fingerprintFrom
   read-below j x e = residue-below p proper x (valueFrom 0 (bits (window j text i))) e
 
   -- the byte at e comes in behind

@@ -3,11 +3,11 @@ use mathlib.Core.Path.{_≡_}
 use mathlib.Core.List.{List}
 use Prim.Native.Nat.{ℕ, _*_, _^_, _<_}
 use lib.ListN.{take, drop}
-use Rattle.gf2.specs.Polynomials.{rem}
 use Rattle.gf2.specs.Moduli.{polynomial}
 use Rattle.multiples.specs.Rows.{Multiples}
 use Rattle.lookups.specs.Groups.{ReducesByte}
-use Rattle.files.specs.Files.{bits, valueFrom}
+use Rattle.files.specs.Files.{bits}
+use Rattle.files.specs.PlainMarks.{plainFingerprint}
 use Rattle.rolling.specs.declared.Setup.{Setup}
 
 -- the window of m bytes at the place i
@@ -16,7 +16,7 @@ window m text i = take m (drop i text)
 
 -- the residue of bytes without the leading 1: bytes of one length have the same one exactly where they have the same fingerprint
 unfoldable pub residue : ℕ → List ℕ → ℕ
-residue p bytes = rem p (valueFrom 0 (bits bytes))
+residue p bytes = plainFingerprint p (bits bytes)
 
 abbrev pub keyOf : Setup → ℕ
 keyOf s = polynomial (s .modulus)

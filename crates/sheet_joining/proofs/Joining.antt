@@ -4,7 +4,7 @@ use mathlib.Core.Bool.{Bool, true, false, cond, _||_, or-assoc, or-false}
 use mathlib.Core.List.{List, [], _∷_, _++_}
 use Prim.Native.Nat.{ℕ, suc, _+_, _-_, _*_, _%_, _^_, _≤_, _<_, min}
 use native.Mathlib.Nat.{lt-of-lt-of-le, zero-add, add-comm, mul-assoc, mul-zero, mul-one, mul-suc, suc-mul, zero-mul, sub-zero, mul-le-mul-right}
-use native.Mathlib.Nat.{mod-lt, mod-eq-of-lt}
+use native.Mathlib.Nat.{mod-lt, mod-eq-of-lt, one-mul}
 use native.Mathlib.Omega.{arith}
 use lib.Bits.{bitOr}
 use lib.Dec.{leb}
@@ -21,7 +21,7 @@ use Rattle.gf2.proofs.Monics.{monic-pos, monic-degree, of-degree-one}
 use Rattle.gf2.proofs.Steps.{or-leb}
 use Rattle.lists.proofs.Truth.{or-neither, or-left-comm}
 use Rattle.files.specs.declared.Mark.{Mark}
-use Rattle.files.specs.Files.{markOf, joined}
+use Rattle.files.specs.Files.{markOf, joined, joinedFrom}
 use Rattle.files.proofs.Marks.{empty-mark}
 use Rattle.lookups.specs.Groups.{looked}
 use Rattle.shifts.specs.Shifts.{Shifts}
@@ -328,12 +328,13 @@ whole-counts v s left c h i l = go (v .filled)
 
 joined-chained : (v : Layout) (key s left : ℕ) (m : Mark) (fs : List ℕ) → Counts v s left (length fs)
     → joinedPages v key s left m fs .fingerprint ≡ chained key s (m .fingerprint) fs
-unfolding joinedPages joined chained
+unfolding joinedPages joinedFrom chained
 joined-chained v key s left m [] h = refl
 joined-chained v key s left m (f ∷ fs) h =
     joined-chained v key s (left - s) (joined key m (record { fingerprint = f; length = pageLength v s left })) fs next
-    ∙ ap (λ (n : ℕ). chained key s (rem key (m .fingerprint * 2 ^ n ⊕ f ⊕ 2 ^ n)) fs)
+    ∙ ap (λ (n : ℕ). chained key s (rem key (m .fingerprint * 2 ^ n ⊕ f ⊕ 1 * 2 ^ n)) fs)
     (ap (pageLength v s) (sym (rw (zero-mul s) (sub-zero left))) ∙ h 0 (omega arith))
+    ∙ ap (λ (z : ℕ). chained key s (rem key (m .fingerprint * 2 ^ s ⊕ f ⊕ z)) fs) (one-mul (2 ^ s))
   where
     next : Counts v s (left - s) (length fs)
     next i l = let e : left - s - i * s ≡ left - suc i * s = omega (arith, suc-mul i s) in ap (pageLength v s) e ∙ h (suc i) (omega (arith, l))
@@ -360,13 +361,14 @@ module _ (p : Modulus) (md : Proper p) (v : Layout) (s n : ℕ) where
   last-run : v .filled ≡ false → (fs : List ℕ) (x g y left : ℕ) → length fs * s + left ≡ n → left < s → x ≡ chained (polynomial p) s 1 fs
       → g < 2 ^ p .degree → y ≡ rem (polynomial p) (x % 2 ^ p .degree * 2 ^ left ⊕ g % 2 ^ p .degree ⊕ 2 ^ left)
       → y ≡ joinedPages v (polynomial p) s n (markOf (polynomial p) []) (fs ++ g ∷ []) .fingerprint
-  unfolding joinedPages joined
+  unfolding joinedPages joinedFrom
   last-run f fs x g y left e short ex lg ey =
       let whole = joinedPages v (polynomial p) s n (markOf (polynomial p) []) fs in
       let counts : pageLength v s (n - length fs * s) ≡ left = rw f (omega arith) in
       ey
       ∙ rw (mod-eq-of-lt (chain-lt p md s x fs ex), mod-eq-of-lt lg)
-      (ap₂ (λ (z m : ℕ). rem (polynomial p) (z * 2 ^ m ⊕ g ⊕ 2 ^ m)) (ex ∙ run fs (whole-counts v s n (length fs) (omega arith))) (sym counts))
+      (ap (λ (z : ℕ). rem (polynomial p) (x * 2 ^ left ⊕ g ⊕ z)) (sym (one-mul (2 ^ left)))
+      ∙ ap₂ (λ (z m : ℕ). rem (polynomial p) (z * 2 ^ m ⊕ g ⊕ 1 * 2 ^ m)) (ex ∙ run fs (whole-counts v s n (length fs) (omega arith))) (sym counts))
       ∙ ap (λ (m : Mark). m .fingerprint) (sym (joined-append v (polynomial p) s n (markOf (polynomial p) []) fs (g ∷ [])))
 
 -- ---- the same of what the code has

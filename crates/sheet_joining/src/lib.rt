@@ -116,7 +116,7 @@ fn join_last(p: Modulus, x: Joined, last: u64, n: u64) -> Joined
     let f = low_part(x.mark, p.degree);
     let g = low_part(last, p.degree);
     Joined {
-        mark: files::joined_residue(p, f, g, n),
+        mark: files::joined_residue(p, 1, f, g, n),
         bits: x.bits | last,
     }
 }

@@ -13,7 +13,7 @@ use Rattle.lists.specs.Lists.{overlay}
 use Rattle.lists.proofs.Lent.{overlay-fits}
 use Rattle.gf2.specs.Polynomials.{rem}
 use Rattle.gf2.proofs.Residues.{rem-small}
-use Rattle.files.specs.Files.{markOf, Part, partLength, partBits, misused}
+use Rattle.files.specs.Files.{markOf, Part, partLength, partBits, misused, markFrom}
 use Rattle.files.proofs.Parts.{part-length, part-bytes}
 use Rattle.refusals.specs.declared.Refusal.the-variants.{TooLong, FinalByte}
 use Rattle.refusals.specs.Refusals.{Done, _⇒_, passes, longest}
@@ -103,7 +103,7 @@ own-compared x f some count small =
     ∙ rem-small (key-pos (x .key)) (x .fingerprint) small
 
 pub filled-compared : FilledCompared
-unfolding markOf
+unfolding markFrom
 filled-compared x f =
     let key = polynomialOf (x .key) in
     let c = length (x .pages) in

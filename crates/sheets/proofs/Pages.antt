@@ -17,7 +17,7 @@ use Rattle.gf2.proofs.Products.{shl-suc}
 use Rattle.gf2.proofs.Residues.{rem-lt}
 use Rattle.files.specs.declared.Mark.{Mark}
 use Rattle.refusals.specs.Refusals.{longest}
-use Rattle.files.specs.Files.{valueFrom, value, fingerprint, markOf, Part, partLength, joined}
+use Rattle.files.specs.Files.{valueFrom, value, fingerprint, markOf, Part, partLength, joined, fingerprintFrom, joinedFrom, markFrom}
 use Rattle.files.proofs.Parts.{part-bytes}
 use Rattle.files.proofs.Marks.{fed, joined-true}
 use Rattle.sheets.specs.Layout.{Layout, pageCount, pagesFor}
@@ -83,10 +83,10 @@ value-zeros (suc m) x = value-zeros m (x * 2 + 0) ∙ omega (arith, shl-suc x m)
 module _ {p : ℕ} (pos : 0 < p) where
   -- the fingerprint of a file with zeros behind it
   pub with-zeros : (m : ℕ) (file : List ℕ) → rem p (fingerprint p file * 2 ^ m) ≡ fingerprint p (file ++ replicate m 0)
-  with-zeros m file = ap (rem p) (sym (value-zeros m (fingerprint p file))) ∙ fed pos file (replicate m 0)
+  with-zeros m file = ap (rem p) (sym (value-zeros m (fingerprint p file))) ∙ fed pos 1 file (replicate m 0)
 
   pub fingerprint-lt : (file : List ℕ) → fingerprint p file < 2 ^ degree p
-  unfolding fingerprint
+  unfolding fingerprintFrom
   fingerprint-lt file = rem-lt pos (value file)
 
   pub fingerprints-lt : (v : Layout) (c s : ℕ) (file : List ℕ) → All (λ f. f < 2 ^ degree p) (pageFingerprints v p s c file)
@@ -150,8 +150,8 @@ pages-are v s file h = go (v .filled) refl
 
 module _ {p : ℕ} (pos : 0 < p) where
   joined-is : (a b : List ℕ) (n : ℕ) → length b ≡ n → joined p (markOf p a) (record { fingerprint = fingerprint p b; length = n }) ≡ markOf p (a ++ b)
-  unfolding markOf
-  joined-is a b n e = rw (← e) (joined-true pos a b)
+  unfolding markFrom
+  joined-is a b n e = rw (← e) (joined-true 1 pos a b)
 
   pub joined-pages : (v : Layout) (c s : ℕ) (pre file : List ℕ)
       → joinedPages v p s (length file) (markOf p pre) (pageFingerprints v p s c file) ≡ markOf p (pre ++ laidPages v s c file)
@@ -174,7 +174,7 @@ module _ {p : ℕ} (pos : 0 < p) where
   pub pages-joined-print : (v : Layout) (s : ℕ) (file : List ℕ) → 0 < s
       → joinedPages v p s (length file) (markOf p []) (pageFingerprints v p s (pageCount s (length file)) file) .fingerprint
       ≡ rem p (fingerprint p file * 2 ^ zerosBehind v s (length file))
-  unfolding markOf
+  unfolding markFrom
   pages-joined-print v s file h =
       ap (λ (m : Mark). m .fingerprint) (pages-joined v s file h) ∙ sym (with-zeros pos (zerosBehind v s (length file)) file)
 
@@ -193,7 +193,7 @@ min-step m s left = omega arith
 
 pub joined-length : (v : Layout) (key s left : ℕ) (m : Mark) (fs : List ℕ)
     → joinedPages v key s left m fs .length ≡ m .length + cond (v .filled) (length fs * s) (min (length fs * s) left)
-unfolding joinedPages joined
+unfolding joinedPages joinedFrom
 joined-length v key s left m [] = go (v .filled)
   where
     go : (b : Bool) → m .length ≡ m .length + cond b (0 * s) (min (0 * s) left)
@@ -210,7 +210,7 @@ joined-length v key s left m (f ∷ fs) =
 -- with as many pages as the length asks
 pub zeros-are : (v : Layout) (key s n : ℕ) (fs : List ℕ) → 0 < s → length fs ≡ pageCount s n
     → joinedPages v key s n (markOf key []) fs .length - n ≡ zerosBehind v s n
-unfolding markOf
+unfolding markFrom
 zeros-are v key s n fs h c =
     ap (λ (m : ℕ). m - n) (joined-length v key s n (markOf key []) fs ∙ ap (λ (m : ℕ). 0 + cond (v .filled) (m * s) (min (m * s) n)) c)
     ∙ go (v .filled)

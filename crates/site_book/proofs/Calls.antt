@@ -10,18 +10,22 @@ use Rattle.acceptance.specs.declared.Key.{Key}
 use Rattle.acceptance.specs.Keys.{polynomialOf}
 use Rattle.files.specs.declared.Mark.{Mark}
 use Rattle.files.specs.Files.{Part, partBits, joined, replaced}
-use Rattle.compose.specs.Composing.{joinBehind, joinInFront, replacePage}
+use Rattle.files.specs.PlainMarks.{plainJoined}
+use Rattle.compose.specs.Composing.{joinBehindFrom, joinInFrontFrom, replacePage}
 use Rattle.search.specs.Searching.{counts, search}
 use Rattle.sheets.specs.Layout.{newest, sheetLength, pageCount, sheetBytes, contentsIn}
 use Rattle.sheets.specs.Sheets.{contentsOf, lengthFor, writeSheet, readSheet, readPages, compared, checkSheet}
-use Rattle.site_book.specs.Calls.{MarkCallsLowest, FileCallsLowest}
+use Rattle.site_book.specs.Calls.{MarkCallsLowest, FileCallsLowest, StepsAreCalls}
+use Rattle.site_book.specs.Book.{step}
 
 pub each-mark-call : MarkCallsLowest
-unfolding joinBehind joinInFront replacePage rising
+unfolding joinBehindFrom joinInFrontFrom replacePage rising
 each-mark-call x m other place old new =
     record {
       join-behind = gives-lowest m (joined (polynomialOf x) m other) refl refl tt;
       join-in-front = gives-lowest m (joined (polynomialOf x) other m) refl refl tt;
+      join-plain-behind = gives-lowest m (plainJoined (polynomialOf x) m other) refl refl tt;
+      join-plain-in-front = gives-lowest m (plainJoined (polynomialOf x) other m) refl refl tt;
       replace-page = gives-lowest m (replaced (polynomialOf x) m place old new) refl refl tt;
     }
 
@@ -36,3 +40,7 @@ each-file-call x n s file text pattern sheet buffer words =
       read-pages = gives-first words (overlay (contentsIn sheet .pages) words) refl refl;
       check-file = gives-first tt (compared (contentsIn sheet) (partBits file)) refl refl;
     }
+
+pub steps-are-calls : StepsAreCalls
+unfolding step
+steps-are-calls key m other its = (refl, refl, refl, refl)

@@ -20,7 +20,7 @@ use Rattle.sheets.specs.Layout.{pagesFor, Contents}
 use Rattle.sheets.proofs.Routes.{written-page, written-last, read-fingerprint, read-page}
 use Rattle.fed_parts.specs.Parts as feeds
 use Rattle.bench_book.proofs.Guarantee as bench-level
-use Rattle.site_book.specs.Book.{Call, Feeding, Behind, InFront, Page, step, bookTests, site}
+use Rattle.site_book.specs.Book.{Call, Feeding, Behind, InFront, Page, step, bookTests, siteFrom, site}
 use Rattle.site_book.specs.Book.{fieldAt, Route, OfBench, ByCalls, InSheet, InPageField, ByReading, ByReadingPages, BenchLists}
 use Rattle.site_book.proofs.StepLaws.{keeps}
 
@@ -34,8 +34,11 @@ in-order key n (Page place old new) = tt
 
 -- After the list, fingerprint and length are the residue and the length of the book's file, and exactly those calls were refused
 -- that the book names,
+pub lists-from : (s : ℕ) → Lists (siteFrom s)
+lists-from s = any-level.lists (siteFrom s) (keeps s)
+
 pub lists : Lists site
-lists = any-level.lists site keeps
+lists = lists-from 1
 
 -- each with the lowest number that applies.
 pub lowest : Lowest site
@@ -44,7 +47,7 @@ lowest = any-level.lowest-first site in-order
 -- the Bench level's lists are lists of this level, so that its `parts` holds here too
 pub bench-lists : BenchLists
 unfolding step
-bench-lists key m calls = run-map (feeds.step key) (step key) Feeding (λ s c. refl) m calls
+bench-lists key m calls = run-map (feeds.step key) (step 1 key) Feeding (λ s c. refl) m calls
 
 -- ---- two different files
 
@@ -57,7 +60,7 @@ read-key key a x e = ap polynomialOf e ∙ is-key key a
 
 pub sound : Sound Route
 sound key file f a (OfBench r) = bench-level.sound key file f a r
-sound key file f a (ByCalls l) = any-level.list-sound site lists key file f a l
+sound key file f a (ByCalls m l e) = bench-level.left 1 key file f m e (any-level.list-sound site lists key file m a l)
 sound key file f a (InSheet s part buffer after done is e) =
     sym e
     ∙ ap (λ (l : List ℕ). fieldAt after (pagesFor s (length l))) (sym is)

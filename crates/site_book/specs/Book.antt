@@ -10,9 +10,9 @@ use Rattle.refusals.specs.declared.Refusal.the-variants.{TooLong, MarkNotReduce
 use Rattle.refusals.specs.Refusals.{Answer, Done, Test, _⇒_, passes}
 use Rattle.acceptance.specs.Keys.{keyOf, keyTests}
 use Rattle.files.specs.declared.Mark.{Mark}
-use Rattle.files.specs.Files.{True, Bytes, unreduced, Part, partLength, partBits, misused}
+use Rattle.files.specs.Files.{markFrom, TrueFrom, Bytes, unreduced, Part, partLength, partBits, misused}
 use Rattle.mark_tests.specs.MarkTests.{sumTest}
-use Rattle.compose.specs.Composing.{joinBehind, joinInFront, replacePage}
+use Rattle.compose.specs.Composing.{joinBehindFrom, joinInFrontFrom, replacePage}
 use Rattle.big_endian.specs.Numbers.{numberAt}
 use Rattle.sheets.specs.Layout.{fingerprintWidth, Layout, newest, layoutOf, pagePlace, pagesFor, Contents}
 use Rattle.sheets.specs.Sheets.{pageOf, writeSheet, readSheet, readPages, pagesNow}
@@ -26,11 +26,12 @@ pub data Call : Type 0 where
   Behind InFront : (other : Mark) (its : List ℕ) → Call
   Page : (place : ℕ) (old new : Part) → Call
 
-unfoldable pub step : ℕ → Mark → Call → Answer Mark Mark
-step key m (Feeding c) = feeds.step key m c
-step key m (Behind other its) = joinBehind (keyOf key) m other
-step key m (InFront other its) = joinInFront (keyOf key) m other
-step key m (Page place old new) = replacePage (keyOf key) m place old new
+-- the start s is that of every mark handed in
+unfoldable pub step : ℕ → ℕ → Mark → Call → Answer Mark Mark
+step s key m (Feeding c) = feeds.step key m c
+step s key m (Behind other its) = joinBehindFrom s (keyOf key) m other
+step s key m (InFront other its) = joinInFrontFrom s (keyOf key) m other
+step s key m (Page place old new) = replacePage (keyOf key) m place old new
 
 -- The numbers that can apply, n being the length of the book's file in bits. The mark carried along is true of the file, so that number 8
 -- is judged of a joined mark alone.
@@ -55,14 +56,18 @@ written file (InFront other its) = its ++ file
 written file (Page place old new) = take (8 * place) file ++ partBits new ++ drop (8 * place + partLength old) file
 
 -- "Old bytes are true when the book's file has them at the given place": their used bits.
-abbrev pub Brings : ℕ → List ℕ → Call → Type 0
-Brings key file (Feeding c) = bench-level.Brings key file c
-Brings key file (Behind other its) = True key its other
-Brings key file (InFront other its) = True key its other
-Brings key file (Page place old new) = take (partLength old) (drop (8 * place) file) ≡ partBits old
+abbrev pub Brings : ℕ → ℕ → List ℕ → Call → Type 0
+Brings s key file (Feeding c) = bench-level.Brings key file c
+Brings s key file (Behind other its) = TrueFrom s key its other
+Brings s key file (InFront other its) = TrueFrom s key its other
+Brings s key file (Page place old new) = take (partLength old) (drop (8 * place) file) ≡ partBits old
+
+abbrev pub siteFrom : ℕ → Level
+siteFrom s =
+    record { Kept = List ℕ; size = length; State = Mark; truth = markFrom s; Call = Call; step = step s; tests = bookTests; written = written; Brings = Brings s }
 
 abbrev pub site : Level
-site = record { Call = Call; step = step; tests = bookTests; written = written; Brings = Brings }
+site = siteFrom 1
 
 -- ---- the routes
 
@@ -86,7 +91,7 @@ pub record TruePages (key : ℕ) (file sheet : List ℕ) (x : Contents) : Type 0
 -- its contents or from true marks and old bytes [..], as the writing of a sheet does with its last field".
 pub data Route (key : ℕ) (file : List ℕ) (f : ℕ) : Type 0 where
   OfBench : bench-level.Route key file f → Route key file f
-  ByCalls : Leaves site key file f → Route key file f
+  ByCalls : (m : Mark) → Leaves site key file m → m .fingerprint ≡ f → Route key file f
   -- the last field of a written sheet
   InSheet : (size : ℕ) (part : Part) (buffer after : List ℕ) → writeSheet (keyOf key) size part buffer ≡ Done after → partBits part ≡ file
       → fieldAt after (pagesFor size (length file)) ≡ f → Route key file f
@@ -104,4 +109,4 @@ pub data Route (key : ℕ) (file : List ℕ) (f : ℕ) : Type 0 where
 
 -- the Bench level's lists are lists of this level
 abbrev pub BenchLists : Type 0
-BenchLists = (key : ℕ) (m : Mark) (calls : List feeds.Feed) → run (step key) m (map Feeding calls) ≡ run (feeds.step key) m calls
+BenchLists = (key : ℕ) (m : Mark) (calls : List feeds.Feed) → run (step 1 key) m (map Feeding calls) ≡ run (feeds.step key) m calls

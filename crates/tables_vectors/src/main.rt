@@ -1,6 +1,9 @@
 // Making, testing and feeding by tables, printed and compared with their figures: the words of document 01, the refusals' numbers with the
-// mark that went back, and a part of 10,000 bytes against feeding by bits. Under key 0x11B where nothing else is said.
+// mark that went back, and a part of 10,000 bytes against feeding by bits; and plain marks, fed and turned. Under key 0x11B where nothing else
+// is said.
 use acceptance::Key;
+use marks::Begun;
+use marks::Fed;
 use marks::Running;
 use refusals::Reply;
 
@@ -9,6 +12,9 @@ const KEY: Key = Key {
     degree: 8,
     word: 0x1B,
 };
+
+// One bit past the longest file.
+const PAST: u64 = 34359738361;
 
 fn show(reply: Reply, done: &[u8]) {
     match reply {
@@ -182,10 +188,115 @@ fn no_keys() {
     make(vectors::key(64, 1), &mut words);
 }
 
+// A part behind the plain mark of the empty file: with no table, and by the table of the key.
+fn feed_plain(what: &[u8], key: Key, words: &[u64], part: &[u8], used: u32) {
+    vectors::text(what);
+    match Running::begin_plain(key) {
+        Begun::Started(m) => {
+            vectors::text(b"\n  with no table: ");
+            vectors::fed_or_refused(m.feed(part, used));
+            vectors::text(b"  by the table: ");
+            vectors::fed_or_refused(m.feed_table(words, part, used));
+        }
+        Begun::Refused(r) => {
+            vectors::text(b": ");
+            vectors::refused(refusals::number(r));
+            vectors::text(b"\n");
+        }
+    }
+}
+
+fn turn(what: &[u8], key: Key, fingerprint: u64, length: u64) {
+    vectors::text(what);
+    vectors::fed_or_refused(running(key, fingerprint, length).turn());
+}
+
+// A mark turned, and a part fed behind it.
+fn turn_and_feed(fingerprint: u64, length: u64, words: &[u64], part: &[u8], used: u32) {
+    match running(KEY, fingerprint, length).turn() {
+        Fed::Next(m) => {
+            vectors::text(b"  turned: ");
+            vectors::mark(m);
+            vectors::text(b"  and fed: ");
+            vectors::fed_or_refused(m.feed_table(words, part, used));
+        }
+        Fed::Refused(r, _) => {
+            vectors::refused(refusals::number(r));
+            vectors::text(b"\n");
+        }
+    }
+}
+
+// 41, 41 42, and 41 with 3 bits behind it; four files whose plain fingerprint is 0; and two keys that are refused.
+fn plain_feeds(words: &[u64]) {
+    let key_itself: [u8; 2] = [0x01, 0x1B];
+    feed_plain(b"plain mark of 41", KEY, words, b"A", 8);
+    feed_plain(b"plain mark of 41 42", KEY, words, b"AB", 8);
+    feed_plain(b"plain mark of 41 40, u 3", KEY, words, b"A@", 3);
+    feed_plain(b"plain mark of the empty file", KEY, words, b"", 8);
+    feed_plain(b"plain mark of 00", KEY, words, b"\0", 8);
+    feed_plain(b"plain mark of 00 00", KEY, words, b"\0\0", 8);
+    feed_plain(b"plain mark of 01 1B", KEY, words, &key_itself, 8);
+    feed_plain(b"plain mark, key 80", vectors::key(7, 0), words, b"A", 8);
+    feed_plain(b"plain mark, key 101", vectors::key(8, 1), words, b"A", 8);
+}
+
+// 41 42: its plain mark is turned behind the eighth bit, and behind the third, and the rest is fed.
+fn turned_between(words: &[u64]) {
+    let rest: [u8; 2] = [0x0A, 0x10];
+    vectors::text(b"41 of 8 bits, and 42\n");
+    turn_and_feed(0x41, 8, words, b"B", 8);
+    vectors::text(b"02 of 3 bits, and 0A 10, u 5\n");
+    turn_and_feed(2, 3, words, &rest, 5);
+}
+
+fn some_turns() {
+    let limit = refusals::LONGEST;
+    turn(b"9D of 16 bits turned: ", KEY, 0x9D, 16);
+    turn(b"C3 of 16 bits turned: ", KEY, 0xC3, 16);
+    turn(b"00 of 0 bits turned: ", KEY, 0, 0);
+    turn(b"01 of 0 bits turned: ", KEY, 1, 0);
+    turn(b"00 of the longest turned: ", KEY, 0, limit);
+    turn(b"under the house key: ", vectors::key(61, 0x27), 0, limit);
+    turn(b"under degree 64: ", vectors::key(64, 0x1B), 0, limit);
+}
+
+fn turns_refused() {
+    turn(b"one bit more turned: ", KEY, 0, PAST);
+    turn(b"100 of 8 bits turned: ", KEY, 0x100, 8);
+    turn(b"100, one bit more turned: ", KEY, 0x100, PAST);
+    turn(b"under key 80: ", vectors::key(7, 0), 0x100, PAST);
+    turn(b"under key 101: ", vectors::key(8, 1), 0x100, PAST);
+}
+
+fn plain_marks() {
+    let mut words: [u64; 1024] = [0; 1024];
+    make(KEY, &mut words);
+    plain_feeds(&words);
+    turned_between(&words);
+    some_turns();
+    turns_refused();
+}
+
+// Degree 64: nine zero bytes, and the nine bytes of the key itself, have the plain fingerprint 0.
+fn plain_marks_of_the_largest_degree() {
+    let key = vectors::key(64, 0x1B);
+    let mut words: [u64; 1024] = [0; 1024];
+    let zeros: [u8; 9] = [0; 9];
+    let key_itself: [u8; 9] = [0x01, 0, 0, 0, 0, 0, 0, 0, 0x1B];
+    make(key, &mut words);
+    feed_plain(b"plain mark of 41 42, degree 64", key, &words, b"AB", 8);
+    feed_plain(b"plain mark of nine 00", key, &words, &zeros, 8);
+    feed_plain(b"plain mark of the key", key, &words, &key_itself, 8);
+    turn(b"00 of 72 bits turned: ", key, 0, 72);
+}
+
 fn main() {
     some_tables();
     with_a_wrong_size();
     long_part();
     largest_degree();
     no_keys();
+    plain_marks();
+    plain_marks_of_the_largest_degree();
 }

@@ -1,22 +1,10 @@
--- `compose::join_behind` meets its contract: that of `join`, with the running mark's own mark first.
-use mathlib.Core.Path.{ap, _∙_}
+-- `compose::join_behind` meets its contract: that of `join_behind_from` with the start 1.
 use borrow.Author.Needs.{needs}
-use Rattle.refusals.specs.Refusals.{firstOf}
-use Rattle.acceptance.specs.Keys.{polynomialOf}
-use Rattle.files.specs.declared.Mark.{Mark}
-use Rattle.files.specs.Files.{joined}
-use Rattle.marks.specs.Answers.{markIn, fedUnder}
-use Rattle.compose.specs.Composing.{joinTests, joinBehind}
 use Rattle.compose.proofs.join_behind.Statement.{statement}
 use Rattle.compose.proofs.join_behind.Tie as tie
 
 returns : tie.Need-returns
-unfolding joinBehind
-returns c =
-    let a = c .before .before .args in
-    let key = a .m .key in
-    c .join .ensures ∙ ap (λ (x : Mark). fedUnder key (firstOf (joinTests key x (a .other)) (markIn (a .m)) (joined (polynomialOf key) x (a .other))))
-    (c .before .mark .ensures)
+returns c = c .join-behind-from .ensures
 
 pub join-behind-spec : {M : Type 1} → statement M
-join-behind-spec = tie.close (tie.spec (λ c κs. search needs) (λ c κs. search needs) returns)
+join-behind-spec = tie.close (tie.spec (λ c κs. search needs) returns)

@@ -1,27 +1,10 @@
--- `compose::join_in_front` meets its contract: that of `join`, with the running mark's own mark second. The tests do not depend on the order.
-use mathlib.Core.Path.{ap, _∙_}
-use mathlib.Core.List.{List, _++_}
+-- `compose::join_in_front` meets its contract: that of `join_in_front_from` with the start 1.
 use borrow.Author.Needs.{needs}
-use Rattle.refusals.specs.Refusals.{Test, firstOf}
-use Rattle.acceptance.specs.Keys.{polynomialOf, keyTests}
-use Rattle.files.specs.declared.Mark.{Mark}
-use Rattle.files.specs.Files.{joined}
-use Rattle.marks.specs.Answers.{markIn, fedUnder}
-use Rattle.compose.specs.Composing.{joinTests, joinInFront}
-use Rattle.compose.proofs.Laws.{marks-swap}
 use Rattle.compose.proofs.join_in_front.Statement.{statement}
 use Rattle.compose.proofs.join_in_front.Tie as tie
 
 returns : tie.Need-returns
-unfolding joinInFront
-returns c =
-    let a = c .before .before .args in
-    let key = a .m .key in
-    let m = markIn (a .m) in
-    c .join .ensures
-    ∙ ap (λ (x : Mark). fedUnder key (firstOf (joinTests key (a .other) x) m (joined (polynomialOf key) (a .other) x))) (c .before .mark .ensures)
-    ∙ ap (λ (ts : List Test). fedUnder key (firstOf (keyTests key ++ ts) m (joined (polynomialOf key) (a .other) m)))
-    (marks-swap (polynomialOf key) (a .other) m)
+returns c = c .join-in-front-from .ensures
 
 pub join-in-front-spec : {M : Type 1} → statement M
-join-in-front-spec = tie.close (tie.spec (λ c κs. search needs) (λ c κs. search needs) returns)
+join-in-front-spec = tie.close (tie.spec (λ c κs. search needs) returns)

@@ -20,7 +20,7 @@ use Rattle.refusals.proofs.Lengths.{within, counted-is}
 use Rattle.acceptance.specs.Keys.{polynomialOf}
 use Rattle.acceptance.proofs.Opened.{opened-proper, opened-whole, not-residue, is-residue, residue-below}
 use Rattle.files.specs.declared.Mark.{Mark}
-use Rattle.files.specs.Files.{fingerprint, unreduced, Part, asPart, partLength, partBits, misused, replaced}
+use Rattle.files.specs.Files.{fingerprintFrom, fingerprint, unreduced, Part, asPart, partLength, partBits, misused, replaced}
 use Rattle.files.proofs.Marks.{mark-eq}
 use Rattle.files.proofs.Parts.{well-used, same-used}
 use Rattle.marks.specs.Answers.{markIn, fedUnder}
@@ -204,7 +204,7 @@ page-difference-requires c κs =
 
 -- the difference of two fingerprints is a residue
 fingerprints-lt : (p : Modulus) → Proper p → (a b : List ℕ) → fingerprint (polynomial p) a ⊕ fingerprint (polynomial p) b < 2 ^ p .degree
-unfolding fingerprint
+unfolding fingerprintFrom
 fingerprints-lt p h a b = let lt = residue-lt (p .degree) (p .low) (h .2) in ⊕-lt (p .degree) _ _ (lt _) (lt _)
 
 replaced-residue-requires : tie.Need-replaced-residue-requires

@@ -1,13 +1,7 @@
 -- The answer, stored: on refusal nothing is written, and the state is the mark that was handed in.
-use mathlib.Core.Path.{_≡_}
 use borrow.Author.Needs.{needs}
-use Rattle.refusals.specs.Refusals.{stateOf, valueOr}
-use Rattle.refusals.proofs.Replies.{first-keeps}
-use Rattle.acceptance.specs.declared.Key.{Key}
-use Rattle.acceptance.specs.Keys.{polynomialOf}
-use Rattle.files.specs.declared.Mark.{Mark}
-use Rattle.files.specs.Files.{joined}
-use Rattle.compose.specs.Composing.{joinTests, joinBehind}
+use Rattle.compose.specs.Composing.{joinBehind}
+use Rattle.compose.proofs.Laws.{behind-keeps}
 use Rattle.c_interface.specs.Interface.{keyAt, markAt}
 use Rattle.c_interface.proofs.Answers.{stored}
 use Rattle.gfp_site.proofs.gfp_join_behind.Statement.{statement}
@@ -18,18 +12,13 @@ use Rattle.gfp_site.proofs.gfp_join_behind.Tie as tie
 abbrev join-behind→start : tie.After-join-behind → tie.Start
 join-behind→start c = c .before .before .before
 
--- on refusal the state is the mark that was handed in
-keeps : (x : Key) (m other : Mark) → valueOr m (joinBehind x m other) ≡ stateOf (joinBehind x m other)
-unfolding joinBehind
-keeps x m other = first-keeps (joinTests x m other) m (joined (polynomialOf x) m other)
-
 returns : tie.Need-returns
 returns c =
     let s = join-behind→start (c .before .before .before) .args in
     let x = keyAt (s .degree) (s .word) in
     let m = markAt (s .fingerprint .now) (s .bits .now) in
     let other = markAt (s .other-fingerprint) (s .other-bits) in
-    stored x m (joinBehind x m other) _ _ _ (keeps x m other) (c .before .before .before .join-behind .ensures) (c .store .ensures)
+    stored x m (joinBehind x m other) _ _ _ (behind-keeps 1 x m other) (c .before .before .before .join-behind .ensures) (c .store .ensures)
 
 pub gfp-join-behind-spec : {M : Type 1} → statement M
 gfp-join-behind-spec = tie.close (tie.spec (λ c κs. search needs) (λ c κs. search needs) returns)

@@ -1,13 +1,7 @@
 -- The answer, stored: on refusal nothing is written, and the state is the mark that was handed in.
-use mathlib.Core.Path.{_≡_}
 use borrow.Author.Needs.{needs}
-use Rattle.refusals.specs.Refusals.{stateOf, valueOr}
-use Rattle.refusals.proofs.Replies.{first-keeps}
-use Rattle.acceptance.specs.declared.Key.{Key}
-use Rattle.acceptance.specs.Keys.{polynomialOf}
-use Rattle.files.specs.declared.Mark.{Mark}
-use Rattle.files.specs.Files.{joined}
-use Rattle.compose.specs.Composing.{joinTests, joinInFront}
+use Rattle.compose.specs.Composing.{joinInFront}
+use Rattle.compose.proofs.Laws.{front-keeps}
 use Rattle.c_interface.specs.Interface.{keyAt, markAt}
 use Rattle.c_interface.proofs.Answers.{stored}
 use Rattle.gfp_site.proofs.gfp_join_in_front.Statement.{statement}
@@ -18,18 +12,13 @@ use Rattle.gfp_site.proofs.gfp_join_in_front.Tie as tie
 abbrev join-in-front→start : tie.After-join-in-front → tie.Start
 join-in-front→start c = c .before .before .before
 
--- on refusal the state is the mark that was handed in
-keeps : (x : Key) (m other : Mark) → valueOr m (joinInFront x m other) ≡ stateOf (joinInFront x m other)
-unfolding joinInFront
-keeps x m other = first-keeps (joinTests x m other) m (joined (polynomialOf x) other m)
-
 returns : tie.Need-returns
 returns c =
     let s = join-in-front→start (c .before .before .before) .args in
     let x = keyAt (s .degree) (s .word) in
     let m = markAt (s .fingerprint .now) (s .bits .now) in
     let other = markAt (s .other-fingerprint) (s .other-bits) in
-    stored x m (joinInFront x m other) _ _ _ (keeps x m other) (c .before .before .before .join-in-front .ensures) (c .store .ensures)
+    stored x m (joinInFront x m other) _ _ _ (front-keeps 1 x m other) (c .before .before .before .join-in-front .ensures) (c .store .ensures)
 
 pub gfp-join-in-front-spec : {M : Type 1} → statement M
 gfp-join-in-front-spec = tie.close (tie.spec (λ c κs. search needs) (λ c κs. search needs) returns)

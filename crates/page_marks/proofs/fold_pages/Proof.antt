@@ -6,7 +6,7 @@ use native.Mathlib.Omega.{arith}
 use lib.ListN.{length, take, drop, length-set}
 use lib.Seq.{getD-set-other}
 use Rattle.gf2.specs.Polynomials.{rem}
-use Rattle.files.specs.Files.{bits, valueFrom, value, fingerprint}
+use Rattle.files.specs.Files.{bits, valueFrom, fingerprint, fingerprintFrom}
 use Rattle.multiples.specs.Rows.{SameFrom}
 use Rattle.house.specs.House.{houseKey}
 use Rattle.page_marks.specs.Marks.{pageFront, Finished}
@@ -39,7 +39,7 @@ fits c =
 -- its residue behind the leading 1 is its fingerprint
 page-is : (key s i r : ℕ) (pages : List ℕ) → r ≡ rem key (valueFrom 1 (bits (take (i * s + s - i * s) (drop (i * s) pages))))
     → r ≡ fingerprint key (bits (pageFront s s pages i))
-unfolding fingerprint value
+unfolding fingerprintFrom
 page-is key s i r pages e = e ∙ ap (λ (q : List ℕ). rem key (valueFrom 1 (bits q))) (front-cut (i * s) s pages)
 
 loop-again : tie.Need-loop-again Inv-loop μ-loop

@@ -1,6 +1,8 @@
 -- `join_last` meets its contract.
-use mathlib.Core.Path.{refl, ap₂, _∙_}
+use mathlib.Core.Path.{_≡_, refl, ap, ap₂, _∙_}
 use Prim.Native.Nat.{ℕ, _*_, _^_}
+use native.Mathlib.Nat.{one-mul}
+use native.Mathlib.Omega.{arith}
 use Rattle.gf2.specs.Polynomials.{_⊕_, rem}
 use Rattle.gf2.specs.Moduli.{polynomial}
 use Rattle.sheet_joining.proofs.Joining.{low-lt}
@@ -15,7 +17,10 @@ joined-residue-requires : tie.Need-joined-residue-requires
 joined-residue-requires c κs =
     let s = start c in
     let k = s .args .p .degree in
-    (s .pre, low-lt k _ _ (c .before .low-part .ensures), low-lt k _ _ (c .low-part2 .ensures))
+    (s .pre, omega arith, low-lt k _ _ (c .before .low-part .ensures), low-lt k _ _ (c .low-part2 .ensures))
+
+one-off : (q f g n : ℕ) → rem q (f * 2 ^ n ⊕ g ⊕ 1 * 2 ^ n) ≡ rem q (f * 2 ^ n ⊕ g ⊕ 2 ^ n)
+one-off q f g n = ap (λ (z : ℕ). rem q (f * 2 ^ n ⊕ g ⊕ z)) (one-mul (2 ^ n))
 
 returns : tie.Need-returns
 returns c =
@@ -25,7 +30,8 @@ returns c =
     record {
       mark =
           j .joined-residue .ensures
-          ∙ ap₂ (λ (f g : ℕ). rem (polynomial (a .p)) (f * 2 ^ a .n ⊕ g ⊕ 2 ^ a .n)) (l .before .low-part .ensures) (l .low-part2 .ensures);
+          ∙ ap₂ (λ (f g : ℕ). rem (polynomial (a .p)) (f * 2 ^ a .n ⊕ g ⊕ 1 * 2 ^ a .n)) (l .before .low-part .ensures) (l .low-part2 .ensures)
+          ∙ one-off (polynomial (a .p)) _ _ (a .n);
       bits = refl;
     }
 

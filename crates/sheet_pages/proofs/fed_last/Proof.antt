@@ -5,7 +5,7 @@ use lib.Seq.{length-take-le}
 use Rattle.gf2.specs.Moduli.{polynomial}
 use Rattle.gf2.proofs.Monics.{monic-pos}
 use Rattle.gf2.proofs.Steps.{residue-below}
-use Rattle.files.specs.Files.{value, fingerprint, Part, asPart}
+use Rattle.files.specs.Files.{Part, asPart, fingerprintFrom}
 use Rattle.files.proofs.Computing.{part-behind}
 use borrow.Author.Needs.{needs}
 use Rattle.sheet_pages.proofs.fed_last.Statement.{statement}
@@ -29,7 +29,7 @@ feed-end-requires c κs =
     (s .pre .0 .proper, residue-below (s .args .p) (s .pre .0 .proper) _ _ (c .begun-last .ensures), s .pre .1)
 
 returns : tie.Need-returns
-unfolding fingerprint value
+unfolding fingerprintFrom
 returns c =
     let f = c .before in
     let s = start f in

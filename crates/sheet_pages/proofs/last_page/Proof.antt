@@ -8,7 +8,7 @@ use Rattle.gf2.specs.Polynomials.{rem}
 use Rattle.gf2.specs.Moduli.{polynomial}
 use Rattle.gf2.proofs.Monics.{monic-pos}
 use Rattle.gf2.proofs.Steps.{residue-below}
-use Rattle.files.specs.Files.{value, fingerprint, Part, asPart, partLength, partBits}
+use Rattle.files.specs.Files.{value, fingerprint, Part, asPart, partLength, partBits, fingerprintFrom}
 use Rattle.files.proofs.Parts.{part-length, part-range}
 use Rattle.sheets.specs.Sheets.{filled}
 use Rattle.sheets.proofs.Pages.{with-zeros}
@@ -35,7 +35,7 @@ counted c =
     c .part-length .ensures ∙ omega (arith, part-range (page s) .0, s .pre .1, s .pre .2)
 
 residue : (c : tie.After-fed-last) → let s = start c in c .fed-last .result < 2 ^ s .args .x .p .degree
-unfolding fingerprint
+unfolding fingerprintFrom
 residue c = let s = start c in residue-below (s .args .x .p) (s .pre .0 .proper) _ (value (partBits (page s))) (c .fed-last .ensures)
 
 sub-with-zeros : tie.Need-sub-with-zeros

@@ -10,7 +10,7 @@ use lib.Seq.{sets}
 use Rattle.gf2.specs.Moduli.{polynomial}
 use Rattle.gf2.proofs.Monics.{monic-pos, monic-degree}
 use Rattle.files.specs.declared.Mark.{Mark}
-use Rattle.files.specs.Files.{fingerprint, markOf, Part, asPart, partBits}
+use Rattle.files.specs.Files.{fingerprint, markFrom, markOf, Part, asPart, partBits}
 use Rattle.files.proofs.Parts.{part-length, part-bytes}
 use Rattle.big_endian.specs.Numbers.{bytesOf, fieldsOf, numbersAt}
 use Rattle.sheets.specs.Layout.{Layout, newest, layoutOf, pageCount, pagesFor}
@@ -100,7 +100,7 @@ pages-joined-requires c κs =
 
 -- the pages joined have the file's fingerprint
 joined : (c : tie.After-pages-joined) → c .pages-joined .result .mark ≡ fingerprint (key (begin (pages c))) (file (begin (pages c)))
-unfolding markOf
+unfolding markFrom
 joined c =
     let p = pages c in
     let s = begin p in

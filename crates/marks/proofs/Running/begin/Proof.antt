@@ -1,40 +1,10 @@
--- `Running::begin` meets its contract: the empty file's value is 1, which is below every modulus of degree 1 or more.
-use mathlib.Core.Path.{sym, ap, _∙_}
-use mathlib.Core.List.{[]}
+-- `Running::begin` meets its contract: that of `begin_from` with the start 1.
 use borrow.Author.Needs.{needs}
-use Rattle.refusals.specs.Refusals.{Done}
-use Rattle.files.specs.Files.{markOf}
-use Rattle.files.proofs.Marks.{empty-mark}
-use Rattle.acceptance.specs.Keys.{polynomialOf}
-use Rattle.acceptance.proofs.Laws.{accepted-iff}
-use Rattle.acceptance.proofs.Opened.{opened-first}
-use Rattle.keys.proofs.Laws.{opened, refused}
-use Rattle.marks.specs.Feeding.{begin}
-use Rattle.marks.specs.Answers.{begunUnder}
 use Rattle.marks.proofs.Running.begin.Statement.{statement}
 use Rattle.marks.proofs.Running.begin.Tie as tie
 
--- ---- the places: from each one to an earlier one
-
-abbrev test→start : tie.After-test → tie.Start
-test→start c = c .before
-
 returns : tie.Need-returns
-unfolding begin
-returns c =
-    let key = test→start (c .before .before .before) .args .key in
-    let t = c .before .before .before .test in
-    sym (ap (begunUnder key) (refused (t .result) key (t .ensures) [] tt (markOf (polynomialOf key) []) _ (c .before .r .given .1)))
-
-returns-2 : tie.Need-returns-2
-unfolding begin
-returns-2 c =
-    let x = test→start (c .before .before) .args .key in
-    let t = c .before .before .test in
-    let h = opened (t .result) x (t .ensures) _ (c .enum-told .given .1) in
-    let key = polynomialOf x in
-    let proper = accepted-iff key .0 (h .is-accepted) .2 .proper in
-    sym (ap (begunUnder x) (opened-first h [] tt (markOf key []) ∙ ap Done (empty-mark key proper)))
+returns c = c .begin-from .ensures
 
 pub begin-spec : {M : Type 1} → statement M
-begin-spec = tie.close (tie.spec (λ c κs. search needs) (λ c. search needs) (λ c. search needs) returns returns-2)
+begin-spec = tie.close (tie.spec (λ c κs. search needs) returns)
