@@ -2,7 +2,7 @@
 //! bytes that are clean and dirty, in every call; the limit; places far away. Suite sheets.rs has the sheets of such
 //! files.
 use crate::generator::{cleaned, Generator};
-use crate::marks::{after, ours, outcome};
+use crate::kinds::{after, ours, outcome, Kind};
 use crate::reference::{self, pack, Mark, Part};
 use crate::{gfp, Key, Tally};
 
@@ -27,16 +27,21 @@ const READINGS: [(&[u8], u32, u64); 6] = [
     (&[0x0a, 0x10], 5, 0x14),
 ];
 
+/// A file's fingerprint: fed in every way, and by the second implementation.
+pub fn reading<M: Kind>(tally: &mut Tally, key: &KeyTable, file: Part, fingerprint: u64) {
+    let whole = M::from(Mark { fingerprint, bits: file.length() as u64 });
+    let what = format!("reading, {:x}, {file:?}, {whole:?}", key.key);
+    for way in key.ways() {
+        let empty = M::begin(key.key).expect("an accepted key");
+        tally.same(format_args!("{what}, fed by way {way}"), after(empty, |m| key.feed(way, m, file)), (whole, 0));
+    }
+    tally.same(&what, M::of(key.key, file), whole);
+}
+
 fn readings(tally: &mut Tally) {
-    let words = reference::table(KEY);
     let empty = gfp::Mark { fingerprint: 1, bits: 0 };
     for (bytes, used, fingerprint) in READINGS {
-        let whole = gfp::Mark { fingerprint, bits: 8 * bytes.len() as u64 - 8 + u64::from(used) };
-        let part = part(bytes, used);
-        let what = format!("reading, {bytes:02x?} with u {used}");
-        tally.same(&what, after(empty, |m| m.feed(KEY, part)), (whole, 0));
-        tally.same(&what, after(empty, |m| m.feed_table(KEY, &words, part)), (whole, 0));
-        tally.same(&what, ours(reference::mark_of(KEY, part)), whole);
+        reading::<gfp::Mark>(tally, &KeyTable::new(KEY), part(bytes, used), fingerprint);
     }
     // 40 with u 3 and then 0A 10 with u 5 is 41 42
     let (front, back) = (gfp::Mark { fingerprint: 0x0a, bits: 3 }, gfp::Mark { fingerprint: 0x14, bits: 13 });
@@ -86,23 +91,29 @@ fn limit(tally: &mut Tally) {
         tally.same(&format!("the limit, {mark:?}, {part:?}"), answer.1, number);
         tally.same(&format!("the limit, {mark:?}, {part:?}"), answer, outcome(mark, reference::feed(KEY, mark, part)));
     }
+    joins_at_limit::<gfp::Mark>(tally);
+}
+
+/// Marks joined at the limit and past it.
+pub fn joins_at_limit<M: Kind>(tally: &mut Tally) {
+    let limit = reference::LIMIT;
     for (a, b) in [(limit, 0), (limit - 3, 3), (0, limit)] {
-        joined_at_limit(tally, a, b, 0);
+        joined_at_limit::<M>(tally, a, b, 0);
     }
     for (a, b) in [(limit, 1), (limit - 3, 4), (limit + 1, 0), (0, limit + 1), (u64::MAX, 1), (1 << 63, 1 << 63)] {
-        joined_at_limit(tally, a, b, 7);
+        joined_at_limit::<M>(tally, a, b, 7);
     }
 }
 
 /// Marks of a and b bits joined, and the number.
-fn joined_at_limit(tally: &mut Tally, a: u64, b: u64, number: u32) {
+fn joined_at_limit<M: Kind>(tally: &mut Tally, a: u64, b: u64, number: u32) {
     let (mark, other) = (Mark { fingerprint: 0x5a, bits: a }, Mark { fingerprint: 0x59, bits: b });
-    let behind = after(ours(mark), |m| m.join_behind(KEY, ours(other)));
-    let in_front = after(ours(mark), |m| m.join_in_front(KEY, ours(other)));
+    let behind = after(M::from(mark), |m| m.join_behind(KEY, other.into()));
+    let in_front = after(M::from(mark), |m| m.join_in_front(KEY, other.into()));
     let what = format!("the limit, {a} and {b} bits");
     tally.same(&what, (behind.1, in_front.1), (number, number));
-    tally.same(&what, behind, outcome(mark, reference::join_behind(KEY, mark, other)));
-    tally.same(&what, in_front, outcome(mark, reference::join_in_front(KEY, mark, other)));
+    tally.same(&what, behind, outcome(mark, reference::join_behind(M::START, KEY, mark, other)));
+    tally.same(&what, in_front, outcome(mark, reference::join_in_front(M::START, KEY, mark, other)));
 }
 
 /// A part of as many zero bytes as the limit has, fed to the empty mark under the house key: the fingerprint is a power
@@ -135,22 +146,22 @@ fn longest_parts(tally: &mut Tally) {
 // ---- cuts
 
 /// An accepted key with its table.
-struct KeyTable {
-    key: Key,
+pub struct KeyTable {
+    pub key: Key,
     words: Vec<u64>,
 }
 
 impl KeyTable {
-    fn new(key: Key) -> Self {
+    pub fn new(key: Key) -> Self {
         KeyTable { key, words: reference::table(key) }
     }
 
     /// The ways to feed, by number.
-    fn ways(&self) -> std::ops::Range<u8> {
+    pub fn ways(&self) -> std::ops::Range<u8> {
         0..if self.key == gfp::HOUSE_KEY { 3 } else { 2 }
     }
 
-    fn feed(&self, way: u8, mark: &mut gfp::Mark, part: Part) -> Result<(), u32> {
+    pub fn feed(&self, way: u8, mark: &mut impl Kind, part: Part) -> Result<(), u32> {
         match way {
             0 => mark.feed(self.key, part),
             1 => mark.feed_table(self.key, &self.words, part),
@@ -159,16 +170,16 @@ impl KeyTable {
     }
 
     /// A file cut in two at a bit: fed one part after the other, and both parts' marks joined.
-    fn cut(&self, tally: &mut Tally, file: &[bool], cut: usize, whole: gfp::Mark) {
+    pub fn cut<M: Kind>(&self, tally: &mut Tally, file: &[bool], cut: usize, whole: M) {
         let parts = [pack(&file[..cut]), pack(&file[cut..])];
         let [front, back] = [parts[0].part(), parts[1].part()];
-        let empty = gfp::Mark { fingerprint: 1, bits: 0 };
+        let empty = M::from(Mark { fingerprint: M::START, bits: 0 });
         let what = format!("{:x}, {} bits cut at {cut}", self.key, file.len());
         for way in self.ways() {
             let fed = after(empty, |m| self.feed(way, m, front).and(self.feed(way, m, back)));
             tally.same(format_args!("{what}, fed by way {way}"), fed, (whole, 0));
         }
-        let [first, last] = [front, back].map(|part| ours(reference::mark_of(self.key, part)));
+        let [first, last] = [front, back].map(|part| M::of(self.key, part));
         let behind = after(first, |m| m.join_behind(self.key, last));
         let in_front = after(last, |m| m.join_in_front(self.key, first));
         tally.same(format_args!("{what}, joined"), (behind, in_front), ((whole, 0), (whole, 0)));
@@ -338,13 +349,13 @@ fn far_places(tally: &mut Tally) {
     }
 }
 
-/// Pages of every number of bits at every byte of files of every number of bits, changed: the mark of the changed file.
-fn pages_anywhere(tally: &mut Tally, generator: &mut Generator) {
+/// Pages of every number of bits at every byte of files of some numbers of bits, changed: the mark of the changed file.
+pub fn pages_anywhere<M: Kind>(tally: &mut Tally, generator: &mut Generator) {
     let k = generator.degree();
     for key in [KEY, gfp::HOUSE_KEY, generator.accepted(k), generator.accepted(64)] {
         for n in [0, 1, 7, 8, 9, 23, 40, 61] {
             let file: Vec<bool> = (0..n).map(|_| generator.one_in(2)).collect();
-            let mark = ours(reference::mark_of(key, pack(&file).part()));
+            let mark = M::of(key, pack(&file).part());
             for place in 0..=n / 8 {
                 for size in 0..=n - 8 * place {
                     let mut changed = file.clone();
@@ -352,7 +363,7 @@ fn pages_anywhere(tally: &mut Tally, generator: &mut Generator) {
                     let old = pack(page);
                     page.iter_mut().for_each(|bit| *bit = generator.one_in(2));
                     let new = pack(page);
-                    let whole = ours(reference::mark_of(key, pack(&changed).part()));
+                    let whole = M::of(key, pack(&changed).part());
                     let given = after(mark, |m| m.replace_page(key, place as u64, old.part(), new.part()));
                     tally.same(format_args!("page of {size} bits at byte {place} of {n} bits"), given, (whole, 0));
                 }
@@ -372,7 +383,7 @@ pub fn run(tally: &mut Tally, rounds: u64) {
     for _ in 0..rounds {
         cuts(tally, &mut generator);
         used_bits(tally, &mut generator);
-        pages_anywhere(tally, &mut generator);
+        pages_anywhere::<gfp::Mark>(tally, &mut generator);
     }
     for _ in 0..rounds * 300 {
         random_cuts(tally, &mut generator);

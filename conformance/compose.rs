@@ -1,5 +1,5 @@
-//! Joining and page change, singly, and lists of calls beside the plain book of document 01.
-use crate::{generator::Generator, gfp, marks::{after, ours, outcome}, reference::{self, pack, Part}, Key, Tally};
+//! Joining and page change, singly, and lists of calls beside the plain book of document 01, each with both kinds of marks.
+use crate::{generator::Generator, gfp, kinds::{after, outcome, Kind}, reference::{self, pack, Part}, Key, Tally};
 
 /// The place of a page: random, or beside the last one at which the page fits.
 fn place(generator: &mut Generator, mark: reference::Mark, old: Part) -> u64 {
@@ -14,7 +14,7 @@ fn place(generator: &mut Generator, mark: reference::Mark, old: Part) -> u64 {
     }
 }
 
-fn page_change(tally: &mut Tally, generator: &mut Generator, key: Key, mark: reference::Mark) {
+fn page_change<M: Kind>(tally: &mut Tally, generator: &mut Generator, key: Key, mark: reference::Mark) {
     let (n, old_used) = (generator.below(30) as usize, generator.used());
     let m = if generator.one_in(6) { generator.below(30) as usize } else { n };
     let new_used = if generator.one_in(4) { generator.used() } else { old_used };
@@ -23,47 +23,47 @@ fn page_change(tally: &mut Tally, generator: &mut Generator, key: Key, mark: ref
     let place = place(generator, mark, old);
     tally.same(
         &format!("replace page at {place}, {old:?} by {new:?}, {key:x}, mark {mark:?}"),
-        after(ours(mark), |m| m.replace_page(key, place, old, new)),
+        after(M::from(mark), |m| m.replace_page(key, place, old, new)),
         outcome(mark, reference::replace_page(key, mark, place, old, new)),
     );
 }
 
 /// One call of each kind on random input, good and bad.
-fn calls(tally: &mut Tally, generator: &mut Generator) {
+fn calls<M: Kind>(tally: &mut Tally, generator: &mut Generator) {
     let key = generator.key();
     let mark = generator.mark(key);
     let other = generator.mark(key);
-    let what = format!("{key:x}, mark {mark:?}, other {other:?}");
+    let what = format!("{key:x}, {:?}, other {other:?}", M::from(mark));
     tally.same(
         &format!("join behind, {what}"),
-        after(ours(mark), |m| m.join_behind(key, ours(other))),
-        outcome(mark, reference::join_behind(key, mark, other)),
+        after(M::from(mark), |m| m.join_behind(key, other.into())),
+        outcome(mark, reference::join_behind(M::START, key, mark, other)),
     );
     tally.same(
         &format!("join in front, {what}"),
-        after(ours(mark), |m| m.join_in_front(key, ours(other))),
-        outcome(mark, reference::join_in_front(key, mark, other)),
+        after(M::from(mark), |m| m.join_in_front(key, other.into())),
+        outcome(mark, reference::join_in_front(M::START, key, mark, other)),
     );
-    page_change(tally, generator, key, mark);
+    page_change::<M>(tally, generator, key, mark);
 }
 
 /// The book: it holds a file as a string of bits, is told the calls and sees no mark. Refused calls leave the file.
-struct Book {
+struct Book<M> {
     key: Key,
     words: Vec<u64>,
     file: Vec<bool>,
-    mark: gfp::Mark,
+    mark: M,
 }
 
-impl Book {
-    fn true_mark(&self, bits: &[bool]) -> gfp::Mark {
-        ours(reference::mark_of(self.key, pack(bits).part()))
+impl<M: Kind> Book<M> {
+    fn true_mark<T: Kind>(&self, bits: &[bool]) -> T {
+        T::of(self.key, pack(bits).part())
     }
 
     /// A call that is not refused.
     fn good_call(&mut self, generator: &mut Generator) -> Result<(), u32> {
         let bits = bits(generator, 200);
-        let (packed, part_mark, key) = (pack(&bits), self.true_mark(&bits), self.key);
+        let (packed, part_mark, key) = (pack(&bits), self.true_mark::<M>(&bits), self.key);
         match generator.below(5) {
             0 => {
                 self.file.extend(&bits);
@@ -114,7 +114,7 @@ impl Book {
                 // at degree 64 every fingerprint is a residue, and the other mark is too long instead
                 let (fingerprint, length, number) =
                     if key.degree < 64 { (1 << key.degree, bits.len() as u64, 8) } else { (u64::MAX, reference::LIMIT + 1, 7) };
-                (self.mark.join_behind(key, gfp::Mark { fingerprint, bits: length }), number)
+                (self.mark.join_behind(key, reference::Mark { fingerprint, bits: length }.into()), number)
             }
             3 => {
                 let place = reference::bytes_for(self.file.len() as u64) + 1;
@@ -133,11 +133,12 @@ fn bits(generator: &mut Generator, n: u64) -> Vec<bool> {
     (0..generator.below(n)).map(|_| generator.one_in(2)).collect()
 }
 
-fn list(tally: &mut Tally, generator: &mut Generator) {
+/// A list of calls, from the empty file's mark or another true one: every answer, the mark it leaves, and that mark turned.
+fn list<M: Kind>(tally: &mut Tally, generator: &mut Generator) {
     let k = generator.degree();
     let key = generator.accepted(k);
     let file = bits(generator, 160);
-    let mark = ours(reference::mark_of(key, pack(&file).part()));
+    let mark = if file.is_empty() { M::begin(key).expect("an accepted key") } else { M::of(key, pack(&file).part()) };
     let mut book = Book { key, words: reference::table(key), file, mark };
     let calls = generator.below(12);
     for _ in 0..calls {
@@ -145,8 +146,18 @@ fn list(tally: &mut Tally, generator: &mut Generator) {
         let (given, number) = if bad { book.bad_call(generator) } else { (book.good_call(generator), 0) };
         tally.same(&format!("refusal in a list, {key:x}"), given.err().unwrap_or(0), number);
     }
-    let whole = book.true_mark(&book.file);
-    tally.same(&format!("mark after a list of {calls} calls, {key:x}"), book.mark, whole);
+    let what = format!("mark after a list of {calls} calls, {key:x}");
+    tally.same(&what, book.mark, book.true_mark(&book.file));
+    tally.same(format_args!("{what}, turned"), book.mark.turn(key), Ok(book.true_mark(&book.file)));
+}
+
+fn run_with<M: Kind>(tally: &mut Tally, generator: &mut Generator, rounds: u64) {
+    for _ in 0..rounds * 3000 {
+        calls::<M>(tally, generator);
+    }
+    for _ in 0..rounds * 10_000 {
+        list::<M>(tally, generator);
+    }
 }
 
 pub fn run(tally: &mut Tally, rounds: u64) {
@@ -157,10 +168,6 @@ pub fn run(tally: &mut Tally, rounds: u64) {
         let joined = after(mark(front, 8), |m| m.join_behind(key, mark(back, 8)));
         tally.same(&format!("reading, 41 and 42 joined, {key:x}"), joined, (mark(whole, 16), 0));
     }
-    for _ in 0..rounds * 3000 {
-        calls(tally, &mut generator);
-    }
-    for _ in 0..rounds * 10_000 {
-        list(tally, &mut generator);
-    }
+    run_with::<gfp::Mark>(tally, &mut generator, rounds);
+    run_with::<gfp::PlainMark>(tally, &mut generator, rounds);
 }

@@ -3,7 +3,7 @@
 //! and of a single bit around the lengths at which a way may change. What is expected is the second implementation's, one byte after another.
 //! At the lengths at which a way may change, and at every ninth, the final byte also has less than 8 used bits. Suite
 //! bits.rs cuts at every bit.
-use crate::{generator::{cleaned, Generator}, gfp, marks::{after, ours}, Key, Tally};
+use crate::{generator::{cleaned, Generator}, gfp, kinds::{after, ours}, Key, Tally};
 use crate::reference::{self, ByteSteps, Mark, Part};
 use std::{collections::BTreeSet, fmt::Display};
 

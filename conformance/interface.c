@@ -223,6 +223,111 @@ static void unfinished_parts(void) {
     }
 }
 
+static void beginning_plain_marks(void) {
+    uint64_t f = NONE, n = NONE;
+    marked("begin_plain", gfp_begin_plain(SMALL, &f, &n), GFP_KEY_RANGE, &f, &n, NONE, NONE);
+    marked("begin_plain", gfp_begin_plain(LARGE, &f, &n), GFP_KEY_RANGE, &f, &n, NONE, NONE);
+    marked("begin_plain", gfp_begin_plain(WIDE, &f, &n), GFP_KEY_RANGE, &f, &n, NONE, NONE);
+    marked("begin_plain", gfp_begin_plain(REDUCIBLE, &f, &n), GFP_KEY_REDUCIBLE, &f, &n, NONE, NONE);
+    marked("begin_plain", gfp_begin_plain(REDUCIBLE_64, &f, &n), GFP_KEY_REDUCIBLE, &f, &n, NONE, NONE);
+    marked("begin_plain", gfp_begin_plain(KEY, &f, &n), GFP_OK, &f, &n, 0, 0);
+    f = n = NONE;
+    marked("begin_plain", gfp_begin_plain(HOUSE, &f, &n), GFP_OK, &f, &n, 0, 0);
+    f = n = NONE;
+    marked("begin_plain", gfp_begin_plain(KEY_64, &f, &n), GFP_OK, &f, &n, 0, 0);
+}
+
+/* a plain mark begun and fed in a way: the fingerprint after it */
+static void fed_plain_mark(int way, uint32_t degree, uint64_t word, const uint8_t *part, size_t part_length,
+                           uint32_t used, uint64_t bits, uint64_t fingerprint) {
+    uint64_t f = NONE, n = NONE;
+    same("begin_plain", gfp_begin_plain(degree, word, &f, &n), GFP_OK);
+    marked(WAYS[way], fed(way, degree, word, &f, &n, part, part_length, used), GFP_OK, &f, &n, fingerprint, bits);
+}
+
+/* the functions that feed take plain marks as they are; four files share the plain fingerprint 0, and at degree 64 two
+ * of nine bytes */
+static void feeding_plain_marks(void) {
+    static const uint8_t ZEROS[9] = {0, 0, 0, 0, 0, 0, 0, 0, 0}, SAME[2] = {1, 0x1b};
+    static const uint8_t SAME_64[9] = {1, 0, 0, 0, 0, 0, 0, 0, 0x1b};
+    int way;
+    for (way = 0; way < 3; way++) {
+        const uint32_t k = way == 2 ? GFP_HOUSE_DEGREE : 8;
+        const uint64_t word = way == 2 ? GFP_HOUSE_WORD : 0x1b;
+        fed_plain_mark(way, k, word, AB, 0, 8, 0, 0);
+        fed_plain_mark(way, k, word, AB, 1, 8, 8, 0x41);
+        fed_plain_mark(way, k, word, AB, 2, 8, 16, way == 2 ? 0x4142 : 0xc3);
+        fed_plain_mark(way, k, word, UNFINISHED, 2, 3, 11, way == 2 ? 0x20a : 0x3c);
+        fed_plain_mark(way, k, word, ZEROS, 1, 8, 8, 0);
+        fed_plain_mark(way, k, word, ZEROS, 2, 8, 16, 0);
+        fed_plain_mark(way, k, word, SAME, 2, 8, 16, way == 2 ? 0x11b : 0);
+    }
+    fed_plain_mark(0, KEY_64, AB, 2, 8, 16, 0x4142);
+    fed_plain_mark(0, KEY_64, ZEROS, 9, 8, 72, 0);
+    fed_plain_mark(0, KEY_64, SAME_64, 9, 8, 72, 0);
+}
+
+/* a mark turned, and the same call turns it back */
+static void turned(uint32_t degree, uint64_t word, uint64_t bits, uint64_t one, uint64_t other) {
+    uint64_t f = one, n = bits;
+    marked("turn", gfp_turn(degree, word, &f, &n), GFP_OK, &f, &n, other, bits);
+    marked("turn", gfp_turn(degree, word, &f, &n), GFP_OK, &f, &n, one, bits);
+}
+
+static void turning(void) {
+    static const struct key ACCEPTED[3] = {{KEY}, {HOUSE}, {KEY_64}};
+    uint64_t f, n;
+    int i;
+    turned(KEY, 16, 0x9d, 0xc3);
+    turned(KEY, 8, 0x41, 0x5a);
+    turned(KEY, 3, 0x02, 0x0a);
+    turned(KEY_64, 72, 0, 0x1b00);
+    turned(KEY, LONGEST, 0, 1);
+    turned(HOUSE, LONGEST, 0, UINT64_C(0x10afe820511c00ee));
+    turned(KEY_64, LONGEST, 0, UINT64_C(0x19b3fcc2ab3699fd));
+    turned(KEY_64, 64, UINT64_MAX, UINT64_MAX - 0x1b);
+    for (i = 0; i < 3; i++) {
+        turned(ACCEPTED[i].degree, ACCEPTED[i].word, 0, 0, 1);
+        f = 0, n = LONGEST + 1;
+        marked("turn", gfp_turn(ACCEPTED[i].degree, ACCEPTED[i].word, &f, &n), GFP_TOO_LONG, &f, &n, 0, LONGEST + 1);
+    }
+    f = 0x100, n = 8;
+    marked("turn", gfp_turn(KEY, &f, &n), GFP_MARK_NOT_REDUCED, &f, &n, 0x100, 8);
+    n = LONGEST + 1;
+    marked("turn", gfp_turn(KEY, &f, &n), GFP_TOO_LONG, &f, &n, 0x100, LONGEST + 1);
+    n = UINT64_MAX;
+    marked("turn", gfp_turn(KEY, &f, &n), GFP_TOO_LONG, &f, &n, 0x100, UINT64_MAX);
+    marked("turn", gfp_turn(7, 0, &f, &n), GFP_KEY_RANGE, &f, &n, 0x100, UINT64_MAX);
+    marked("turn", gfp_turn(LARGE, &f, &n), GFP_KEY_RANGE, &f, &n, 0x100, UINT64_MAX);
+    marked("turn", gfp_turn(WIDE, &f, &n), GFP_KEY_RANGE, &f, &n, 0x100, UINT64_MAX);
+    marked("turn", gfp_turn(REDUCIBLE, &f, &n), GFP_KEY_REDUCIBLE, &f, &n, 0x100, UINT64_MAX);
+    f = UINT64_C(1) << 63, n = 64;
+    marked("turn", gfp_turn(63, 3, &f, &n), GFP_MARK_NOT_REDUCED, &f, &n, UINT64_C(1) << 63, 64);
+}
+
+/* turned between two parts, and inside a byte: feeding goes on as if the file had begun under the other rule */
+static void turned_between_parts(void) {
+    static const uint8_t REST[2] = {0x0a, 0x10};
+    uint64_t f, n;
+    int way;
+    for (way = 0; way < 3; way++) {
+        const uint32_t k = way == 2 ? GFP_HOUSE_DEGREE : 8;
+        const uint64_t word = way == 2 ? GFP_HOUSE_WORD : 0x1b;
+        f = 0, n = 0;
+        marked(WAYS[way], fed(way, k, word, &f, &n, AB, 1, 8), GFP_OK, &f, &n, 0x41, 8);
+        marked("turn", gfp_turn(k, word, &f, &n), GFP_OK, &f, &n, way == 2 ? 0x141 : 0x5a, 8);
+        marked(WAYS[way], fed(way, k, word, &f, &n, AB + 1, 1, 8), GFP_OK, &f, &n, way == 2 ? 0x14142 : 0x9d, 16);
+        f = 0, n = 0;
+        marked(WAYS[way], fed(way, k, word, &f, &n, UNFINISHED + 1, 1, 3), GFP_OK, &f, &n, 0x02, 3);
+        marked("turn", gfp_turn(k, word, &f, &n), GFP_OK, &f, &n, 0x0a, 3);
+        marked(WAYS[way], fed(way, k, word, &f, &n, REST, 2, 5), GFP_OK, &f, &n, way == 2 ? 0x14142 : 0x9d, 16);
+        f = 1, n = 0;
+        marked(WAYS[way], fed(way, k, word, &f, &n, UNFINISHED + 1, 1, 3), GFP_OK, &f, &n, 0x0a, 3);
+        marked("turn", gfp_turn(k, word, &f, &n), GFP_OK, &f, &n, 0x02, 3);
+        marked(WAYS[way], fed(way, k, word, &f, &n, REST, 2, 5), GFP_OK, &f, &n, way == 2 ? 0x4142 : 0xc3, 16);
+    }
+}
+
 /* ---- Site */
 
 static void joining(void) {
@@ -246,6 +351,52 @@ static void joining(void) {
     marked("join_in_front", gfp_join_in_front(REDUCIBLE, &f, &n, 1, 1), GFP_KEY_REDUCIBLE, &f, &n, 5, 6);
     marked("join_in_front", gfp_join_in_front(KEY, &f, &n, 1, LONGEST), GFP_TOO_LONG, &f, &n, 5, 6);
     marked("join_in_front", gfp_join_in_front(KEY, &f, &n, 0x100, 1), GFP_MARK_NOT_REDUCED, &f, &n, 5, 6);
+}
+
+/* 5a and 59 are marks of 41 and 42 with the leading 1: joined as plain marks they give 86, and not 9d */
+static void joining_plain_marks(void) {
+    uint64_t f = 0x41, n = 8;
+    marked("join_plain_behind", gfp_join_plain_behind(KEY, &f, &n, 0x42, 8), GFP_OK, &f, &n, 0xc3, 16);
+    f = 0x5a, n = 8;
+    marked("join_plain_behind", gfp_join_plain_behind(KEY, &f, &n, 0x59, 8), GFP_OK, &f, &n, 0x86, 16);
+    f = 0x02, n = 3;
+    marked("join_plain_behind", gfp_join_plain_behind(KEY_64, &f, &n, 0x142, 13), GFP_OK, &f, &n, 0x4142, 16);
+    f = 0x42, n = 8;
+    marked("join_plain_in_front", gfp_join_plain_in_front(KEY, &f, &n, 0x41, 8), GFP_OK, &f, &n, 0xc3, 16);
+    f = 0x59, n = 8;
+    marked("join_plain_in_front", gfp_join_plain_in_front(KEY, &f, &n, 0x5a, 8), GFP_OK, &f, &n, 0x86, 16);
+    f = 0x142, n = 13;
+    marked("join_plain_in_front", gfp_join_plain_in_front(KEY_64, &f, &n, 0x02, 3), GFP_OK, &f, &n, 0x4142, 16);
+    f = UINT64_MAX, n = LONGEST;
+    marked("join_plain_behind", gfp_join_plain_behind(KEY_64, &f, &n, 0, 0), GFP_OK, &f, &n, UINT64_MAX, LONGEST);
+    marked("join_plain_in_front", gfp_join_plain_in_front(KEY_64, &f, &n, 0, 0), GFP_OK, &f, &n, UINT64_MAX, LONGEST);
+}
+
+/* both functions that join plain marks: each refusal */
+static void refused_plain_joins(void) {
+    static const char *const NAMES[2] = {"join_plain_behind", "join_plain_in_front"};
+    uint32_t (*const JOINS[2])(uint32_t, uint64_t, uint64_t *, uint64_t *, uint64_t, uint64_t) = {
+        gfp_join_plain_behind, gfp_join_plain_in_front};
+    uint64_t f, n;
+    int i;
+    for (i = 0; i < 2; i++) {
+        f = 5, n = 6;
+        marked(NAMES[i], JOINS[i](SMALL, &f, &n, 1, 1), GFP_KEY_RANGE, &f, &n, 5, 6);
+        marked(NAMES[i], JOINS[i](LARGE, &f, &n, 1, 1), GFP_KEY_RANGE, &f, &n, 5, 6);
+        marked(NAMES[i], JOINS[i](WIDE, &f, &n, 1, 1), GFP_KEY_RANGE, &f, &n, 5, 6);
+        marked(NAMES[i], JOINS[i](REDUCIBLE, &f, &n, 1, 1), GFP_KEY_REDUCIBLE, &f, &n, 5, 6);
+        marked(NAMES[i], JOINS[i](KEY, &f, &n, 1, LONGEST), GFP_TOO_LONG, &f, &n, 5, 6);
+        marked(NAMES[i], JOINS[i](KEY, &f, &n, 0x100, UINT64_MAX), GFP_TOO_LONG, &f, &n, 5, 6);
+        marked(NAMES[i], JOINS[i](KEY, &f, &n, 0x100, 1), GFP_MARK_NOT_REDUCED, &f, &n, 5, 6);
+        f = 0x100, n = 6;
+        marked(NAMES[i], JOINS[i](KEY, &f, &n, 1, 1), GFP_MARK_NOT_REDUCED, &f, &n, 0x100, 6);
+        f = 5, n = LONGEST;
+        marked(NAMES[i], JOINS[i](KEY, &f, &n, 1, 1), GFP_TOO_LONG, &f, &n, 5, LONGEST);
+        f = 0x100, n = UINT64_MAX;
+        marked(NAMES[i], JOINS[i](KEY, &f, &n, 1, 1), GFP_TOO_LONG, &f, &n, 0x100, UINT64_MAX);
+        marked(NAMES[i], JOINS[i](SMALL, &f, &n, 1, 1), GFP_KEY_RANGE, &f, &n, 0x100, UINT64_MAX);
+        marked(NAMES[i], JOINS[i](REDUCIBLE, &f, &n, 1, 1), GFP_KEY_REDUCIBLE, &f, &n, 0x100, UINT64_MAX);
+    }
 }
 
 static uint64_t page_f, page_n;
@@ -284,6 +435,9 @@ static void page_change(void) {
 static void unfinished_pages(void) {
     page_f = 0x9d, page_n = 16;
     replaced(KEY, 1, UNFINISHED + 1, 3, OTHER + 1, 3, 1, GFP_OK, 0x7d);
+    /* the same page of a plain mark */
+    page_f = 0xc3, page_n = 16;
+    replaced(KEY, 1, UNFINISHED + 1, 3, OTHER + 1, 3, 1, GFP_OK, 0x23);
     page_f = 0xe4, page_n = 11;
     replaced(KEY, 0, UNFINISHED, 3, UNFINISHED, 3, 2, GFP_OK, 0xe4);
     replaced(KEY, 0, UNFINISHED, 4, UNFINISHED, 4, 2, GFP_PAGE_PAST_END, 0xe4);
@@ -654,7 +808,7 @@ static void read_only(void) {
     uint32_t *v = (uint32_t *)(u + 4096);
     uint8_t *b = (uint8_t *)(u + 6144), written[GFP_SHEET_BYTES];
     int way, i;
-    u[0] = 0x100, u[1] = 2;
+    u[0] = 0x100, u[1] = 2, u[5] = LONGEST + 1;
     if (mprotect(u, 65536, PROT_READ) != 0) {
         perror("mprotect");
         exit(2);
@@ -670,6 +824,9 @@ static void read_only(void) {
              i == 2 ? GFP_TABLE_WORD : NUMBERS[i]);
         same("read-only, join_behind", gfp_join_behind(k, word, u, u + 1, 1, 1), NUMBERS[i]);
         same("read-only, join_in_front", gfp_join_in_front(k, word, u, u + 1, 1, 1), NUMBERS[i]);
+        same("read-only, turn", gfp_turn(k, word, u, u + 1), NUMBERS[i]);
+        same("read-only, join_plain_behind", gfp_join_plain_behind(k, word, u, u + 1, 1, 1), NUMBERS[i]);
+        same("read-only, join_plain_in_front", gfp_join_plain_in_front(k, word, u, u + 1, 1, 1), NUMBERS[i]);
         same("read-only, replace_page", gfp_replace_page(k, word, u, u + 1, 0, AB, 2, 8, CD, 2, 8), NUMBERS[i]);
         same("read-only, make_table", gfp_make_table(k, word, u, i == 2 ? 1023 : 1024),
              i == 2 ? GFP_TABLE_SIZE : NUMBERS[i]);
@@ -679,8 +836,13 @@ static void read_only(void) {
              i == 2 ? GFP_BUFFER_SHORT : NUMBERS[i]);
     }
     same("read-only, begin", gfp_begin(SMALL, u, u + 1), GFP_KEY_RANGE);
+    same("read-only, begin_plain", gfp_begin_plain(SMALL, u, u + 1), GFP_KEY_RANGE);
+    same("read-only, begin_plain", gfp_begin_plain(REDUCIBLE, u, u + 1), GFP_KEY_REDUCIBLE);
     same("read-only, feed", gfp_feed(KEY, u, u + 1, too_long, TOO_LONG, 8), GFP_TOO_LONG);
     same("read-only, join_behind", gfp_join_behind(KEY, u, u + 1, 1, LONGEST), GFP_TOO_LONG);
+    same("read-only, join_plain_behind", gfp_join_plain_behind(KEY, u, u + 1, 1, LONGEST), GFP_TOO_LONG);
+    same("read-only, join_plain_in_front", gfp_join_plain_in_front(KEY, u, u + 1, 1, LONGEST), GFP_TOO_LONG);
+    same("read-only, turn", gfp_turn(KEY, u, u + 5), GFP_TOO_LONG);
     same("read-only, replace_page", gfp_replace_page(KEY, u + 2, u + 1, 0, AB, 2, 8, CD, 1, 8),
          GFP_PAGE_LENGTHS_DIFFER);
     same("read-only, replace_page", gfp_replace_page(KEY, u + 2, u + 1, 0, AB, 0, 7, CD, 0, 7), GFP_FINAL_BYTE);
@@ -725,6 +887,7 @@ static void run_test_key(struct key x, size_t m) {
 }
 static void run_stock_key(struct key x, size_t m) { (void)m, gfp_stock_key(x.degree); }
 static void run_begin(struct key x, size_t m) { (void)m, gfp_begin(x.degree, x.word, &f, &n); }
+static void run_begin_plain(struct key x, size_t m) { (void)m, gfp_begin_plain(x.degree, x.word, &f, &n); }
 static void run_feed(struct key x, size_t m) { f = 1, n = 0, gfp_feed(x.degree, x.word, &f, &n, file, m, used_now); }
 static void run_make_table(struct key x, size_t m) {
     (void)m, gfp_make_table(x.degree, x.word, words, GFP_TABLE_WORDS);
@@ -738,9 +901,19 @@ static void run_feed_table(struct key x, size_t m) {
 static void run_feed_house(struct key x, size_t m) {
     f = 1, n = 0, gfp_feed_house(x.degree, x.word, &f, &n, file, m, used_now);
 }
+static void run_turn(struct key x, size_t m) {
+    f = 1, n = m, gfp_turn(x.degree, x.word, &f, &n);
+    f = 1, n = LONGEST - m, gfp_turn(x.degree, x.word, &f, &n);
+}
 static void run_join_behind(struct key x, size_t m) { f = 1, n = 0, gfp_join_behind(x.degree, x.word, &f, &n, 1, m); }
 static void run_join_in_front(struct key x, size_t m) {
     f = 1, n = 0, gfp_join_in_front(x.degree, x.word, &f, &n, 1, m);
+}
+static void run_join_plain_behind(struct key x, size_t m) {
+    f = 1, n = 0, gfp_join_plain_behind(x.degree, x.word, &f, &n, 1, m);
+}
+static void run_join_plain_in_front(struct key x, size_t m) {
+    f = 1, n = 0, gfp_join_plain_in_front(x.degree, x.word, &f, &n, 1, m);
 }
 static void run_replace_page(struct key x, size_t m) {
     f = 1, n = 8 * FILE_BYTES;
@@ -774,13 +947,17 @@ static const struct {
     {"gfp_test_key", run_test_key},
     {"gfp_stock_key", run_stock_key},
     {"gfp_begin", run_begin},
+    {"gfp_begin_plain", run_begin_plain},
     {"gfp_feed", run_feed},
     {"gfp_make_table", run_make_table},
     {"gfp_test_table", run_test_table},
     {"gfp_feed_table", run_feed_table},
     {"gfp_feed_house", run_feed_house},
+    {"gfp_turn", run_turn},
     {"gfp_join_behind", run_join_behind},
     {"gfp_join_in_front", run_join_in_front},
+    {"gfp_join_plain_behind", run_join_plain_behind},
+    {"gfp_join_plain_in_front", run_join_plain_in_front},
     {"gfp_replace_page", run_replace_page},
     {"gfp_search", run_search},
     {"gfp_write_sheet", run_write_sheet},
@@ -933,7 +1110,13 @@ int main(int argc, char **argv) {
     feeding();
     degree_64();
     unfinished_parts();
+    beginning_plain_marks();
+    feeding_plain_marks();
+    turning();
+    turned_between_parts();
     joining();
+    joining_plain_marks();
+    refused_plain_joins();
     page_change();
     unfinished_pages();
     searching();

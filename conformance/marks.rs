@@ -1,28 +1,5 @@
 //! Beginning and feeding marks, by bits and by tables, and the tables themselves. Suite feeding.rs has long parts.
-use crate::{generator::Generator, gfp, reference::{self, Part}, Key, Tally};
-
-pub fn ours(mark: reference::Mark) -> gfp::Mark {
-    gfp::Mark { fingerprint: mark.fingerprint, bits: mark.bits }
-}
-
-impl<'a> From<reference::Part<'a>> for gfp::Part<'a> {
-    fn from(part: reference::Part<'a>) -> Self {
-        gfp::Part { bytes: part.bytes, used: part.used }
-    }
-}
-
-/// The state after a call, and the number: on refusal the state handed in.
-pub fn outcome(before: reference::Mark, answer: Result<reference::Mark, u32>) -> (gfp::Mark, u32) {
-    match answer {
-        Ok(mark) => (ours(mark), 0),
-        Err(number) => (ours(before), number),
-    }
-}
-
-pub fn after(mut mark: gfp::Mark, call: impl FnOnce(&mut gfp::Mark) -> Result<(), u32>) -> (gfp::Mark, u32) {
-    let number = call(&mut mark).err().unwrap_or(0);
-    (mark, number)
-}
+use crate::{generator::Generator, gfp, kinds::{after, ours, outcome, Kind}, reference::{self, Part}, Key, Tally};
 
 /// t^8 + t^4 + t^3 + t + 1, and t^64 + t^4 + t^3 + t + 1.
 const EIGHT: Key = Key { degree: 8, word: 0x1b };
@@ -75,35 +52,39 @@ fn readings(tally: &mut Tally) {
     readings_under(tally, SIXTY_FOUR, &[(1, 0x1b), (128, 0xd80), (257, 0x1b00)], &READINGS_64);
 }
 
-/// Every call that takes a mark, with fingerprints around 2^62 and 2^63 and of all ones: under keys of degree 64 all are residues, under keys of
-/// degree 62 and 63 those that are not below 2^k give 8.
-fn large_fingerprints(tally: &mut Tally, generator: &mut Generator) {
+/// Every call that takes a mark, with a mark and another one.
+fn every_call<M: Kind>(key: Key, mark: reference::Mark, other: reference::Mark, part: &[u8]) -> [((M, u32), (M, u32)); 7] {
+    let (words, [part, old, new]) = (reference::table(key), [part, &part[..2], &part[2..4]].map(Part::from));
+    let (start, [x, y]) = (M::START, [mark, other].map(M::from));
+    [
+        (after(x, |m| m.feed(key, part)), outcome(mark, reference::feed(key, mark, part))),
+        (after(x, |m| m.feed_table(key, &words, part)), outcome(mark, reference::feed(key, mark, part))),
+        (after(x, |m| m.join_behind(key, y)), outcome(mark, reference::join_behind(start, key, mark, other))),
+        (after(y, |m| m.join_behind(key, x)), outcome(other, reference::join_behind(start, key, other, mark))),
+        (after(x, |m| m.join_in_front(key, y)), outcome(mark, reference::join_in_front(start, key, mark, other))),
+        (after(y, |m| m.join_in_front(key, x)), outcome(other, reference::join_in_front(start, key, other, mark))),
+        (after(x, |m| m.replace_page(key, 1, old, new)), outcome(mark, reference::replace_page(key, mark, 1, old, new))),
+    ]
+}
+
+/// Fingerprints around 2^62 and 2^63 and of all ones: under keys of degree 64 all are residues, under keys of degree 62 and 63 those that are
+/// not below 2^k give 8.
+pub fn large_fingerprints<M: Kind>(tally: &mut Tally, generator: &mut Generator) {
     for k in [62, 63, 64] {
         let stock = reference::stock_key(k).expect("a degree of the stock list");
         for key in [stock, generator.accepted(k)] {
-            let words = reference::table(key);
             for fingerprint in [1 << 62, 1 << 63, (1 << 63) - 1, (1 << 63) + 1, u64::MAX - 1, u64::MAX, generator.next() | 1 << 63] {
                 let mark = reference::Mark { fingerprint, bits: 24 + generator.below(1000) };
                 let small = reference::Mark { fingerprint: 5, bits: 77 };
                 let number = if k < 64 && fingerprint >> k != 0 { 8 } else { 0 };
-                let part = generator.bytes(11);
-                let answers = [
-                    (after(ours(mark), |m| m.feed(key, &part)), outcome(mark, reference::feed(key, mark, &part))),
-                    (after(ours(mark), |m| m.feed_table(key, &words, &part)), outcome(mark, reference::feed(key, mark, &part))),
-                    (after(ours(mark), |m| m.join_behind(key, ours(small))), outcome(mark, reference::join_behind(key, mark, small))),
-                    (after(ours(small), |m| m.join_behind(key, ours(mark))), outcome(small, reference::join_behind(key, small, mark))),
-                    (after(ours(mark), |m| m.join_in_front(key, ours(small))), outcome(mark, reference::join_in_front(key, mark, small))),
-                    (after(ours(small), |m| m.join_in_front(key, ours(mark))), outcome(small, reference::join_in_front(key, small, mark))),
-                    (
-                        after(ours(mark), |m| m.replace_page(key, 1, &part[..2], &part[2..4])),
-                        outcome(mark, reference::replace_page(key, mark, 1, &part[..2], &part[2..4])),
-                    ),
-                ];
-                for (i, (given, second)) in answers.into_iter().enumerate() {
-                    let what = format!("call {i}, {key:x}, fingerprint {fingerprint:#x}");
-                    tally.same(&what, given, second);
-                    tally.same(&what, given.1, number);
+                let what = format!("{key:x}, fingerprint {fingerprint:#x}");
+                for (i, (given, second)) in every_call::<M>(key, mark, small, &generator.bytes(11)).into_iter().enumerate() {
+                    tally.same(format_args!("call {i}, {what}"), given, second);
+                    tally.same(format_args!("call {i}, {what}"), given.1, number);
                 }
+                let turned = (M::from(mark).turn(key), reference::turn(key, mark).map(M::Other::from));
+                tally.same(format_args!("turn, {what}"), turned.0, turned.1);
+                tally.same(format_args!("turn, {what}"), turned.0.err().unwrap_or(0), number);
             }
         }
     }
@@ -127,12 +108,28 @@ fn cuts(tally: &mut Tally, generator: &mut Generator) {
 }
 
 /// A part fed by the house key's words under any key.
-fn house(tally: &mut Tally, key: Key, mark: reference::Mark, part: Part) {
+fn house<M: Kind>(tally: &mut Tally, key: Key, mark: reference::Mark, part: Part) {
     tally.same(
-        &format!("feed by the house key's words, key {key:x}, mark {mark:?}, part of {part:?}"),
-        after(ours(mark), |m| m.feed_house(key, part)),
+        &format!("feed by the house key's words, key {key:x}, {:?}, part of {part:?}", M::from(mark)),
+        after(M::from(mark), |m| m.feed_house(key, part)),
         outcome(mark, reference::feed_house(key, mark, part)),
     );
+}
+
+/// A part fed in each way.
+fn feeds<M: Kind>(tally: &mut Tally, key: Key, mark: reference::Mark, words: &[u64], part: Part) {
+    let what = format!("key {key:x}, {:?}, part of {part:?}", M::from(mark));
+    tally.same(
+        &format!("feed, {what}"),
+        after(M::from(mark), |m| m.feed(key, part)),
+        outcome(mark, reference::feed(key, mark, part)),
+    );
+    tally.same(
+        &format!("feed by table of {} words, {what}", words.len()),
+        after(M::from(mark), |m| m.feed_table(key, words, part)),
+        outcome(mark, reference::feed_table(key, mark, words, part)),
+    );
+    house::<M>(tally, key, mark, part);
 }
 
 /// Keys that share all words of their tables: both are fed by either table. t^42 + t^5 + t^2 + t + 1 shares those of the house key,
@@ -163,22 +160,13 @@ fn calls(tally: &mut Tally, generator: &mut Generator) {
     let bytes = generator.bytes_used(n as usize, used);
     let part = Part { bytes: &bytes, used };
     let words = generator.table(key);
-    let what = format!("key {key:x}, mark {mark:?}, part of {part:?}");
     let second_begin = reference::begin(key).map(ours);
     tally.same(&format!("begin, key {key:x}"), gfp::begin(key), second_begin);
-    tally.same(
-        &format!("feed, {what}"),
-        after(ours(mark), |m| m.feed(key, part)),
-        outcome(mark, reference::feed(key, mark, part)),
-    );
-    tally.same(
-        &format!("feed by table of {} words, {what}", words.len()),
-        after(ours(mark), |m| m.feed_table(key, &words, part)),
-        outcome(mark, reference::feed_table(key, mark, &words, part)),
-    );
+    feeds::<gfp::Mark>(tally, key, mark, &words, part);
+    feeds::<gfp::PlainMark>(tally, key, mark, &words, part);
     tally.same(&format!("test of table, key {key:x}"), gfp::test_table(key, &words), reference::test_table(key, &words));
-    house(tally, gfp::HOUSE_KEY, generator.mark(gfp::HOUSE_KEY), part);
-    house(tally, key, mark, part);
+    house::<gfp::Mark>(tally, gfp::HOUSE_KEY, generator.mark(gfp::HOUSE_KEY), part);
+    house::<gfp::PlainMark>(tally, gfp::HOUSE_KEY, generator.mark(gfp::HOUSE_KEY), part);
     let mut made = words.clone();
     let number = gfp::make_table(key, &mut made).err().unwrap_or(0);
     let second = reference::make_table(key, &words);
@@ -203,7 +191,7 @@ fn damaged_tables(tally: &mut Tally, generator: &mut Generator) {
 pub fn run(tally: &mut Tally, rounds: u64) {
     let mut generator = Generator::new(4);
     readings(tally);
-    large_fingerprints(tally, &mut generator);
+    large_fingerprints::<gfp::Mark>(tally, &mut generator);
     damaged_tables(tally, &mut generator);
     shared_words(tally, &mut generator);
     for _ in 0..rounds * 100 {

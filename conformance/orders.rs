@@ -1,5 +1,6 @@
 //! The order of refusals: for each call every combination of the faults that it can be refused for, alone and together.
-use crate::{gfp, marks::{after, ours, outcome}, reference::{self, Part}, Key, Tally};
+use crate::kinds::{after, begun_in_places, ours, outcome, turned_in_places, Kind};
+use crate::{gfp, reference::{self, Part}, Key, Tally};
 
 const GOOD: Key = Key { degree: 8, word: 0x1b };
 /// Accepted keys, of degree 8 and 64; keys of number 1, by their degree, by a bit of the word at t^k and by both; reducible ones.
@@ -89,9 +90,40 @@ fn house_under(tally: &mut Tally, long: &[u8], key: Key, above: u32, good: Part)
     });
 }
 
+/// A kind's beginning, as the wrapper gives it.
+fn beginning<M: Kind>(tally: &mut Tally, key: Key) {
+    tally.same(&format!("order, begin, {key:x}"), M::begin(key), reference::begin_from(M::START, key).map(M::from));
+}
+
+/// What both places hold behind gfp_begin_plain.
+fn beginning_in_places(tally: &mut Tally, key: Key) {
+    let places = reference::Mark { fingerprint: 7, bits: 9 };
+    let second = outcome(places, reference::begin_from(0, key));
+    tally.same(&format!("order, gfp_begin_plain, {key:x}"), begun_in_places(key, places), second);
+}
+
+/// Turning, either way, with lengths at the limit and past it. The number is told by hand too: no fingerprint gives 8 at degree 64.
+fn turning(tally: &mut Tally, key: Key) {
+    let lengths = [(5, false), (reference::LIMIT, false), (reference::LIMIT + 1, true), (1 << 63, true), (u64::MAX, true)];
+    let fingerprints = [(0x5a, false), (0x100, key.degree < 64), (u64::MAX, key.degree < 64)];
+    for ((bits, long), (fingerprint, above)) in lengths.into_iter().flat_map(|n| fingerprints.map(|f| (n, f))) {
+        let mark = reference::Mark { fingerprint, bits };
+        let what = format!("order, turn, {key:x}, {mark:?}");
+        let second = reference::turn(key, mark);
+        let of_mark = if long { 7 } else if above { 8 } else { 0 };
+        tally.same(&what, second.err().unwrap_or(0), reference::test_key(key).err().unwrap_or(of_mark));
+        tally.same(&what, turned_in_places(key, mark), outcome(mark, second));
+        tally.same(&what, gfp::PlainMark::from(mark).with_leading_one(key), second.map(ours));
+        tally.same(&what, ours(mark).without_leading_one(key), second.map(gfp::PlainMark::from));
+    }
+}
+
 fn marks(tally: &mut Tally, long: &[u8]) {
     for key in KEYS {
-        tally.same(&format!("order, begin, {key:x}"), gfp::begin(key), reference::begin(key).map(ours));
+        beginning::<gfp::Mark>(tally, key);
+        beginning::<gfp::PlainMark>(tally, key);
+        beginning_in_places(tally, key);
+        turning(tally, key);
         for part in PARTS {
             marks_under(tally, long, key, part);
         }
@@ -105,23 +137,23 @@ fn marks(tally: &mut Tally, long: &[u8]) {
     }
 }
 
-fn joining(tally: &mut Tally, key: Key) {
+fn joining<M: Kind>(tally: &mut Tally, key: Key) {
     // faults: own length, other's length, sum, own fingerprint, other's fingerprint
     each(5, |fault| {
         let bits = if fault(0) { u64::MAX } else if fault(2) { reference::LIMIT } else { 5 };
         let mark = reference::Mark { fingerprint: if fault(3) { 0x100 } else { 0x5a }, bits };
         let other_bits = if fault(1) { 1 << 63 } else { 2 };
         let other = reference::Mark { fingerprint: if fault(4) { 0x1ff } else { 0x59 }, bits: other_bits };
-        let what = format!("order, {key:x}, mark {mark:?}, other {other:?}");
+        let what = format!("order, {key:x}, {:?}, other {other:?}", M::from(mark));
         tally.same(
             &what,
-            after(ours(mark), |m| m.join_behind(key, ours(other))),
-            outcome(mark, reference::join_behind(key, mark, other)),
+            after(M::from(mark), |m| m.join_behind(key, other.into())),
+            outcome(mark, reference::join_behind(M::START, key, mark, other)),
         );
         tally.same(
             &what,
-            after(ours(mark), |m| m.join_in_front(key, ours(other))),
-            outcome(mark, reference::join_in_front(key, mark, other)),
+            after(M::from(mark), |m| m.join_in_front(key, other.into())),
+            outcome(mark, reference::join_in_front(M::START, key, mark, other)),
         );
     });
 }
@@ -148,7 +180,8 @@ fn page_change(tally: &mut Tally, long: &[u8], key: Key, old_used: u32, new_used
 fn compose(tally: &mut Tally, long: &[u8]) {
     const USED: [u32; 6] = [8, 0, 9, u32::MAX, 6, 5];
     for key in KEYS {
-        joining(tally, key);
+        joining::<gfp::Mark>(tally, key);
+        joining::<gfp::PlainMark>(tally, key);
         for (old_used, new_used) in USED.into_iter().flat_map(|old| USED.map(|new| (old, new))) {
             page_change(tally, long, key, old_used, new_used);
         }

@@ -1,7 +1,7 @@
-//! A second implementation, written from document 01's definitions and document 02's wishes alone and as plainly as they read: long division
-//! bit by bit, trial comparisons, no tables. It shares no code and no method with the library that it is compared with. `ByteSteps` alone has a
-//! table, of its own, for what is compared at many lengths. A polynomial is a number of up to 128 bits, called p; a key is the pair that the
-//! calls take, a degree and a word.
+//! A second implementation, written from document 01's definitions, document 02's wishes and the equations that they name alone, and as they
+//! read: long division bit by bit, trial comparisons, no tables. It shares no code and no method with the library that it is compared with.
+//! `ByteSteps` alone has a table, of its own, for what is compared at many lengths. A polynomial is a number of up to 128 bits, called p; a key
+//! is the pair that the calls take, a degree and a word.
 
 use crate::Key;
 use std::{cell::RefCell, collections::HashSet};
@@ -108,11 +108,15 @@ impl std::fmt::Debug for Part<'_> {
     }
 }
 
+/// The residue of start·t^n plus the n bits. Document 01 puts a 1 in front of a file's bits. A plain fingerprint (document 02, wish 9) is
+/// that of 003's equations (3) and (4), with nothing in front: its division begins with 0.
+pub fn fingerprint_from(start: u64, key: Key, bits: impl Iterator<Item = bool>) -> u64 {
+    divide(polynomial(key), start, bits)
+}
+
 /// The residue of t^n plus the n bits.
 pub fn fingerprint_of_bits(key: Key, bits: impl Iterator<Item = bool>) -> u64 {
-    let p = polynomial(key);
-    let one = divide(p, 0, std::iter::once(true));
-    divide(p, one, bits)
+    fingerprint_from(1, key, bits)
 }
 
 pub fn fingerprint<'a>(key: Key, file: impl Into<Part<'a>>) -> u64 {
@@ -265,15 +269,25 @@ pub struct Mark {
     pub bits: u64,
 }
 
-/// The mark of a file.
-pub fn mark_of<'a>(key: Key, file: impl Into<Part<'a>>) -> Mark {
+/// The mark of a file: with start 1 ours, with start 0 the plain mark.
+pub fn mark_from<'a>(start: u64, key: Key, file: impl Into<Part<'a>>) -> Mark {
     let file = file.into();
-    Mark { fingerprint: fingerprint_of_bits(key, file.bits()), bits: file.length() as u64 }
+    Mark { fingerprint: fingerprint_from(start, key, file.bits()), bits: file.length() as u64 }
+}
+
+/// The mark of a file, ours.
+pub fn mark_of<'a>(key: Key, file: impl Into<Part<'a>>) -> Mark {
+    mark_from(1, key, file)
+}
+
+/// The mark of the empty file.
+pub fn begin_from(start: u64, key: Key) -> Answer<Mark> {
+    test_key(key)?;
+    Ok(mark_from(start, key, &[]))
 }
 
 pub fn begin(key: Key) -> Answer<Mark> {
-    test_key(key)?;
-    Ok(mark_of(key, &[]))
+    begin_from(1, key)
 }
 
 fn too_long(lengths: &[u128]) -> bool {
@@ -287,6 +301,13 @@ fn unreduced(key: Key, fingerprint: u64) -> bool {
 
 fn sum_too_long(a: u128, b: u128) -> bool {
     too_long(&[a, b, a + b])
+}
+
+/// A plain mark becomes one of ours, or one of ours a plain mark: of n bits, the 1 in front stands at t^n, and is added or taken off.
+pub fn turn(key: Key, mark: Mark) -> Answer<Mark> {
+    test_key(key)?;
+    refuse(&[(7, too_long(&[mark.bits.into()])), (8, unreduced(key, mark.fingerprint))])?;
+    Ok(Mark { fingerprint: mark.fingerprint ^ power_of_t(polynomial(key), mark.bits), bits: mark.bits })
 }
 
 pub fn feed<'a>(key: Key, mark: Mark, part: impl Into<Part<'a>>) -> Answer<Mark> {
@@ -336,11 +357,11 @@ pub fn feed_house<'a>(key: Key, mark: Mark, part: impl Into<Part<'a>>) -> Answer
 
 // ---- Site: joining, page change, search, page sheets
 
-/// F·t^b + G + t^b, length a + b, where a and b are in bits.
-fn joined(key: Key, front: Mark, back: Mark) -> Mark {
+/// F·t^b + G + start·t^b, length a + b, where a and b are in bits. Plain marks, with start 0, are joined by 003's equation (10) as it stands.
+fn joined(start: u64, key: Key, front: Mark, back: Mark) -> Mark {
     let p = polynomial(key);
     let power = power_of_t(p, back.bits);
-    let fingerprint = multiply_modulo(p, front.fingerprint, power) ^ back.fingerprint ^ power;
+    let fingerprint = multiply_modulo(p, front.fingerprint, power) ^ back.fingerprint ^ multiply_modulo(p, start, power);
     Mark { fingerprint, bits: front.bits + back.bits }
 }
 
@@ -352,14 +373,14 @@ fn join_tests(key: Key, mark: Mark, other: Mark) -> Answer<()> {
     ])
 }
 
-pub fn join_behind(key: Key, mark: Mark, other: Mark) -> Answer<Mark> {
+pub fn join_behind(start: u64, key: Key, mark: Mark, other: Mark) -> Answer<Mark> {
     join_tests(key, mark, other)?;
-    Ok(joined(key, mark, other))
+    Ok(joined(start, key, mark, other))
 }
 
-pub fn join_in_front(key: Key, mark: Mark, other: Mark) -> Answer<Mark> {
+pub fn join_in_front(start: u64, key: Key, mark: Mark, other: Mark) -> Answer<Mark> {
     join_tests(key, mark, other)?;
-    Ok(joined(key, other, mark))
+    Ok(joined(start, key, other, mark))
 }
 
 /// The place is in bytes, the lengths are in bits.
