@@ -5,8 +5,8 @@
  * On a refusal nothing is written: every place and buffer lent to the call keeps what it held, and may be memory that
  * cannot be written to.
  *
- * A file with its mark gives its key away, and so does a page sheet or a table alone: share/doc/gfp/SECURITY.md, which
- * is installed with this header, says who may hold what.
+ * A file with its mark gives its key away, and so does a page sheet or a table alone, and so do the mark and the plain
+ * mark of one file: share/doc/gfp/SECURITY.md, which is installed with this header, says who may hold what.
  *
  * No function keeps memory, allocates, or reads or writes anything but what it is lent and its stack. Two calls may run
  * at the same time where neither writes to what the other is lent. The libraries call memcpy and memset, and nothing
@@ -26,7 +26,8 @@
  *
  * A mark is a fingerprint and a length in bits. Under a key of degree k fingerprints are below 2^k; at degree 64 every
  * uint64_t is one, so that GFP_MARK_NOT_REDUCED, and GFP_SHEET_MALFORMED for a fingerprint that is too large, cannot
- * apply there. Lengths are at most 34359738360 bits, which are 4294967295 bytes.
+ * apply there. Lengths are at most 34359738360 bits, which are 4294967295 bytes. There are two kinds of marks: "Plain
+ * marks" below says what they are, and which functions take which.
  *
  * A part of a file, a page and a file for a sheet come as bytes and `used`: how many bits of the final byte belong to
  * it, 1 to 8, at that byte's high end. The low bits that are not used must be 0. For whole bytes, and where there are
@@ -56,7 +57,8 @@ extern "C" {
  * gfp_write_sheet writes sheets of version 4, which are one byte longer and which a library of a lower number refuses.
  * gfp_stock_key and gfp_draw, to which the degree is passed, give the word, without the bit at t^degree that they gave
  * before. A compiler does not see it: look at each of these calls. Keys kept as one number from before are split as
- * said above. A new function is no break; the minor number of the pkg-config version counts these additions. */
+ * said above. A new function is no break; the minor number of the pkg-config version counts these additions: 5.1 added
+ * the four functions for plain marks. */
 #define GFP_INTERFACE 5
 
 /* What a function returns: not refused, or one of 15 refusals. 15 to 18 are not given. */
@@ -109,6 +111,42 @@ extern "C" {
 #define GFP_HOUSE_DEGREE 61
 #define GFP_HOUSE_WORD UINT64_C(0x27)
 
+/* Plain marks.
+ *
+ * A file's bits are a polynomial, the high bit of the first byte its highest coefficient. The fingerprint in a mark is
+ * the residue of that polynomial with a leading 1, modulo the key: t^n is added to it, n being the file's length in
+ * bits. In a plain mark it is the residue of the polynomial as it is, with no leading 1. Archives that were made by
+ * equations (3) and (4) of Broder's paper "Some applications of Rabin's fingerprinting method" hold these. A file's
+ * mark and its plain mark have the same length. Under degree 8, word 0x1b the byte 0x41 has the mark 0x5a, 8 bits, and
+ * the plain mark 0x41, 8 bits.
+ *
+ *   begin                 a mark: gfp_begin
+ *                         a plain mark: gfp_begin_plain
+ *   turn                  a mark into a plain mark, and a plain mark into a mark: gfp_turn
+ *   feed                  both kinds: gfp_feed, gfp_feed_table, gfp_feed_house
+ *   change a page         both kinds: gfp_replace_page
+ *   make, test a table    one table serves both kinds: gfp_make_table, gfp_test_table
+ *   join                  two marks: gfp_join_behind, gfp_join_in_front
+ *                         two plain marks: gfp_join_plain_behind, gfp_join_plain_in_front
+ *
+ * Feeding and page change leave the kind that they are lent. The functions that join do not take both kinds: each kind
+ * has its own, and those for plain marks go by equation (10) of that paper as it stands. The fingerprints in page
+ * sheets have the leading 1: there are no sheets of plain fingerprints.
+ *
+ * Nothing in a mark tells its kind: keep the kind beside the mark, or turn each plain mark when it is taken in. The
+ * functions that join do not refuse a mark of the wrong kind: they write what their rule makes of the numbers, and do
+ * not promise that it is the mark, or the plain mark, of the joined file. To join a mark and a plain mark, or to compare
+ * a plain mark with a fingerprint of a sheet, turn one of the two first.
+ *
+ * Turning goes by the length: an archive's length in bytes is to be multiplied by 8. A wrong length is not refused, and
+ * gives a wrong mark. A plain fingerprint without its length is no plain mark, and cannot be turned. Whether an
+ * archive's fingerprints are plain fingerprints shows on one file: feed it to what gfp_begin_plain begins, and compare.
+ *
+ * Of the accepted keys of degree k at most n / k give two different files of at most n bits one fingerprint. For plain
+ * fingerprints that is promised only where the files are equally long: zero bits in front of a file do not change its
+ * plain fingerprint, and the empty file and one zero byte both have 0, under every key. So compare the lengths too.
+ */
+
 /* ---- Bench: link libgfp_bench.a */
 
 /* Whether a key is accepted: its degree is 8 to 64, its word has no bit at t^degree or above, and it is irreducible.
@@ -122,9 +160,12 @@ uint64_t gfp_stock_key(uint32_t degree);
 /* The mark of the empty file: fingerprint 1, no bits. Refusals: 1, 2. Stack: 1,536 bytes. */
 uint32_t gfp_begin(uint32_t degree, uint64_t word, uint64_t *fingerprint, uint64_t *bits);
 
-/* Feeds the next part of a file to a mark, with no table: fast under the house key, one to seven bytes at a time under
- * the other stock keys from degree 16 on, bit by bit under most other keys. The part's bits go behind those that were
- * fed, from the next bit on.
+/* The plain mark of the empty file: fingerprint 0, no bits. Refusals: 1, 2. Stack: 1,536 bytes. */
+uint32_t gfp_begin_plain(uint32_t degree, uint64_t word, uint64_t *fingerprint, uint64_t *bits);
+
+/* Feeds the next part of a file to a mark of either kind, with no table: fast under the house key, one to seven bytes
+ * at a time under the other stock keys from degree 16 on, bit by bit under most other keys. The part's bits go behind
+ * those that were fed, from the next bit on.
  * Refusals: 1, 2, 7, 8, 19. Stack: 7,680 bytes. */
 uint32_t gfp_feed(uint32_t degree, uint64_t word, uint64_t *fingerprint, uint64_t *bits, const uint8_t *part,
                   size_t part_length, uint32_t used);
@@ -147,23 +188,43 @@ uint32_t gfp_feed_table(uint32_t degree, uint64_t word, uint64_t *fingerprint, u
 uint32_t gfp_feed_house(uint32_t degree, uint64_t word, uint64_t *fingerprint, uint64_t *bits, const uint8_t *part,
                         size_t part_length, uint32_t used);
 
+/* Turns a file's mark into its plain mark, and its plain mark into its mark, by the same call: the residue of t^n is
+ * added to the fingerprint by exclusive or, n being the mark's bits, and the length stays. No bit of the file is read.
+ * A mark may be turned between two parts of a file: feeding goes on as if the file had begun under the other rule. A
+ * mark that no file has is not refused: the same is added to its fingerprint. A refusal 7 says that the length is not
+ * the file's in bits, 8 that the fingerprint was taken under another key or not copied whole.
+ * Refusals: 1, 2, 7, 8. Stack: 1,536 bytes. */
+uint32_t gfp_turn(uint32_t degree, uint64_t word, uint64_t *fingerprint, uint64_t *bits);
+
 /* ---- Site: link libgfp_site.a and libgfp_bench.a */
 
 /* Joins marks: the file of the mark (other_fingerprint, other_bits) goes behind the file of the mark in the two
- * places. Both lengths are in bits; up to GFP_INTERFACE 3 they were in bytes.
+ * places. Both lengths are in bits; up to GFP_INTERFACE 3 they were in bytes. Neither may be a plain mark.
  * Refusals: 1, 2, 7, 8. Stack: 1,536 bytes. */
 uint32_t gfp_join_behind(uint32_t degree, uint64_t word, uint64_t *fingerprint, uint64_t *bits,
                          uint64_t other_fingerprint, uint64_t other_bits);
 
 /* Joins marks: the file of the mark (other_fingerprint, other_bits) goes in front. Both lengths are in bits; up to
- * GFP_INTERFACE 3 they were in bytes.
+ * GFP_INTERFACE 3 they were in bytes. Neither may be a plain mark.
  * Refusals: 1, 2, 7, 8. Stack: 1,536 bytes. */
 uint32_t gfp_join_in_front(uint32_t degree, uint64_t word, uint64_t *fingerprint, uint64_t *bits,
                            uint64_t other_fingerprint, uint64_t other_bits);
 
-/* Changes a page in a file's mark: the new bits stand where the old ones stood, from the byte at the given place on.
- * The mark is right where the old bits are what stood there. Both pages have the same number of bits; a page with used
- * below 8 may stand anywhere in the file, and the bits behind it stay.
+/* Joins plain marks: the file of the plain mark (other_fingerprint, other_bits) goes behind the file of the plain mark
+ * in the two places. Both lengths are in bits. Both must be plain marks.
+ * Refusals: 1, 2, 7, 8. Stack: 1,536 bytes. */
+uint32_t gfp_join_plain_behind(uint32_t degree, uint64_t word, uint64_t *fingerprint, uint64_t *bits,
+                               uint64_t other_fingerprint, uint64_t other_bits);
+
+/* Joins plain marks: the file of the plain mark (other_fingerprint, other_bits) goes in front. Both lengths are in
+ * bits. Both must be plain marks.
+ * Refusals: 1, 2, 7, 8. Stack: 1,536 bytes. */
+uint32_t gfp_join_plain_in_front(uint32_t degree, uint64_t word, uint64_t *fingerprint, uint64_t *bits,
+                                 uint64_t other_fingerprint, uint64_t other_bits);
+
+/* Changes a page in a file's mark of either kind: the new bits stand where the old ones stood, from the byte at the
+ * given place on. The mark is right where the old bits are what stood there. Both pages have the same number of bits; a
+ * page with used below 8 may stand anywhere in the file, and the bits behind it stay.
  * Refusals: 1, 2, 7, 8, 9, 10, 19. Stack: 1,536 bytes. */
 uint32_t gfp_replace_page(uint32_t degree, uint64_t word, uint64_t *fingerprint, uint64_t *bits, uint64_t place,
                           const uint8_t *old_page, size_t old_page_length, uint32_t old_used, const uint8_t *new_page,

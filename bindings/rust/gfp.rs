@@ -1,6 +1,7 @@
 //! Safe Rust over the C interface of include/gfp.h. Each function answers what the C function writes, or the refusal's
 //! number. A part of a file, a page and a file for a sheet are a `Part`; whole bytes are passed as `&[u8]`, `&Vec<u8>`
-//! or `&[u8; N]`. A file with its mark gives its key away, and so does a sheet or a table alone:
+//! or `&[u8; N]`. A mark is a `Mark` or a `PlainMark`; no function takes one for the other. A file with its mark gives
+//! its key away, and so does a sheet or a table alone, and so do the mark and the plain mark of one file:
 //! share/doc/gfp/SECURITY.md, which is installed with this file, says who may hold what. Compiles in editions 2021 and
 //! 2024, from Rust 1.82 on.
 #![allow(dead_code)]
@@ -10,6 +11,7 @@ mod raw {
         pub fn gfp_test_key(degree: u32, word: u64) -> u32;
         pub fn gfp_stock_key(degree: u32) -> u64;
         pub fn gfp_begin(degree: u32, word: u64, fingerprint: *mut u64, bits: *mut u64) -> u32;
+        pub fn gfp_begin_plain(degree: u32, word: u64, fingerprint: *mut u64, bits: *mut u64) -> u32;
         pub fn gfp_feed(
             degree: u32, word: u64, fingerprint: *mut u64, bits: *mut u64, part: *const u8, part_length: usize,
             used: u32,
@@ -24,10 +26,17 @@ mod raw {
             degree: u32, word: u64, fingerprint: *mut u64, bits: *mut u64, part: *const u8, part_length: usize,
             used: u32,
         ) -> u32;
+        pub fn gfp_turn(degree: u32, word: u64, fingerprint: *mut u64, bits: *mut u64) -> u32;
         pub fn gfp_join_behind(
             degree: u32, word: u64, fingerprint: *mut u64, bits: *mut u64, other_fingerprint: u64, other_bits: u64,
         ) -> u32;
         pub fn gfp_join_in_front(
+            degree: u32, word: u64, fingerprint: *mut u64, bits: *mut u64, other_fingerprint: u64, other_bits: u64,
+        ) -> u32;
+        pub fn gfp_join_plain_behind(
+            degree: u32, word: u64, fingerprint: *mut u64, bits: *mut u64, other_fingerprint: u64, other_bits: u64,
+        ) -> u32;
+        pub fn gfp_join_plain_in_front(
             degree: u32, word: u64, fingerprint: *mut u64, bits: *mut u64, other_fingerprint: u64, other_bits: u64,
         ) -> u32;
         pub fn gfp_replace_page(
@@ -170,9 +179,20 @@ impl std::fmt::LowerHex for Key {
     }
 }
 
-/// A fingerprint and a length in bits.
+/// A fingerprint and a length in bits. The fingerprint is the residue of the file's bits with a leading 1, modulo the
+/// key.
 #[derive(Clone, Copy, Debug, PartialEq, Eq)]
 pub struct Mark {
+    pub fingerprint: u64,
+    pub bits: u64,
+}
+
+/// A plain fingerprint and a length in bits. The fingerprint is the residue of the file's bits with no leading 1: an
+/// archive that was made by equations (3) and (4) of Broder's paper holds these. Plain fingerprints of two files are
+/// protected only where the files are equally long: the empty file and one zero byte both have 0, under every key. So
+/// compare whole plain marks, not fingerprints alone.
+#[derive(Clone, Copy, Debug, PartialEq, Eq)]
+pub struct PlainMark {
     pub fingerprint: u64,
     pub bits: u64,
 }
@@ -219,34 +239,89 @@ pub fn begin(key: Key) -> Result<Mark, Refusal> {
     answer(number, mark)
 }
 
-impl Mark {
-    /// Feeds the next part of a file, with no table, from the next bit on. On refusal the mark is unchanged.
-    pub fn feed<'a>(&mut self, key: Key, part: impl Into<Part<'a>>) -> Result<(), Refusal> {
+/// The plain mark of the empty file.
+pub fn begin_plain(key: Key) -> Result<PlainMark, Refusal> {
+    let Key { degree, word } = key;
+    let mut mark = PlainMark { fingerprint: 0, bits: 0 };
+    let number = unsafe { raw::gfp_begin_plain(degree, word, &mut mark.fingerprint, &mut mark.bits) };
+    answer(number, mark)
+}
+
+/// The two numbers of a mark of either kind, for the calls that serve both kinds.
+struct Places<'m> {
+    fingerprint: &'m mut u64,
+    bits: &'m mut u64,
+}
+
+impl Places<'_> {
+    fn feed(self, key: Key, part: Part) -> Result<(), Refusal> {
         let Key { degree, word } = key;
-        let Part { bytes, used } = part.into();
-        let (fingerprint, bits) = (&mut self.fingerprint, &mut self.bits);
-        answer(unsafe { raw::gfp_feed(degree, word, fingerprint, bits, bytes.as_ptr(), bytes.len(), used) }, ())
+        let (part, size, used) = (part.bytes.as_ptr(), part.bytes.len(), part.used);
+        answer(unsafe { raw::gfp_feed(degree, word, self.fingerprint, self.bits, part, size, used) }, ())
     }
 
-    /// Feeds the next part by a table.
-    pub fn feed_table<'a>(&mut self, key: Key, words: &[u64], part: impl Into<Part<'a>>) -> Result<(), Refusal> {
+    fn feed_table(self, key: Key, words: &[u64], part: Part) -> Result<(), Refusal> {
         let Key { degree, word } = key;
-        let Part { bytes, used } = part.into();
-        let (fingerprint, bits) = (&mut self.fingerprint, &mut self.bits);
+        let Part { bytes, used } = part;
         let (table, size) = (words.as_ptr(), words.len());
+        let (fingerprint, bits) = (self.fingerprint, self.bits);
         let number = unsafe {
             raw::gfp_feed_table(degree, word, fingerprint, bits, table, size, bytes.as_ptr(), bytes.len(), used)
         };
         answer(number, ())
     }
 
+    fn feed_house(self, key: Key, part: Part) -> Result<(), Refusal> {
+        let Key { degree, word } = key;
+        let (part, size, used) = (part.bytes.as_ptr(), part.bytes.len(), part.used);
+        answer(unsafe { raw::gfp_feed_house(degree, word, self.fingerprint, self.bits, part, size, used) }, ())
+    }
+
+    fn turn(self, key: Key) -> Result<(), Refusal> {
+        let Key { degree, word } = key;
+        answer(unsafe { raw::gfp_turn(degree, word, self.fingerprint, self.bits) }, ())
+    }
+
+    fn replace_page(self, key: Key, place: u64, old: Part, new: Part) -> Result<(), Refusal> {
+        let Key { degree, word } = key;
+        let (old_page, old_length) = (old.bytes.as_ptr(), old.bytes.len());
+        let (new_page, new_length) = (new.bytes.as_ptr(), new.bytes.len());
+        let (fingerprint, bits) = (self.fingerprint, self.bits);
+        let number = unsafe {
+            raw::gfp_replace_page(
+                degree, word, fingerprint, bits, place, old_page, old_length, old.used, new_page, new_length, new.used,
+            )
+        };
+        answer(number, ())
+    }
+}
+
+impl Mark {
+    fn places(&mut self) -> Places<'_> {
+        Places { fingerprint: &mut self.fingerprint, bits: &mut self.bits }
+    }
+
+    /// Feeds the next part of a file, with no table, from the next bit on. On refusal the mark is unchanged.
+    pub fn feed<'a>(&mut self, key: Key, part: impl Into<Part<'a>>) -> Result<(), Refusal> {
+        self.places().feed(key, part.into())
+    }
+
+    /// Feeds the next part by a table.
+    pub fn feed_table<'a>(&mut self, key: Key, words: &[u64], part: impl Into<Part<'a>>) -> Result<(), Refusal> {
+        self.places().feed_table(key, words, part.into())
+    }
+
     /// Feeds the next part by the table of `HOUSE_KEY`, which the library holds. Under another key its words are tested
     /// first.
     pub fn feed_house<'a>(&mut self, key: Key, part: impl Into<Part<'a>>) -> Result<(), Refusal> {
-        let Key { degree, word } = key;
-        let Part { bytes, used } = part.into();
-        let (fingerprint, bits) = (&mut self.fingerprint, &mut self.bits);
-        answer(unsafe { raw::gfp_feed_house(degree, word, fingerprint, bits, bytes.as_ptr(), bytes.len(), used) }, ())
+        self.places().feed_house(key, part.into())
+    }
+
+    /// The plain mark of the same file, from the length alone. Also between two parts: feeding goes on as if the file
+    /// had begun with `begin_plain`. A mark that no file has is not refused.
+    pub fn without_leading_one(mut self, key: Key) -> Result<PlainMark, Refusal> {
+        self.places().turn(key)?;
+        Ok(PlainMark { fingerprint: self.fingerprint, bits: self.bits })
     }
 
     /// The other mark's file goes behind this one's.
@@ -272,17 +347,65 @@ impl Mark {
         old: impl Into<Part<'a>>,
         new: impl Into<Part<'b>>,
     ) -> Result<(), Refusal> {
+        self.places().replace_page(key, place, old.into(), new.into())
+    }
+}
+
+/// The calls of `Mark`, for plain marks.
+impl PlainMark {
+    fn places(&mut self) -> Places<'_> {
+        Places { fingerprint: &mut self.fingerprint, bits: &mut self.bits }
+    }
+
+    /// Feeds the next part of a file, with no table, from the next bit on. On refusal the plain mark is unchanged.
+    pub fn feed<'a>(&mut self, key: Key, part: impl Into<Part<'a>>) -> Result<(), Refusal> {
+        self.places().feed(key, part.into())
+    }
+
+    /// Feeds the next part by a table, which is the same as for a `Mark`.
+    pub fn feed_table<'a>(&mut self, key: Key, words: &[u64], part: impl Into<Part<'a>>) -> Result<(), Refusal> {
+        self.places().feed_table(key, words, part.into())
+    }
+
+    /// Feeds the next part by the table of `HOUSE_KEY`, as `Mark::feed_house` does.
+    pub fn feed_house<'a>(&mut self, key: Key, part: impl Into<Part<'a>>) -> Result<(), Refusal> {
+        self.places().feed_house(key, part.into())
+    }
+
+    /// The mark of the same file, from the length alone. Also between two parts: feeding goes on as if the file had
+    /// begun with `begin`. A plain mark that no file has is not refused.
+    pub fn with_leading_one(mut self, key: Key) -> Result<Mark, Refusal> {
+        self.places().turn(key)?;
+        Ok(Mark { fingerprint: self.fingerprint, bits: self.bits })
+    }
+
+    /// The other plain mark's file goes behind this one's.
+    pub fn join_behind(&mut self, key: Key, other: PlainMark) -> Result<(), Refusal> {
         let Key { degree, word } = key;
-        let (old, new): (Part, Part) = (old.into(), new.into());
-        let (old_page, old_length) = (old.bytes.as_ptr(), old.bytes.len());
-        let (new_page, new_length) = (new.bytes.as_ptr(), new.bytes.len());
         let (fingerprint, bits) = (&mut self.fingerprint, &mut self.bits);
-        let number = unsafe {
-            raw::gfp_replace_page(
-                degree, word, fingerprint, bits, place, old_page, old_length, old.used, new_page, new_length, new.used,
-            )
-        };
+        let number =
+            unsafe { raw::gfp_join_plain_behind(degree, word, fingerprint, bits, other.fingerprint, other.bits) };
         answer(number, ())
+    }
+
+    /// The other plain mark's file goes in front of this one's.
+    pub fn join_in_front(&mut self, key: Key, other: PlainMark) -> Result<(), Refusal> {
+        let Key { degree, word } = key;
+        let (fingerprint, bits) = (&mut self.fingerprint, &mut self.bits);
+        let number =
+            unsafe { raw::gfp_join_plain_in_front(degree, word, fingerprint, bits, other.fingerprint, other.bits) };
+        answer(number, ())
+    }
+
+    /// The new page stands where the old one stood, as in `Mark::replace_page`.
+    pub fn replace_page<'a, 'b>(
+        &mut self,
+        key: Key,
+        place: u64,
+        old: impl Into<Part<'a>>,
+        new: impl Into<Part<'b>>,
+    ) -> Result<(), Refusal> {
+        self.places().replace_page(key, place, old.into(), new.into())
     }
 }
 
