@@ -38,4 +38,11 @@ constexpr uint32_t GREATEST_DEGREE = 64;
 
 #endif
 
+// What a library before pkg-config's version 5.1 does not have: null there, and its lines are left out.
+extern "C" {
+__attribute__((weak)) uint32_t gfp_turn(uint32_t degree, uint64_t word, uint64_t *fingerprint, uint64_t *bits);
+__attribute__((weak)) uint32_t gfp_join_plain_behind(uint32_t degree, uint64_t word, uint64_t *fingerprint, uint64_t *bits,
+                                                     uint64_t other_fingerprint, uint64_t other_bits);
+}
+
 #endif

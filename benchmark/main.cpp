@@ -115,6 +115,39 @@ static void joining() {
         join_under(k.key, k.name);
 }
 
+// plain marks joined beside marks joined, which is the same work: F t^n + G and (F + 1) t^n + G
+static void join_plain_under(const Key &key, const std::string &whose) {
+    uint64_t n = UINT64_C(8) * 4294967295, f, g, bits;
+    Call plain = [&] { f = 5, bits = 0, gfp_join_plain_behind(PAIR(key), &f, &bits, 3, n), sink = f; };
+    Call with_one = [&] { g = 4, bits = 0, gfp_join_behind(KEY(key), &g, &bits, 3, n), sink = g; };
+    plain(), with_one(), must(f == g, "plain marks do not join as marks do, " + whose);
+    compare("join plain marks with 2^32 - 1 bytes, " + whose, plain, {{"gfp_join_behind", with_one}});
+}
+
+// t^n under the longest mark; NTL does not add it to a fingerprint
+static void turn_under(const Key &key, const std::string &whose) {
+    uint64_t f = 5, bits = UINT64_C(8) * 4294967295;
+    NTL::GF2XModulus modulus(polynomial(key));
+    NTL::GF2X power;
+    NTL::ZZ n = NTL::ZZ(4294967295) * 8;
+    Call turn = [&] { gfp_turn(PAIR(key), &f, &bits), sink = f; };
+    turn(), PowerXMod(power, n, modulus), must(polynomial(f ^ 5) == power, "NTL's power is not ours, " + whose);
+    compare("turn a mark of 34359738360 bits, " + whose, turn, {{"NTL PowerXMod", [&] { PowerXMod(power, n, modulus); }}});
+}
+
+static void plain_marks() {
+    if (!gfp_turn || !gfp_join_plain_behind) {
+        printf("Plain marks: not measured, since this library has none.\n");
+        return;
+    }
+    for (auto call : {join_plain_under, turn_under}) {
+        call(HOUSE, "house key");
+        call(drawn_key(), "drawn key, with its test");
+        for (auto &k : stock_keys())
+            call(k.key, k.name);
+    }
+}
+
 // a page in the middle of a file of 1 MiB; C feeds both pages by a table that stands ready
 static void replace_under(const Key &key, const std::string &whose) {
     static uint64_t words[1024];
@@ -229,6 +262,7 @@ int main(int, char **arguments) {
     key_tests();
     tables();
     joining();
+    plain_marks();
     replacing();
     drawing();
     searching();
