@@ -42,7 +42,7 @@ mark f n = record { fingerprint = f; length = n }
 -- ---- feeding: the Bench level's list, by bits and by tables, refused and not
 
 pub the-feeding-list : run (step 1 0x11B) (mark 0x01 0) (map Feeding bench-examples.calls) ≡ (mark 0x9D 16, 0 ∷ 7 ∷ 5 ∷ 6 ∷ 19 ∷ 0 ∷ [])
-the-feeding-list = bench-lists 0x11B (mark 0x01 0) bench-examples.calls ∙ bench-examples.the-list
+the-feeding-list = bench-lists 1 0x11B (mark 0x01 0) bench-examples.calls ∙ bench-examples.the-list
 
 -- ---- joining and page change, refused and not, between feeding. Both sides are computed.
 

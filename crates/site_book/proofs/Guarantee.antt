@@ -47,7 +47,7 @@ lowest = any-level.lowest-first site in-order
 -- the Bench level's lists are lists of this level, so that its `parts` holds here too
 pub bench-lists : BenchLists
 unfolding step
-bench-lists key m calls = run-map (feeds.step key) (step 1 key) Feeding (λ s c. refl) m calls
+bench-lists s key m calls = run-map (feeds.step key) (step s key) Feeding (λ x c. refl) m calls
 
 -- ---- two different files
 

@@ -107,6 +107,6 @@ pub data Route (key : ℕ) (file : List ℕ) (f : ℕ) : Type 0 where
 
 -- ---- claims
 
--- the Bench level's lists are lists of this level
+-- the Bench level's lists are lists of this level, whatever the start
 abbrev pub BenchLists : Type 0
-BenchLists = (key : ℕ) (m : Mark) (calls : List feeds.Feed) → run (step 1 key) m (map Feeding calls) ≡ run (feeds.step key) m calls
+BenchLists = (s key : ℕ) (m : Mark) (calls : List feeds.Feed) → run (step s key) m (map Feeding calls) ≡ run (feeds.step key) m calls
