@@ -129,7 +129,7 @@ impl<M: Kind> Book<M> {
 }
 
 /// A random string of fewer bits than n.
-fn bits(generator: &mut Generator, n: u64) -> Vec<bool> {
+pub fn bits(generator: &mut Generator, n: u64) -> Vec<bool> {
     (0..generator.below(n)).map(|_| generator.one_in(2)).collect()
 }
 

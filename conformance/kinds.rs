@@ -4,7 +4,7 @@ use crate::{gfp, reference::{self, Part}, Key};
 use std::fmt::Debug;
 
 /// A kind of marks. The second implementation tells the kinds apart by what the division of a file's bits begins with.
-pub trait Kind: Copy + Debug + PartialEq + From<reference::Mark> {
+pub trait Kind: Copy + Debug + PartialEq + From<reference::Mark> + Into<reference::Mark> {
     const START: u64;
     /// The kind that turning gives.
     type Other: Kind<Other = Self>;
@@ -29,6 +29,12 @@ macro_rules! kind {
         impl From<reference::Mark> for gfp::$mark {
             fn from(mark: reference::Mark) -> Self {
                 gfp::$mark { fingerprint: mark.fingerprint, bits: mark.bits }
+            }
+        }
+
+        impl From<gfp::$mark> for reference::Mark {
+            fn from(mark: gfp::$mark) -> Self {
+                reference::Mark { fingerprint: mark.fingerprint, bits: mark.bits }
             }
         }
 

@@ -7,6 +7,7 @@ mod feeding;
 mod generator;
 #[path = "../bindings/rust/gfp.rs"]
 mod gfp;
+mod grouping;
 mod keys;
 mod kinds;
 mod marks;
@@ -40,13 +41,14 @@ impl Tally {
 fn main() {
     let rounds = std::env::args().nth(1).map_or(1, |n| n.parse().expect("a number of rounds"));
     let mut tally = Tally { passed: 0, failed: 0 };
-    let suites: [(&str, fn(&mut Tally, u64)); 10] = [
+    let suites: [(&str, fn(&mut Tally, u64)); 11] = [
         ("keys", keys::run),
         ("marks and tables", marks::run),
         ("feeding at every length", feeding::run),
         ("lengths in bits", bits::run),
         ("joining, page change, lists of calls", compose::run),
         ("plain marks", plain::run),
+        ("joining in any grouping", grouping::run),
         ("search", search::run),
         ("page sheets", sheets::run),
         ("drawing", draw::run),

@@ -198,6 +198,14 @@ uint32_t gfp_turn(uint32_t degree, uint64_t word, uint64_t *fingerprint, uint64_
 
 /* ---- Site: link libgfp_site.a and libgfp_bench.a */
 
+/* Joining in any grouping. Marks of one kind that stand in a row may be joined in any grouping, days into weeks and
+ * weeks into seasons, each two neighbours by either of the two functions for their kind. Where each mark is acceptable
+ * by itself under one accepted key, its length at most 34,359,738,360 bits and its fingerprint below 2^degree, every
+ * grouping gives the same mark or is refused with the same number: 7 where the lengths together pass that limit, and
+ * else it is not refused. A joining that is refused ends the grouping; what the two places hold is then another mark in
+ * another grouping. The order of the files matters: neighbours are joined as they stand. The mark that gfp_begin gives,
+ * in front or behind, changes nothing, nor does that of gfp_begin_plain among plain marks. */
+
 /* Joins marks: the file of the mark (other_fingerprint, other_bits) goes behind the file of the mark in the two
  * places. Both lengths are in bits; up to GFP_INTERFACE 3 they were in bytes. Neither may be a plain mark.
  * Refusals: 1, 2, 7, 8. Stack: 1,536 bytes. */

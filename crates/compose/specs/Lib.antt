@@ -1,2 +1,3 @@
 pub mod Composing
 pub mod PlainMarks
+pub mod Grouping

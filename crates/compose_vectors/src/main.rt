@@ -1,7 +1,8 @@
-// Joining and page changes, of our marks and of plain marks, printed and compared with their figures: the fingerprint and the length in bits, or
-// the refusal's number with the mark that went back. Under key 0x11B where nothing else is said.
+// Joining, also in two groupings, and page changes, of our marks and of plain marks, printed and compared with their figures: the fingerprint and the
+// length in bits, or the refusal's number with the mark that went back. Under key 0x11B where nothing else is said.
 use acceptance::Key;
 use files::Mark;
+use marks::Fed;
 use marks::Running;
 
 // The key 0x11B.
@@ -27,13 +28,17 @@ fn running(key: Key, f: u64, a: u64) -> Running {
     }
 }
 
+fn mark(f: u64, n: u64) -> Mark {
+    Mark {
+        fingerprint: f,
+        length: n,
+    }
+}
+
 // The mark of fingerprint f and length a with the one of fingerprint g and length b behind it, and in front of it.
 fn join(what: &[u8], key: Key, f: u64, a: u64, g: u64, b: u64) {
     let m = running(key, f, a);
-    let other = Mark {
-        fingerprint: g,
-        length: b,
-    };
+    let other = mark(g, b);
     vectors::text(what);
     vectors::text(b"\n  behind: ");
     vectors::fed_or_refused(compose::join_behind(m, other));
@@ -44,15 +49,51 @@ fn join(what: &[u8], key: Key, f: u64, a: u64, g: u64, b: u64) {
 // The same of two plain marks.
 fn join_plain(what: &[u8], key: Key, f: u64, a: u64, g: u64, b: u64) {
     let m = running(key, f, a);
-    let other = Mark {
-        fingerprint: g,
-        length: b,
-    };
+    let other = mark(g, b);
     vectors::text(what);
     vectors::text(b"\n  behind: ");
     vectors::fed_or_refused(compose::join_plain_behind(m, other));
     vectors::text(b"  in front: ");
     vectors::fed_or_refused(compose::join_plain_in_front(m, other));
+}
+
+fn behind(plain: bool, m: Running, other: Mark) -> Fed {
+    if plain {
+        return compose::join_plain_behind(m, other);
+    }
+    compose::join_behind(m, other)
+}
+
+fn in_front(plain: bool, m: Running, other: Mark) -> Fed {
+    if plain {
+        return compose::join_plain_in_front(m, other);
+    }
+    compose::join_in_front(m, other)
+}
+
+// Three marks in their order, the first two joined first.
+fn left_first(plain: bool, a: Mark, b: Mark, c: Mark) -> Fed {
+    match behind(plain, running(KEY, a.fingerprint, a.length), b) {
+        Fed::Next(m) => behind(plain, m, c),
+        Fed::Refused(r, m) => Fed::Refused(r, m),
+    }
+}
+
+// The last two joined first.
+fn right_first(plain: bool, a: Mark, b: Mark, c: Mark) -> Fed {
+    match behind(plain, running(KEY, b.fingerprint, b.length), c) {
+        Fed::Next(m) => in_front(plain, m, a),
+        Fed::Refused(r, m) => Fed::Refused(r, m),
+    }
+}
+
+// Both groupings. Where they are refused, the mark that went back may be another one.
+fn group(what: &[u8], plain: bool, a: Mark, b: Mark, c: Mark) {
+    vectors::text(what);
+    vectors::text(b"\n  left first: ");
+    vectors::fed_or_refused(left_first(plain, a, b, c));
+    vectors::text(b"  right first: ");
+    vectors::fed_or_refused(right_first(plain, a, b, c));
 }
 
 // A page of whole bytes changed in the mark of fingerprint f and length a.
@@ -142,6 +183,51 @@ fn plain_joins_refused() {
     );
 }
 
+// With 8 bits in the last one the three are at the limit.
+fn groupings() {
+    let a = mark(0x5A, 8);
+    let b = mark(0x59, 34359738344);
+    group(b"41, 42 and 43", false, a, mark(0x59, 8), mark(0x58, 8));
+    group(b"34359738360 bits in three marks", false, a, b, mark(3, 8));
+    group(b"one bit too many in three marks", false, a, b, mark(3, 9));
+}
+
+fn plain_groupings() {
+    let f = mark(0x41, 8);
+    let a = mark(0x5A, 8);
+    let b = mark(0x59, 34359738344);
+    group(
+        b"plain marks of 41, 42 and 43",
+        true,
+        f,
+        mark(0x42, 8),
+        mark(0x43, 8),
+    );
+    group(
+        b"plain marks, 34359738360 bits in three",
+        true,
+        a,
+        b,
+        mark(3, 8),
+    );
+    group(
+        b"plain marks, one bit too many in three",
+        true,
+        a,
+        b,
+        mark(3, 9),
+    );
+}
+
+// The first mark is not acceptable by itself: the numbers differ.
+fn unacceptable_grouped() {
+    let a = mark(0x100, 8);
+    let b = mark(1, 8);
+    let c = mark(1, 34359738360);
+    group(b"9 bits in the first fingerprint of three", false, a, b, c);
+    group(b"plain marks, 9 bits in the first of three", true, a, b, c);
+}
+
 fn changes() {
     let a0: [u8; 1] = [0xA0];
     change(b"41 42, 42 becomes 43: ", 0x9D, 16, 1, b"B", b"C");
@@ -189,6 +275,9 @@ fn main() {
     joins_at_the_largest_degree();
     plain_joins();
     plain_joins_refused();
+    groupings();
+    plain_groupings();
+    unacceptable_grouped();
     changes();
     plain_changes();
     changes_at_the_end();

@@ -207,6 +207,14 @@ well-used p e =
     and-second true y h t = h
     and-second false y h t = absurd (false≢true t)
 
+-- and conversely
+pub well-clear : (p : Part) → WellUsed p → misused p ≡ false
+well-clear p w = go (decLt 0 (length (p .bytes)))
+  where
+    go : Dec (0 < length (p .bytes)) → misused p ≡ false
+    go (yes h) = used-some p (w .from) (w .to) h ∙ ap not (eq-eqb _ 0 (w .zeros))
+    go (no h) = let z : length (p .bytes) ≡ 0 = omega arith in used-none p (w .from) (w .to) z ∙ ap not (eq-eqb (p .used) 8 (w .none z))
+
 -- two such parts of one length have as many bytes, and as many used bits
 pub same-used : (p q : Part) → WellUsed p → WellUsed q → partLength p ≡ partLength q → (length (p .bytes) ≡ length (q .bytes)) × (p .used ≡ q .used)
 same-used p q hp hq e = go (decLt 0 (length (p .bytes)))

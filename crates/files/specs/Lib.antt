@@ -1,4 +1,5 @@
 pub mod Files
 pub mod PlainMarks
+pub mod Grouping
 pub mod Bursts
 pub mod Ends

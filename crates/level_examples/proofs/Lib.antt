@@ -1,3 +1,4 @@
 pub mod Bench
 pub mod PlainMarks
+pub mod Grouping
 pub mod Site
