@@ -72,12 +72,23 @@ empty-values = (
   ap (λ (e : Mark). joinedFrom 0 0x11B e (mark 0x41 8)) (sym (empty-marks .1)) ∙ empty-joined 0 0x11B (mark 0x41 8) (omega arith) (omega arith) .1,
 )
 
--- a file at the limit with none behind it
-pub none-behind : joinBehindFrom 1 x (mark 0x5A 34359738360) (mark 0x01 0) ≡ Done (mark 0x5A 34359738360)
+-- the longest file, and the largest fingerprint
+abbrev top : Mark
+top = mark 0xFF 34359738360
+
+pub beside-the-empty : (joinBehindFrom 1 x top (mark 0x01 0) ≡ Done top)
+    × (joinInFrontFrom 1 x top (mark 0x01 0) ≡ Done top)
+    × (joinBehindFrom 1 x (mark 0x01 0) top ≡ Done top)
+    × (joinInFrontFrom 1 x (mark 0x01 0) top ≡ Done top)
 unfolding degree halvings
-none-behind =
-    ap (joinBehindFrom 1 x (mark 0x5A 34359738360)) (sym (empty-marks .0))
-    ∙ empty-nothing 1 0x11B (mark 0x5A 34359738360) accepted-11B (omega arith, omega arith) .0
+beside-the-empty = rw (empty-marks .0) at (empty-nothing 1 0x11B top accepted-11B (omega arith, omega arith))
+
+pub plain-beside-the-empty : (joinBehindFrom 0 x top (mark 0x00 0) ≡ Done top)
+    × (joinInFrontFrom 0 x top (mark 0x00 0) ≡ Done top)
+    × (joinBehindFrom 0 x (mark 0x00 0) top ≡ Done top)
+    × (joinInFrontFrom 0 x (mark 0x00 0) top ≡ Done top)
+unfolding degree halvings
+plain-beside-the-empty = rw (empty-marks .1) at (empty-nothing 0 0x11B top accepted-11B (omega arith, omega arith))
 
 -- ---- a season of two weeks, of two days and of one
 
