@@ -188,8 +188,7 @@ fn three<M: Kind>(tally: &mut Tally, key: Key, marks: [Mark; 3]) {
     for forms in FORMS {
         let what = format_args!("{key:x}, {:?}, in front {forms:?}", marks.map(M::from));
         let [left_first, right_first] = given_groupings::<M>(key, marks, forms);
-        tally.same(format_args!("left first and right first, {what}"), left_first, right_first);
-        tally.same(format_args!("three marks, {what}"), [left_first, right_first], [second; 2]);
+        tally.same(format_args!("left first and right first, {what}"), [left_first, right_first], [second; 2]);
         tally.same(format_args!("number of three marks, {what}"), left_first.err().unwrap_or(0), number(&marks));
     }
 }
@@ -283,7 +282,8 @@ fn xored<M: Kind>(tally: &mut Tally, key: &KeyTable, files: &[Part]) -> u64 {
     if files.len() % 2 == 1 { xored_as::<M, M>(tally, key, files) } else { xored_as::<M, gfp::PlainMark>(tally, key, files) }
 }
 
-/// The same where the files' marks are of one kind, and that of their exclusive or is of another.
+/// The same where the files' marks are of one kind, and that of their exclusive or is of another. The first two comparisons are of the second
+/// implementation with itself: by bytes and by bits, and the sum of the fingerprints.
 fn xored_as<M: Kind, X: Kind>(tally: &mut Tally, key: &KeyTable, files: &[Part]) -> u64 {
     let (bytes, packed) = (exclusive_or(files), pack(&second_exclusive_or(files)));
     let (whole, second_whole) = (Part { bytes: &bytes, used: files[0].used }, packed.part());

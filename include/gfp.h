@@ -202,9 +202,10 @@ uint32_t gfp_turn(uint32_t degree, uint64_t word, uint64_t *fingerprint, uint64_
  * weeks into seasons, each two neighbours by either of the two functions for their kind. Where each mark is acceptable
  * by itself under one accepted key, its length at most 34,359,738,360 bits and its fingerprint below 2^degree, every
  * grouping gives the same mark or is refused with the same number: 7 where the lengths together pass that limit, and
- * else it is not refused. A joining that is refused ends the grouping; what the two places hold is then another mark in
- * another grouping. The order of the files matters: neighbours are joined as they stand. The mark that gfp_begin gives,
- * in front or behind, changes nothing, nor does that of gfp_begin_plain among plain marks. */
+ * else it is not refused. A joining that is refused ends the grouping; what the two places hold may then be another
+ * mark in another grouping. The order of the files matters: neighbours are joined as they stand. The mark that
+ * gfp_begin gives, joined with such a mark in front or behind, is not refused and changes nothing, nor does that of
+ * gfp_begin_plain among plain marks. */
 
 /* Joins marks: the file of the mark (other_fingerprint, other_bits) goes behind the file of the mark in the two
  * places. Both lengths are in bits; up to GFP_INTERFACE 3 they were in bytes. Neither may be a plain mark.

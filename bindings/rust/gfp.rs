@@ -325,7 +325,7 @@ impl Mark {
     }
 
     /// The other mark's file goes behind this one's. Neighbouring marks may be joined in any grouping: the mark or the
-    /// number is the same, where the key is accepted and neither 7 nor 8 applies to one of them by itself. The order of
+    /// number is the same, where the key is accepted and neither 7 nor 8 applies to any of them by itself. The order of
     /// the files matters.
     pub fn join_behind(&mut self, key: Key, other: Mark) -> Result<(), Refusal> {
         let Key { degree, word } = key;

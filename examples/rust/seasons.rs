@@ -10,16 +10,27 @@ use std::error::Error;
 use std::io::Write;
 use std::thread;
 
-/// A call on each item, in a thread of its own: the answers in the order of the items, or the first refusal.
-fn in_threads<T, M>(items: &[T], call: impl Fn(&T) -> Result<M, Refusal> + Sync) -> Result<Vec<M>, Refusal>
-where
-    T: Sync,
-    M: Send,
-{
+type Answer<T> = Result<T, Box<dyn Error>>;
+
+fn refused(number: Refusal) -> String {
+    format!("refused {number}")
+}
+
+/// A call on each item, in a thread of its own: the answers in the order of the items. There are as many threads as
+/// items: cut a long list into slices.
+fn in_threads<T: Sync, M: Send>(items: &[T], call: impl Fn(&T) -> Result<M, Refusal> + Sync) -> Answer<Vec<M>> {
     let call = &call;
     thread::scope(|scope| {
-        let threads: Vec<_> = items.iter().map(|item| scope.spawn(move || call(item))).collect();
-        threads.into_iter().map(|thread| thread.join().expect("no call panics")).collect()
+        let mut threads = Vec::new();
+        for item in items {
+            threads.push(thread::Builder::new().spawn_scoped(scope, move || call(item))?);
+        }
+        let mut answers = Vec::new();
+        for thread in threads {
+            let answer = thread.join().map_err(|_| "a thread panicked")?;
+            answers.push(answer.map_err(refused)?);
+        }
+        Ok(answers)
     })
 }
 
@@ -41,30 +52,33 @@ fn season<M: Copy + Send + Sync>(
     empty: M,
     feed: impl Fn(M, &str) -> Result<M, Refusal> + Sync,
     join: impl Fn(M, M) -> Result<M, Refusal> + Sync,
-) -> Result<[M; 3], Refusal> {
+) -> Answer<[M; 3]> {
     // one behind the other: the empty mark in front changes nothing
     let in_turn = |marks: &[M]| marks.iter().try_fold(empty, |front, &back| join(front, back));
     let marks = in_threads(days, |day| feed(empty, day))?;
     let weeks: Vec<&[M]> = marks.chunks(7).collect();
     let weeks = in_threads(&weeks, |week| in_turn(week))?;
-    Ok([in_turn(&weeks)?, by_halves(empty, &marks, &join)?, feed(empty, &days.concat())?])
+    let by_weeks = in_turn(&weeks).map_err(refused)?;
+    let halves = by_halves(empty, &marks, &join).map_err(refused)?;
+    Ok([by_weeks, halves, feed(empty, &days.concat()).map_err(refused)?])
 }
 
-fn marks(days: &[String]) -> Result<[Mark; 3], Refusal> {
+fn marks(days: &[String]) -> Answer<[Mark; 3]> {
+    let empty = begin(HOUSE_KEY).map_err(refused)?;
     let feed = |mut mark: Mark, part: &str| mark.feed(HOUSE_KEY, part).map(|()| mark);
-    season(days, begin(HOUSE_KEY)?, feed, |mut front, back| front.join_behind(HOUSE_KEY, back).map(|()| front))
+    season(days, empty, feed, |mut front, back| front.join_behind(HOUSE_KEY, back).map(|()| front))
 }
 
-fn plain_marks(days: &[String]) -> Result<[PlainMark; 3], Refusal> {
+fn plain_marks(days: &[String]) -> Answer<[PlainMark; 3]> {
+    let empty = begin_plain(HOUSE_KEY).map_err(refused)?;
     let feed = |mut mark: PlainMark, part: &str| mark.feed(HOUSE_KEY, part).map(|()| mark);
-    season(days, begin_plain(HOUSE_KEY)?, feed, |mut front, back| front.join_behind(HOUSE_KEY, back).map(|()| front))
+    season(days, empty, feed, |mut front, back| front.join_behind(HOUSE_KEY, back).map(|()| front))
 }
 
-fn main() -> Result<(), Box<dyn Error>> {
+fn main() -> Answer<()> {
     let days: Vec<String> = (1..=91).map(|n| format!("day {n}: tilt 7, offset 0.0125 mrad\n")).collect();
-    let refused = |number| format!("refused {number}");
-    let [mark, halves, whole] = marks(&days).map_err(refused)?;
-    let [plain, plain_halves, plain_whole] = plain_marks(&days).map_err(refused)?;
+    let [mark, halves, whole] = marks(&days)?;
+    let [plain, plain_halves, plain_whole] = plain_marks(&days)?;
     if [halves, whole] != [mark; 2] || [plain_halves, plain_whole] != [plain; 2] {
         return Err("the marks of one season differ".into());
     }

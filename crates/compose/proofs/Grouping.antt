@@ -15,6 +15,7 @@ use Rattle.refusals.specs.declared.Refusal.the-variants.{TooLong}
 use Rattle.refusals.specs.Refusals.{Answer, Done, Refused, numberOf, Test, _⇒_, firstOf, longest}
 use Rattle.refusals.proofs.Lengths.{sum-fits, sum-passes}
 use Rattle.refusals.proofs.Laws.{done-clear}
+use Rattle.acceptance.specs.declared.Key.{Key}
 use Rattle.acceptance.specs.Keys.{accepted, polynomialOf, keyOf, keyTests}
 use Rattle.acceptance.proofs.Laws.{accepted-pos, whole-key}
 use Rattle.acceptance.proofs.Opened.{open-accepted, opened-first}
@@ -119,29 +120,6 @@ module _ (s key : ℕ) (acc : accepted key ≡ true) where
   joined-long : (a b : Mark) → joinedFrom s key a b .length ≡ a .length + b .length
   unfolding joinedFrom
   joined-long a b = refl
-
-  -- ---- three
-
-  module _ (a b c : Mark) (ha : Acceptable key a) (hb : Acceptable key b) (hc : Acceptable key c) where
-    left-limited : leftFirst s (keyOf key) a b c ≡ limited tt (a .length + b .length + c .length) (joinedFrom s key (joinedFrom s key a b) c)
-    left-limited =
-        ap (λ (r : Answer Mark Mark). andThen r (λ m. stateless (joinBehindFrom s (keyOf key) m c))) (behind-limited a b ha hb)
-        ∙ then-limited a (a .length + b .length) (joinedFrom s key a b) (λ m. stateless (joinBehindFrom s (keyOf key) m c)) _ _ (omega arith)
-        (λ l. ap stateless (behind-limited (joinedFrom s key a b) c (joined-acceptable a b ha hb l) hc) ∙ stateless-limited _ _ _
-        ∙ ap (λ (n : ℕ). limited tt (n + c .length) (joinedFrom s key (joinedFrom s key a b) c)) (joined-long a b))
-
-    right-limited : rightFirst s (keyOf key) a b c ≡ limited tt (a .length + (b .length + c .length)) (joinedFrom s key a (joinedFrom s key b c))
-    right-limited =
-        ap (λ (r : Answer Mark Mark). andThen r (λ m. stateless (joinInFrontFrom s (keyOf key) m a))) (behind-limited b c hb hc)
-        ∙ then-limited b (b .length + c .length) (joinedFrom s key b c) (λ m. stateless (joinInFrontFrom s (keyOf key) m a)) _ _ (omega arith)
-        (λ l. ap stateless (front-limited (joinedFrom s key b c) a (joined-acceptable b c hb hc l) ha) ∙ stateless-limited _ _ _
-        ∙ ap (λ (n : ℕ). limited tt n (joinedFrom s key a (joinedFrom s key b c))) (omega (arith, joined-long b c)))
-
-pub any-two-first : AnyTwoFirst
-any-two-first s key a b c acc ha hb hc =
-    left-limited s key acc a b c ha hb hc
-    ∙ ap₂ (limited tt) (add-assoc (a .length) (b .length) (c .length)) (joined-assoc s key a b c (accepted-pos key acc))
-    ∙ sym (right-limited s key acc a b c ha hb hc)
 
 -- ---- the empty mark
 
@@ -288,6 +266,31 @@ any-grouping s key g acc h =
     each : Each (Acceptable key) (marks g)
     each = each-acceptable key g h
 
+-- ---- three marks: two groupings
+
+then-stateless : {S A B : Type 0} (r : Answer S A) (next : A → Answer Unit B) → andThen r next ≡ andThen (stateless r) next
+then-stateless (Done a) next = refl
+then-stateless (Refused q k) next = refl
+
+then-same : {S A B : Type 0} (r : Answer S A) (f g : A → Answer Unit B) → ((a : A) → f a ≡ g a) → andThen r f ≡ andThen r g
+then-same (Done a) f g e = e a
+then-same (Refused q k) f g e = refl
+
+left-grouped : (s : ℕ) (x : Key) (a b c : Mark) → leftFirst s x a b c ≡ joinedBy s x (Both (Both (One a) (One b)) (One c))
+left-grouped s x a b c = then-stateless (joinBehindFrom s x a b) (λ m. stateless (joinBehindFrom s x m c))
+
+right-grouped : (s : ℕ) (x : Key) (a b c : Mark) → rightFirst s x a b c ≡ joinedBy s x (Both (One a) (Both (One b) (One c)))
+right-grouped s x a b c =
+    then-same (joinBehindFrom s x b c) (λ m. stateless (joinInFrontFrom s x m a)) (λ m. stateless (joinBehindFrom s x a m)) (λ m. sym (either-call s x a m))
+    ∙ then-stateless (joinBehindFrom s x b c) (λ m. stateless (joinBehindFrom s x a m))
+
+pub any-two-first : AnyTwoFirst
+any-two-first s key a b c acc ha hb hc =
+    left-grouped s (keyOf key) a b c
+    ∙ any-grouping s key (Both (Both (One a) (One b)) (One c)) acc ((ha, hb), hc)
+    ∙ sym (any-grouping s key (Both (One a) (Both (One b) (One c))) acc (ha, (hb, hc)))
+    ∙ sym (right-grouped s (keyOf key) a b c)
+
 pub grouping-number : GroupingNumber
 grouping-number s key g acc h = ap numberOf (by-limited s key acc g h) ∙ number-limited tt (together (marks g)) (value s key g)
 
@@ -332,8 +335,7 @@ module _ (s key : ℕ) (pos : 0 < key) where
   true-low (f ∷ files) = (rem-lt pos _, true-low files)
 
 pub grouping-true : GroupingTrue
-grouping-true s key g files m acc e d =
-    let pos = accepted-pos key acc in
+grouping-true s key g files m pos e d =
     sym (by-done s key pos g m d)
     ∙ value-in-turn s key pos g (rw e (true-low s key pos files))
     ∙ ap (inTurn s key (markFrom s key [])) e

@@ -19,7 +19,7 @@ Acceptable key m = (m .length ≤ longest) × (m .fingerprint < 2 ^ degree key)
 
 -- ---- two joinings, one after the other
 
--- the mark or the refusal; not the state that came back, which is another mark in another grouping
+-- the mark or the refusal; not the state that came back, which may be another mark in another grouping
 abbrev pub stateless : {S A : Type 0} → Answer S A → Answer Unit A
 stateless (Done a) = Done a
 stateless (Refused r s) = Refused r tt
@@ -100,5 +100,5 @@ GroupingNumber =
 -- the true marks of files, in a grouping that is not refused, give the mark of the files joined
 abbrev pub GroupingTrue : Type 0
 GroupingTrue =
-    (s key : ℕ) (g : Grouping) (files : List (List ℕ)) (m : Mark) → accepted key ≡ true → marks g ≡ map (markFrom s key) files
+    (s key : ℕ) (g : Grouping) (files : List (List ℕ)) (m : Mark) → 0 < key → marks g ≡ map (markFrom s key) files
     → joinedBy s (keyOf key) g ≡ Done m → m ≡ markFrom s key (flatten files)

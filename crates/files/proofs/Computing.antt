@@ -14,10 +14,10 @@ use Rattle.gf2.proofs.Residues.{rem-⊕}
 use Rattle.gf2.proofs.Powers.{rem-⊗-pow}
 use Rattle.gf2.proofs.Monics.{monic-pos}
 use Rattle.gf2.proofs.Steps.{residue-small}
-use Rattle.files.specs.Files.{lowBits, bits, valueFrom, fingerprint, Part, asPart, usedBits, partLength, partBits, fingerprintFrom}
+use Rattle.files.specs.Files.{lowBits, bits, valueFrom, fingerprint, Part, asPart, partBits, fingerprintFrom}
 use Rattle.files.specs.Ends.{wholeBytes, endBits}
 use Rattle.files.proofs.Values.{length-bits, value-append, value-low, rem-from, value-next, value-starts}
-use Rattle.files.proofs.Parts.{part-length, whole-bits, WellUsed, whole-front, end-split, end-none, end-low}
+use Rattle.files.proofs.Parts.{alike-long, part-length, whole-bits, WellUsed, whole-front, end-split, end-none, end-low}
 
 -- ---- what is left to feed
 
@@ -114,9 +114,7 @@ module _ {p : ℕ} (pos : 0 < p) (old new : List ℕ) (u : ℕ) (e : length old 
   other-front = ap (λ (n : ℕ). cond (eqb u 8) n (n - 1)) (sym e)
 
   same-long : length (partBits (asPart old u)) ≡ length (partBits (asPart new u))
-  unfolding partLength
-  same-long =
-      part-length (asPart old u) ∙ ap (λ (n : ℕ). cond (eqb n 0) 0 (8 * (n - 1) + usedBits u)) e ∙ sym (part-length (asPart new u))
+  same-long = part-length (asPart old u) ∙ alike-long (asPart old u) (asPart new u) e refl ∙ sym (part-length (asPart new u))
 
   begin : {x y : List ℕ} → partBits (asPart old u) ≡ x → partBits (asPart new u) ≡ y
       → rem p (valueFrom 0 x ⊕ valueFrom 0 y) ≡ fingerprint p (partBits (asPart old u)) ⊕ fingerprint p (partBits (asPart new u))

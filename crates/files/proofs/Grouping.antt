@@ -1,22 +1,20 @@
 -- Marks joined in any grouping, and the exclusive or of files: the claims of specs/Grouping.antt, proved.
 use mathlib.Core.Path.{_≡_, refl, sym, ap, ap₂, _∙_}
-use mathlib.Core.Bool.{cond}
 use mathlib.Core.List.{List, [], _∷_, _++_, zipWith}
 use Prim.Native.Nat.{ℕ, zero, suc, _+_, _-_, _*_, _/_, _%_, _^_, _<_}
 use native.Mathlib.Nat.{add-assoc, add-zero, zero-add, mul-assoc, mul-one}
 use native.Mathlib.Omega.{arith}
-use lib.Dec.{eqb}
 use lib.ListN.{length, getD, take}
 use lib.Pow.{pow-add}
-use Rattle.gf2.specs.Polynomials.{_⊕_, degree, rem}
+use Rattle.lists.proofs.Lists.{length-zipWith, take-zipWith, append-zipWith, getD-zipWith}
+use Rattle.gf2.specs.Polynomials.{_⊕_, rem}
 use Rattle.gf2.proofs.Sums.{⊕-shl, ⊕-shr, ⊕-mod, ⊕-bit, ⊕-swap, ⊕-dbl, ⊕-self, xor}
 use Rattle.gf2.proofs.Residues.{rem-⊕, rem-small}
 use Rattle.gf2.proofs.Powers.{rem-rem, rem-shl}
-use Rattle.files.specs.declared.Mark.{Mark}
-use Rattle.files.specs.Files.{lowBits, bits, valueFrom, fingerprintFrom, markFrom, Part, usedBits, partLength, partBits, misused, joinedFrom}
+use Rattle.files.specs.Files.{lowBits, bits, valueFrom, fingerprintFrom, markFrom, Part, partLength, partBits, joinedFrom}
 use Rattle.files.specs.Grouping.{JoinedAssoc, EmptyJoined, xorLists, XorTwo, XorOurs, XorThree, xorParts, Alike, XorParts, XorUsed}
 use Rattle.files.proofs.Values.{length-low}
-use Rattle.files.proofs.Parts.{WellUsed, well-used, well-clear}
+use Rattle.files.proofs.Parts.{alike-long, WellUsed, well-used, well-clear}
 use Rattle.files.proofs.Marks.{mark-eq}
 
 -- ---- three marks, and the empty file's
@@ -44,36 +42,6 @@ empty-joined s key m pos low =
       mark-eq (none-behind pos s (m .fingerprint) ∙ reduced) (add-zero (m .length)),
       mark-eq (none-in-front pos s (m .fingerprint) (m .length) ∙ reduced) (zero-add (m .length)),
     )
-
--- ---- exclusive or of lists
-
-length-xor : (a b : List ℕ) → length a ≡ length b → length (xorLists a b) ≡ length a
-unfolding zipWith
-length-xor [] b l = refl
-length-xor (x ∷ a) [] l = absurd (omega arith)
-length-xor (x ∷ a) (y ∷ b) l = ap suc (length-xor a b (omega arith))
-
-take-xor : (n : ℕ) (a b : List ℕ) → take n (xorLists a b) ≡ xorLists (take n a) (take n b)
-unfolding zipWith
-take-xor zero a b = refl
-take-xor (suc n) [] b = refl
-take-xor (suc n) (x ∷ a) [] = refl
-take-xor (suc n) (x ∷ a) (y ∷ b) = ap {B = List ℕ} (λ r. (x ⊕ y) ∷ r) (take-xor n a b)
-
-append-xor : (a b c d : List ℕ) → length a ≡ length b → xorLists (a ++ c) (b ++ d) ≡ xorLists a b ++ xorLists c d
-unfolding zipWith
-append-xor [] [] c d l = refl
-append-xor [] (y ∷ b) c d l = absurd (omega arith)
-append-xor (x ∷ a) [] c d l = absurd (omega arith)
-append-xor (x ∷ a) (y ∷ b) c d l = ap {B = List ℕ} (λ r. (x ⊕ y) ∷ r) (append-xor a b c d (omega arith))
-
-entry-xor : (a b : List ℕ) (i : ℕ) → length a ≡ length b → getD (xorLists a b) i 0 ≡ getD a i 0 ⊕ getD b i 0
-unfolding zipWith
-entry-xor [] [] i l = sym (⊕-self 0)
-entry-xor [] (y ∷ b) i l = absurd (omega arith)
-entry-xor (x ∷ a) [] i l = absurd (omega arith)
-entry-xor (x ∷ a) (y ∷ b) zero l = refl
-entry-xor (x ∷ a) (y ∷ b) (suc i) l = entry-xor a b i (omega arith)
 
 -- ---- exclusive or of files
 
@@ -103,7 +71,7 @@ xor-ours key a b pos l = ap (λ (s : ℕ). fingerprintFrom s key (xorLists a b))
 pub xor-three : XorThree
 xor-three s key a b c pos l m =
     ap (λ (v : ℕ). fingerprintFrom v key (xorLists (xorLists a b) c)) starts
-    ∙ xor-two (s ⊕ s) s key (xorLists a b) c pos (length-xor a b l ∙ l ∙ m)
+    ∙ xor-two (s ⊕ s) s key (xorLists a b) c pos (length-zipWith _⊕_ a b l ∙ l ∙ m)
     ∙ ap (λ (v : ℕ). v ⊕ fingerprintFrom s key c) (xor-two s s key a b pos l)
   where
     starts : s ≡ s ⊕ s ⊕ s
@@ -124,30 +92,25 @@ bits-xor [] (y ∷ b) l = absurd (omega arith)
 bits-xor (x ∷ a) [] l = absurd (omega arith)
 bits-xor (x ∷ a) (y ∷ b) l =
     ap₂ (λ (c d : List ℕ). c ++ d) (low-xor 8 x y) (bits-xor a b (omega arith))
-    ∙ sym (append-xor (lowBits 8 x) (lowBits 8 y) (bits a) (bits b) (length-low 8 x ∙ sym (length-low 8 y)))
-
--- as long as each other, in bits too
-alike-long : (a b : Part) → Alike a b → partLength a ≡ partLength b
-unfolding partLength
-alike-long a b h = ap₂ (λ (n u : ℕ). cond (eqb n 0) 0 (8 * (n - 1) + usedBits u)) (h .0) (h .1)
+    ∙ sym (append-zipWith _⊕_ (lowBits 8 x) (lowBits 8 y) (bits a) (bits b) (length-low 8 x ∙ sym (length-low 8 y)))
 
 module _ (a b : Part) (h : Alike a b) where
   long : Alike (xorParts a b) a
-  long = (length-xor (a .bytes) (b .bytes) (h .0), refl)
+  long = (length-zipWith _⊕_ (a .bytes) (b .bytes) (h .0), refl)
 
   parts-xor : partBits (xorParts a b) ≡ xorLists (partBits a) (partBits b)
   unfolding partBits
   parts-xor =
-      ap₂ (λ (n : ℕ) (r : List ℕ). take n r) (alike-long (xorParts a b) a long) (bits-xor (a .bytes) (b .bytes) (h .0))
-      ∙ take-xor (partLength a) (bits (a .bytes)) (bits (b .bytes))
-      ∙ ap (λ (n : ℕ). xorLists (take (partLength a) (bits (a .bytes))) (take n (bits (b .bytes)))) (alike-long a b h)
+      ap₂ (λ (n : ℕ) (r : List ℕ). take n r) (alike-long (xorParts a b) a (long .0) (long .1)) (bits-xor (a .bytes) (b .bytes) (h .0))
+      ∙ take-zipWith _⊕_ (partLength a) (bits (a .bytes)) (bits (b .bytes))
+      ∙ ap (λ (n : ℕ). xorLists (take (partLength a) (bits (a .bytes))) (take n (bits (b .bytes)))) (alike-long a b (h .0) (h .1))
 
   -- the unused bits of the final byte
   zeros-xor : WellUsed a → WellUsed b → getD (xorParts a b .bytes) (length (xorParts a b .bytes) - 1) 0 % 2 ^ (8 - a .used) ≡ 0
   zeros-xor w v =
       let i = length (a .bytes) - 1 in
       ap (λ (n : ℕ). getD (xorParts a b .bytes) (n - 1) 0 % 2 ^ (8 - a .used)) (long .0)
-      ∙ ap (λ (x : ℕ). x % 2 ^ (8 - a .used)) (entry-xor (a .bytes) (b .bytes) i (h .0))
+      ∙ ap (λ (x : ℕ). x % 2 ^ (8 - a .used)) (getD-zipWith _⊕_ (⊕-self 0) (a .bytes) (b .bytes) i (h .0))
       ∙ ⊕-mod (8 - a .used) (getD (a .bytes) i 0) (getD (b .bytes) i 0)
       ∙ ap₂ (λ (x y : ℕ). x ⊕ y) (w .zeros)
       (ap₂ (λ (n u : ℕ). getD (b .bytes) (n - 1) 0 % 2 ^ (8 - u)) (h .0) (h .1) ∙ v .zeros)

@@ -72,6 +72,11 @@ pub some-long : (p : Part) → 0 < length (p .bytes) → partLength p ≡ 8 * (l
 unfolding partLength
 some-long p h = ap (λ b. cond b 0 (8 * (length (p .bytes) - 1) + usedBits (p .used))) (ne-eqb (length (p .bytes)) 0 (λ e. omega arith))
 
+-- as many bytes and as many used bits of the final one are as many bits
+pub alike-long : (p q : Part) → length (p .bytes) ≡ length (q .bytes) → p .used ≡ q .used → partLength p ≡ partLength q
+unfolding partLength
+alike-long p q n u = ap₂ (λ (m v : ℕ). cond (eqb m 0) 0 (8 * (m - 1) + usedBits v)) n u
+
 -- the bits are those of all bytes but the final one, and 1 to 8 more
 pub part-range : (p : Part) → (partLength p ≤ 8 * length (p .bytes)) × (8 * length (p .bytes) ≤ partLength p + 7)
 part-range p = go (decLt 0 (length (p .bytes)))

@@ -26,7 +26,7 @@ EmptyJoined =
 
 -- of two lists, entry by entry, as far as both reach: of the bits of two files, and of the bytes of two parts
 abbrev pub xorLists : List ℕ → List ℕ → List ℕ
-xorLists a b = zipWith (λ x y. x ⊕ y) a b
+xorLists a b = zipWith _⊕_ a b
 
 -- two files of one length, each behind a start of its own. Two plain fingerprints have s = u = 0.
 abbrev pub XorTwo : Type 0

@@ -1,8 +1,8 @@
--- Joining in any grouping, and the exclusive or of files (document 02, wish 12): examples under 0x11B, of both kinds, to which each claim applies; and
--- marks that are not acceptable by themselves, of which the claim would be false.
+-- Joining in any grouping, and the exclusive or of files (document 02, wish 12): examples under 0x11B, some of them of both kinds, to which each claim
+-- is applied; and three marks, the first of them not acceptable by itself, of which the claim would be false.
 use mathlib.Core.Path.{_≡_, refl, sym, ap, _∙_}
 use mathlib.Core.Bool.{false}
-use mathlib.Core.List.{List, [], _∷_, _++_, map, zipWith, flatten}
+use mathlib.Core.List.{List, [], _∷_, map, zipWith, flatten}
 use Prim.Native.Nat.{ℕ, _<_}
 use native.Mathlib.Omega.{arith}
 use Rattle.gf2.specs.Polynomials.{_⊕_, halvings, degree, monic, reduce, longDivision, rem}
@@ -46,8 +46,8 @@ right = (
   sym (any-two-first 0 0x11B _ _ _ accepted-11B (fits 0x41 (omega arith)) (fits 0x42 (omega arith)) (fits 0x43 (omega arith))) ∙ left .1,
 )
 
--- Marks that are not acceptable by themselves: the first fingerprint is not below 2^8, and the two last lengths pass the limit together. The numbers
--- differ, so that the premise is needed.
+-- The first mark is not acceptable by itself: its fingerprint is not below 2^8. The last two lengths pass the limit together. The numbers differ, so
+-- that the premise is needed.
 pub not-acceptable : (leftFirst 1 x (mark 0x100 8) (mark 0x01 8) (mark 0x01 34359738360) ≡ Refused MarkNotReduced tt)
     × (rightFirst 1 x (mark 0x100 8) (mark 0x01 8) (mark 0x01 34359738360) ≡ Refused TooLong tt)
 unfolding joinBehindFrom monic reducible anyBelow rem longDivision reduce degree halvings _⊕_
@@ -133,7 +133,7 @@ unfolding markFrom fingerprintFrom valueFrom bits lowBits rem longDivision reduc
 their-marks = refl
 
 pub the-season : mark 0x68 24 ≡ markFrom 1 0x11B (flatten files)
-the-season = grouping-true 1 0x11B days files (mark 0x68 24) accepted-11B their-marks by-weeks
+the-season = grouping-true 1 0x11B days files (mark 0x68 24) (omega arith) their-marks by-weeks
 
 -- ---- exclusive or: 41 42, 00 00 and 01 1B, which together are 40 59
 
@@ -158,8 +158,9 @@ fingerprints : (fingerprint 0x11B (bits a) ≡ 0x9D)
     × (fingerprint 0x11B (bits c) ≡ 0x5E)
     × (plainFingerprint 0x11B (bits a) ≡ 0xC3)
     × (plainFingerprint 0x11B (bits c) ≡ 0x00)
+    × (plainFingerprint 0x11B (bits b) ≡ 0x00)
 unfolding fingerprintFrom valueFrom bits lowBits rem longDivision reduce degree halvings _⊕_
-fingerprints = (refl, refl, refl, refl, refl)
+fingerprints = (refl, refl, refl, refl, refl, refl)
 
 pub of-three : fingerprint 0x11B (bits sum) ≡ 0x9D
 unfolding bits lowBits _⊕_
@@ -167,6 +168,13 @@ of-three =
     ap (fingerprint 0x11B) (sym (sums .0))
     ∙ xor-three 1 0x11B (bits a) (bits b) (bits c) (omega arith) refl refl
     ∙ rw (fingerprints .0, fingerprints .1, fingerprints .2)
+
+pub of-three-plain : plainFingerprint 0x11B (bits sum) ≡ 0xC3
+unfolding bits lowBits _⊕_
+of-three-plain =
+    ap (plainFingerprint 0x11B) (sym (sums .0))
+    ∙ xor-three 0 0x11B (bits a) (bits b) (bits c) (omega arith) refl refl
+    ∙ rw (fingerprints .3, fingerprints .5, fingerprints .4)
 
 -- two plain fingerprints, and two of ours: each sum is the plain fingerprint of 40 59
 pub of-two-plain : plainFingerprint 0x11B (bits sum) ≡ 0xC3

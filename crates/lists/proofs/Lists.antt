@@ -1,9 +1,9 @@
--- Laws of lists of numbers, of listed values and of the numbers that pass a test, and tests of a whole list that the checker computes: of
--- every entry, that two lists are the same, and that a list rises.
+-- Laws of lists of numbers, of two lists entry by entry, of listed values and of the numbers that pass a test, and tests of a whole list that the
+-- checker computes: of every entry, that two lists are the same, and that a list rises.
 use mathlib.Core.Path.{_≡_, refl, sym, ap, ap₂, _∙_}
 use mathlib.Core.Logic.{_≢_, _⊎_}
 use mathlib.Core.Bool.{Bool, true, false, _&&_, cond}
-use mathlib.Core.List.{List, [], _∷_, _++_, map}
+use mathlib.Core.List.{List, [], _∷_, _++_, map, zipWith}
 use Prim.Native.Nat.{ℕ, zero, suc, _+_, _≤_, _<_}
 use native.Mathlib.Nat.{lt-trans, ne-of-gt, zero-add, add-zero, add-suc, suc-add, le-of-suc-le-suc, not-suc-le-zero}
 use native.Mathlib.Numerals.{add-one}
@@ -43,6 +43,37 @@ all-zip f (x ∷ xs) p q = (f x (p .0) (q .0), all-zip f xs (p .1) (q .1))
 abbrev pub Some : (ℕ → Type 0) → List ℕ → Type 0
 Some P [] = ⊥
 Some P (x ∷ xs) = P x ⊎ Some P xs
+
+-- ---- two lists, entry by entry
+
+module _ (f : ℕ → ℕ → ℕ) where
+  pub length-zipWith : (a b : List ℕ) → length a ≡ length b → length (zipWith f a b) ≡ length a
+  unfolding zipWith
+  length-zipWith [] b l = refl
+  length-zipWith (x ∷ a) [] l = absurd (omega arith)
+  length-zipWith (x ∷ a) (y ∷ b) l = ap suc (length-zipWith a b (omega arith))
+
+  pub take-zipWith : (n : ℕ) (a b : List ℕ) → take n (zipWith f a b) ≡ zipWith f (take n a) (take n b)
+  unfolding zipWith
+  take-zipWith zero a b = refl
+  take-zipWith (suc n) [] b = refl
+  take-zipWith (suc n) (x ∷ a) [] = refl
+  take-zipWith (suc n) (x ∷ a) (y ∷ b) = ap {B = List ℕ} (λ r. f x y ∷ r) (take-zipWith n a b)
+
+  pub append-zipWith : (a b c d : List ℕ) → length a ≡ length b → zipWith f (a ++ c) (b ++ d) ≡ zipWith f a b ++ zipWith f c d
+  unfolding zipWith
+  append-zipWith [] [] c d l = refl
+  append-zipWith [] (y ∷ b) c d l = absurd (omega arith)
+  append-zipWith (x ∷ a) [] c d l = absurd (omega arith)
+  append-zipWith (x ∷ a) (y ∷ b) c d l = ap {B = List ℕ} (λ r. f x y ∷ r) (append-zipWith a b c d (omega arith))
+
+  pub getD-zipWith : f 0 0 ≡ 0 → (a b : List ℕ) (i : ℕ) → length a ≡ length b → getD (zipWith f a b) i 0 ≡ f (getD a i 0) (getD b i 0)
+  unfolding zipWith
+  getD-zipWith z [] [] i l = sym z
+  getD-zipWith z [] (y ∷ b) i l = absurd (omega arith)
+  getD-zipWith z (x ∷ a) [] i l = absurd (omega arith)
+  getD-zipWith z (x ∷ a) (y ∷ b) zero l = refl
+  getD-zipWith z (x ∷ a) (y ∷ b) (suc i) l = getD-zipWith z a b i (omega arith)
 
 -- ---- a test at every entry
 
