@@ -3,7 +3,7 @@
 use Rattle.std.specs.Prelude.{◌≡◌, ◌≢◌, ◌↔◌, true, false, ℕ, ◌^◌, ◌≤◌, ◌<◌, ltb}
 use Rattle.gf2.specs.Polynomials.{degree, Divides, Irreducible}
 use Rattle.acceptance.specs.declared.Key.{Key}
-use Rattle.acceptance.specs.Keys.{reducible, accepted, polynomialOf, keyOf, outside}
+use Rattle.acceptance.specs.Keys.{reducible, accepted, polynomial_of, key_of, outside}
 
 -- degree 8 to 64, and irreducible
 abbrev pub AcceptedIff : Type 0
@@ -16,12 +16,12 @@ AcceptedWords = (p : ℕ) → (accepted p ≡ true) ↔ ((8 ≤ degree p) × (de
 -- of a key handed in: neither 1 nor 2 applies where its polynomial is accepted and it is that polynomial's, and only there
 abbrev pub KeyIff : Type 0
 KeyIff =
-    (x : Key) → ((outside x ≡ false) × (reducible (polynomialOf x) ≡ false)) ↔ ((accepted (polynomialOf x) ≡ true) × (x ≡ keyOf (polynomialOf x)))
+    (x : Key) → ((outside x ≡ false) × (reducible (polynomial_of x) ≡ false)) ↔ ((accepted (polynomial_of x) ≡ true) × (x ≡ key_of (polynomial_of x)))
 
 -- of a number of 64 bits, as sheets of versions 1 to 3 hold a key: number 1 is document 01's, "key below 256"
 abbrev pub WordOutside : Type 0
-WordOutside = (n : ℕ) → n < 2 ^ 64 → outside (keyOf n) ≡ ltb n 256
+WordOutside = (n : ℕ) → n < 2 ^ 64 → outside (key_of n) ≡ ltb n 256
 
 -- no accepted key has the word 0, so that 0 can stand for no key in a list of words
 abbrev pub WordNotZero : Type 0
-WordNotZero = (p : ℕ) → accepted p ≡ true → (keyOf p).word ≢ 0
+WordNotZero = (p : ℕ) → accepted p ≡ true → (key_of p).word ≢ 0

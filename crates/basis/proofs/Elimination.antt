@@ -8,8 +8,8 @@ use lib.Pow.{pow-lt, split, high, low, recompose, mod-pow-add}
 use lib.Bits.{bit_and, and_mask, and_high, and_zero_r, block_half, block_odd}
 use lib.Count.{count_trailing_zeros, under}
 use Rattle.gf2.specs.Polynomials.{◌⊕◌}
-use Rattle.gf2.proofs.Sums.{⊕-zero, ⊕-left-comm, ⊕-self, ⊕-shr, ⊕-eq, ⊕-swap}
-use Rattle.gf2.proofs.Products.{by_bit, bit-cases, mod-2, low-⊕}
+use Rattle.gf2.proofs.Sums.{⊕-zero, ⊕-left_comm, ⊕_self, ⊕_shr, ⊕-eq, ⊕_swap}
+use Rattle.gf2.proofs.Products.{by_bit, bit-cases, mod_2, low-⊕}
 use Rattle.gf2.proofs.Linear.{Additive, at-bit}
 use Rattle.gf2.proofs.Degrees.{half_lt, half_pow}
 use Rattle.gf2.proofs.Steps.{shifted_one}
@@ -24,9 +24,9 @@ bit-zero c = ap (λ (x : ℕ). x % 2) (zero-div (2 ^ c))
 clear-⊕ : (c v a b : ℕ) → clear c v (a ⊕ b) ≡ clear c v a ⊕ clear c v b
 unfolding clear
 clear-⊕ c v a b =
-    ap (λ (x : ℕ). x % 2 * v ⊕ (a ⊕ b)) (⊕-shr c a b)
+    ap (λ (x : ℕ). x % 2 * v ⊕ (a ⊕ b)) (⊕_shr c a b)
     ∙ ap (λ (x : ℕ). x ⊕ (a ⊕ b)) (low-⊕ (a / 2 ^ c) (b / 2 ^ c) v)
-    ∙ ⊕-swap (a / 2 ^ c % 2 * v) (b / 2 ^ c % 2 * v) a b
+    ∙ ⊕_swap (a / 2 ^ c % 2 * v) (b / 2 ^ c % 2 * v) a b
 
 clearing : (c v : ℕ) → Additive (clear c v)
 clearing c v = record { sum = clear-⊕ c v }
@@ -42,9 +42,9 @@ pub no_rows : Independent []
 no_rows h l e = omega arith
 
 module _ (c v : ℕ) (rows : List ℕ) (one : v / 2 ^ c % 2 ≡ 1) where
-  cleared-itself : clear c v v ≡ 0
+  cleared_itself : clear c v v ≡ 0
   unfolding clear
-  cleared-itself = rw (one, one-mul) (⊕-self v)
+  cleared_itself = rw (one, one-mul) (⊕_self v)
 
   there : Independent (v ∷ rows) → Independent (map (clear c v) rows)
   unfolding sum_of clear
@@ -54,17 +54,17 @@ module _ (c v : ℕ) (rows : List ℕ) (one : v / 2 ^ c % 2 ≡ 1) where
       α = sum_of h rows / 2 ^ c % 2
 
       half : (h * 2 + α) / 2 ≡ h
-      half = omega (arith, mod-2 (sum_of h rows / 2 ^ c))
+      half = omega (arith, mod_2 (sum_of h rows / 2 ^ c))
 
       low : (h * 2 + α) % 2 ≡ α
-      low = omega (arith, mod-2 (sum_of h rows / 2 ^ c))
+      low = omega (arith, mod_2 (sum_of h rows / 2 ^ c))
 
       bound : h * 2 + α < 2 ^ suc (length rows)
-      bound = rw pow-suc (omega (arith, mod-2 (sum_of h rows / 2 ^ c), rw (length-map rows (clear c v)) at l))
+      bound = rw pow-suc (omega (arith, mod_2 (sum_of h rows / 2 ^ c), rw (length-map rows (clear c v)) at l))
 
   back : Independent (map (clear c v) rows) → Independent (v ∷ rows)
   unfolding sum_of
-  back i h l e = go (bit-cases (h % 2) (mod-2 h))
+  back i h l e = go (bit-cases (h % 2) (mod_2 h))
     where
       rest : sum_of (h / 2) rows ≡ h % 2 * v
       rest = sym (⊕-eq (h % 2 * v) (sum_of (h / 2) rows) e)
@@ -72,7 +72,7 @@ module _ (c v : ℕ) (rows : List ℕ) (one : v / 2 ^ c % 2 ≡ 1) where
       upper : h / 2 ≡ 0
       upper =
           i (h / 2) (rw (length-map rows (clear c v)) (half_lt h (length rows) l))
-          (sum-map (clearing c v) (h / 2) rows ∙ ap (clear c v) rest ∙ at-bit (clearing c v) h v ∙ rw cleared-itself (mul-zero (h % 2)))
+          (sum-map (clearing c v) (h / 2) rows ∙ ap (clear c v) rest ∙ at-bit (clearing c v) h v ∙ rw cleared_itself (mul-zero (h % 2)))
 
       go : (h % 2 ≡ 0) ⊎ (h % 2 ≡ 1) → h ≡ 0
       go (inl z) = omega (arith, upper)
@@ -91,7 +91,7 @@ unfolding sum_of
 sum-last h v [] = ap (λ (x : ℕ). x % 2 * v ⊕ 0) (sym (div-one h))
 sum-last h v (r ∷ rows) =
     ap (λ (x : ℕ). h % 2 * r ⊕ x) (sum-last (h / 2) v rows ∙ ap (λ (x : ℕ). x % 2 * v ⊕ sum_of (h / 2) rows) (sym (half_pow h (length rows))))
-    ∙ ⊕-left-comm (h % 2 * r) (h / 2 ^ suc (length rows) % 2 * v) (sum_of (h / 2) rows)
+    ∙ ⊕-left_comm (h % 2 * r) (h / 2 ^ suc (length rows) % 2 * v) (sum_of (h / 2) rows)
 
 -- the bits past the rows choose none
 sum_past : (a h : ℕ) (rows : List ℕ) → sum_of (a * 2 ^ length rows + h) rows ≡ sum_of h rows
@@ -135,7 +135,7 @@ module _ (v : ℕ) (rows : List ℕ) where
       bound = rw (length_last, pow-suc) (by_bit (λ (c : ℕ). c * 2 ^ length rows + h / 2 < 2 ^ length rows * 2) (omega (arith, half)) (omega (arith, half)) h)
 
       none : h % 2 * 2 ^ length rows + h / 2 ≡ 0
-      none = i (h % 2 * 2 ^ length rows + h / 2) bound (both (h % 2) (h / 2) (mod-2 h) half ∙ rw whole e)
+      none = i (h % 2 * 2 ^ length rows + h / 2) bound (both (h % 2) (h / 2) (mod_2 h) half ∙ rw whole e)
 
   first-last : Independent (v ∷ rows) → Independent (rows ++ (v ∷ []))
   first-last i h l e = sym (split h (length rows)) ∙ rw (a-is, b-is, zero-mul)
@@ -160,7 +160,7 @@ module _ (v : ℕ) (rows : List ℕ) where
 -- ---- the step in code: a mask of ones where a bit is 1
 
 pub masked : (v x mask : ℕ) → v < 2 ^ 64 → mask < 2 ^ 64 → (mask + bit_and x 1) % 2 ^ 64 ≡ 0 → bit_and v mask ≡ x % 2 * v
-masked v x mask lv lm e = go (bit-cases (x % 2) (mod-2 x))
+masked v x mask lv lm e = go (bit-cases (x % 2) (mod_2 x))
   where
     bit : bit_and x 1 ≡ x % 2
     bit = and_mask x 1
@@ -176,7 +176,7 @@ masked v x mask lv lm e = go (bit-cases (x % 2) (mod-2 x))
 -- by the bit in column c of x: where v has no 1 below column c, that bit taken from 0 will do
 pub masked-from : (c v x mask : ℕ) → c < 64 → v < 2 ^ 64 → v % 2 ^ c ≡ 0 → mask < 2 ^ 64 → (mask + bit_and x (1 * 2 ^ c % 2 ^ 64)) % 2 ^ 64 ≡ 0
     → bit_and v mask ≡ x / 2 ^ c % 2 * v
-masked-from c v x mask lc lv z lm e = go (bit-cases (x / 2 ^ c % 2) (mod-2 (x / 2 ^ c)))
+masked-from c v x mask lc lv z lm e = go (bit-cases (x / 2 ^ c % 2) (mod_2 (x / 2 ^ c)))
   where
     twice : 2 ^ (1 + c) - 2 ^ c ≡ 2 ^ c
     twice = rw (add_comm 1 c, pow-add) (omega arith)
@@ -203,7 +203,7 @@ masked-from c v x mask lc lv z lm e = go (bit-cases (x / 2 ^ c % 2) (mod-2 (x / 
 pub lowest-one : (k n : ℕ) → 0 < n → n < 2 ^ k → (count_trailing_zeros k n < k) × (n % 2 ^ count_trailing_zeros k n ≡ 0) × (n / 2 ^ count_trailing_zeros k n % 2 ≡ 1)
 unfolding count_trailing_zeros
 lowest-one zero n p l = absurd (omega arith)
-lowest-one (suc k) n p l = go (bit-cases (n % 2) (mod-2 n)) (λ q. lowest-one k (n / 2) q (half_lt n k l))
+lowest-one (suc k) n p l = go (bit-cases (n % 2) (mod_2 n)) (λ q. lowest-one k (n / 2) q (half_lt n k l))
   where
     more : (t : ℕ) → n / 2 % 2 ^ t ≡ 0 → n % 2 ≡ 0 → n % 2 ^ suc t ≡ 0
     more t e z = ap (λ (m : ℕ). n % 2 ^ m) (sym (add-one t)) ∙ mod-pow-add n t 1 ∙ rw (e, z)

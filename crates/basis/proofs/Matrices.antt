@@ -2,10 +2,10 @@
 use Rattle.std.proofs.Common.{◌≡◌, ℕ, suc, ◌+◌, ◌*◌, ◌/◌, ◌%◌, ◌^◌, ◌<◌, List, [], ◌∷◌, length, get_or, set, sym, ap, ◌∙◌, ap₂, suc-le-suc, add-zero, add-suc, mul_assoc, mul_comm, suc-add, pow-suc, zero-add, zero-mul, mul-one, arith}
 use lib.Arith.{lt-one}
 use Rattle.gf2.specs.Polynomials.{◌⊕◌}
-use Rattle.gf2.proofs.Sums.{⊕-comm, ⊕-shl}
-use Rattle.gf2.proofs.Products.{by-low}
+use Rattle.gf2.proofs.Sums.{⊕_comm, ⊕_shl}
+use Rattle.gf2.proofs.Products.{by_low}
 use Rattle.lists.specs.Lists.{list_from}
-use Rattle.lists.proofs.Lists.{stored, length-list, list_at}
+use Rattle.lists.proofs.Lists.{stored, length_list, list_at}
 use Rattle.gf2.proofs.Degrees.{half_lt}
 use Rattle.gf2.proofs.Linear.{Additive, at_zero, at-bit}
 use Rattle.basis.specs.Rows.{sum_of, Matrix}
@@ -31,14 +31,14 @@ module _ {L : ℕ → ℕ} (add : Additive L) where
       together : x % 2 * 2 ^ s ⊕ x / 2 * 2 ^ suc s ≡ x * 2 ^ s
       together =
           ap (λ (y : ℕ). x % 2 * 2 ^ s ⊕ y) (ap (λ (y : ℕ). x / 2 * y) (pow-suc 2 s ∙ mul_comm (2 ^ s) 2) ∙ sym (mul_assoc (x / 2) 2 (2 ^ s)))
-          ∙ ⊕-comm (x % 2 * 2 ^ s) (x / 2 * 2 * 2 ^ s)
-          ∙ sym (⊕-shl s (x / 2 * 2) (x % 2))
-          ∙ ap (λ (y : ℕ). y * 2 ^ s) (by-low x)
+          ∙ ⊕_comm (x % 2 * 2 ^ s) (x / 2 * 2 * 2 ^ s)
+          ∙ sym (⊕_shl s (x / 2 * 2) (x % 2))
+          ∙ ap (λ (y : ℕ). y * 2 ^ s) (by_low x)
 
   -- listed rows from t^i on
   pub sum-listed : (i n x : ℕ) → x < 2 ^ n → sum_of x (list_from (λ j. L (2 ^ j)) i n) ≡ L (x * 2 ^ i)
   sum-listed i n x l =
-      sum-from (list_from (λ j. L (2 ^ j)) i n) i (λ j m. list_at (λ j. L (2 ^ j)) i n j (rw (length-list (λ j. L (2 ^ j)) i n) at m)) x (rw length-list l)
+      sum-from (list_from (λ j. L (2 ^ j)) i n) i (λ j m. list_at (λ j. L (2 ^ j)) i n j (rw (length_list (λ j. L (2 ^ j)) i n) at m)) x (rw length_list l)
 
 -- ---- the rows are filled in one by one
 
@@ -50,6 +50,6 @@ module _ {L : ℕ → ℕ} (add : Additive L) (rows : List ℕ) (x n : ℕ) wher
   pub filling-next : n < length rows → Filling L rows x n → (y : ℕ) → y ≡ L (2 ^ (n + 1)) → Filling L (set rows n x) y (n + 1)
   filling-next l h y e = (e, λ j m. stored 0 (λ k z. z ≡ L (2 ^ k)) rows n x l h.0 j (λ q. h.1 j (omega (arith, q))))
 
-  pub filling-matrix : length rows ≡ 64 → n ≡ 64 → Filling L rows x n → Matrix L rows
-  filling-matrix e d h y l =
+  pub filling_matrix : length rows ≡ 64 → n ≡ 64 → Filling L rows x n → Matrix L rows
+  filling_matrix e d h y l =
       sum-from add rows 0 (λ j m. h.1 j (omega arith) ∙ ap (λ (i : ℕ). L (2 ^ i)) (sym (zero-add j))) y (rw e l) ∙ ap L (mul-one y)

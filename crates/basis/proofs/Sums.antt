@@ -3,7 +3,7 @@ use Rattle.std.proofs.Common.{◌≡◌, ℕ, zero, suc, ◌+◌, ◌*◌, ◌/�
 use lib.Arith.{lt-one}
 use lib.Seq.{drop-length}
 use Rattle.gf2.specs.Polynomials.{◌⊕◌}
-use Rattle.gf2.proofs.Sums.{⊕-self, ⊕-zero, zero-⊕, ⊕-assoc, ⊕-half, ⊕-swap}
+use Rattle.gf2.proofs.Sums.{⊕_self, ⊕-zero, zero-⊕, ⊕_assoc, ⊕-half, ⊕_swap}
 use Rattle.gf2.proofs.Products.{low-⊕}
 use Rattle.gf2.proofs.Linear.{Additive, at_zero, at-bit}
 use Rattle.gf2.proofs.Degrees.{half_lt}
@@ -16,10 +16,10 @@ sum-none (r ∷ rows) = rw (sum-none rows, zero-mul) (⊕-zero 0)
 
 sum-⊕ : (rows : List ℕ) (x y : ℕ) → sum_of (x ⊕ y) rows ≡ sum_of x rows ⊕ sum_of y rows
 unfolding sum_of
-sum-⊕ [] x y = sym (⊕-self 0)
+sum-⊕ [] x y = sym (⊕_self 0)
 sum-⊕ (r ∷ rows) x y =
     ap₂ (λ (u v : ℕ). u ⊕ v) (low-⊕ x y r) (ap (λ (z : ℕ). sum_of z rows) (⊕-half x y) ∙ sum-⊕ rows (x / 2) (y / 2))
-    ∙ ⊕-swap (x % 2 * r) (y % 2 * r) (sum_of (x / 2) rows) (sum_of (y / 2) rows)
+    ∙ ⊕_swap (x % 2 * r) (y % 2 * r) (sum_of (x / 2) rows) (sum_of (y / 2) rows)
 
 pub sum-additive : (rows : List ℕ) → Additive (λ x. sum_of x rows)
 sum-additive rows = record { sum = sum-⊕ rows }
@@ -60,7 +60,7 @@ sum-place (suc j) (r ∷ rows) =
 pub sum-next : (rows : List ℕ) (j sum x : ℕ) → j < length rows
     → (sum ⊕ x % 2 * get_or rows j 0) ⊕ sum_of (x / 2) (drop (j + 1) rows) ≡ sum ⊕ sum_of x (drop j rows)
 unfolding sum_of
-sum-next rows j sum x l = rw (add-one j, drop-cons rows j 0 l) (⊕-assoc sum (x % 2 * get_or rows j 0) (sum_of (x / 2) (drop (suc j) rows)))
+sum-next rows j sum x l = rw (add-one j, drop-cons rows j 0 l) (⊕_assoc sum (x % 2 * get_or rows j 0) (sum_of (x / 2) (drop (suc j) rows)))
 
 pub sum_done : (rows : List ℕ) (j sum x : ℕ) → j ≡ length rows → sum ⊕ sum_of x (drop j rows) ≡ sum
 unfolding sum_of

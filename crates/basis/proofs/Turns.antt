@@ -10,9 +10,9 @@ use Rattle.basis.proofs.Elimination.{eliminate, no_rows, rotate, zero_row}
 
 -- ---- row i clears the rows from i + 1 up to n
 
-pub part-cons : (i n : ℕ) (rows : List ℕ) → i < n → n ≤ length rows
+pub part_cons : (i n : ℕ) (rows : List ℕ) → i < n → n ≤ length rows
     → take (n - i) (drop i rows) ≡ get_or rows i 0 ∷ take (n - (i + 1)) (drop (i + 1) rows)
-part-cons i n rows h l =
+part_cons i n rows h l =
     let e : n - i ≡ suc (n - (i + 1)) = omega arith in
     rw (e, add-one i, drop-cons rows i 0 (omega arith))
 
@@ -23,7 +23,7 @@ pub turn-behind : (i n c : ℕ) (rows ys : List ℕ) → i < n → n ≤ length 
     → ys ≡ map (clear c (get_or rows i 0)) (take (n - (i + 1)) (drop (i + 1) rows))
     → Independent (take (n - i) (drop i rows)) ↔ Independent (take (n - (i + 1)) (drop (i + 1) (put_mid (i + 1) (n - (i + 1)) rows ys)))
 turn-behind i n c rows ys h l one e =
-    rw (part-cons i n rows h l, put-part (i + 1) (n - (i + 1)) rows ys (omega arith) len, e)
+    rw (part_cons i n rows h l, put-part (i + 1) (n - (i + 1)) rows ys (omega arith) len, e)
     (eliminate c (get_or rows i 0) (take (n - (i + 1)) (drop (i + 1) rows)) one)
   where
     len : length ys ≡ n - (i + 1)

@@ -12,27 +12,27 @@ use lib.Pow.{pow_pos, mod-pow-add, pow-add}
 use lib.Seq.{sets, sets-eq, drop-cons, take_at, drop_at, take-add, drop-drop, length-take-le}
 use Rattle.lists.specs.Lists.{All}
 use Rattle.lists.proofs.Lists.{all_take, all_drop}
-use Rattle.files.specs.Files.{bits, valueFrom, Bytes}
+use Rattle.files.specs.Files.{bits, value_from, Bytes}
 use Rattle.files.proofs.Values.{value-byte, value-split, value-lt, length-bits}
-use Rattle.big_endian.specs.Numbers.{bytes_of, fields_of, number_at, numbersAt, bytesIn}
+use Rattle.big_endian.specs.Numbers.{bytes_of, fields_of, number_at, numbers_at, bytes_in}
 
 -- ---- lengths
 
-pub length-bytesOf : (w x : ℕ) → length (bytes_of w x) ≡ w
+pub length-bytes_of : (w x : ℕ) → length (bytes_of w x) ≡ w
 unfolding bytes_of
-length-bytesOf zero x = refl
-length-bytesOf (suc w) x = ap suc (length-bytesOf w x)
+length-bytes_of zero x = refl
+length-bytes_of (suc w) x = ap suc (length-bytes_of w x)
 
-pub length-fieldsOf : (w : ℕ) (xs : List ℕ) → length (fields_of w xs) ≡ w * length xs
+pub length-fields_of : (w : ℕ) (xs : List ℕ) → length (fields_of w xs) ≡ w * length xs
 unfolding fields_of
-length-fieldsOf w [] = sym (mul-zero w)
-length-fieldsOf w (x ∷ xs) =
-    length-append (bytes_of w x) (fields_of w xs) ∙ rw (length-bytesOf w x, length-fieldsOf w xs, mul-suc) (add_comm w (w * length xs))
+length-fields_of w [] = sym (mul-zero w)
+length-fields_of w (x ∷ xs) =
+    length-append (bytes_of w x) (fields_of w xs) ∙ rw (length-bytes_of w x, length-fields_of w xs, mul-suc) (add_comm w (w * length xs))
 
-pub length-numbersAt : (place w c : ℕ) (l : List ℕ) → length (numbersAt place w c l) ≡ c
-unfolding numbersAt
-length-numbersAt place w zero l = refl
-length-numbersAt place w (suc c) l = ap suc (length-numbersAt (place + w) w c l)
+pub length-numbers_at : (place w c : ℕ) (l : List ℕ) → length (numbers_at place w c l) ≡ c
+unfolding numbers_at
+length-numbers_at place w zero l = refl
+length-numbers_at place w (suc c) l = ap suc (length-numbers_at (place + w) w c l)
 
 -- ---- written, then read
 
@@ -43,38 +43,38 @@ pub pow-next : (w : ℕ) → 2 ^ (8 * suc w) ≡ 256 * 2 ^ (8 * w)
 pow-next w = ap (λ (n : ℕ). 2 ^ n) (mul-suc 8 w ∙ add_comm (8 * w) 8) ∙ pow-add 2 8 (8 * w)
 
 -- w bytes of a number come in as its low bits
-pub value-bytesOf : (w s x : ℕ) → valueFrom s (bits (bytes_of w x)) ≡ s * 2 ^ (8 * w) + x % 2 ^ (8 * w)
-unfolding bytes_of bits valueFrom
-value-bytesOf zero s x = simp (mul-one, mod-one, add-zero)
-value-bytesOf (suc w) s x =
+pub value-bytes_of : (w s x : ℕ) → value_from s (bits (bytes_of w x)) ≡ s * 2 ^ (8 * w) + x % 2 ^ (8 * w)
+unfolding bytes_of bits value_from
+value-bytes_of zero s x = simp (mul-one, mod-one, add-zero)
+value-bytes_of (suc w) s x =
     value-byte s (x / 2 ^ (8 * w) % 256) (bytes_of w x)
-    ∙ value-bytesOf w (s * 256 + x / 2 ^ (8 * w) % 256 % 256) x
+    ∙ value-bytes_of w (s * 256 + x / 2 ^ (8 * w) % 256 % 256) x
     ∙ rw (mod-mod (x / 2 ^ (8 * w)) 256, low-next w x, pow-next w) (omega arith)
 
-pub number-seam : (p q : List ℕ) (place w x : ℕ) → length p ≡ place → x < 2 ^ (8 * w) → number_at place w (p ++ (bytes_of w x ++ q)) ≡ x
+pub number_seam : (p q : List ℕ) (place w x : ℕ) → length p ≡ place → x < 2 ^ (8 * w) → number_at place w (p ++ (bytes_of w x ++ q)) ≡ x
 unfolding number_at
-number-seam p q place w x e h =
-    ap (λ (l : List ℕ). valueFrom 0 (bits (take w l))) (drop_at p (bytes_of w x ++ q) place e)
-    ∙ ap (λ (l : List ℕ). valueFrom 0 (bits l)) (take_at (bytes_of w x) q w (length-bytesOf w x))
-    ∙ value-bytesOf w 0 x
+number_seam p q place w x e h =
+    ap (λ (l : List ℕ). value_from 0 (bits (take w l))) (drop_at p (bytes_of w x ++ q) place e)
+    ∙ ap (λ (l : List ℕ). value_from 0 (bits l)) (take_at (bytes_of w x) q w (length-bytes_of w x))
+    ∙ value-bytes_of w 0 x
     ∙ simp (zero-mul, zero-add) (mod-eq_of_lt h)
 
 -- what stands behind w bytes
 pub number_behind : (u l : List ℕ) (n place w : ℕ) → length u ≡ n → number_at (n + place) w (u ++ l) ≡ number_at place w l
 unfolding number_at
 number_behind u l n place w e =
-    ap (λ (r : List ℕ). valueFrom 0 (bits (take w r))) (sym (drop-drop place n (u ++ l)) ∙ ap (drop place) (drop_at u l n e))
+    ap (λ (r : List ℕ). value_from 0 (bits (take w r))) (sym (drop-drop place n (u ++ l)) ∙ ap (drop place) (drop_at u l n e))
 
-pub numbers-seam : (xs p q : List ℕ) (place w : ℕ) → length p ≡ place → All (λ x. x < 2 ^ (8 * w)) xs
-    → numbersAt place w (length xs) (p ++ (fields_of w xs ++ q)) ≡ xs
-unfolding numbersAt fields_of
-numbers-seam [] p q place w e h = refl
-numbers-seam (x ∷ xs) p q place w e h =
+pub numbers_seam : (xs p q : List ℕ) (place w : ℕ) → length p ≡ place → All (λ x. x < 2 ^ (8 * w)) xs
+    → numbers_at place w (length xs) (p ++ (fields_of w xs ++ q)) ≡ xs
+unfolding numbers_at fields_of
+numbers_seam [] p q place w e h = refl
+numbers_seam (x ∷ xs) p q place w e h =
     ap₂ {C = List ℕ} (λ (y : ℕ) (ys : List ℕ). y ∷ ys)
     (ap (λ (l : List ℕ). number_at place w (p ++ l)) (append_assoc (bytes_of w x) (fields_of w xs) q)
-    ∙ number-seam p (fields_of w xs ++ q) place w x e h.0)
-    (ap (λ (l : List ℕ). numbersAt (place + w) w (length xs) l) regroup
-    ∙ numbers-seam xs (p ++ bytes_of w x) q (place + w) w (length-append p (bytes_of w x) ∙ rw (e, length-bytesOf w x)) h.1)
+    ∙ number_seam p (fields_of w xs ++ q) place w x e h.0)
+    (ap (λ (l : List ℕ). numbers_at (place + w) w (length xs) l) regroup
+    ∙ numbers_seam xs (p ++ bytes_of w x) q (place + w) w (length-append p (bytes_of w x) ∙ rw (e, length-bytes_of w x)) h.1)
   where
     regroup : p ++ (bytes_of w x ++ fields_of w xs ++ q) ≡ p ++ bytes_of w x ++ (fields_of w xs ++ q)
     regroup = simp append_assoc
@@ -82,7 +82,7 @@ numbers-seam (x ∷ xs) p q place w e h =
 -- ---- read, then written
 
 -- the number in bytes is below 2^(8 × their number)
-pub value-bound : (l : List ℕ) → valueFrom 0 (bits l) < 2 ^ (8 * length l)
+pub value-bound : (l : List ℕ) → value_from 0 (bits l) < 2 ^ (8 * length l)
 value-bound l = rw (← (length-bits l)) (value-lt (bits l))
 
 pub number_lt : (place w : ℕ) (l : List ℕ) → place + w ≤ length l → number_at place w l < 2 ^ (8 * w)
@@ -103,19 +103,19 @@ bytes-above (suc w) s x =
     shift : s * 2 ^ (8 * suc w) + x ≡ s * 256 * 2 ^ (8 * w) + x
     shift = rw (pow-next w, mul_assoc s 256 (2 ^ (8 * w)))
 
-pub bytes-value : (l : List ℕ) → Bytes l → bytes_of (length l) (valueFrom 0 (bits l)) ≡ l
+pub bytes-value : (l : List ℕ) → Bytes l → bytes_of (length l) (value_from 0 (bits l)) ≡ l
 unfolding bytes_of
 bytes-value [] h = refl
 bytes-value (b ∷ l) h =
-    rw number (ap₂ {C = List ℕ} (λ (b : ℕ) (l : List ℕ). b ∷ l) first (bytes-above (length l) b (valueFrom 0 (bits l)) ∙ bytes-value l h.1))
+    rw number (ap₂ {C = List ℕ} (λ (b : ℕ) (l : List ℕ). b ∷ l) first (bytes-above (length l) b (value_from 0 (bits l)) ∙ bytes-value l h.1))
   where
-    number : valueFrom 0 (bits (b ∷ l)) ≡ b * 2 ^ (8 * length l) + valueFrom 0 (bits l)
+    number : value_from 0 (bits (b ∷ l)) ≡ b * 2 ^ (8 * length l) + value_from 0 (bits l)
     number =
         value-byte 0 b l
-        ∙ ap (λ (x : ℕ). valueFrom x (bits l)) (zero-add (b % 256) ∙ mod-eq_of_lt h.0)
+        ∙ ap (λ (x : ℕ). value_from x (bits l)) (zero-add (b % 256) ∙ mod-eq_of_lt h.0)
         ∙ rw (← (length-bits l)) (value-split b (bits l))
 
-    first : (b * 2 ^ (8 * length l) + valueFrom 0 (bits l)) / 2 ^ (8 * length l) % 256 ≡ b
+    first : (b * 2 ^ (8 * length l) + value_from 0 (bits l)) / 2 ^ (8 * length l) % 256 ≡ b
     first = ap (λ (x : ℕ). x % 256) (digits_div b (value-bound l)) ∙ mod-eq_of_lt h.0
 
 -- a field that is read is written as the bytes that stand there
@@ -126,8 +126,8 @@ module _ (sheet : List ℕ) (h : Bytes sheet) where
       let e : length (take w (drop place sheet)) ≡ w = length-take-le w (drop place sheet) (rw (length-drop place sheet) (omega arith)) in
       rw e at (bytes-value (take w (drop place sheet)) (all_take (λ b. b < 256) w (drop place sheet) (all_drop (λ b. b < 256) place sheet h)))
 
-  pub fields-numbers : (c place w : ℕ) → place + w * c ≤ length sheet → fields_of w (numbersAt place w c sheet) ≡ take (w * c) (drop place sheet)
-  unfolding fields_of numbersAt
+  pub fields-numbers : (c place w : ℕ) → place + w * c ≤ length sheet → fields_of w (numbers_at place w c sheet) ≡ take (w * c) (drop place sheet)
+  unfolding fields_of numbers_at
   fields-numbers zero place w l = rw (mul-zero w)
   fields-numbers (suc c) place w l =
       rw (bytes-number place w (omega (arith, mul-suc w c)), fields-numbers c (place + w) w (omega (arith, mul-suc w c)), mul-suc w c, add_comm (w * c) w)
@@ -141,7 +141,7 @@ bytes-first w b x l = ap₂ {C = List ℕ} (λ (y : ℕ) (ys : List ℕ). y ∷ 
 
 pub number-first : (place w : ℕ) (l : List ℕ) → place + suc w ≤ length l
     → number_at place (suc w) l ≡ number_at place 1 l * 2 ^ (8 * w) + number_at (place + 1) w l
-unfolding number_at valueFrom bits
+unfolding number_at value_from bits
 number-first place w l h =
     let b = get_or l place 0 in
     let r = take w (drop (suc place) l) in
@@ -149,75 +149,75 @@ number-first place w l h =
     rw (drop-cons l place 0 (omega arith), add-one place)
     (value-byte 0 b r
     ∙ value-split (0 * 256 + b % 256) (bits r)
-    ∙ ap₂ (λ (x n : ℕ). x * 2 ^ n + valueFrom 0 (bits r)) (sym (value-byte 0 b [])) (length-bits r ∙ ap (λ (n : ℕ). 8 * n) long))
+    ∙ ap₂ (λ (x n : ℕ). x * 2 ^ n + value_from 0 (bits r)) (sym (value-byte 0 b [])) (length-bits r ∙ ap (λ (n : ℕ). 8 * n) long))
 
 -- ---- as the code goes: one byte a turn
 
-pub store-next : (l : List ℕ) (i x w : ℕ) → 0 < w → sets l i (bytes_of w x) ≡ sets (set l i (x / 2 ^ (8 * (w - 1)) % 256)) (i + 1) (bytes_of (w - 1) x)
+pub store_next : (l : List ℕ) (i x w : ℕ) → 0 < w → sets l i (bytes_of w x) ≡ sets (set l i (x / 2 ^ (8 * (w - 1)) % 256)) (i + 1) (bytes_of (w - 1) x)
 unfolding bytes_of
-store-next l i x zero h = absurd (omega arith)
-store-next l i x (suc w) h = let e : suc w - 1 ≡ w = omega arith in rw (e, add-one i)
+store_next l i x zero h = absurd (omega arith)
+store_next l i x (suc w) h = let e : suc w - 1 ≡ w = omega arith in rw (e, add-one i)
 
-pub store-done : (l : List ℕ) (i x w : ℕ) → w ≡ 0 → sets l i (bytes_of w x) ≡ l
+pub store_done : (l : List ℕ) (i x w : ℕ) → w ≡ 0 → sets l i (bytes_of w x) ≡ l
 unfolding bytes_of
-store-done l i x w e = rw e
+store_done l i x w e = rw e
 
 -- m bytes are left, the next at place i
-pub load-next : (l : List ℕ) (i x m : ℕ) → 0 < m → i < length l → get_or l i 0 < 256
-    → valueFrom x (bits (take m (drop i l))) ≡ valueFrom (x * 256 + get_or l i 0) (bits (take (m - 1) (drop (i + 1) l)))
-load-next l i x zero p h b = absurd (omega arith)
-load-next l i x (suc m) p h b =
+pub load_next : (l : List ℕ) (i x m : ℕ) → 0 < m → i < length l → get_or l i 0 < 256
+    → value_from x (bits (take m (drop i l))) ≡ value_from (x * 256 + get_or l i 0) (bits (take (m - 1) (drop (i + 1) l)))
+load_next l i x zero p h b = absurd (omega arith)
+load_next l i x (suc m) p h b =
     let e : suc m - 1 ≡ m = omega arith in
     rw (drop-cons l i 0 h, e, add-one i)
-    (value-byte x (get_or l i 0) (take m (drop (suc i) l)) ∙ ap (λ (y : ℕ). valueFrom (x * 256 + y) (bits (take m (drop (suc i) l)))) (mod-eq_of_lt b))
+    (value-byte x (get_or l i 0) (take m (drop (suc i) l)) ∙ ap (λ (y : ℕ). value_from (x * 256 + y) (bits (take m (drop (suc i) l)))) (mod-eq_of_lt b))
 
-pub load-done : (l : List ℕ) (i x m : ℕ) → m ≡ 0 → valueFrom x (bits (take m (drop i l))) ≡ x
-unfolding valueFrom bits
-load-done l i x m e = rw e
+pub load_done : (l : List ℕ) (i x m : ℕ) → m ≡ 0 → value_from x (bits (take m (drop i l))) ≡ x
+unfolding value_from bits
+load_done l i x m e = rw e
 
 -- one byte more is below 256 times the bound
 pub load_lt : (n x b : ℕ) → x < 2 ^ (8 * n) → b < 256 → x * 256 + b < 2 ^ (8 * (n + 1))
 load_lt n x b h l = rw (add-one n, pow-next n) (rw (mul_comm 256 (2 ^ (8 * n))) (digits_lt {m = 2 ^ (8 * n)} h l))
 
-pub numbers-next : (place w n : ℕ) (l : List ℕ) → 0 < n → numbersAt place w n l ≡ number_at place w l ∷ numbersAt (place + w) w (n - 1) l
-unfolding numbersAt
+pub numbers-next : (place w n : ℕ) (l : List ℕ) → 0 < n → numbers_at place w n l ≡ number_at place w l ∷ numbers_at (place + w) w (n - 1) l
+unfolding numbers_at
 numbers-next place w zero l h = absurd (omega arith)
 numbers-next place w (suc n) l h = let e : suc n - 1 ≡ n = omega arith in rw e
 
-pub numbers-done : (place w n : ℕ) (l : List ℕ) → n ≡ 0 → numbersAt place w n l ≡ []
-unfolding numbersAt
+pub numbers-done : (place w n : ℕ) (l : List ℕ) → n ≡ 0 → numbers_at place w n l ≡ []
+unfolding numbers_at
 numbers-done place w n l e = rw e
 
 -- m fields, and n behind them
-pub numbers-append : (place w m n : ℕ) (l : List ℕ) → numbersAt place w (m + n) l ≡ numbersAt place w m l ++ numbersAt (place + w * m) w n l
-unfolding numbersAt
+pub numbers-append : (place w m n : ℕ) (l : List ℕ) → numbers_at place w (m + n) l ≡ numbers_at place w m l ++ numbers_at (place + w * m) w n l
+unfolding numbers_at
 numbers-append place w zero n l =
-    ap₂ (λ (p c : ℕ). numbersAt p w c l) (sym (rw (mul-zero w) (add-zero place))) (zero-add n)
+    ap₂ (λ (p c : ℕ). numbers_at p w c l) (sym (rw (mul-zero w) (add-zero place))) (zero-add n)
 numbers-append place w (suc m) n l =
     let e : place + w + w * m ≡ place + w * suc m = omega (arith, mul-suc w m) in
-    ap (λ (c : ℕ). numbersAt place w c l) (suc-add m n)
+    ap (λ (c : ℕ). numbers_at place w c l) (suc-add m n)
     ∙ ap (λ (r : List ℕ). number_at place w l ∷ r)
-    (numbers-append (place + w) w m n l ∙ ap (λ (p : ℕ). numbersAt (place + w) w m l ++ numbersAt p w n l) e)
+    (numbers-append (place + w) w m n l ∙ ap (λ (p : ℕ). numbers_at (place + w) w m l ++ numbers_at p w n l) e)
 
-pub numbers-last : (place w c : ℕ) (l : List ℕ) → numbersAt place w (c + 1) l ≡ numbersAt place w c l ++ number_at (place + w * c) w l ∷ []
-unfolding numbersAt
+pub numbers-last : (place w c : ℕ) (l : List ℕ) → numbers_at place w (c + 1) l ≡ numbers_at place w c l ++ number_at (place + w * c) w l ∷ []
+unfolding numbers_at
 numbers-last place w c l = numbers-append place w c 1 l
 
 -- the fields of a part of the sheet
 pub number-part : (p place w : ℕ) (l : List ℕ) → number_at place w (drop p l) ≡ number_at (p + place) w l
 unfolding number_at
-number-part p place w l = ap (λ (r : List ℕ). valueFrom 0 (bits (take w r))) (drop-drop place p l)
+number-part p place w l = ap (λ (r : List ℕ). value_from 0 (bits (take w r))) (drop-drop place p l)
 
-pub numbers-part : (p place w n : ℕ) (l : List ℕ) → numbersAt place w n (drop p l) ≡ numbersAt (p + place) w n l
-unfolding numbersAt
+pub numbers-part : (p place w n : ℕ) (l : List ℕ) → numbers_at place w n (drop p l) ≡ numbers_at (p + place) w n l
+unfolding numbers_at
 numbers-part p place w zero l = refl
 numbers-part p place w (suc n) l =
     ap₂ {C = List ℕ} (λ (x : ℕ) (xs : List ℕ). x ∷ xs) (number-part p place w l)
-    (numbers-part p (place + w) w n l ∙ ap (λ (m : ℕ). numbersAt m w n l) (sym (add_assoc p place w)))
+    (numbers-part p (place + w) w n l ∙ ap (λ (m : ℕ). numbers_at m w n l) (sym (add_assoc p place w)))
 
 -- the part itself
-pub numbers-of-part : (p w n : ℕ) (l : List ℕ) → numbersAt 0 w n (drop p l) ≡ numbersAt p w n l
-numbers-of-part p w n l = numbers-part p 0 w n l ∙ ap (λ (q : ℕ). numbersAt q w n l) (add-zero p)
+pub numbers_of_part : (p w n : ℕ) (l : List ℕ) → numbers_at 0 w n (drop p l) ≡ numbers_at p w n l
+numbers_of_part p w n l = numbers-part p 0 w n l ∙ ap (λ (q : ℕ). numbers_at q w n l) (add-zero p)
 
 -- ---- stores behind each other
 
@@ -226,38 +226,38 @@ unfolding fields_of
 fields-append w [] vs = refl
 fields-append w (u ∷ us) vs = ap (λ (l : List ℕ). bytes_of w u ++ l) (fields-append w us vs) ∙ sym (append_assoc (bytes_of w u) (fields_of w us) (fields_of w vs))
 
-sets-append : (u v l : List ℕ) (i : ℕ) → sets (sets l i u) (i + length u) v ≡ sets l i (u ++ v)
-sets-append [] v l i = ap (λ (n : ℕ). sets l n v) (add-zero i)
-sets-append (a ∷ u) v l i =
-    ap (λ (n : ℕ). sets (sets (set l i a) (suc i) u) n v) (add-suc i (length u) ∙ sym (suc-add i (length u))) ∙ sets-append u v (set l i a) (suc i)
+sets_append : (u v l : List ℕ) (i : ℕ) → sets (sets l i u) (i + length u) v ≡ sets l i (u ++ v)
+sets_append [] v l i = ap (λ (n : ℕ). sets l n v) (add-zero i)
+sets_append (a ∷ u) v l i =
+    ap (λ (n : ℕ). sets (sets (set l i a) (suc i) u) n v) (add-suc i (length u) ∙ sym (suc-add i (length u))) ∙ sets_append u v (set l i a) (suc i)
 
 pub sets_behind : (u v l : List ℕ) (i j : ℕ) → j ≡ i + length u → sets (sets l i u) j v ≡ sets l i (u ++ v)
-sets_behind u v l i j e = ap (λ (n : ℕ). sets (sets l i u) n v) e ∙ sets-append u v l i
+sets_behind u v l i j e = ap (λ (n : ℕ). sets (sets l i u) n v) e ∙ sets_append u v l i
 
 -- a whole sheet at the front
-pub sets-front : (u l : List ℕ) (n : ℕ) → length u ≡ n → n ≤ length l → sets l 0 u ≡ u ++ drop n l
-sets-front u l n e h = sets-eq u l 0 (rw (zero-add, e) h) ∙ ap (λ (m : ℕ). u ++ drop m l) (zero-add (length u) ∙ e)
+pub sets_front : (u l : List ℕ) (n : ℕ) → length u ≡ n → n ≤ length l → sets l 0 u ≡ u ++ drop n l
+sets_front u l n e h = sets-eq u l 0 (rw (zero-add, e) h) ∙ ap (λ (m : ℕ). u ++ drop m l) (zero-add (length u) ∙ e)
 
 pub fields-behind : (w f : ℕ) (fs l : List ℕ) (i : ℕ) → sets (sets l i (bytes_of w f)) (i + w) (fields_of w fs) ≡ sets l i (fields_of w (f ∷ fs))
 unfolding fields_of
-fields-behind w f fs l i = sets_behind (bytes_of w f) (fields_of w fs) l i (i + w) (ap (λ (n : ℕ). i + n) (sym (length-bytesOf w f)))
+fields-behind w f fs l i = sets_behind (bytes_of w f) (fields_of w fs) l i (i + w) (ap (λ (n : ℕ). i + n) (sym (length-bytes_of w f)))
 
 -- the fields in front of the fingerprints: one store more
-pub store-field : (ws xs : List ℕ) (w x place : ℕ) (l l' after : List ℕ) → l' ≡ sets l place (bytes_of w x) → after ≡ sets l' (place + w) (bytesIn ws xs)
-    → after ≡ sets l place (bytesIn (w ∷ ws) (x ∷ xs))
-unfolding bytesIn zip_with flatten
-store-field ws xs w x place l l' after e d =
+pub store_field : (ws xs : List ℕ) (w x place : ℕ) (l l' after : List ℕ) → l' ≡ sets l place (bytes_of w x) → after ≡ sets l' (place + w) (bytes_in ws xs)
+    → after ≡ sets l place (bytes_in (w ∷ ws) (x ∷ xs))
+unfolding bytes_in zip_with flatten
+store_field ws xs w x place l l' after e d =
     d
-    ∙ ap (λ (b : List ℕ). sets b (place + w) (bytesIn ws xs)) e
-    ∙ sets_behind (bytes_of w x) (bytesIn ws xs) l place (place + w) (ap (λ (n : ℕ). place + n) (sym (length-bytesOf w x)))
+    ∙ ap (λ (b : List ℕ). sets b (place + w) (bytes_in ws xs)) e
+    ∙ sets_behind (bytes_of w x) (bytes_in ws xs) l place (place + w) (ap (λ (n : ℕ). place + n) (sym (length-bytes_of w x)))
 
-pub store-none : (xs : List ℕ) (place : ℕ) (l : List ℕ) → l ≡ sets l place (bytesIn [] xs)
-unfolding bytesIn zip_with flatten
-store-none xs place l = refl
+pub store_none : (xs : List ℕ) (place : ℕ) (l : List ℕ) → l ≡ sets l place (bytes_in [] xs)
+unfolding bytes_in zip_with flatten
+store_none xs place l = refl
 
 -- one of the numbers
-pub numbers-one : (c place w i : ℕ) (l : List ℕ) → i < c → get_or (numbersAt place w c l) i 0 ≡ number_at (place + w * i) w l
-unfolding numbersAt
+pub numbers-one : (c place w i : ℕ) (l : List ℕ) → i < c → get_or (numbers_at place w c l) i 0 ≡ number_at (place + w * i) w l
+unfolding numbers_at
 numbers-one zero place w i l h = absurd (omega arith)
 numbers-one (suc c) place w zero l h = ap (λ (n : ℕ). number_at n w l) (sym (rw (mul-zero w) (add-zero place)))
 numbers-one (suc c) place w (suc i) l h =
@@ -265,12 +265,12 @@ numbers-one (suc c) place w (suc i) l h =
 
 -- fields that were stored, read back
 pub numbers-stored : (us vs b : List ℕ) (place w : ℕ) → place + w * length (us ++ vs) ≤ length b → All (λ u. u < 2 ^ (8 * w)) us
-    → numbersAt place w (length us) (sets b place (fields_of w (us ++ vs))) ≡ us
+    → numbers_at place w (length us) (sets b place (fields_of w (us ++ vs))) ≡ us
 numbers-stored us vs b place w h small =
-    let long : length (fields_of w (us ++ vs)) ≡ w * length (us ++ vs) = length-fieldsOf w (us ++ vs) in
+    let long : length (fields_of w (us ++ vs)) ≡ w * length (us ++ vs) = length-fields_of w (us ++ vs) in
     let rest = drop (place + length (fields_of w (us ++ vs))) b in
-    ap (numbersAt place w (length us))
+    ap (numbers_at place w (length us))
     (sets-eq (fields_of w (us ++ vs)) b place (omega arith)
     ∙ append_assoc (take place b) (fields_of w (us ++ vs)) rest
     ∙ ap (λ (l : List ℕ). take place b ++ l) (ap (λ (l : List ℕ). l ++ rest) (fields-append w us vs) ∙ append_assoc (fields_of w us) (fields_of w vs) rest))
-    ∙ numbers-seam us (take place b) (fields_of w vs ++ rest) place w (length-take-le place b (omega arith)) small
+    ∙ numbers_seam us (take place b) (fields_of w vs ++ rest) place w (length-take-le place b (omega arith)) small

@@ -2,7 +2,7 @@
 // are for the project's own crates: what they require, every caller proves.
 ghost use Rattle.std.specs.Prelude.{◌≡◌, ◌+◌, ◌*◌, ◌≤◌, ◌<◌, ◌^◌, length, take, drop};
 ghost use Rattle.std.proofs.lemmas.List.Edits.{sets};
-ghost use Rattle.files.specs.Files.{bits, valueFrom};
+ghost use Rattle.files.specs.Files.{bits, value_from};
 ghost use Rattle.big_endian.specs.Numbers.{bytes_of, number_at};
 
 fn wide(x: u8) -> u32
@@ -14,7 +14,7 @@ fn wide(x: u8) -> u32
 // One byte as a number.
 pub fn byte_at(part: &[u8], i: usize) -> u32
     requires { i < length part.now }
-    ensures { result ≡ valueFrom 0 (bits (take 1 (drop i part.now))) }
+    ensures { result ≡ value_from 0 (bits (take 1 (drop i part.now))) }
 {
     wide(part[i])
 }
@@ -22,7 +22,7 @@ pub fn byte_at(part: &[u8], i: usize) -> u32
 // Four bytes as one number, the first highest. In one expression, which the compiler knows as one load.
 pub fn four_at(part: &[u8], i: usize) -> u32
     requires { i + 4 ≤ length part.now }
-    ensures { result ≡ valueFrom 0 (bits (take 4 (drop i part.now))) }
+    ensures { result ≡ value_from 0 (bits (take 4 (drop i part.now))) }
 {
     let a = byte_at(part, i);
     let b = byte_at(part, i + 1);
@@ -34,7 +34,7 @@ pub fn four_at(part: &[u8], i: usize) -> u32
 // Eight bytes, likewise.
 pub fn eight_at(part: &[u8], i: usize) -> u64
     requires { i + 8 ≤ length part.now }
-    ensures { result ≡ valueFrom 0 (bits (take 8 (drop i part.now))) }
+    ensures { result ≡ value_from 0 (bits (take 8 (drop i part.now))) }
 {
     four_at(part, i) as u64 * 4294967296 + four_at(part, i + 4) as u64
 }

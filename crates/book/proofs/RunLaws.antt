@@ -4,25 +4,25 @@ use mathlib.Core.Path.{◌≡◌, refl, ap, ap₂, ◌∙◌}
 use mathlib.Core.List.{List, [], ◌∷◌, ◌++◌, map}
 use Prim.Native.Nat.{ℕ}
 use Rattle.refusals.specs.Refusals.{Answer, state_of, number_of}
-use Rattle.book.specs.Runs.{Level, bookStep, run, Honest}
+use Rattle.book.specs.Runs.{Level, book_step, run, Honest}
 
 -- one call beside one step of the book
 abbrev pub Keeps : Level → ℕ → Type 0
 Keeps L key =
-    (kept : L.Kept) (c : L.Call) → (number_of (bookStep L key kept c) ≡ 0 → L.Brings key kept c)
-    → (state_of (L.step key (L.truth key kept) c) ≡ L.truth key (state_of (bookStep L key kept c)))
-    × (number_of (L.step key (L.truth key kept) c) ≡ number_of (bookStep L key kept c))
+    (kept : L.Kept) (c : L.Call) → (number_of (book_step L key kept c) ≡ 0 → L.Brings key kept c)
+    → (state_of (L.step key (L.truth key kept) c) ≡ L.truth key (state_of (book_step L key kept c)))
+    × (number_of (L.step key (L.truth key kept) c) ≡ number_of (book_step L key kept c))
 
 -- the list theorem, once for every level
 pub in_step : (L : Level) (key : ℕ) → Keeps L key → (kept : L.Kept) (s : L.State) (calls : List L.Call) → s ≡ L.truth key kept
     → Honest L key kept calls
-    → ((run (L.step key) s calls).0 ≡ L.truth key (run (bookStep L key) kept calls).0)
-    × ((run (L.step key) s calls).1 ≡ (run (bookStep L key) kept calls).1)
+    → ((run (L.step key) s calls).0 ≡ L.truth key (run (book_step L key) kept calls).0)
+    × ((run (L.step key) s calls).1 ≡ (run (book_step L key) kept calls).1)
 unfolding run
 in_step L key keeps kept s [] t h = (t, refl)
 in_step L key keeps kept s (c ∷ cs) t h =
     let o = keeps kept c h.0 in
-    let rest = in_step L key keeps (state_of (bookStep L key kept c)) (state_of (L.step key s c)) cs (rw t o.0) h.1 in
+    let rest = in_step L key keeps (state_of (book_step L key kept c)) (state_of (L.step key s c)) cs (rw t o.0) h.1 in
     (rest.0, ap₂ {C = List ℕ} (λ (x : ℕ) (xs : List ℕ). x ∷ xs) (rw t o.1) rest.1)
 
 -- one call, then the others

@@ -9,8 +9,8 @@ use Rattle.acceptance.specs.Keys.{accepted}
 use Rattle.gf2.specs.Polynomials.{degree}
 use Rattle.files.specs.Files.{bits, Bits}
 use Rattle.files.specs.Bursts.{Burst}
-use Rattle.book.specs.Runs.{Level, bookStep, run, Honest}
-use Rattle.lists.specs.Counts.{countFrom}
+use Rattle.book.specs.Runs.{Level, book_step, run, Honest}
+use Rattle.lists.specs.Counts.{count_from}
 use Rattle.book.specs.Confusions.{Routes, Confuses, confused}
 
 -- "After the list, fingerprint and length are the residue and the length of the book's file, and exactly those calls were refused
@@ -19,12 +19,12 @@ use Rattle.book.specs.Confusions.{Routes, Confuses, confused}
 abbrev pub Lists : Level → Type 0
 Lists L =
     (key : ℕ) (kept : L.Kept) (s : L.State) (calls : List L.Call) → accepted key ≡ true → s ≡ L.truth key kept → Honest L key kept calls
-    → ((run (L.step key) s calls).0 ≡ L.truth key (run (bookStep L key) kept calls).0)
-    × ((run (L.step key) s calls).1 ≡ (run (bookStep L key) kept calls).1)
+    → ((run (L.step key) s calls).0 ≡ L.truth key (run (book_step L key) kept calls).0)
+    × ((run (L.step key) s calls).1 ≡ (run (book_step L key) kept calls).1)
 
 -- the number with which the book names a call is "the lowest number that applies"; where none applies it is 0
 abbrev pub Lowest : Level → Type 0
-Lowest L = (key : ℕ) (kept : L.Kept) (c : L.Call) → number_of (bookStep L key kept c) ≡ lowest (applying (L.tests key (L.size kept) c))
+Lowest L = (key : ℕ) (kept : L.Kept) (c : L.Call) → number_of (book_step L key kept c) ≡ lowest (applying (L.tests key (L.size kept) c))
 
 -- ---- "For two different files, count the accepted keys of degree k under which a list whose book ends with the one file and a list
 -- whose book ends with the other can leave equal fingerprints. That count times k is at most n; n bounds both lengths in bits, the
@@ -51,7 +51,7 @@ Counted Route = (k : ℕ) (a b : List ℕ) → AsTested Route k a b
 abbrev pub ConfusionsCount : Type 0
 ConfusionsCount =
     (k : ℕ) (a b : List ℕ) → Bits a → Bits b → a ≢ b → (n : ℕ) → length a ≤ n → length b ≤ n
-    → countFrom (confused a b) (2 ^ k) (2 ^ k) * k ≤ n
+    → count_from (confused a b) (2 ^ k) (2 ^ k) * k ≤ n
 
 -- ---- "Where the lengths are equal and the first and last differing bits are at most k - 1 places apart, the count is 0."
 
@@ -59,7 +59,7 @@ abbrev pub Bursts : Routes → Type 0
 Bursts Route = (k : ℕ) (a b : List ℕ) → Bits a → Bits b → a ≢ b → Burst k a b → (key : ℕ) → Confuses Route k a b key → ⊥
 
 abbrev pub BurstsCount : Type 0
-BurstsCount = (k : ℕ) (a b : List ℕ) → Bits a → Bits b → a ≢ b → Burst k a b → countFrom (confused a b) (2 ^ k) (2 ^ k) ≡ 0
+BurstsCount = (k : ℕ) (a b : List ℕ) → Bits a → Bits b → a ≢ b → Burst k a b → count_from (confused a b) (2 ^ k) (2 ^ k) ≡ 0
 
 -- ---- plain marks (document 02, wish 9): "protected, by demand 3's counts over such lists, only where the files are equally long". A burst has
 -- equal lengths, so that `Bursts` needs no form of its own.

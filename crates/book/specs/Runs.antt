@@ -22,8 +22,8 @@ pub record Level : Type 1 where
   pub Brings : ℕ → Kept → Call → Type 0
 
 -- the book: it sees no mark carried along and no answer. Where a number applies, "the file stays, whatever was handed in".
-unfoldable pub bookStep : (L : Level) → ℕ → L.Kept → L.Call → Answer L.Kept L.Kept
-bookStep L key kept c = first_of (L.tests key (L.size kept) c) kept (L.written kept c)
+unfoldable pub book_step : (L : Level) → ℕ → L.Kept → L.Call → Answer L.Kept L.Kept
+book_step L key kept c = first_of (L.tests key (L.size kept) c) kept (L.written kept c)
 
 -- "Each call gets the key, and the fingerprint and length that the last one returned or left": the state after the list, and for
 -- each call its refusal's number, or 0
@@ -35,7 +35,7 @@ module _ {S C : Type 0} (step : S → C → Answer S S) where
 -- each call that is not refused brings what it should; a refused one may bring anything
 abbrev pub Honest : (L : Level) → ℕ → L.Kept → List L.Call → Type 0
 Honest L key kept [] = Unit {0}
-Honest L key kept (c ∷ cs) = (number_of (bookStep L key kept c) ≡ 0 → L.Brings key kept c) × Honest L key (state_of (bookStep L key kept c)) cs
+Honest L key kept (c ∷ cs) = (number_of (book_step L key kept c) ≡ 0 → L.Brings key kept c) × Honest L key (state_of (book_step L key kept c)) cs
 
 -- a list of calls whose book ends with the file, and the mark that it leaves. "at first the empty one, or any other whose
 -- true mark the list starts from"
@@ -43,5 +43,5 @@ pub record Leaves (L : Level) (key : ℕ) (kept : L.Kept) (left : L.State) : Typ
   pub first : L.Kept
   pub calls : List L.Call
   pub honest : Honest L key first calls
-  pub ends : (run (bookStep L key) first calls).0 ≡ kept
+  pub ends : (run (book_step L key) first calls).0 ≡ kept
   pub leaves : (run (L.step key) (L.truth key first) calls).0 ≡ left

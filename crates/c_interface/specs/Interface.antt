@@ -8,5 +8,5 @@ abbrev pub key_at : ℕ → ℕ → Key
 key_at degree word = record { degree = degree; word = word }
 
 -- a mark in two places
-abbrev pub markAt : ℕ → ℕ → Mark
-markAt fingerprint length = record { fingerprint = fingerprint; length = length }
+abbrev pub mark_at : ℕ → ℕ → Mark
+mark_at fingerprint length = record { fingerprint = fingerprint; length = length }

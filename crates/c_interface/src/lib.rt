@@ -2,15 +2,15 @@
 ghost use Rattle.std.specs.Prelude.{◌≡◌};
 ghost use Rattle.refusals.specs.Refusals.{number_of};
 ghost use Rattle.marks.specs.Answers.{begun, fed};
-ghost use Rattle.c_interface.specs.Interface.{markAt};
-ghost use Rattle.c_interface.specs.Storing.{markOr};
+ghost use Rattle.c_interface.specs.Interface.{mark_at};
+ghost use Rattle.c_interface.specs.Storing.{mark_or};
 
 use marks::{Begun, Fed};
 
 // The mark of an answer to the two places, and 0; or the refusal's number, and nothing is written.
 pub fn store(answer: Fed, fingerprint: &mut u64, length: &mut u64) -> u32
     ensures { (result ≡ number_of (fed answer))
-        × (markAt fingerprint.new length.new ≡ markOr (markAt fingerprint.old length.old) (fed answer)) }
+        × (mark_at fingerprint.new length.new ≡ mark_or (mark_at fingerprint.old length.old) (fed answer)) }
 {
     match answer {
         Fed::Next(m) => {
@@ -25,7 +25,7 @@ pub fn store(answer: Fed, fingerprint: &mut u64, length: &mut u64) -> u32
 // The same of a mark that was begun.
 pub fn store_begun(answer: Begun, fingerprint: &mut u64, length: &mut u64) -> u32
     ensures { (result ≡ number_of (begun answer))
-        × (markAt fingerprint.new length.new ≡ markOr (markAt fingerprint.old length.old) (begun answer)) }
+        × (mark_at fingerprint.new length.new ≡ mark_or (mark_at fingerprint.old length.old) (begun answer)) }
 {
     match answer {
         Begun::Started(first) => {

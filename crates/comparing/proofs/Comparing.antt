@@ -13,7 +13,7 @@ use Rattle.lists.specs.Lists.{same}
 use Rattle.lists.proofs.Lists.{same-eq}
 use Rattle.lists.proofs.Truth.{or-neither}
 use Rattle.rolling.specs.Rolling.{window}
-use Rattle.comparing.specs.Flagged.{NoneFlagged, NextFlagged, flaggedPlace, flaggedAlarm}
+use Rattle.comparing.specs.Flagged.{NoneFlagged, NextFlagged, flagged_place, flagged_alarm}
 
 -- ---- the same bytes
 
@@ -79,19 +79,19 @@ module _ (flags : List Bool) (text pattern : List ℕ) (from i : ℕ) where
   behind : from + i - from ≡ i
   behind = omega arith
 
-  pub unflagged-place : get_or flags i false ≡ false → flaggedPlace flags text pattern from (from + i) ≡ false
-  unfolding flaggedPlace
-  unflagged-place e = rw (behind, e)
+  pub unflagged_place : get_or flags i false ≡ false → flagged_place flags text pattern from (from + i) ≡ false
+  unfolding flagged_place
+  unflagged_place e = rw (behind, e)
 
-  pub unflagged-alarm : get_or flags i false ≡ false → flaggedAlarm flags text pattern from (from + i) ≡ false
-  unfolding flaggedAlarm
-  unflagged-alarm e = rw (behind, e)
+  pub unflagged_alarm : get_or flags i false ≡ false → flagged_alarm flags text pattern from (from + i) ≡ false
+  unfolding flagged_alarm
+  unflagged_alarm e = rw (behind, e)
 
   module _ (b : Bool) (e : get_or flags i false ≡ true) (p : same (window (length pattern) text (from + i)) pattern ≡ b) where
-    pub flagged-place : flaggedPlace flags text pattern from (from + i) ≡ b
-    unfolding flaggedPlace
+    pub flagged-place : flagged_place flags text pattern from (from + i) ≡ b
+    unfolding flagged_place
     flagged-place = rw (behind, e) p
 
-    pub flagged-alarm : flaggedAlarm flags text pattern from (from + i) ≡ not b
-    unfolding flaggedAlarm
+    pub flagged-alarm : flagged_alarm flags text pattern from (from + i) ≡ not b
+    unfolding flagged_alarm
     flagged-alarm = rw (behind, e) (ap not p)

@@ -15,15 +15,15 @@ pub record NextFlagged (flags : List Bool) (first size next : ℕ) : Type 0 wher
   pub flagged : next < size → get_or flags next false ≡ true
 
 -- a flagged window with the pattern's bytes, and one with other bytes
-unfoldable pub flaggedPlace : List Bool → List ℕ → List ℕ → ℕ → ℕ → Bool
-flaggedPlace flags text pattern from i = get_or flags (i - from) false && same (window (length pattern) text i) pattern
+unfoldable pub flagged_place : List Bool → List ℕ → List ℕ → ℕ → ℕ → Bool
+flagged_place flags text pattern from i = get_or flags (i - from) false && same (window (length pattern) text i) pattern
 
-unfoldable pub flaggedAlarm : List Bool → List ℕ → List ℕ → ℕ → ℕ → Bool
-flaggedAlarm flags text pattern from i = get_or flags (i - from) false && not (same (window (length pattern) text i) pattern)
+unfoldable pub flagged_alarm : List Bool → List ℕ → List ℕ → ℕ → ℕ → Bool
+flagged_alarm flags text pattern from i = get_or flags (i - from) false && not (same (window (length pattern) text i) pattern)
 
 -- those of the `size` windows from `from` on, rising
-abbrev pub flaggedPlaces : List Bool → List ℕ → List ℕ → ℕ → ℕ → List ℕ
-flaggedPlaces flags text pattern from size = passing (flaggedPlace flags text pattern from) from size
+abbrev pub flagged_places : List Bool → List ℕ → List ℕ → ℕ → ℕ → List ℕ
+flagged_places flags text pattern from size = passing (flagged_place flags text pattern from) from size
 
-abbrev pub flaggedAlarms : List Bool → List ℕ → List ℕ → ℕ → ℕ → List ℕ
-flaggedAlarms flags text pattern from size = passing (flaggedAlarm flags text pattern from) from size
+abbrev pub flagged_alarms : List Bool → List ℕ → List ℕ → ℕ → ℕ → List ℕ
+flagged_alarms flags text pattern from size = passing (flagged_alarm flags text pattern from) from size

@@ -2,10 +2,10 @@
 ghost use Rattle.std.specs.Prelude.{◌≡◌, false, ◌+◌, ◌*◌, ◌≤◌, ◌<◌, length};
 ghost use Rattle.std.proofs.lemmas.List.Edits.{sets};
 ghost use Rattle.refusals.specs.Refusals.{longest};
-ghost use Rattle.comparing.specs.Flagged.{NoneFlagged, NextFlagged, flaggedPlaces, flaggedAlarms};
+ghost use Rattle.comparing.specs.Flagged.{NoneFlagged, NextFlagged, flagged_places, flagged_alarms};
 
 // How many places and how many false alarms were found so far.
-#[derive(Drop)]
+#[derive(Clone, Copy)]
 pub struct Tally {
     pub places: u32,
     pub alarms: u32,
@@ -74,10 +74,10 @@ pub fn compare(
         × (8 * length text.now ≤ longest)
         × (found.places ≤ from)
         × (found.alarms ≤ from) }
-    ensures { (result.places ≡ found.places + length (flaggedPlaces flags.now text.now pattern.now from size))
-        × (result.alarms ≡ found.alarms + length (flaggedAlarms flags.now text.now pattern.now from size))
+    ensures { (result.places ≡ found.places + length (flagged_places flags.now text.now pattern.now from size))
+        × (result.alarms ≡ found.alarms + length (flagged_alarms flags.now text.now pattern.now from size))
         × (places.new ≡ sets places.old found.places
-        (flaggedPlaces flags.now text.now pattern.now from size)) }
+        (flagged_places flags.now text.now pattern.now from size)) }
 {
     let m = pattern.len();
     let mut count = found.places;

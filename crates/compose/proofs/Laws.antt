@@ -8,63 +8,63 @@ use native.Mathlib.Decide.{dec_le}
 use native.Mathlib.Omega.{arith}
 use lib.Dec.{leb, ltb}
 use borrow.Author.Tests.{eq-eqb, ne_eqb, le-leb, lt-leb, lt-ltb, le-ltb}
-use Rattle.lists.proofs.Truth.{or-left-comm}
+use Rattle.lists.proofs.Truth.{or-left_comm}
 use Rattle.refusals.specs.declared.Refusal.TheVariants.{TooLong, MarkNotReduced, PageLengthsDiffer, PagePastEnd, FinalByte}
-use Rattle.refusals.specs.Refusals.{Done, Refused, state_of, valueOr, ◌⇒◌, first_of, longest, passes}
+use Rattle.refusals.specs.Refusals.{Done, Refused, state_of, value_or, ◌⇒◌, first_of, longest, passes}
 use Rattle.refusals.proofs.Lengths.{counted}
 use Rattle.refusals.proofs.Replies.{first-keeps}
 use Rattle.acceptance.specs.declared.Key.{Key}
-use Rattle.acceptance.specs.Keys.{polynomialOf}
+use Rattle.acceptance.specs.Keys.{polynomial_of}
 use Rattle.files.specs.declared.Mark.{Mark}
-use Rattle.files.specs.Files.{unreduced, Part, partLength, misused, joinedFrom}
-use Rattle.compose.specs.Composing.{marksTests, joinTests, joinBehindFrom, joinInFrontFrom, pageTests}
+use Rattle.files.specs.Files.{unreduced, Part, part_length, misused, joined_from}
+use Rattle.compose.specs.Composing.{marks_tests, join_tests, join_behind_from, join_in_front_from, page_tests}
 
 -- ---- they do not depend on the order of the marks
 
-pub marks-swap : (key : ℕ) (x y : Mark) → marksTests key x y ≡ marksTests key y x
-marks-swap key x y =
+pub marks_swap : (key : ℕ) (x y : Mark) → marks_tests key x y ≡ marks_tests key y x
+marks_swap key x y =
     ap₂ (λ (p q : Bool). p ⇒ TooLong ∷ q ⇒ MarkNotReduced ∷ [])
-    (or-left-comm (ltb longest x.length) (ltb longest y.length) (passes ((x.length + y.length) ∷ []))
+    (or-left_comm (ltb longest x.length) (ltb longest y.length) (passes ((x.length + y.length) ∷ []))
     ∙ ap (λ (n : ℕ). passes (y.length ∷ x.length ∷ n ∷ [])) (add_comm x.length y.length))
     (or_comm (unreduced key x) (unreduced key y))
 
 -- ---- numbers 7 and 8 in turn
 
 module _ {S A : Type 0} (key : ℕ) (x y : Mark) (s : S) (v : A) where
-  pub marks-long : passes (x.length ∷ y.length ∷ (x.length + y.length) ∷ []) ≡ true → first_of (marksTests key x y) s v ≡ Refused TooLong s
+  pub marks-long : passes (x.length ∷ y.length ∷ (x.length + y.length) ∷ []) ≡ true → first_of (marks_tests key x y) s v ≡ Refused TooLong s
   marks-long e = rw e
 
   module _ (short : passes (x.length ∷ y.length ∷ (x.length + y.length) ∷ []) ≡ false) where
-    pub marks-unreduced : (unreduced key x || unreduced key y) ≡ true → first_of (marksTests key x y) s v ≡ Refused MarkNotReduced s
+    pub marks-unreduced : (unreduced key x || unreduced key y) ≡ true → first_of (marks_tests key x y) s v ≡ Refused MarkNotReduced s
     marks-unreduced e = rw (short, e)
 
-    pub marks-passed : unreduced key x ≡ false → unreduced key y ≡ false → first_of (marksTests key x y) s v ≡ Done v
+    pub marks-passed : unreduced key x ≡ false → unreduced key y ≡ false → first_of (marks_tests key x y) s v ≡ Done v
     marks-passed e f = rw (short, e, f)
 
 -- ---- numbers 7 to 10 and 19 of a page in turn
 
 module _ {S A : Type 0} (key : ℕ) (m : Mark) (place : ℕ) (old new : Part) (s : S) (v : A) where
-  pub page-long : passes (m.length ∷ partLength old ∷ partLength new ∷ []) ≡ true → first_of (pageTests key m place old new) s v ≡ Refused TooLong s
+  pub page-long : passes (m.length ∷ part_length old ∷ part_length new ∷ []) ≡ true → first_of (page_tests key m place old new) s v ≡ Refused TooLong s
   page-long e = rw e
 
-  module _ (short : passes (m.length ∷ partLength old ∷ partLength new ∷ []) ≡ false) where
-    pub page-unreduced : unreduced key m ≡ true → first_of (pageTests key m place old new) s v ≡ Refused MarkNotReduced s
+  module _ (short : passes (m.length ∷ part_length old ∷ part_length new ∷ []) ≡ false) where
+    pub page-unreduced : unreduced key m ≡ true → first_of (page_tests key m place old new) s v ≡ Refused MarkNotReduced s
     page-unreduced e = rw (short, e)
 
     module _ (low : unreduced key m ≡ false) where
-      pub page-lengths : (partLength old ≡ partLength new → ⊥) → first_of (pageTests key m place old new) s v ≡ Refused PageLengthsDiffer s
-      page-lengths d = rw (short, low, ne_eqb (partLength old) (partLength new) d)
+      pub page-lengths : (part_length old ≡ part_length new → ⊥) → first_of (page_tests key m place old new) s v ≡ Refused PageLengthsDiffer s
+      page-lengths d = rw (short, low, ne_eqb (part_length old) (part_length new) d)
 
-      module _ (same : partLength old ≡ partLength new) where
-        pub page-past : ltb m.length (8 * place + partLength old) ≡ true → first_of (pageTests key m place old new) s v ≡ Refused PagePastEnd s
-        page-past e = rw (short, low, eq-eqb (partLength old) (partLength new) same, e)
+      module _ (same : part_length old ≡ part_length new) where
+        pub page-past : ltb m.length (8 * place + part_length old) ≡ true → first_of (page_tests key m place old new) s v ≡ Refused PagePastEnd s
+        page-past e = rw (short, low, eq-eqb (part_length old) (part_length new) same, e)
 
-        module _ (inside : ltb m.length (8 * place + partLength old) ≡ false) where
-          pub page-misused : (misused old || misused new) ≡ true → first_of (pageTests key m place old new) s v ≡ Refused FinalByte s
-          page-misused e = rw (short, low, eq-eqb (partLength old) (partLength new) same, inside, e)
+        module _ (inside : ltb m.length (8 * place + part_length old) ≡ false) where
+          pub page-misused : (misused old || misused new) ≡ true → first_of (page_tests key m place old new) s v ≡ Refused FinalByte s
+          page-misused e = rw (short, low, eq-eqb (part_length old) (part_length new) same, inside, e)
 
-          pub page-passed : (misused old || misused new) ≡ false → first_of (pageTests key m place old new) s v ≡ Done v
-          page-passed e = rw (short, low, eq-eqb (partLength old) (partLength new) same, inside, e)
+          pub page-passed : (misused old || misused new) ≡ false → first_of (page_tests key m place old new) s v ≡ Done v
+          page-passed e = rw (short, low, eq-eqb (part_length old) (part_length new) same, inside, e)
 
 -- ---- as the code counts them
 
@@ -82,10 +82,10 @@ last-place length place n h = go (dec_le place ((length - n) / 8))
 
 -- ---- on refusal the state is the mark that was handed in
 
-pub behind-keeps : (s : ℕ) (x : Key) (m other : Mark) → valueOr m (joinBehindFrom s x m other) ≡ state_of (joinBehindFrom s x m other)
-unfolding joinBehindFrom
-behind-keeps s x m other = first-keeps (joinTests x m other) m (joinedFrom s (polynomialOf x) m other)
+pub behind-keeps : (s : ℕ) (x : Key) (m other : Mark) → value_or m (join_behind_from s x m other) ≡ state_of (join_behind_from s x m other)
+unfolding join_behind_from
+behind-keeps s x m other = first-keeps (join_tests x m other) m (joined_from s (polynomial_of x) m other)
 
-pub front-keeps : (s : ℕ) (x : Key) (m other : Mark) → valueOr m (joinInFrontFrom s x m other) ≡ state_of (joinInFrontFrom s x m other)
-unfolding joinInFrontFrom
-front-keeps s x m other = first-keeps (joinTests x m other) m (joinedFrom s (polynomialOf x) other m)
+pub front-keeps : (s : ℕ) (x : Key) (m other : Mark) → value_or m (join_in_front_from s x m other) ≡ state_of (join_in_front_from s x m other)
+unfolding join_in_front_from
+front-keeps s x m other = first-keeps (join_tests x m other) m (joined_from s (polynomial_of x) other m)

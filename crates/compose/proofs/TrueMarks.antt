@@ -9,34 +9,34 @@ use borrow.Author.Tests.{eqb-true, not-false, ltb-false}
 use Rattle.gf2.specs.Polynomials.{monic}
 use Rattle.refusals.proofs.Laws.{done-clear}
 use Rattle.acceptance.specs.declared.Key.{Key}
-use Rattle.acceptance.specs.Keys.{polynomialOf, keyTests}
+use Rattle.acceptance.specs.Keys.{polynomial_of, key_tests}
 use Rattle.files.specs.declared.Mark.{Mark}
-use Rattle.files.specs.Files.{markFrom, partLength, joinedFrom, replaced}
+use Rattle.files.specs.Files.{mark_from, part_length, joined_from, replaced}
 use Rattle.files.proofs.Marks.{join, page}
-use Rattle.compose.specs.Composing.{joinTests, joinBehindFrom, joinInFrontFrom, pageTests, replacePage, BehindTrue, InFrontTrue, PageTrue}
+use Rattle.compose.specs.Composing.{join_tests, join_behind_from, join_in_front_from, page_tests, replace_page, BehindTrue, InFrontTrue, PageTrue}
 
-some : (x : Key) → 0 < polynomialOf x
+some : (x : Key) → 0 < polynomial_of x
 unfolding monic
 some x = omega (arith, pow_pos x.degree)
 
-pub behind-true : BehindTrue
-unfolding joinBehindFrom
-behind-true s x file its m other after t u e =
-    let key = polynomialOf x in
-    sym (done-clear (joinTests x m other) m (joinedFrom s key m other) after e).1 ∙ join s key file its m other (some x) t u
+pub behind_true : BehindTrue
+unfolding join_behind_from
+behind_true s x file its m other after t u e =
+    let key = polynomial_of x in
+    sym (done-clear (join_tests x m other) m (joined_from s key m other) after e).1 ∙ join s key file its m other (some x) t u
 
-pub in-front-true : InFrontTrue
-unfolding joinInFrontFrom
-in-front-true s x file its m other after t u e =
-    let key = polynomialOf x in
-    sym (done-clear (joinTests x m other) m (joinedFrom s key other m) after e).1 ∙ join s key its file other m (some x) u t
+pub in_front_true : InFrontTrue
+unfolding join_in_front_from
+in_front_true s x file its m other after t u e =
+    let key = polynomial_of x in
+    sym (done-clear (join_tests x m other) m (joined_from s key other m) after e).1 ∙ join s key its file other m (some x) u t
 
-pub page-true : PageTrue
-unfolding replacePage markFrom
-page-true s x file m after place old new t there e =
-    let key = polynomialOf x in
-    let d = done-clear (keyTests x ++ pageTests key m place old new) m (replaced key m place old new) after e in
+pub page_true : PageTrue
+unfolding replace_page mark_from
+page_true s x file m after place old new t there e =
+    let key = polynomial_of x in
+    let d = done-clear (key_tests x ++ page_tests key m place old new) m (replaced key m place old new) after e in
     let tests = d.0.1.1.1.1 in
-    let same = eqb-true (partLength old) (partLength new) (not-false (eqb (partLength old) (partLength new)) tests.0) in
-    let inside = rw t at (ltb-false m.length (8 * place + partLength old) tests.1.0) in
+    let same = eqb-true (part_length old) (part_length new) (not-false (eqb (part_length old) (part_length new)) tests.0) in
+    let inside = rw t at (ltb-false m.length (8 * place + part_length old) tests.1.0) in
     sym d.1 ∙ page s key file m place old new (some x) t same inside there

@@ -5,10 +5,10 @@ use mathlib.Core.List.{List, [], ◌∷◌, ◌++◌, map, flatten}
 use Rattle.gf2.specs.Polynomials.{degree}
 use Rattle.refusals.specs.Refusals.{Answer, Done, Refused, number_of, longest}
 use Rattle.acceptance.specs.declared.Key.{Key}
-use Rattle.acceptance.specs.Keys.{accepted, keyOf}
+use Rattle.acceptance.specs.Keys.{accepted, key_of}
 use Rattle.files.specs.declared.Mark.{Mark}
-use Rattle.files.specs.Files.{markFrom}
-use Rattle.compose.specs.Composing.{joinBehindFrom, joinInFrontFrom}
+use Rattle.files.specs.Files.{mark_from}
+use Rattle.compose.specs.Composing.{join_behind_from, join_in_front_from}
 
 -- "acceptable by itself": neither 7 nor 8 applies to the mark
 abbrev pub Acceptable : ℕ → Mark → Type 0
@@ -23,34 +23,34 @@ stateless (Refused r s) = Refused r tt
 
 -- a joining may be made from either mark: the other one behind, or in front
 abbrev pub EitherCall : Type 0
-EitherCall = (s : ℕ) (x : Key) (a b : Mark) → stateless (joinBehindFrom s x a b) ≡ stateless (joinInFrontFrom s x b a)
+EitherCall = (s : ℕ) (x : Key) (a b : Mark) → stateless (join_behind_from s x a b) ≡ stateless (join_in_front_from s x b a)
 
 -- a refused joining ends it with its number
 abbrev pub and_then : {S A B : Type 0} → Answer S A → (A → Answer Unit B) → Answer Unit B
 and_then (Done a) next = next a
 and_then (Refused r s) next = Refused r tt
 
-abbrev pub leftFirst : ℕ → Key → Mark → Mark → Mark → Answer Unit Mark
-leftFirst s x a b c = and_then (joinBehindFrom s x a b) (λ m. stateless (joinBehindFrom s x m c))
+abbrev pub left_first : ℕ → Key → Mark → Mark → Mark → Answer Unit Mark
+left_first s x a b c = and_then (join_behind_from s x a b) (λ m. stateless (join_behind_from s x m c))
 
-abbrev pub rightFirst : ℕ → Key → Mark → Mark → Mark → Answer Unit Mark
-rightFirst s x a b c = and_then (joinBehindFrom s x b c) (λ m. stateless (joinInFrontFrom s x m a))
+abbrev pub right_first : ℕ → Key → Mark → Mark → Mark → Answer Unit Mark
+right_first s x a b c = and_then (join_behind_from s x b c) (λ m. stateless (join_in_front_from s x m a))
 
 -- "the same mark or refusal number whichever two neighbours go first"
 abbrev pub AnyTwoFirst : Type 0
 AnyTwoFirst =
     (s key : ℕ) (a b c : Mark) → accepted key ≡ true → Acceptable key a → Acceptable key b → Acceptable key c
-    → leftFirst s (keyOf key) a b c ≡ rightFirst s (keyOf key) a b c
+    → left_first s (key_of key) a b c ≡ right_first s (key_of key) a b c
 
 -- "the empty mark joined before or behind an acceptable one changes nothing"
 abbrev pub EmptyNothing : Type 0
 EmptyNothing =
     (s key : ℕ) (m : Mark) → accepted key ≡ true → Acceptable key m
-    → let e = markFrom s key [] in
-    (joinBehindFrom s (keyOf key) m e ≡ Done m)
-    × (joinInFrontFrom s (keyOf key) m e ≡ Done m)
-    × (joinBehindFrom s (keyOf key) e m ≡ Done m)
-    × (joinInFrontFrom s (keyOf key) e m ≡ Done m)
+    → let e = mark_from s key [] in
+    (join_behind_from s (key_of key) m e ≡ Done m)
+    × (join_in_front_from s (key_of key) m e ≡ Done m)
+    × (join_behind_from s (key_of key) e m ≡ Done m)
+    × (join_in_front_from s (key_of key) e m ≡ Done m)
 
 -- ---- any number of marks, at any depth
 
@@ -68,20 +68,20 @@ AllAcceptable key (One m) = Acceptable key m
 AllAcceptable key (Both g h) = AllAcceptable key g × AllAcceptable key h
 
 -- joined as it is grouped
-abbrev pub joinedBy : ℕ → Key → Grouping → Answer Unit Mark
-joinedBy s x (One m) = Done m
-joinedBy s x (Both g h) = and_then (joinedBy s x g) (λ m. and_then (joinedBy s x h) (λ n. stateless (joinBehindFrom s x m n)))
+abbrev pub joined_by : ℕ → Key → Grouping → Answer Unit Mark
+joined_by s x (One m) = Done m
+joined_by s x (Both g h) = and_then (joined_by s x g) (λ m. and_then (joined_by s x h) (λ n. stateless (join_behind_from s x m n)))
 
 -- from a mark on, one behind the other
-abbrev pub joinedInTurn : ℕ → Key → Mark → List Mark → Answer Unit Mark
-joinedInTurn s x m [] = Done m
-joinedInTurn s x m (n ∷ ns) = and_then (joinBehindFrom s x m n) (λ j. joinedInTurn s x j ns)
+abbrev pub joined_in_turn : ℕ → Key → Mark → List Mark → Answer Unit Mark
+joined_in_turn s x m [] = Done m
+joined_in_turn s x m (n ∷ ns) = and_then (join_behind_from s x m n) (λ j. joined_in_turn s x j ns)
 
 -- any grouping comes to the marks joined one behind the other, from the empty file's mark on
 abbrev pub AnyGrouping : Type 0
 AnyGrouping =
     (s key : ℕ) (g : Grouping) → accepted key ≡ true → AllAcceptable key g
-    → joinedBy s (keyOf key) g ≡ joinedInTurn s (keyOf key) (markFrom s key []) (marks g)
+    → joined_by s (key_of key) g ≡ joined_in_turn s (key_of key) (mark_from s key []) (marks g)
 
 -- the lengths together
 abbrev pub together : List Mark → ℕ
@@ -92,10 +92,10 @@ together (m ∷ ms) = m.length + together ms
 abbrev pub GroupingNumber : Type 0
 GroupingNumber =
     (s key : ℕ) (g : Grouping) → accepted key ≡ true → AllAcceptable key g
-    → number_of (joinedBy s (keyOf key) g) ≡ cond (ltb longest (together (marks g))) 7 0
+    → number_of (joined_by s (key_of key) g) ≡ cond (ltb longest (together (marks g))) 7 0
 
 -- the true marks of files, in a grouping that is not refused, give the mark of the files joined
 abbrev pub GroupingTrue : Type 0
 GroupingTrue =
-    (s key : ℕ) (g : Grouping) (files : List (List ℕ)) (m : Mark) → 0 < key → marks g ≡ map (markFrom s key) files
-    → joinedBy s (keyOf key) g ≡ Done m → m ≡ markFrom s key (flatten files)
+    (s key : ℕ) (g : Grouping) (files : List (List ℕ)) (m : Mark) → 0 < key → marks g ≡ map (mark_from s key) files
+    → joined_by s (key_of key) g ≡ Done m → m ≡ mark_from s key (flatten files)

@@ -3,10 +3,10 @@
 use Rattle.refusals.specs.Refusals.{Answer}
 use Rattle.acceptance.specs.declared.Key.{Key}
 use Rattle.files.specs.declared.Mark.{Mark}
-use Rattle.compose.specs.Composing.{joinBehindFrom, joinInFrontFrom}
+use Rattle.compose.specs.Composing.{join_behind_from, join_in_front_from}
 
-abbrev pub joinPlainBehind : Key → Mark → Mark → Answer Mark Mark
-joinPlainBehind x m other = joinBehindFrom 0 x m other
+abbrev pub join_plain_behind : Key → Mark → Mark → Answer Mark Mark
+join_plain_behind x m other = join_behind_from 0 x m other
 
-abbrev pub joinPlainInFront : Key → Mark → Mark → Answer Mark Mark
-joinPlainInFront x m other = joinInFrontFrom 0 x m other
+abbrev pub join_plain_in_front : Key → Mark → Mark → Answer Mark Mark
+join_plain_in_front x m other = join_in_front_from 0 x m other

@@ -1,13 +1,13 @@
 // Joining marks and changing a page in a file's mark, without the files.
 ghost use Rattle.std.specs.Prelude.{◌≡◌, not, ◌+◌, ◌*◌, ◌<◌, ltb};
 ghost use Rattle.refusals.specs.Refusals.{first_of};
-ghost use Rattle.acceptance.specs.Keys.{polynomialOf};
+ghost use Rattle.acceptance.specs.Keys.{polynomial_of};
 ghost use Rattle.acceptance.specs.Opened.{Opened};
-ghost use Rattle.files.specs.Files.{asPart, joinedFrom, replaced};
-ghost use Rattle.marks.specs.Answers.{markIn, fed, fedUnder};
-ghost use Rattle.compose.specs.Composing.{marksTests, joinTests, joinBehindFrom, joinBehind, joinInFrontFrom, joinInFront};
-ghost use Rattle.compose.specs.Composing.{pageTests, replacePage};
-ghost use Rattle.compose.specs.PlainMarks.{joinPlainBehind, joinPlainInFront};
+ghost use Rattle.files.specs.Files.{as_part, joined_from, replaced};
+ghost use Rattle.marks.specs.Answers.{mark_in, fed, fed_under};
+ghost use Rattle.compose.specs.Composing.{marks_tests, join_tests, join_behind_from, join_behind, join_in_front_from, join_in_front};
+ghost use Rattle.compose.specs.Composing.{page_tests, replace_page};
+ghost use Rattle.compose.specs.PlainMarks.{join_plain_behind, join_plain_in_front};
 
 use acceptance::Key;
 use files::Mark;
@@ -19,8 +19,8 @@ use refusals::Refusal;
 // Two marks joined, after the test of the key. The running mark m goes back where they are refused. A key is copied field by field, as in `marks`.
 fn join_under(p: Modulus, start: u64, m: Running, first: Mark, second: Mark) -> Fed
     requires { Opened m.key p × (start < 2) }
-    ensures { fed result ≡ fedUnder m.key (first_of (marksTests (polynomialOf m.key) first second) (markIn m)
-        (joinedFrom start (polynomialOf m.key) first second)) }
+    ensures { fed result ≡ fed_under m.key (first_of (marks_tests (polynomial_of m.key) first second) (mark_in m)
+        (joined_from start (polynomial_of m.key) first second)) }
 {
     let key = Key {
         degree: m.key.degree,
@@ -49,7 +49,7 @@ fn join_under(p: Modulus, start: u64, m: Running, first: Mark, second: Mark) -> 
 // Two marks joined.
 fn join(start: u64, m: Running, first: Mark, second: Mark) -> Fed
     requires { start < 2 }
-    ensures { fed result ≡ fedUnder m.key (first_of (joinTests m.key first second) (markIn m) (joinedFrom start (polynomialOf m.key) first second)) }
+    ensures { fed result ≡ fed_under m.key (first_of (join_tests m.key first second) (mark_in m) (joined_from start (polynomial_of m.key) first second)) }
 {
     let key = Key {
         degree: m.key.degree,
@@ -84,9 +84,9 @@ fn replace(
     new_used: u32,
 ) -> Fed
     requires { Opened m.key p }
-    ensures { fed result ≡ fedUnder m.key (first_of (pageTests (polynomialOf m.key) (markIn m) place (asPart old.now old_used)
-        (asPart new.now new_used)) (markIn m)
-        (replaced (polynomialOf m.key) (markIn m) place (asPart old.now old_used) (asPart new.now new_used))) }
+    ensures { fed result ≡ fed_under m.key (first_of (page_tests (polynomial_of m.key) (mark_in m) place (as_part old.now old_used)
+        (as_part new.now new_used)) (mark_in m)
+        (replaced (polynomial_of m.key) (mark_in m) place (as_part old.now old_used) (as_part new.now new_used))) }
 {
     let key = m.key;
     let length = m.length;
@@ -118,7 +118,7 @@ fn replace(
 // The other mark's file goes behind the running mark's, both with one start.
 fn join_behind_from(start: u64, m: Running, other: Mark) -> Fed
     requires { start < 2 }
-    ensures { fed result ≡ fedUnder m.key (joinBehindFrom start m.key (markIn m) other) }
+    ensures { fed result ≡ fed_under m.key (join_behind_from start m.key (mark_in m) other) }
 {
     join(start, m, m.mark(), other)
 }
@@ -126,35 +126,35 @@ fn join_behind_from(start: u64, m: Running, other: Mark) -> Fed
 // The other mark's file goes in front of the running mark's, both with one start.
 fn join_in_front_from(start: u64, m: Running, other: Mark) -> Fed
     requires { start < 2 }
-    ensures { fed result ≡ fedUnder m.key (joinInFrontFrom start m.key (markIn m) other) }
+    ensures { fed result ≡ fed_under m.key (join_in_front_from start m.key (mark_in m) other) }
 {
     join(start, m, other, m.mark())
 }
 
 // The other mark's file goes behind the running mark's. Numbers 1, 2, 7, 8.
 pub fn join_behind(m: Running, other: Mark) -> Fed
-    ensures { fed result ≡ fedUnder m.key (joinBehind m.key (markIn m) other) }
+    ensures { fed result ≡ fed_under m.key (join_behind m.key (mark_in m) other) }
 {
     join_behind_from(1, m, other)
 }
 
 // The other mark's file goes in front of the running mark's. Numbers 1, 2, 7, 8.
 pub fn join_in_front(m: Running, other: Mark) -> Fed
-    ensures { fed result ≡ fedUnder m.key (joinInFront m.key (markIn m) other) }
+    ensures { fed result ≡ fed_under m.key (join_in_front m.key (mark_in m) other) }
 {
     join_in_front_from(1, m, other)
 }
 
 // The same of plain marks: the other mark's file goes behind. Numbers 1, 2, 7, 8.
 pub fn join_plain_behind(m: Running, other: Mark) -> Fed
-    ensures { fed result ≡ fedUnder m.key (joinPlainBehind m.key (markIn m) other) }
+    ensures { fed result ≡ fed_under m.key (join_plain_behind m.key (mark_in m) other) }
 {
     join_behind_from(0, m, other)
 }
 
 // The same of plain marks: the other mark's file goes in front. Numbers 1, 2, 7, 8.
 pub fn join_plain_in_front(m: Running, other: Mark) -> Fed
-    ensures { fed result ≡ fedUnder m.key (joinPlainInFront m.key (markIn m) other) }
+    ensures { fed result ≡ fed_under m.key (join_plain_in_front m.key (mark_in m) other) }
 {
     join_in_front_from(0, m, other)
 }
@@ -169,8 +169,8 @@ pub fn replace_page(
     new: &[u8],
     new_used: u32,
 ) -> Fed
-    ensures { fed result ≡ fedUnder m.key (replacePage m.key (markIn m) place (asPart old.now old_used)
-        (asPart new.now new_used)) }
+    ensures { fed result ≡ fed_under m.key (replace_page m.key (mark_in m) place (as_part old.now old_used)
+        (as_part new.now new_used)) }
 {
     match keys::test(m.key) {
         Tested::Refused(r) => Fed::Refused(r, m),

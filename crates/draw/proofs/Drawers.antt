@@ -11,21 +11,21 @@ use lib.Pow.{pow_mono}
 use Rattle.gf2.specs.Polynomials.{◌⊕◌, ◌⊗◌, degree, Divides, rem, Irreducible}
 use Rattle.gf2.specs.Degrees.{Degree}
 use Rattle.gf2.proofs.Sums.{⊕-zero, ⊕-lt, ⊕-bit}
-use Rattle.gf2.proofs.Products.{⊗-zero, ⊗-one, bit-cases, mod-2}
-use Rattle.gf2.proofs.Degrees.{degree-is, degree-eq, deg-lo, deg-hi, deg-pos}
-use Rattle.gf2.proofs.Divisors.{dvd-by, dvd_refl, dvd-small}
-use Rattle.gf2.proofs.Residues.{rem_lt, rem-of-dvd, dvd-of-rem-zero, dvd-of-rem}
-use Rattle.gf2.proofs.Irreducibles.{euclid-lemma, pos-left, factor-degrees}
+use Rattle.gf2.proofs.Products.{⊗-zero, ⊗-one, bit-cases, mod_2}
+use Rattle.gf2.proofs.Degrees.{degree-is, degree-eq, deg-lo, deg_hi, deg-pos}
+use Rattle.gf2.proofs.Divisors.{dvd_by, dvd_refl, dvd-small}
+use Rattle.gf2.proofs.Residues.{rem_lt, rem_of_dvd, dvd_of_rem-zero, dvd_of_rem}
+use Rattle.gf2.proofs.Irreducibles.{euclid_lemma, pos-left, factor_degrees}
 use Rattle.fields.specs.Fields.{compose, at}
 use Rattle.fields.specs.Primes.{Field}
-use Rattle.fields.proofs.Values.{compose-zero, compose-step, compose-⊗, compose-id, compose-cong}
+use Rattle.fields.proofs.Values.{compose-zero, compose-step, compose-⊗, compose_id, compose_cong}
 use Rattle.fields.proofs.Squaring.{power, squares}
-use Rattle.fields.proofs.Fermat.{fermat, fermat-all, frobenius-degree, frobenius-at, positive, one-lt, residues-differ}
-use Rattle.fields.proofs.Conjugates.{field-pos, field-degree, field-four, conjugates-differ}
-use Rattle.fields.proofs.Roots.{few-roots}
+use Rattle.fields.proofs.Fermat.{fermat, fermat-all, frobenius_degree, frobenius_at, positive, one-lt, residues-differ}
+use Rattle.fields.proofs.Conjugates.{field-pos, field-degree, field-four, conjugates_differ}
+use Rattle.fields.proofs.Roots.{few_roots}
 use Rattle.fields.proofs.Pigeonhole.{Found, stands}
 use Rattle.draw.specs.Drawing.{Draws}
-use Rattle.draw.proofs.Draws.{conjugate-is, conjugate-draws, only-conjugates}
+use Rattle.draw.proofs.Draws.{conjugate-is, conjugate-draws, only_conjugates}
 
 -- ---- who draws p
 
@@ -52,7 +52,7 @@ module _ (f p k : ℕ) (irr-f : Irreducible f) (deg-f : Degree f k) (irr-p : Irr
   splits = (fermat p k irr-p deg-p).product
 
   whole-degree : Degree (power k 2 ⊕ 2) (2 ^ k)
-  whole-degree = frobenius-degree k (positive f k irr-f deg-f)
+  whole-degree = frobenius_degree k (positive f k irr-f deg-f)
 
   q-pos : 0 < q
   q-pos = pos-left q p (power k 2 ⊕ 2) splits (deg-pos (power k 2 ⊕ 2) (2 ^ k) whole-degree)
@@ -60,27 +60,27 @@ module _ (f p k : ℕ) (irr-f : Irreducible f) (deg-f : Degree f k) (irr-p : Irr
   degrees : 2 ^ k ≡ degree q + k
   degrees =
       sym (degree-eq (power k 2 ⊕ 2) (2 ^ k) whole-degree)
-      ∙ factor-degrees q p (power k 2 ⊕ 2) splits (deg-pos (power k 2 ⊕ 2) (2 ^ k) whole-degree)
+      ∙ factor_degrees q p (power k 2 ⊕ 2) splits (deg-pos (power k 2 ⊕ 2) (2 ^ k) whole-degree)
       ∙ ap (λ (x : ℕ). degree q + x) (degree-eq p k deg-p)
 
   q-lt : q < 2 ^ (2 ^ k)
-  q-lt = lt_of_lt_of_le (deg-hi q (degree q) (degree-is q q-pos)) (pow_mono (omega (arith, degrees, positive f k irr-f deg-f)))
+  q-lt = lt_of_lt_of_le (deg_hi q (degree q) (degree-is q q-pos)) (pow_mono (omega (arith, degrees, positive f k irr-f deg-f)))
 
   -- each residue is a root of one of the two
   either : (e : ℕ) → Divides f (compose q e) ⊎ Divides f (compose p e)
   either e =
-      euclid-lemma f (compose q e) (compose p e) irr-f
-      (dvd-by (fermat-all f k irr-f deg-f e) (sym (frobenius-at k e) ∙ ap (λ (x : ℕ). compose x e) (sym splits) ∙ compose-⊗ q p e))
+      euclid_lemma f (compose q e) (compose p e) irr-f
+      (dvd_by (fermat-all f k irr-f deg-f e) (sym (frobenius_at k e) ∙ ap (λ (x : ℕ). compose x e) (sym splits) ∙ compose-⊗ q p e))
 
-  has-root : Found (2 ^ k) 0 (at f p)
+  has_root : Found (2 ^ k) 0 (at f p)
   unfolding at
-  has-root =
+  has_root =
       stands (at f p) 0 (2 ^ k)
       (λ none. omega (
         arith,
         q-pos,
-        few-roots f k deg-f (one-lt f k irr-f deg-f) irr-f (2 ^ k) q (λ x. x) q-lt (residues-differ f k irr-f deg-f)
-            (λ e l. ⊎_elim (λ d. d) (λ d. absurd (none e l (rem-of-dvd pos (compose p e) d))) (either e)),
+        few_roots f k deg-f (one-lt f k irr-f deg-f) irr-f (2 ^ k) q (λ x. x) q-lt (residues-differ f k irr-f deg-f)
+            (λ e l. ⊎_elim (λ d. d) (λ d. absurd (none e l (rem_of_dvd pos (compose p e) d))) (either e)),
       ))
 
 -- ---- 0 and 1 are no roots
@@ -89,12 +89,12 @@ digit_value : (p c : ℕ) → c < 2 → compose p c < 2
 digit_value p c l = go (bit-cases c l)
   where
     at_zero : compose p 0 < 2
-    at_zero = rw (compose-step p 0, ⊗-zero) (⊕-lt 1 0 (p % 2) (omega arith) (mod-2 p))
+    at_zero = rw (compose-step p 0, ⊗-zero) (⊕-lt 1 0 (p % 2) (omega arith) (mod_2 p))
 
     at_one : compose p 1 < 2
     at_one =
         bin_ind (λ (n : ℕ). compose n 1 < 2) (rw compose-zero (omega arith))
-        (λ n ih. rw (compose-step n 1, ⊗-one) (⊕-lt 1 (compose (n / 2) 1) (n % 2) ih (mod-2 n))) p
+        (λ n ih. rw (compose-step n 1, ⊗-one) (⊕-lt 1 (compose (n / 2) 1) (n % 2) ih (mod_2 n))) p
 
     go : (c ≡ 0) ⊎ (c ≡ 1) → compose p c < 2
     go (inl e) = rw e at_zero
@@ -105,23 +105,23 @@ module _ (f k : ℕ) (h : Field f k) (p : ℕ) (irr : Irreducible p) (deg : Degr
   pos-f = field-pos f k h
 
   -- p(c) = 0 makes t - c a divisor
-  no-digit-root : (c : ℕ) → c < 2 → at f p c ≡ 0 → ⊥
+  no_digit-root : (c : ℕ) → c < 2 → at f p c ≡ 0 → ⊥
   unfolding at
-  no-digit-root c l z =
+  no_digit-root c l z =
       ⊎_elim (λ e. omega (arith, ⊕-bit 1 c l)) (λ e. omega (arith, ⊕-bit 1 c l, deg-lo p k deg, field-four f k h)) (irr.only (2 ⊕ c) divisor)
     where
       value-zero : compose p c ≡ 0
-      value-zero = dvd-small k h.of-degree (dvd-of-rem-zero pos-f (compose p c) z) (lt_of_lt_of_le (digit_value p c l) (omega (arith, field-four f k h)))
+      value-zero = dvd-small k h.of_degree (dvd_of_rem-zero pos-f (compose p c) z) (lt_of_lt_of_le (digit_value p c l) (omega (arith, field-four f k h)))
 
       divisor : Divides (2 ⊕ c) p
-      divisor = dvd-by (compose-cong (2 ⊕ c) p 2 c (dvd_refl (2 ⊕ c))) (rw (compose-id p, value-zero) (⊕-zero p))
+      divisor = dvd_by (compose_cong (2 ⊕ c) p 2 c (dvd_refl (2 ⊕ c))) (rw (compose_id p, value-zero) (⊕-zero p))
 
   root-proper : (e : ℕ) → at f p e ≡ 0 → 1 < e
   root-proper e z = go (dec_lt 1 e)
     where
       go : Dec (1 < e) → 1 < e
       go (yes l) = l
-      go (no n) = absurd (no-digit-root e (omega arith) z)
+      go (no n) = absurd (no_digit-root e (omega arith) z)
 
   -- ---- the conjugates of a root draw p
 
@@ -131,13 +131,13 @@ module _ (f k : ℕ) (h : Field f k) (p : ℕ) (irr : Irreducible p) (deg : Degr
         element = λ j. squares f j e;
         above = λ j. root-proper (squares f j e) (each j).root;
         below = λ j. rw (is j) (rw (field-degree f k h) at (rem_lt pos-f (power j e)));
-        different = λ i j l b s. conjugates-differ f k e h low high i j l b (dvd-of-rem pos-f (power i e) (power j e) (sym (is i) ∙ s ∙ is j));
+        different = λ i j l b s. conjugates_differ f k e h low high i j l b (dvd_of_rem pos-f (power i e) (power j e) (sym (is i) ∙ s ∙ is j));
         draw = each;
-        all = λ x l a. only-conjugates f k h e low high p x draws l a.root;
+        all = λ x l a. only_conjugates f k h e low high p x draws l a.root;
       }
     where
       found : Found (2 ^ k) 0 (at f p)
-      found = has-root f p k h.irreducible h.of-degree irr deg
+      found = has_root f p k h.irreducible h.of_degree irr deg
 
       e : ℕ
       e = found.place
@@ -149,7 +149,7 @@ module _ (f k : ℕ) (h : Field f k) (p : ℕ) (irr : Irreducible p) (deg : Degr
       low = root-proper e found.is
 
       draws : Draws f k e p
-      draws = record { of-degree = deg; root = found.is }
+      draws = record { of_degree = deg; root = found.is }
 
       is : (j : ℕ) → squares f j e ≡ rem f (power j e)
       is = conjugate-is f k h e low high

@@ -10,18 +10,18 @@ use Rattle.gf2.specs.Polynomials.{◌⊗◌, rem}
 use Rattle.gf2.specs.Degrees.{Degree}
 use Rattle.gf2.specs.Moduli.{polynomial, Proper}
 use Rattle.gf2.specs.declared.Modulus.{Modulus}
-use Rattle.gf2.proofs.Degrees.{deg-hi, deg-pos}
+use Rattle.gf2.proofs.Degrees.{deg_hi, deg-pos}
 use Rattle.gf2.proofs.Monics.{monic-pos, monic-degree}
-use Rattle.gf2.proofs.Products.{⊕-⊗, ⊗-comm, ⊗-pow}
+use Rattle.gf2.proofs.Products.{⊕-⊗, ⊗_comm, ⊗-pow}
 use Rattle.gf2.proofs.Linear.{Additive}
 use Rattle.gf2.proofs.Residues.{rem-⊕}
 use Rattle.gf2.proofs.Steps.{residue-word, shift-next}
 use Rattle.basis.specs.Rows.{sum_of, NoRelation, Matrix}
 use Rattle.fields.specs.Fields.{compose, at}
 use Rattle.fields.specs.Primes.{Field}
-use Rattle.fields.proofs.Values.{at-⊕, at_one, at-dbl}
+use Rattle.fields.proofs.Values.{at-⊕, at_one, at_dbl}
 use Rattle.draw.specs.Drawing.{Draws, drawn}
-use Rattle.draw.proofs.Draws.{no-smaller, draw, drawn-is}
+use Rattle.draw.proofs.Draws.{no_smaller, draw, drawn-is}
 
 pub positive : (p : Modulus) → Proper p → 0 < polynomial p
 positive p h = monic-pos p.degree p.low h.2
@@ -29,17 +29,17 @@ positive p h = monic-pos p.degree p.low h.2
 -- ---- multiplication by a
 
 module _ {f : ℕ} (pos : 0 < f) (a : ℕ) where
-  pub times-additive : Additive (λ x. rem f (x ⊗ a))
-  times-additive = record { sum = λ x y. ap (rem f) (⊕-⊗ x y a) ∙ rem-⊕ pos (x ⊗ a) (y ⊗ a) }
+  pub times_additive : Additive (λ x. rem f (x ⊗ a))
+  times_additive = record { sum = λ x y. ap (rem f) (⊕-⊗ x y a) ∙ rem-⊕ pos (x ⊗ a) (y ⊗ a) }
 
-  place-times : (j : ℕ) → 2 ^ j ⊗ a ≡ a * 2 ^ j
-  place-times j = ⊗-comm (2 ^ j) a ∙ ⊗-pow j a
+  place_times : (j : ℕ) → 2 ^ j ⊗ a ≡ a * 2 ^ j
+  place_times j = ⊗_comm (2 ^ j) a ∙ ⊗-pow j a
 
-  pub times-next : (j x : ℕ) → x ≡ rem f (2 ^ j ⊗ a) → rem f (x * 2 + 0) ≡ rem f (2 ^ (j + 1) ⊗ a)
-  times-next j x e =
-      ap (λ (y : ℕ). rem f (y * 2 + 0)) (e ∙ ap (rem f) (place-times j))
+  pub times_next : (j x : ℕ) → x ≡ rem f (2 ^ j ⊗ a) → rem f (x * 2 + 0) ≡ rem f (2 ^ (j + 1) ⊗ a)
+  times_next j x e =
+      ap (λ (y : ℕ). rem f (y * 2 + 0)) (e ∙ ap (rem f) (place_times j))
       ∙ shift-next pos a j
-      ∙ ap (rem f) (sym (ap (λ (n : ℕ). 2 ^ n ⊗ a) (add-one j) ∙ place-times (suc j)))
+      ∙ ap (rem f) (sym (ap (λ (n : ℕ). 2 ^ n ⊗ a) (add-one j) ∙ place_times (suc j)))
 
 -- ---- the value at e, modulo a polynomial as the code holds it
 
@@ -58,7 +58,7 @@ module _ (p : Modulus) (m : Proper p) (e : ℕ) where
   next_power l i x q =
       ap (λ (y : ℕ). rem (polynomial p) (y ⊗ e)) q
       ∙ sym (ap (λ (y : ℕ). at (polynomial p) y e) (ap (λ (n : ℕ). 2 ^ n) (add-one i) ∙ pow-suc 2 i)
-      ∙ at-dbl (positive p m) (2 ^ i) e (rw (monic-degree p.degree p.low m.2) l))
+      ∙ at_dbl (positive p m) (2 ^ i) e (rw (monic-degree p.degree p.low m.2) l))
 
   pub value-word : (q : ℕ) → at (polynomial p) q e < 2 ^ 64
   unfolding at
@@ -71,16 +71,16 @@ module _ (f k : ℕ) (h : Field f k) (e : ℕ) (low : 1 < e) (high : e < 2 ^ k) 
   value n x m b = is x (lt_of_lt_of_le b (pow_mono m))
 
   pub none-smaller : NoRelation k rows
-  none-smaller x b z = no-smaller f k h e low high x b (sym (value k x (omega arith) b) ∙ z)
+  none-smaller x b z = no_smaller f k h e low high x b (sym (value k x (omega arith) b) ∙ z)
 
   pub one-there : NoRelation (k + 1) rows → ⊥
   one-there none = found (draw f k h e low high)
     where
       found : (p : ℕ) × Draws f k e p → ⊥
       found d =
-          let b : d.0 < 2 ^ (k + 1) = rw (add-one k) (deg-hi d.0 k d.1.of-degree) in
-          omega (arith, none d.0 b (value (k + 1) d.0 (omega arith) b ∙ d.1.root), deg-pos d.0 k d.1.of-degree)
+          let b : d.0 < 2 ^ (k + 1) = rw (add-one k) (deg_hi d.0 k d.1.of_degree) in
+          omega (arith, none d.0 b (value (k + 1) d.0 (omega arith) b ∙ d.1.root), deg-pos d.0 k d.1.of_degree)
 
-  pub relation-drawn : (r : ℕ) → Degree r k → sum_of r rows ≡ 0 → r ≡ drawn f k e
-  relation-drawn r d z =
-      sym (drawn-is f k h e low high r (record { of-degree = d; root = sym (value (suc k) r (omega arith) (deg-hi r k d)) ∙ z }))
+  pub relation_drawn : (r : ℕ) → Degree r k → sum_of r rows ≡ 0 → r ≡ drawn f k e
+  relation_drawn r d z =
+      sym (drawn-is f k h e low high r (record { of_degree = d; root = sym (value (suc k) r (omega arith) (deg_hi r k d)) ∙ z }))

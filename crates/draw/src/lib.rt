@@ -14,7 +14,7 @@ use gf2::Modulus;
 use refusals::Refusal;
 
 // The answer to drawing: the key, or a refusal.
-#[derive(Drop)]
+#[derive(Clone, Copy)]
 pub enum Drawn {
     Key(Key),
     Refused(Refusal),

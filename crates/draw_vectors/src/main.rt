@@ -1,7 +1,7 @@
 // The readings of document 01 about drawing; and of the 2,048 numbers of degree 11, how many are drawn by 11 of the 2,046 elements each, and
 // how many by none. Then degree 61, and degrees that are not listed.
 ghost use Rattle.std.specs.Prelude.{◌≡◌};
-ghost use Rattle.refusals.specs.Refusals.{valueOr};
+ghost use Rattle.refusals.specs.Refusals.{value_or};
 ghost use Rattle.draw.specs.Drawing.{draw};
 
 use acceptance::Key;
@@ -30,7 +30,7 @@ fn show(degree: u32, element: u64) {
 
 // The key of degree 11 that an element draws, degree 0 where it is refused.
 fn key_of(element: u64) -> Key
-    ensures { result ≡ valueOr (record { degree = 0; word = 0 }) (draw 11 element) }
+    ensures { result ≡ value_or (record { degree = 0; word = 0 }) (draw 11 element) }
 {
     match draw::draw(11, element) {
         Drawn::Key(key) => key,

@@ -11,16 +11,16 @@ use Rattle.refusals.specs.declared.Refusal.TheVariants.{MarkNotReduced, FinalByt
 use Rattle.refusals.specs.Refusals.{Answer, state_of, number_of, Test, ◌⇒◌, first_of}
 use Rattle.refusals.proofs.Laws.{agree}
 use Rattle.acceptance.specs.declared.Key.{Key}
-use Rattle.acceptance.specs.Keys.{accepted, polynomialOf, keyOf, keyTests}
+use Rattle.acceptance.specs.Keys.{accepted, polynomial_of, key_of, key_tests}
 use Rattle.acceptance.proofs.Laws.{accepted-pos, whole-key}
 use Rattle.files.specs.declared.Mark.{Mark}
-use Rattle.files.specs.Files.{markFrom, unreduced, Part, partLength, misused, fedMark}
+use Rattle.files.specs.Files.{mark_from, unreduced, Part, part_length, misused, fed_mark}
 use Rattle.files.specs.PlainMarks.{turned}
-use Rattle.files.proofs.Marks.{true-reduced}
+use Rattle.files.proofs.Marks.{true_reduced}
 use Rattle.files.proofs.Turning.{turn-from, turn-fed}
-use Rattle.table_tests.specs.TableTests.{tableTests}
-use Rattle.mark_tests.specs.MarkTests.{sumTest, feedTests}
-use Rattle.marks.specs.Feeding.{feedBits, feedTable}
+use Rattle.table_tests.specs.TableTests.{table_tests}
+use Rattle.mark_tests.specs.MarkTests.{sum_test, feed_tests}
+use Rattle.marks.specs.Feeding.{feed_bits, feed_table}
 use Rattle.book.specs.Runs.{run}
 use Rattle.book.proofs.RunLaws.{run-append}
 use Rattle.fed_parts.specs.Parts.{Feed, ByBits, ByTable, step}
@@ -35,8 +35,8 @@ module _ (key : ℕ) (pos : 0 < key) where
   unfolding turned
   low-turned m = lt-leb (2 ^ degree key) _ (rem_lt pos _)
 
-  low-fed : (m : Mark) (part : Part) → unreduced key (fedMark key m part) ≡ false
-  unfolding fedMark
+  low-fed : (m : Mark) (part : Part) → unreduced key (fed_mark key m part) ≡ false
+  unfolding fed_mark
   low-fed m part = lt-leb (2 ^ degree key) _ (rem_lt pos _)
 
   same_length : (m : Mark) → (turned key m).length ≡ m.length
@@ -44,47 +44,47 @@ module _ (key : ℕ) (pos : 0 < key) where
   same_length m = refl
 
   module _ (m : Mark) (low : unreduced key m ≡ false) (part : Part) (ts : List Test) where
-    tests_same : ts ++ feedTests key (turned key m) part ≡ ts ++ feedTests key m part
+    tests_same : ts ++ feed_tests key (turned key m) part ≡ ts ++ feed_tests key m part
     tests_same =
         ap (λ (x : List Test). ts ++ x)
-        (ap₂ (λ (n : ℕ) (b : Bool). sumTest n (partLength part) ∷ b ⇒ MarkNotReduced ∷ misused part ⇒ FinalByte ∷ []) (same_length m)
+        (ap₂ (λ (n : ℕ) (b : Bool). sum_test n (part_length part) ∷ b ⇒ MarkNotReduced ∷ misused part ⇒ FinalByte ∷ []) (same_length m)
         (low-turned m ∙ sym low))
 
-    fed-alike : Alike (first_of (ts ++ feedTests key (turned key m) part) (turned key m) (fedMark key (turned key m) part))
-        (first_of (ts ++ feedTests key m part) m (fedMark key m part))
+    fed-alike : Alike (first_of (ts ++ feed_tests key (turned key m) part) (turned key m) (fed_mark key (turned key m) part))
+        (first_of (ts ++ feed_tests key m part) m (fed_mark key m part))
     fed-alike =
         rw tests_same
-        (agree (turned key) (ts ++ feedTests key m part) m (fedMark key m part) (fedMark key (turned key m) part) (λ e. turn-fed key m part pos))
+        (agree (turned key) (ts ++ feed_tests key m part) m (fed_mark key m part) (fed_mark key (turned key m) part) (λ e. turn-fed key m part pos))
 
   low_first : (ts : List Test) (m n : Mark) → unreduced key m ≡ false → unreduced key n ≡ false → unreduced key (state_of (first_of ts m n)) ≡ false
   low_first [] m n a b = b
   low_first (true ⇒ r ∷ ts) m n a b = a
   low_first (false ⇒ r ∷ ts) m n a b = low_first ts m n a b
 
-  handed : (F G : ℕ → Answer Mark Mark) → Alike (F key) (G key) → Alike (F (polynomialOf (keyOf key))) (G (polynomialOf (keyOf key)))
+  handed : (F G : ℕ → Answer Mark Mark) → Alike (F key) (G key) → Alike (F (polynomial_of (key_of key))) (G (polynomial_of (key_of key)))
   handed F G a = rw (ap F (whole-key key pos), ap G (whole-key key pos)) a
 
   alike : (m : Mark) → unreduced key m ≡ false → (c : Feed) → Alike (step key (turned key m) c) (step key m c)
-  unfolding step feedBits feedTable
+  unfolding step feed_bits feed_table
   alike m low (ByBits part) =
-      handed (λ (q : ℕ). first_of (keyTests (keyOf key) ++ feedTests q (turned key m) part) (turned key m) (fedMark q (turned key m) part))
-      (λ (q : ℕ). first_of (keyTests (keyOf key) ++ feedTests q m part) m (fedMark q m part)) (fed-alike m low part (keyTests (keyOf key)))
+      handed (λ (q : ℕ). first_of (key_tests (key_of key) ++ feed_tests q (turned key m) part) (turned key m) (fed_mark q (turned key m) part))
+      (λ (q : ℕ). first_of (key_tests (key_of key) ++ feed_tests q m part) m (fed_mark q m part)) (fed-alike m low part (key_tests (key_of key)))
   alike m low (ByTable words part) =
-      handed (λ (q : ℕ). first_of (keyTests (keyOf key) ++ tableTests q words ++ feedTests q (turned key m) part) (turned key m) (fedMark q (turned key m) part))
-      (λ (q : ℕ). first_of (keyTests (keyOf key) ++ tableTests q words ++ feedTests q m part) m (fedMark q m part))
-      (fed-alike m low part (keyTests (keyOf key) ++ tableTests key words))
+      handed (λ (q : ℕ). first_of (key_tests (key_of key) ++ table_tests q words ++ feed_tests q (turned key m) part) (turned key m) (fed_mark q (turned key m) part))
+      (λ (q : ℕ). first_of (key_tests (key_of key) ++ table_tests q words ++ feed_tests q m part) m (fed_mark q m part))
+      (fed-alike m low part (key_tests (key_of key) ++ table_tests key words))
 
   abbrev x : Key
-  x = keyOf key
+  x = key_of key
 
-  low-handed : (m : Mark) (part : Part) → unreduced key (fedMark (polynomialOf x) m part) ≡ false
-  low-handed m part = ap (λ (q : ℕ). unreduced key (fedMark q m part)) (whole-key key pos) ∙ low-fed m part
+  low-handed : (m : Mark) (part : Part) → unreduced key (fed_mark (polynomial_of x) m part) ≡ false
+  low-handed m part = ap (λ (q : ℕ). unreduced key (fed_mark q m part)) (whole-key key pos) ∙ low-fed m part
 
   low_step : (m : Mark) → unreduced key m ≡ false → (c : Feed) → unreduced key (state_of (step key m c)) ≡ false
-  unfolding step feedBits feedTable
-  low_step m low (ByBits part) = low_first (keyTests x ++ feedTests (polynomialOf x) m part) m (fedMark (polynomialOf x) m part) low (low-handed m part)
+  unfolding step feed_bits feed_table
+  low_step m low (ByBits part) = low_first (key_tests x ++ feed_tests (polynomial_of x) m part) m (fed_mark (polynomial_of x) m part) low (low-handed m part)
   low_step m low (ByTable words part) =
-      low_first (keyTests x ++ tableTests (polynomialOf x) words ++ feedTests (polynomialOf x) m part) m (fedMark (polynomialOf x) m part) low
+      low_first (key_tests x ++ table_tests (polynomial_of x) words ++ feed_tests (polynomial_of x) m part) m (fed_mark (polynomial_of x) m part) low
       (low-handed m part)
 
   turns : (m : Mark) (calls : List Feed) → unreduced key m ≡ false
@@ -97,18 +97,18 @@ module _ (key : ℕ) (pos : 0 < key) where
       ap₂ {C = Mark × List ℕ} (λ (x : Mark) (n : ℕ). ((run (step key) x cs).0, n ∷ (run (step key) x cs).1)) a.0 a.1
       ∙ ap {B = Mark × List ℕ} (λ (r : Mark × List ℕ). (r.0, number_of (step key m c) ∷ r.1)) rest
 
-pub turns-anywhere : TurnsAnywhere
-turns-anywhere key m calls a low = turns key (accepted-pos key a) m calls low
+pub turns_anywhere : TurnsAnywhere
+turns_anywhere key m calls a low = turns key (accepted-pos key a) m calls low
 
 -- s and u are the two starts
 goes : (s u key : ℕ) (file : List ℕ) (cs ds : List Feed) → s ⊕ u ≡ 1 → accepted key ≡ true
-    → (run (step key) (turned key (run (step key) (markFrom s key file) cs).0) ds).0 ≡ (run (step key) (markFrom u key file) (cs ++ ds)).0
+    → (run (step key) (turned key (run (step key) (mark_from s key file) cs).0) ds).0 ≡ (run (step key) (mark_from u key file) (cs ++ ds)).0
 goes s u key file cs ds e a =
     let pos = accepted-pos key a in
     sym
-    (run-append (step key) (markFrom u key file) cs ds
+    (run-append (step key) (mark_from u key file) cs ds
     ∙ ap (λ (x : Mark). (run (step key) (run (step key) x cs).0 ds).0) (sym (turn-from pos s u file e))
-    ∙ ap (λ (r : Mark × List ℕ). (run (step key) r.0 ds).0) (turns-anywhere key (markFrom s key file) cs a (true-reduced s key pos file)))
+    ∙ ap (λ (r : Mark × List ℕ). (run (step key) r.0 ds).0) (turns_anywhere key (mark_from s key file) cs a (true_reduced s key pos file)))
 
 pub goes_on : GoesOn
 goes_on key file cs ds a = (goes 0 1 key file cs ds (zero-⊕ 1) a, goes 1 0 key file cs ds (⊕-zero 1) a)

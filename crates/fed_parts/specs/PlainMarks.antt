@@ -4,7 +4,7 @@ use Rattle.std.specs.Prelude.{◌≡◌, true, false, List, ◌++◌, ℕ}
 use Rattle.acceptance.specs.Keys.{accepted}
 use Rattle.files.specs.declared.Mark.{Mark}
 use Rattle.files.specs.Files.{mark_of, unreduced}
-use Rattle.files.specs.PlainMarks.{plainMarkOf, turned}
+use Rattle.files.specs.PlainMarks.{plain_mark_of, turned}
 use Rattle.book.specs.Runs.{run}
 use Rattle.fed_parts.specs.Parts.{Feed, step}
 
@@ -21,5 +21,5 @@ TurnsAnywhere =
 abbrev pub GoesOn : Type 0
 GoesOn =
     (key : ℕ) (file : List ℕ) (before behind : List Feed) → accepted key ≡ true
-    → ((run (step key) (turned key (run (step key) (plainMarkOf key file) before).0) behind).0 ≡ (run (step key) (mark_of key file) (before ++ behind)).0)
-    × ((run (step key) (turned key (run (step key) (mark_of key file) before).0) behind).0 ≡ (run (step key) (plainMarkOf key file) (before ++ behind)).0)
+    → ((run (step key) (turned key (run (step key) (plain_mark_of key file) before).0) behind).0 ≡ (run (step key) (mark_of key file) (before ++ behind)).0)
+    × ((run (step key) (turned key (run (step key) (mark_of key file) before).0) behind).0 ≡ (run (step key) (plain_mark_of key file) (before ++ behind)).0)

@@ -9,16 +9,16 @@
 ghost use Rattle.std.specs.Prelude.{◌≡◌, true, false, ◌^◌, ◌<◌, length};
 ghost use Rattle.gf2.specs.Polynomials.{◌⊕◌, rem};
 ghost use Rattle.gf2.specs.Moduli.{polynomial, Proper};
-ghost use Rattle.files.specs.Files.{bits, valueFrom, fingerprint, asPart, partBits, misused};
+ghost use Rattle.files.specs.Files.{bits, value_from, fingerprint, as_part, part_bits, misused};
 ghost use Rattle.lookups.specs.Groups.{TableOf};
-ghost use Rattle.house.specs.House.{houseKey};
+ghost use Rattle.house.specs.House.{house_key};
 
 use gf2::Modulus;
 
 // Whole bytes behind a residue, with no table: folded, sparse or by bits.
 pub fn bytes_alone(p: Modulus, f: u64, part: &[u8]) -> u64
     requires { Proper p × (f < 2 ^ p.degree) }
-    ensures { result ≡ rem (polynomial p) (valueFrom f (bits part.now)) }
+    ensures { result ≡ rem (polynomial p) (value_from f (bits part.now)) }
 {
     if house::is_house(p) {
         return folds::fed_house(f, part);
@@ -33,7 +33,7 @@ pub fn bytes_alone(p: Modulus, f: u64, part: &[u8]) -> u64
 // Whole bytes behind a residue, by the table of the key: folded or by table.
 pub fn bytes_by_table(words: &[u64], p: Modulus, f: u64, part: &[u8]) -> u64
     requires { TableOf p words.now × (f < 2 ^ p.degree) }
-    ensures { result ≡ rem (polynomial p) (valueFrom f (bits part.now)) }
+    ensures { result ≡ rem (polynomial p) (value_from f (bits part.now)) }
 {
     if house::is_house(p) {
         return folds::fed_house(f, part);
@@ -44,8 +44,8 @@ pub fn bytes_by_table(words: &[u64], p: Modulus, f: u64, part: &[u8]) -> u64
 // A part behind a residue, with no table: its whole bytes, and the used bits behind them. A part with no unfinished byte is fed by a call of its own: called
 // from two places, `bytes_alone` stays a function of its own, and is faster so.
 pub fn part_alone(p: Modulus, f: u64, part: &[u8], used: u32) -> u64
-    requires { Proper p × (f < 2 ^ p.degree) × (misused (asPart part.now used) ≡ false) }
-    ensures { result ≡ rem (polynomial p) (valueFrom f (partBits (asPart part.now used))) }
+    requires { Proper p × (f < 2 ^ p.degree) × (misused (as_part part.now used) ≡ false) }
+    ensures { result ≡ rem (polynomial p) (value_from f (part_bits (as_part part.now used))) }
 {
     if used == 8 {
         return bytes_alone(p, f, part);
@@ -57,8 +57,8 @@ pub fn part_alone(p: Modulus, f: u64, part: &[u8], used: u32) -> u64
 
 // The same by the key's table.
 pub fn part_by_table(words: &[u64], p: Modulus, f: u64, part: &[u8], used: u32) -> u64
-    requires { TableOf p words.now × (f < 2 ^ p.degree) × (misused (asPart part.now used) ≡ false) }
-    ensures { result ≡ rem (polynomial p) (valueFrom f (partBits (asPart part.now used))) }
+    requires { TableOf p words.now × (f < 2 ^ p.degree) × (misused (as_part part.now used) ≡ false) }
+    ensures { result ≡ rem (polynomial p) (value_from f (part_bits (as_part part.now used))) }
 {
     if used == 8 {
         return bytes_by_table(words, p, f, part);
@@ -72,7 +72,7 @@ pub fn part_by_table(words: &[u64], p: Modulus, f: u64, part: &[u8], used: u32) 
 // would take two passes, and 6 KiB of stack.
 fn bytes_difference(p: Modulus, old: &[u8], new: &[u8]) -> u64
     requires { Proper p × (length old.now ≡ length new.now) }
-    ensures { result ≡ rem (polynomial p) (valueFrom 0 (bits old.now) ⊕ valueFrom 0 (bits new.now)) }
+    ensures { result ≡ rem (polynomial p) (value_from 0 (bits old.now) ⊕ value_from 0 (bits new.now)) }
 {
     let n = sparse::bytes_at_once(p);
     if 0 < n {
@@ -83,9 +83,9 @@ fn bytes_difference(p: Modulus, old: &[u8], new: &[u8]) -> u64
 
 // The difference of the fingerprints of two pages of one length: that of their whole bytes, and of the used bits behind them.
 pub fn page_difference(p: Modulus, old: &[u8], new: &[u8], used: u32) -> u64
-    requires { Proper p × (length old.now ≡ length new.now) × (misused (asPart old.now used) ≡ false) × (misused (asPart new.now used) ≡ false) }
-    ensures { result ≡ fingerprint (polynomial p) (partBits (asPart old.now used))
-        ⊕ fingerprint (polynomial p) (partBits (asPart new.now used)) }
+    requires { Proper p × (length old.now ≡ length new.now) × (misused (as_part old.now used) ≡ false) × (misused (as_part new.now used) ≡ false) }
+    ensures { result ≡ fingerprint (polynomial p) (part_bits (as_part old.now used))
+        ⊕ fingerprint (polynomial p) (part_bits (as_part new.now used)) }
 {
     let front = files::whole_bytes(old, used);
     let x = bytes_difference(p, &old[..front], &new[..front]);
@@ -95,7 +95,7 @@ pub fn page_difference(p: Modulus, old: &[u8], new: &[u8], used: u32) -> u64
 // Whether pages of a size are folded: under the house key, from 512 bytes on. Measured on 16 MiB beside the tables: at 16 bytes folding takes 1.4 times as
 // long, from 128 to 448 bytes it is at most 7 % faster, at 512 bytes 1.3 times as fast, at 1,024 bytes 2.2 times and at 4,096 bytes 4.2 times.
 pub fn pages_folded(p: Modulus, size: usize) -> bool
-    ensures { result ≡ true → polynomial p ≡ houseKey }
+    ensures { result ≡ true → polynomial p ≡ house_key }
 {
     if size < 512 {
         return false;
@@ -106,7 +106,7 @@ pub fn pages_folded(p: Modulus, size: usize) -> bool
 // The whole bytes of a page behind the leading 1, by the table of the key: folded, as a page is, or by table.
 pub fn page_by_table(words: &[u64], p: Modulus, page: &[u8]) -> u64
     requires { TableOf p words.now }
-    ensures { result ≡ rem (polynomial p) (valueFrom 1 (bits page.now)) }
+    ensures { result ≡ rem (polynomial p) (value_from 1 (bits page.now)) }
 {
     if house::is_house(p) {
         return folds::fed_page(1, page);

@@ -11,13 +11,13 @@ use lib.Pow.{pow-lt, pow_mono}
 use Rattle.gf2.specs.Polynomials.{◌⊕◌, Divides, rem, Irreducible}
 use Rattle.gf2.specs.Degrees.{Degree}
 use Rattle.gf2.proofs.Sums.{⊕-eq, ⊕-lt}
-use Rattle.gf2.proofs.Degrees.{deg-hi, deg-pos, deg-⊗, deg-⊕}
-use Rattle.gf2.proofs.Divisors.{dvd-by, dvd_refl, dvd-small}
-use Rattle.gf2.proofs.Residues.{rem-cong, dvd-of-rem}
+use Rattle.gf2.proofs.Degrees.{deg_hi, deg-pos, deg-⊗, deg-⊕}
+use Rattle.gf2.proofs.Divisors.{dvd_by, dvd_refl, dvd-small}
+use Rattle.gf2.proofs.Residues.{rem_cong, dvd_of_rem}
 use Rattle.fields.specs.Fields.{compose}
-use Rattle.fields.proofs.Values.{compose-⊕, compose-two, compose-id}
-use Rattle.fields.proofs.Squaring.{power, power-compose, compose-power, dvd-power, same_power, all-fixed}
-use Rattle.fields.proofs.Roots.{Different, few-roots}
+use Rattle.fields.proofs.Values.{compose-⊕, compose-two, compose_id}
+use Rattle.fields.proofs.Squaring.{power, power-compose, compose-power, dvd-power, same_power, all_fixed}
+use Rattle.fields.proofs.Roots.{Different, few_roots}
 use Rattle.fields.proofs.Pigeonhole.{Collision, collide}
 
 -- ---- the polynomial t^(2^m) - t
@@ -27,38 +27,38 @@ unfolding power
 power-degree zero = refl
 power-degree (suc m) = rw (two-pow-succ m) (deg-⊗ (power m 2) (power m 2) (2 ^ m) (2 ^ m) (power-degree m) (power-degree m))
 
-pub frobenius-degree : (m : ℕ) → 0 < m → Degree (power m 2 ⊕ 2) (2 ^ m)
-frobenius-degree m h = deg-⊕ (power m 2) 2 (2 ^ m) (power-degree m) (pow-lt {i = 1} {j = 2 ^ m} (pow-lt {i = 0} {j = m} h))
+pub frobenius_degree : (m : ℕ) → 0 < m → Degree (power m 2 ⊕ 2) (2 ^ m)
+frobenius_degree m h = deg-⊕ (power m 2) 2 (2 ^ m) (power-degree m) (pow-lt {i = 1} {j = 2 ^ m} (pow-lt {i = 0} {j = m} h))
 
-pub frobenius-at : (m x : ℕ) → compose (power m 2 ⊕ 2) x ≡ power m x ⊕ x
-frobenius-at m x =
+pub frobenius_at : (m x : ℕ) → compose (power m 2 ⊕ 2) x ≡ power m x ⊕ x
+frobenius_at m x =
     compose-⊕ (power m 2) 2 x ∙ ap₂ (λ (a b : ℕ). a ⊕ b) (power-compose 2 m x ∙ ap (power m) (compose-two x)) (compose-two x)
 
-module _ (p k : ℕ) (irr : Irreducible p) (of-degree : Degree p k) where
+module _ (p k : ℕ) (irr : Irreducible p) (of_degree : Degree p k) where
   pub positive : 0 < k
   positive = go (dec_lt 0 k)
     where
       go : Dec (0 < k) → 0 < k
       go (yes l) = l
-      go (no n) = absurd (omega (arith, irr.proper, deg-hi p k of-degree, pow_mono {i = suc k} {j = 1} (omega arith)))
+      go (no n) = absurd (omega (arith, irr.proper, deg_hi p k of_degree, pow_mono {i = suc k} {j = 1} (omega arith)))
 
   pub one-lt : 1 < 2 ^ k
   one-lt = pow-lt {i = 0} {j = k} positive
 
   -- residues that differ as numbers differ modulo p
   pub residues-differ : Different p (2 ^ k) (λ x. x)
-  residues-differ i j l h d = omega (arith, ⊕-eq i j (dvd-small k of-degree d (⊕-lt k i j (omega arith) h)))
+  residues-differ i j l h d = omega (arith, ⊕-eq i j (dvd-small k of_degree d (⊕-lt k i j (omega arith) h)))
 
   -- ---- no period is below k
 
-  no-period : (m : ℕ) → 0 < m → m < k → Divides p (power m 2 ⊕ 2) → ⊥
-  no-period m n l h =
+  no_period : (m : ℕ) → 0 < m → m < k → Divides p (power m 2 ⊕ 2) → ⊥
+  no_period m n l h =
       omega (
         arith,
-        deg-pos (power m 2 ⊕ 2) (2 ^ m) (frobenius-degree m n),
-        few-roots p k of-degree one-lt irr (2 ^ k) (power m 2 ⊕ 2) (λ x. x)
-            (lt_of_lt_of_le (deg-hi (power m 2 ⊕ 2) (2 ^ m) (frobenius-degree m n)) (pow_mono (pow-lt l)))
-            residues-differ (λ x b. dvd-by (all-fixed p m x h) (sym (frobenius-at m x))),
+        deg-pos (power m 2 ⊕ 2) (2 ^ m) (frobenius_degree m n),
+        few_roots p k of_degree one-lt irr (2 ^ k) (power m 2 ⊕ 2) (λ x. x)
+            (lt_of_lt_of_le (deg_hi (power m 2 ⊕ 2) (2 ^ m) (frobenius_degree m n)) (pow_mono (pow-lt l)))
+            residues-differ (λ x b. dvd_by (all_fixed p m x h) (sym (frobenius_at m x))),
       )
 
   -- ---- one is at most k
@@ -70,22 +70,22 @@ module _ (p k : ℕ) (irr : Irreducible p) (of-degree : Degree p k) where
   conjugate j = rem p (power j 2)
 
   conjugate-root : (j : ℕ) → Divides p (compose p (power j 2))
-  conjugate-root j = dvd-by (dvd-power p j p (dvd_refl p)) (sym (compose-power p j 2 ∙ ap (power j) (compose-id p)))
+  conjugate-root j = dvd_by (dvd-power p j p (dvd_refl p)) (sym (compose-power p j 2 ∙ ap (power j) (compose_id p)))
 
   all-differ : ((i j : ℕ) → i < j → j < suc k → conjugate i ≢ conjugate j) → ⊥
   unfolding conjugate
   all-differ d =
       omega (
         arith,
-        deg-pos p k of-degree,
-        few-roots p k of-degree one-lt irr (suc k) p (λ j. power j 2) (deg-hi p k of-degree)
-            (λ i j l h e. d i j l h (rem-cong pos (power i 2) (power j 2) e)) (λ j l. conjugate-root j),
+        deg-pos p k of_degree,
+        few_roots p k of_degree one-lt irr (suc k) p (λ j. power j 2) (deg_hi p k of_degree)
+            (λ i j l h e. d i j l h (rem_cong pos (power i 2) (power j 2) e)) (λ j l. conjugate-root j),
       )
 
   -- from a collision of conjugates, a period
   period : (i j : ℕ) → i < j → conjugate i ≡ conjugate j → Divides p (power (j - i) 2 ⊕ 2)
   unfolding conjugate
-  period i j l e = same_power p i j 2 irr l (dvd-of-rem pos (power i 2) (power j 2) e)
+  period i j l e = same_power p i j 2 irr l (dvd_of_rem pos (power i 2) (power j 2) e)
 
   pub fermat : Divides p (power k 2 ⊕ 2)
   fermat = go (collide (suc k) conjugate)
@@ -98,7 +98,7 @@ module _ (p k : ℕ) (irr : Irreducible p) (of-degree : Degree p k) where
           m = c.second - c.first
 
           settle : Dec (m < k) → Divides p (power m 2 ⊕ 2) → Divides p (power k 2 ⊕ 2)
-          settle (yes l) h = absurd (no-period m (omega (arith, c.apart)) l h)
+          settle (yes l) h = absurd (no_period m (omega (arith, c.apart)) l h)
           settle (no n) h = rw exact at h
             where
               exact : m ≡ k
@@ -106,4 +106,4 @@ module _ (p k : ℕ) (irr : Irreducible p) (of-degree : Degree p k) where
 
   -- squaring k times gives every polynomial back, modulo p
   pub fermat-all : (x : ℕ) → Divides p (power k x ⊕ x)
-  fermat-all x = all-fixed p k x fermat
+  fermat-all x = all_fixed p k x fermat

@@ -72,8 +72,8 @@ squeeze-cases v x d = go (dec_lt x v)
     go (yes l) = inl (l, omega arith)
     go (no n) = inr (omega arith, omega arith)
 
-squeeze-inj : (v x y : ℕ) → x ≢ v → y ≢ v → squeeze v x ≡ squeeze v y → x ≡ y
-squeeze-inj v x y dx dy e = go (squeeze-cases v x dx) (squeeze-cases v y dy)
+squeeze_inj : (v x y : ℕ) → x ≢ v → y ≢ v → squeeze v x ≡ squeeze v y → x ≡ y
+squeeze_inj v x y dx dy e = go (squeeze-cases v x dx) (squeeze-cases v y dy)
   where
     go : ((x < v) × (squeeze v x ≡ x)) ⊎ ((v < x) × (suc (squeeze v x) ≡ x)) → ((y < v) × (squeeze v y ≡ y)) ⊎ ((v < y) × (suc (squeeze v y) ≡ y)) → x ≡ y
     go (inl a) (inl b) = omega arith
@@ -103,5 +103,5 @@ pigeonhole (suc n) g h =
           second = c.second;
           apart = c.apart;
           below = le_step c.below;
-          same = squeeze-inj v (g c.first) (g c.second) (none c.first (omega (arith, c.apart, c.below))) (none c.second c.below) c.same;
+          same = squeeze_inj v (g c.first) (g c.second) (none c.first (omega (arith, c.apart, c.below))) (none c.second c.below) c.same;
         }

@@ -6,13 +6,13 @@ use Prim.Native.Nat.{ℕ, zero, suc, ◌+◌, ◌-◌, ◌^◌, ◌<◌}
 use native.Mathlib.Nat.{zero-add, suc-add}
 use native.Mathlib.Omega.{arith}
 use Rattle.gf2.specs.Polynomials.{◌⊕◌, ◌⊗◌, degree, Divides, rem, Irreducible}
-use Rattle.gf2.proofs.Sums.{⊕-comm}
+use Rattle.gf2.proofs.Sums.{⊕_comm}
 use Rattle.gf2.proofs.Products.{square-⊕}
-use Rattle.gf2.proofs.Divisors.{dvd-by, dvd-⊗}
+use Rattle.gf2.proofs.Divisors.{dvd_by, dvd-⊗}
 use Rattle.gf2.proofs.Residues.{rem-⊗, rem-small}
-use Rattle.gf2.proofs.Irreducibles.{euclid-lemma}
+use Rattle.gf2.proofs.Irreducibles.{euclid_lemma}
 use Rattle.fields.specs.Fields.{compose}
-use Rattle.fields.proofs.Values.{compose-id, compose-⊗, compose-square, compose-cong}
+use Rattle.fields.proofs.Values.{compose_id, compose-⊗, compose-square, compose_cong}
 
 unfoldable pub power : ℕ → ℕ → ℕ
 power zero x = x
@@ -53,30 +53,30 @@ unfolding power
 dvd-power f zero x h = h
 dvd-power f (suc j) x h = dvd-⊗ (power j x) (dvd-power f j x h)
 
-dvd-of-power : (f j x : ℕ) → Irreducible f → Divides f (power j x) → Divides f x
+dvd_of_power : (f j x : ℕ) → Irreducible f → Divides f (power j x) → Divides f x
 unfolding power
-dvd-of-power f zero x i h = h
-dvd-of-power f (suc j) x i h = dvd-of-power f j x i (⊎_elim (λ l. l) (λ r. r) (euclid-lemma f (power j x) (power j x) i h))
+dvd_of_power f zero x i h = h
+dvd_of_power f (suc j) x i h = dvd_of_power f j x i (⊎_elim (λ l. l) (λ r. r) (euclid_lemma f (power j x) (power j x) i h))
 
-pub power-cong : (f j a b : ℕ) → Divides f (a ⊕ b) → Divides f (power j a ⊕ power j b)
-power-cong f j a b h = dvd-by (dvd-power f j (a ⊕ b) h) (power-⊕ j a b)
+pub power_cong : (f j a b : ℕ) → Divides f (a ⊕ b) → Divides f (power j a ⊕ power j b)
+power_cong f j a b h = dvd_by (dvd-power f j (a ⊕ b) h) (power-⊕ j a b)
 
 power-cancel : (f j a b : ℕ) → Irreducible f → Divides f (power j a ⊕ power j b) → Divides f (a ⊕ b)
-power-cancel f j a b i h = dvd-of-power f j (a ⊕ b) i (dvd-by h (sym (power-⊕ j a b)))
+power-cancel f j a b i h = dvd_of_power f j (a ⊕ b) i (dvd_by h (sym (power-⊕ j a b)))
 
 -- where squaring i times and j times gives the same, squaring j - i times gives x back
 pub same_power : (f i j x : ℕ) → Irreducible f → i < j → Divides f (power i x ⊕ power j x) → Divides f (power (j - i) x ⊕ x)
 same_power f i j x irr l h =
-    dvd-by (power-cancel f i x (power (j - i) x) irr (dvd-by h (ap (λ (y : ℕ). power i x ⊕ y) (sym back)))) (⊕-comm x (power (j - i) x))
+    dvd_by (power-cancel f i x (power (j - i) x) irr (dvd_by h (ap (λ (y : ℕ). power i x ⊕ y) (sym back)))) (⊕_comm x (power (j - i) x))
   where
     back : power i (power (j - i) x) ≡ power j x
     back = power-power i (j - i) x ∙ ap (λ (n : ℕ). power n x) (omega arith)
 
 -- t, squared k times, is t: so is every polynomial, since it is its own value at t
-pub all-fixed : (f k x : ℕ) → Divides f (power k 2 ⊕ 2) → Divides f (power k x ⊕ x)
-all-fixed f k x h =
-    dvd-by (compose-cong f x (power k 2) 2 h)
-    (ap₂ (λ (a b : ℕ). a ⊕ b) (compose-power x k 2 ∙ ap (power k) (compose-id x)) (compose-id x))
+pub all_fixed : (f k x : ℕ) → Divides f (power k 2 ⊕ 2) → Divides f (power k x ⊕ x)
+all_fixed f k x h =
+    dvd_by (compose_cong f x (power k 2) 2 h)
+    (ap₂ (λ (a b : ℕ). a ⊕ b) (compose-power x k 2 ∙ ap (power k) (compose_id x)) (compose_id x))
 
 -- ---- the same among residues: each square reduced
 

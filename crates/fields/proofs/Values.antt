@@ -6,8 +6,8 @@ use native.Mathlib.Decide.{le_ind}
 use lib.Arith.{half_le, bin_ind}
 use Rattle.gf2.specs.Polynomials.{◌⊕◌, ◌⊗◌, degree, Divides, rem}
 use Rattle.gf2.proofs.Sums.{⊕-zero, zero-⊕, ⊕-half}
-use Rattle.gf2.proofs.Products.{zero-⊗, one-⊗, ⊗-step, ⊗-pow, by_bit, by-low, low-⊕, dbl-half, dbl-low, bit-square, ring}
-use Rattle.gf2.proofs.Divisors.{dvd-by, dvd-zero, dvd-⊕, dvd-⊗}
+use Rattle.gf2.proofs.Products.{zero-⊗, one-⊗, ⊗-step, ⊗-pow, by_bit, by_low, low-⊕, dbl_half, dbl_low, bit-square, ring}
+use Rattle.gf2.proofs.Divisors.{dvd_by, dvd-zero, dvd-⊕, dvd-⊗}
 use Rattle.gf2.proofs.Residues.{rem-⊕, rem-⊗, rem-small}
 use Rattle.fields.specs.Fields.{terms, compose, at}
 
@@ -43,10 +43,10 @@ compose-one e = compose-step 1 e ∙ rw (compose-zero, zero-⊗) (zero-⊕ 1)
 pub compose-two : (e : ℕ) → compose 2 e ≡ e
 compose-two e = compose-step 2 e ∙ rw (compose-one, one-⊗) (⊕-zero e)
 
-pub compose-id : (p : ℕ) → compose p 2 ≡ p
-compose-id =
+pub compose_id : (p : ℕ) → compose p 2 ≡ p
+compose_id =
     bin_ind (λ (n : ℕ). compose n 2 ≡ n) (compose-zero 2)
-    (λ n ih. compose-step n 2 ∙ rw (ih, ⊗-pow 1 (n / 2)) (by-low n))
+    (λ n ih. compose-step n 2 ∙ rw (ih, ⊗-pow 1 (n / 2)) (by_low n))
 
 sum_step : (x y e a b : ℕ) → (x ⊕ y) ⊗ e ⊕ (a ⊕ b) ≡ x ⊗ e ⊕ a ⊕ (y ⊗ e ⊕ b)
 sum_step x y e a b = simp ring
@@ -57,8 +57,8 @@ compose-⊕ a b e =
     (λ n ih m. rw (compose-step (n ⊕ m) e, compose-step n e, compose-step m e, ⊕-half n m, low_sum n m, ih (m / 2))
     (sum_step (compose (n / 2) e) (compose (m / 2) e) e (n % 2) (m % 2))) a b
 
-compose-dbl : (a e : ℕ) → compose (a * 2) e ≡ compose a e ⊗ e
-compose-dbl a e = compose-step (a * 2) e ∙ rw (dbl-half a, dbl-low a) (⊕-zero (compose a e ⊗ e))
+compose_dbl : (a e : ℕ) → compose (a * 2) e ≡ compose a e ⊗ e
+compose_dbl a e = compose-step (a * 2) e ∙ rw (dbl_half a, dbl_low a) (⊕-zero (compose a e ⊗ e))
 
 compose-bit : (a b e : ℕ) → compose (a % 2 * b) e ≡ a % 2 ⊗ compose b e
 compose-bit a b e =
@@ -71,7 +71,7 @@ pub compose-⊗ : (a b e : ℕ) → compose (a ⊗ b) e ≡ compose a e ⊗ comp
 compose-⊗ a b e =
     bin_ind (λ (n : ℕ). compose (n ⊗ b) e ≡ compose n e ⊗ compose b e) (simp (zero-⊗, compose-zero))
     (λ n ih. ap (λ (x : ℕ). compose x e) (⊗-step n b) ∙ compose-⊕ (n / 2 ⊗ b * 2) (n % 2 * b) e
-    ∙ ap₂ (λ (x y : ℕ). x ⊕ y) (compose-dbl (n / 2 ⊗ b) e ∙ ap (λ (x : ℕ). x ⊗ e) ih) (compose-bit n b e)
+    ∙ ap₂ (λ (x y : ℕ). x ⊕ y) (compose_dbl (n / 2 ⊗ b) e ∙ ap (λ (x : ℕ). x ⊗ e) ih) (compose-bit n b e)
     ∙ product-step (compose (n / 2) e) (compose b e) e (n % 2) ∙ ap (λ (x : ℕ). x ⊗ compose b e) (sym (compose-step n e))) a
 
 -- Frobenius: squaring is linear, and passes through a polynomial
@@ -86,15 +86,15 @@ compose-square p e =
     bin_ind (λ (n : ℕ). compose n (e ⊗ e) ≡ compose n e ⊗ compose n e) (simp (zero-⊗, compose-zero))
     (λ n ih. rw (compose-step n (e ⊗ e), compose-step n e, ih) (square-step (compose (n / 2) e) e (n % 2) (bit-square n))) p
 
-cong-step : (x y a b c : ℕ) → a ⊗ (x ⊕ y) ⊕ y ⊗ (a ⊕ b) ≡ x ⊗ a ⊕ c ⊕ (y ⊗ b ⊕ c)
-cong-step x y a b c = simp ring
+cong_step : (x y a b c : ℕ) → a ⊗ (x ⊕ y) ⊕ y ⊗ (a ⊕ b) ≡ x ⊗ a ⊕ c ⊕ (y ⊗ b ⊕ c)
+cong_step x y a b c = simp ring
 
 -- what is equal modulo f may stand for one another
-pub compose-cong : (f p a b : ℕ) → Divides f (a ⊕ b) → Divides f (compose p a ⊕ compose p b)
-compose-cong f p a b h =
-    bin_ind (λ (n : ℕ). Divides f (compose n a ⊕ compose n b)) (dvd-by (dvd-zero f) (sym (simp (compose-zero, zero-⊕))))
+pub compose_cong : (f p a b : ℕ) → Divides f (a ⊕ b) → Divides f (compose p a ⊕ compose p b)
+compose_cong f p a b h =
+    bin_ind (λ (n : ℕ). Divides f (compose n a ⊕ compose n b)) (dvd_by (dvd-zero f) (sym (simp (compose-zero, zero-⊕))))
     (λ n ih. rw (compose-step n a, compose-step n b)
-    (dvd-by (dvd-⊕ (dvd-⊗ a ih) (dvd-⊗ (compose (n / 2) b) h)) (cong-step (compose (n / 2) a) (compose (n / 2) b) a b (n % 2)))) p
+    (dvd_by (dvd-⊕ (dvd-⊗ a ih) (dvd-⊗ (compose (n / 2) b) h)) (cong_step (compose (n / 2) a) (compose (n / 2) b) a b (n % 2)))) p
 
 -- ---- residues modulo f
 
@@ -108,7 +108,7 @@ module _ {f : ℕ} (pos : 0 < f) where
   unfolding at
   at_one e o = ap (rem f) (compose-one e) ∙ rem-small pos 1 o
 
-  pub at-dbl : (p e : ℕ) → e < 2 ^ degree f → at f (p * 2) e ≡ rem f (at f p e ⊗ e)
+  pub at_dbl : (p e : ℕ) → e < 2 ^ degree f → at f (p * 2) e ≡ rem f (at f p e ⊗ e)
   unfolding at
-  at-dbl p e h =
-      ap (rem f) (compose-dbl p e) ∙ rem-⊗ pos (compose p e) e ∙ ap (λ (x : ℕ). rem f (rem f (compose p e) ⊗ x)) (rem-small pos e h)
+  at_dbl p e h =
+      ap (rem f) (compose_dbl p e) ∙ rem-⊗ pos (compose p e) e ∙ ap (λ (x : ℕ). rem f (rem f (compose p e) ⊗ x)) (rem-small pos e h)

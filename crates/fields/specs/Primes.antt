@@ -6,10 +6,10 @@ use Rattle.gf2.specs.Degrees.{Degree}
 
 pub record Prime (k : ℕ) : Type 0 where
   pub proper : 1 < k
-  pub no-divisor : (d : ℕ) → 1 < d → d < k → k % d ≢ 0
+  pub no_divisor : (d : ℕ) → 1 < d → d < k → k % d ≢ 0
 
 -- f is irreducible of a prime degree k
 pub record Field (f k : ℕ) : Type 0 where
   pub irreducible : Irreducible f
-  pub of-degree : Degree f k
+  pub of_degree : Degree f k
   pub prime : Prime k

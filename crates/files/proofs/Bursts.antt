@@ -20,8 +20,8 @@ module _ (s n : ℕ) (l : List ℕ) (i : ℕ) where
   inside : i < s → get_or (take s (drop n l)) i 0 ≡ get_or l (n + i) 0
   inside h = get_or-take s (drop n l) i 0 h ∙ get_or-drop n l i 0
 
-pub part-burst : (k s n : ℕ) (a b : List ℕ) → 0 < k → Burst k a b → Burst k (take s (drop n a)) (take s (drop n b))
-part-burst k s n a b some burst =
+pub part_burst : (k s n : ℕ) (a b : List ℕ) → 0 < k → Burst k a b → Burst k (take s (drop n a)) (take s (drop n b))
+part_burst k s n a b some burst =
     record {
       same_length = omega (arith, length-take s (drop n a), length-take s (drop n b), length-drop n a, length-drop n b, burst.same_length);
       first = burst.first - n;

@@ -14,9 +14,9 @@ use lib.Seq.{length-take-le, take-add, take_all, take-nil, drop-nil, take-take, 
 use borrow.Author.Tests.{ltb-false, eqb-true, not-false, le-leb, lt-leb, lt-ltb, le-ltb, eq-eqb, ne_eqb}
 use Rattle.lists.proofs.Truth.{or-neither}
 use Rattle.lists.proofs.Lists.{all_take, all_append}
-use Rattle.files.specs.Files.{low_bits, bits, Bits, Part, asPart, whole, usedBits, partLength, partBits, misused, bytesFor}
+use Rattle.files.specs.Files.{low_bits, bits, Bits, Part, as_part, whole, used_bits, part_length, part_bits, misused, bytes_for}
 use Rattle.files.specs.Files.{BitsOfPart, BytesOfPart, BitsOfWhole}
-use Rattle.files.specs.Ends.{wholeBytes, end_bits, countedLength}
+use Rattle.files.specs.Ends.{whole_bytes, end_bits, counted_length}
 use Rattle.files.proofs.Values.{length-bits, length-low}
 
 -- ---- the bits of bytes cut
@@ -45,8 +45,8 @@ bits-take (suc n) (x ∷ a) =
 
 -- ---- lengths
 
-pub used-range : (u : ℕ) → (1 ≤ usedBits u) × (usedBits u ≤ 8)
-unfolding usedBits
+pub used-range : (u : ℕ) → (1 ≤ used_bits u) × (used_bits u ≤ 8)
+unfolding used_bits
 used-range u = go (dec_le 1 u) (dec_le u 8)
   where
     go : Dec (1 ≤ u) → Dec (u ≤ 8) → (1 ≤ cond (leb 1 u && leb u 8) u 8) × (cond (leb 1 u && leb u 8) u 8 ≤ 8)
@@ -54,34 +54,34 @@ used-range u = go (dec_le 1 u) (dec_le u 8)
     go (yes a) (no b) = rw (le-leb 1 u a, lt-leb u 8 (omega arith)) (omega arith, omega arith)
     go (no a) b = rw (lt-leb 1 u (omega arith)) (omega arith, omega arith)
 
-pub used-outside : (u : ℕ) → (u < 1) ⊎ (8 < u) → usedBits u ≡ 8
-unfolding usedBits
+pub used-outside : (u : ℕ) → (u < 1) ⊎ (8 < u) → used_bits u ≡ 8
+unfolding used_bits
 used-outside u (inl l) = rw (lt-leb 1 u l)
 used-outside u (inr l) = rw (le-leb 1 u (omega arith), lt-leb u 8 l)
 
-pub used-is : (u : ℕ) → 1 ≤ u → u ≤ 8 → usedBits u ≡ u
-unfolding usedBits
+pub used-is : (u : ℕ) → 1 ≤ u → u ≤ 8 → used_bits u ≡ u
+unfolding used_bits
 used-is u lo hi = rw (le-leb 1 u lo, le-leb u 8 hi)
 
 -- a part without bytes has no bits
-pub none-long : (p : Part) → length p.bytes ≡ 0 → partLength p ≡ 0
-unfolding partLength
-none-long p e = ap (λ b. cond b 0 (8 * (length p.bytes - 1) + usedBits p.used)) (eq-eqb (length p.bytes) 0 e)
+pub none-long : (p : Part) → length p.bytes ≡ 0 → part_length p ≡ 0
+unfolding part_length
+none-long p e = ap (λ b. cond b 0 (8 * (length p.bytes - 1) + used_bits p.used)) (eq-eqb (length p.bytes) 0 e)
 
-pub some-long : (p : Part) → 0 < length p.bytes → partLength p ≡ 8 * (length p.bytes - 1) + usedBits p.used
-unfolding partLength
-some-long p h = ap (λ b. cond b 0 (8 * (length p.bytes - 1) + usedBits p.used)) (ne_eqb (length p.bytes) 0 (λ e. omega arith))
+pub some-long : (p : Part) → 0 < length p.bytes → part_length p ≡ 8 * (length p.bytes - 1) + used_bits p.used
+unfolding part_length
+some-long p h = ap (λ b. cond b 0 (8 * (length p.bytes - 1) + used_bits p.used)) (ne_eqb (length p.bytes) 0 (λ e. omega arith))
 
 -- as many bytes and as many used bits of the final one are as many bits
-pub alike-long : (p q : Part) → length p.bytes ≡ length q.bytes → p.used ≡ q.used → partLength p ≡ partLength q
-unfolding partLength
-alike-long p q n u = ap₂ (λ (m v : ℕ). cond (eqb m 0) 0 (8 * (m - 1) + usedBits v)) n u
+pub alike-long : (p q : Part) → length p.bytes ≡ length q.bytes → p.used ≡ q.used → part_length p ≡ part_length q
+unfolding part_length
+alike-long p q n u = ap₂ (λ (m v : ℕ). cond (eqb m 0) 0 (8 * (m - 1) + used_bits v)) n u
 
 -- the bits are those of all bytes but the final one, and 1 to 8 more
-pub part-range : (p : Part) → (partLength p ≤ 8 * length p.bytes) × (8 * length p.bytes ≤ partLength p + 7)
+pub part-range : (p : Part) → (part_length p ≤ 8 * length p.bytes) × (8 * length p.bytes ≤ part_length p + 7)
 part-range p = go (dec_lt 0 (length p.bytes))
   where
-    go : Dec (0 < length p.bytes) → (partLength p ≤ 8 * length p.bytes) × (8 * length p.bytes ≤ partLength p + 7)
+    go : Dec (0 < length p.bytes) → (part_length p ≤ 8 * length p.bytes) × (8 * length p.bytes ≤ part_length p + 7)
     go (yes h) =
         let e = some-long p h in
         let r = used-range p.used in
@@ -89,26 +89,26 @@ part-range p = go (dec_lt 0 (length p.bytes))
     go (no h) = let e = none-long p (omega arith) in (omega (arith, e), omega (arith, e))
 
 -- as many bits as the length says
-pub part_length : BitsOfPart
-unfolding partBits
-part_length p = length-take-le (partLength p) (bits p.bytes) (rw (length-bits p.bytes) (part-range p).0)
+pub part-length : BitsOfPart
+unfolding part_bits
+part-length p = length-take-le (part_length p) (bits p.bytes) (rw (length-bits p.bytes) (part-range p).0)
 
 -- and as many bytes
 pub part_bytes : BytesOfPart
 part_bytes p = omega (arith, (part-range p).0, (part-range p).1)
 
 -- whole bytes
-pub whole_long : (bytes : List ℕ) → partLength (whole bytes) ≡ 8 * length bytes
-unfolding usedBits
+pub whole_long : (bytes : List ℕ) → part_length (whole bytes) ≡ 8 * length bytes
+unfolding used_bits
 whole_long bytes = go (dec_lt 0 (length bytes))
   where
-    go : Dec (0 < length bytes) → partLength (whole bytes) ≡ 8 * length bytes
+    go : Dec (0 < length bytes) → part_length (whole bytes) ≡ 8 * length bytes
     go (yes h) = some-long (whole bytes) h ∙ omega arith
     go (no h) = none-long (whole bytes) (omega arith) ∙ omega arith
 
 pub whole-bits : BitsOfWhole
-unfolding partBits
-whole-bits bytes = take_all (partLength (whole bytes)) (bits bytes) (omega (arith, whole_long bytes, length-bits bytes))
+unfolding part_bits
+whole-bits bytes = take_all (part_length (whole bytes)) (bits bytes) (omega (arith, whole_long bytes, length-bits bytes))
 
 -- to which number 19 does not apply
 pub whole-used : (bytes : List ℕ) → misused (whole bytes) ≡ false
@@ -117,13 +117,13 @@ whole-used bytes = rw (and-false (eqb (length bytes) 0), eq-eqb (get_or bytes (l
 
 -- ---- the length as the code counts it
 
-pub counted_none : (p : Part) → length p.bytes ≡ 0 → 0 ≡ countedLength p
+pub counted_none : (p : Part) → length p.bytes ≡ 0 → 0 ≡ counted_length p
 counted_none p e = omega (arith, none-long p e)
 
-pub counted-many : (p : Part) → 2 ^ 33 < length p.bytes → 2 ^ 36 ≡ countedLength p
+pub counted-many : (p : Part) → 2 ^ 33 < length p.bytes → 2 ^ 36 ≡ counted_length p
 counted-many p h = omega (arith, (part-range p).1)
 
-pub counted-some : (p : Part) → 0 < length p.bytes → length p.bytes ≤ 2 ^ 33 → 8 * (length p.bytes - 1) + usedBits p.used ≡ countedLength p
+pub counted-some : (p : Part) → 0 < length p.bytes → length p.bytes ≤ 2 ^ 33 → 8 * (length p.bytes - 1) + used_bits p.used ≡ counted_length p
 counted-some p h l = omega (arith, some-long p h, (used-range p.used).1)
 
 -- ---- the part that is left behind n bytes
@@ -134,16 +134,16 @@ drop-take (suc m) zero l = let e : 0 - suc m ≡ 0 = omega arith in drop-nil (su
 drop-take (suc m) (suc n) [] = sym (take-nil (suc n - suc m))
 drop-take (suc m) (suc n) (x ∷ l) = let e : suc n - suc m ≡ n - m = omega arith in drop-take m n l ∙ sym (ap (λ (k : ℕ). take k (drop m l)) e)
 
-pub rest-long : (bytes : List ℕ) (u n : ℕ) → n < length bytes → partLength (asPart (drop n bytes) u) ≡ partLength (asPart bytes u) - 8 * n
+pub rest-long : (bytes : List ℕ) (u n : ℕ) → n < length bytes → part_length (as_part (drop n bytes) u) ≡ part_length (as_part bytes u) - 8 * n
 rest-long bytes u n h =
     let d = length-drop n bytes in
-    some-long (asPart (drop n bytes) u) (omega (arith, d)) ∙ omega (arith, d, some-long (asPart bytes u) (omega arith))
+    some-long (as_part (drop n bytes) u) (omega (arith, d)) ∙ omega (arith, d, some-long (as_part bytes u) (omega arith))
 
-pub rest-bits : (bytes : List ℕ) (u n : ℕ) → n < length bytes → partBits (asPart (drop n bytes) u) ≡ drop (8 * n) (partBits (asPart bytes u))
-unfolding partBits
+pub rest-bits : (bytes : List ℕ) (u n : ℕ) → n < length bytes → part_bits (as_part (drop n bytes) u) ≡ drop (8 * n) (part_bits (as_part bytes u))
+unfolding part_bits
 rest-bits bytes u n h =
     ap₂ (λ (m : ℕ) (l : List ℕ). take m l) (rest-long bytes u n h) (bits-drop n bytes)
-    ∙ sym (drop-take (8 * n) (partLength (asPart bytes u)) (bits bytes))
+    ∙ sym (drop-take (8 * n) (part_length (as_part bytes u)) (bits bytes))
 
 -- ---- every bit is a bit
 
@@ -157,9 +157,9 @@ unfolding bits
 bits_are [] = tt
 bits_are (b ∷ bytes) = all_append (λ x. x < 2) (low_bits 8 b) (bits bytes) (low-bits 8 b) (bits_are bytes)
 
-pub part-bits-are : (p : Part) → Bits (partBits p)
-unfolding partBits
-part-bits-are p = all_take (λ x. x < 2) (partLength p) (bits p.bytes) (bits_are p.bytes)
+pub part-bits_are : (p : Part) → Bits (part_bits p)
+unfolding part_bits
+part-bits_are p = all_take (λ x. x < 2) (part_length p) (bits p.bytes) (bits_are p.bytes)
 
 -- ---- what number 19 leaves
 
@@ -183,7 +183,7 @@ pub used-none : (p : Part) → 1 ≤ p.used → p.used ≤ 8 → length p.bytes 
 unfolding misused
 used-none p f t z = go p.bytes z
   where
-    go : (bytes : List ℕ) → length bytes ≡ 0 → misused (asPart bytes p.used) ≡ not (eqb p.used 8)
+    go : (bytes : List ℕ) → length bytes ≡ 0 → misused (as_part bytes p.used) ≡ not (eqb p.used 8)
     go [] e = rw (le-ltb p.used 1 f, le-ltb 8 p.used t, zero-mod) (or-false (not (eqb p.used 8)))
     go (b ∷ bytes) e = absurd (omega arith)
 
@@ -221,11 +221,11 @@ well-clear p w = go (dec_lt 0 (length p.bytes))
     go (no h) = let z : length p.bytes ≡ 0 = omega arith in used-none p w.from w.to z ∙ ap not (eq-eqb p.used 8 (w.none z))
 
 -- two such parts of one length have as many bytes, and as many used bits
-pub same-used : (p q : Part) → WellUsed p → WellUsed q → partLength p ≡ partLength q → (length p.bytes ≡ length q.bytes) × (p.used ≡ q.used)
+pub same-used : (p q : Part) → WellUsed p → WellUsed q → part_length p ≡ part_length q → (length p.bytes ≡ length q.bytes) × (p.used ≡ q.used)
 same-used p q hp hq e = go (dec_lt 0 (length p.bytes))
   where
     bytes : length p.bytes ≡ length q.bytes
-    bytes = sym (part_bytes p) ∙ ap bytesFor e ∙ part_bytes q
+    bytes = sym (part_bytes p) ∙ ap bytes_for e ∙ part_bytes q
 
     go : Dec (0 < length p.bytes) → (length p.bytes ≡ length q.bytes) × (p.used ≡ q.used)
     go (yes h) =
@@ -237,16 +237,16 @@ same-used p q hp hq e = go (dec_lt 0 (length p.bytes))
 -- ---- the whole bytes, and the used bits behind them
 
 -- all bytes, or all but the final one
-pub whole-all : (p : Part) → p.used ≡ 8 → wholeBytes p ≡ length p.bytes
+pub whole-all : (p : Part) → p.used ≡ 8 → whole_bytes p ≡ length p.bytes
 whole-all p e = ap (λ b. cond b (length p.bytes) (length p.bytes - 1)) (eq-eqb p.used 8 e)
 
-pub whole-front : (p : Part) → (p.used ≡ 8 → ⊥) → wholeBytes p ≡ length p.bytes - 1
+pub whole-front : (p : Part) → (p.used ≡ 8 → ⊥) → whole_bytes p ≡ length p.bytes - 1
 whole-front p n = ap (λ b. cond b (length p.bytes) (length p.bytes - 1)) (ne_eqb p.used 8 n)
 
-whole-within : (p : Part) → 8 * wholeBytes p ≤ partLength p
+whole-within : (p : Part) → 8 * whole_bytes p ≤ part_length p
 whole-within p = go (ℕ_discrete p.used 8) (dec_lt 0 (length p.bytes))
   where
-    go : Dec (p.used ≡ 8) → Dec (0 < length p.bytes) → 8 * wholeBytes p ≤ partLength p
+    go : Dec (p.used ≡ 8) → Dec (0 < length p.bytes) → 8 * whole_bytes p ≤ part_length p
     go (yes e) (yes h) =
         let u = used-is p.used (omega (arith, e)) (omega (arith, e)) in
         omega (arith, whole-all p e, some-long p h, u, e)
@@ -254,16 +254,16 @@ whole-within p = go (ℕ_discrete p.used 8) (dec_lt 0 (length p.bytes))
     go (no n) (yes h) = omega (arith, whole-front p n, some-long p h)
     go (no n) (no h) = omega (arith, whole-front p n)
 
-pub end-split : (p : Part) → partBits p ≡ bits (take (wholeBytes p) p.bytes) ++ end_bits p
-unfolding partBits
+pub end-split : (p : Part) → part_bits p ≡ bits (take (whole_bytes p) p.bytes) ++ end_bits p
+unfolding part_bits
 end-split p =
-    sym (take-append-drop (8 * wholeBytes p) (partBits p))
+    sym (take-append-drop (8 * whole_bytes p) (part_bits p))
     ∙ ap (λ (l : List ℕ). l ++ end_bits p)
-    (take-take (8 * wholeBytes p) (partLength p) (bits p.bytes) (whole-within p) ∙ sym (bits-take (wholeBytes p) p.bytes))
+    (take-take (8 * whole_bytes p) (part_length p) (bits p.bytes) (whole-within p) ∙ sym (bits-take (whole_bytes p) p.bytes))
 
 pub end_none : (p : Part) → p.used ≡ 8 → end_bits p ≡ []
 end_none p e =
-    drop_of_length-le (partBits p) {i = 8 * wholeBytes p} (omega (arith, part_length p, whole-all p e, (part-range p).0))
+    drop_of_length-le (part_bits p) {i = 8 * whole_bytes p} (omega (arith, part-length p, whole-all p e, (part-range p).0))
 
 -- the high bits of a number
 low-high : (u v b : ℕ) → take u (low_bits (u + v) b) ≡ low_bits u (b / 2 ^ v)
@@ -282,15 +282,15 @@ some_bytes p w n = go (dec_lt 0 (length p.bytes))
 
 pub end_low : (p : Part) → WellUsed p → (p.used ≡ 8 → ⊥)
     → end_bits p ≡ low_bits p.used (get_or p.bytes (length p.bytes - 1) 0 / 2 ^ (8 - p.used))
-unfolding partBits bits
+unfolding part_bits bits
 end_low p w n =
     let u = p.used in
     let some = some_bytes p w n in
     let m = length p.bytes - 1 in
     let b = get_or p.bytes m 0 in
-    let long : partLength p - 8 * m ≡ u = omega (arith, some-long p some, used-is u w.from w.to) in
-    ap (λ (i : ℕ). drop (8 * i) (partBits p)) (whole-front p n)
-    ∙ drop-take (8 * m) (partLength p) (bits p.bytes)
+    let long : part_length p - 8 * m ≡ u = omega (arith, some-long p some, used-is u w.from w.to) in
+    ap (λ (i : ℕ). drop (8 * i) (part_bits p)) (whole-front p n)
+    ∙ drop-take (8 * m) (part_length p) (bits p.bytes)
     ∙ ap₂ (λ (k : ℕ) (l : List ℕ). take k l) long (sym (bits-drop m p.bytes) ∙ ap bits (drop-cons p.bytes m 0 (omega arith)))
     ∙ take-append-le u (low_bits 8 b) (bits (drop (suc m) p.bytes)) (rw (length-low 8 b) w.to)
     ∙ ap (λ (k : ℕ). take u (low_bits k b)) (all u w.to)
@@ -300,7 +300,7 @@ end_low p w n =
     all u h = omega arith
 
 -- at most the final byte is not whole
-pub whole-range : (p : Part) → (wholeBytes p ≤ length p.bytes) × (length p.bytes ≤ wholeBytes p + 1)
+pub whole-range : (p : Part) → (whole_bytes p ≤ length p.bytes) × (length p.bytes ≤ whole_bytes p + 1)
 whole-range p = go (eqb p.used 8)
   where
     go : (b : Bool) → let w = cond b (length p.bytes) (length p.bytes - 1) in (w ≤ length p.bytes) × (length p.bytes ≤ w + 1)
@@ -308,16 +308,16 @@ whole-range p = go (eqb p.used 8)
     go false = (omega arith, omega arith)
 
 -- bytes among the whole ones: their bits are a piece of the part's
-pub whole-piece : (p : Part) (at n : ℕ) → at + n ≤ wholeBytes p → take (8 * n) (drop (8 * at) (partBits p)) ≡ bits (take n (drop at p.bytes))
-unfolding partBits
+pub whole-piece : (p : Part) (at n : ℕ) → at + n ≤ whole_bytes p → take (8 * n) (drop (8 * at) (part_bits p)) ≡ bits (take n (drop at p.bytes))
+unfolding part_bits
 whole-piece p at n h =
-    ap (take (8 * n)) (drop-take (8 * at) (partLength p) (bits p.bytes))
-    ∙ take-take (8 * n) (partLength p - 8 * at) (drop (8 * at) (bits p.bytes)) (omega (arith, whole-within p))
+    ap (take (8 * n)) (drop-take (8 * at) (part_length p) (bits p.bytes))
+    ∙ take-take (8 * n) (part_length p - 8 * at) (drop (8 * at) (bits p.bytes)) (omega (arith, whole-within p))
     ∙ sym (bits-take n (drop at p.bytes) ∙ ap (take (8 * n)) (bits-drop at p.bytes))
 
 -- ---- number 19 of the part that is left behind n bytes: the final byte is the same
 
-pub rest-misused : (bytes : List ℕ) (u n : ℕ) → n < length bytes → misused (asPart (drop n bytes) u) ≡ misused (asPart bytes u)
+pub rest-misused : (bytes : List ℕ) (u n : ℕ) → n < length bytes → misused (as_part (drop n bytes) u) ≡ misused (as_part bytes u)
 unfolding misused
 rest-misused bytes u n h =
     let long = length-drop n bytes in

@@ -3,20 +3,20 @@
 use Rattle.std.specs.Prelude.{◌≡◌, List, ◌∷◌, ℕ, ◌^◌, ◌<◌, length}
 use Rattle.gf2.specs.Polynomials.{◌⊕◌, degree, rem}
 use Rattle.files.specs.declared.Mark.{Mark}
-use Rattle.files.specs.Files.{fingerprintFrom, markFrom, True, TrueFrom, Part, fedMark, joinedFrom, joined, replaced}
+use Rattle.files.specs.Files.{fingerprint_from, mark_from, True, TrueFrom, Part, fed_mark, joined_from, joined, replaced}
 
-abbrev pub plainFingerprint : ℕ → List ℕ → ℕ
-plainFingerprint key file = fingerprintFrom 0 key file
+abbrev pub plain_fingerprint : ℕ → List ℕ → ℕ
+plain_fingerprint key file = fingerprint_from 0 key file
 
-abbrev pub plainMarkOf : ℕ → List ℕ → Mark
-plainMarkOf key file = markFrom 0 key file
+abbrev pub plain_mark_of : ℕ → List ℕ → Mark
+plain_mark_of key file = mark_from 0 key file
 
 -- "A plain mark is true of a file when its fingerprint is the plain one and its length the file's"
 abbrev pub PlainTrue : ℕ → List ℕ → Mark → Type 0
 PlainTrue key file m = TrueFrom 0 key file m
 
-abbrev pub plainJoined : ℕ → Mark → Mark → Mark
-plainJoined key x y = joinedFrom 0 key x y
+abbrev pub plain_joined : ℕ → Mark → Mark → Mark
+plain_joined key x y = joined_from 0 key x y
 
 -- turned, "from its length alone": t^n is added, n being the length, so that the 1 comes in front or is taken off
 unfoldable pub turned : ℕ → Mark → Mark
@@ -33,7 +33,7 @@ TurnedBack = (key : ℕ) (file : List ℕ) (m : Mark) → 0 < key → True key f
 
 -- Turned before or behind is the same, of every mark, true or not: a part fed,
 abbrev pub TurnedFed : Type 0
-TurnedFed = (key : ℕ) (m : Mark) (part : Part) → 0 < key → fedMark key (turned key m) part ≡ turned key (fedMark key m part)
+TurnedFed = (key : ℕ) (m : Mark) (part : Part) → 0 < key → fed_mark key (turned key m) part ≡ turned key (fed_mark key m part)
 
 -- a page replaced,
 abbrev pub TurnedReplaced : Type 0
@@ -43,7 +43,7 @@ TurnedReplaced =
 
 -- two marks joined, each kind by its own rule
 abbrev pub TurnedJoined : Type 0
-TurnedJoined = (key : ℕ) (x y : Mark) → 0 < key → joined key (turned key x) (turned key y) ≡ turned key (plainJoined key x y)
+TurnedJoined = (key : ℕ) (x y : Mark) → 0 < key → joined key (turned key x) (turned key y) ≡ turned key (plain_joined key x y)
 
 -- a mark turned twice is what it was
 abbrev pub TurnedTwice : Type 0
@@ -51,10 +51,10 @@ TurnedTwice = (key : ℕ) (m : Mark) → 0 < key → m.fingerprint < 2 ^ degree 
 
 -- a zero bit in front of a file changes no plain fingerprint
 abbrev pub ZeroInFront : Type 0
-ZeroInFront = (key : ℕ) (file : List ℕ) → plainFingerprint key (0 ∷ file) ≡ plainFingerprint key file
+ZeroInFront = (key : ℕ) (file : List ℕ) → plain_fingerprint key (0 ∷ file) ≡ plain_fingerprint key file
 
 -- files of one length have equal fingerprints behind one start where they have them behind another
 abbrev pub EqualStarts : Type 0
 EqualStarts =
-    (s u key : ℕ) (a b : List ℕ) → 0 < key → length a ≡ length b → fingerprintFrom s key a ≡ fingerprintFrom s key b
-    → fingerprintFrom u key a ≡ fingerprintFrom u key b
+    (s u key : ℕ) (a b : List ℕ) → 0 < key → length a ≡ length b → fingerprint_from s key a ≡ fingerprint_from s key b
+    → fingerprint_from u key a ≡ fingerprint_from u key b

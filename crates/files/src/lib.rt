@@ -4,13 +4,13 @@
 ghost use Rattle.std.specs.Prelude.{◌≡◌, false, ◌+◌, ◌*◌, ◌^◌, ◌≤◌, ◌<◌, length, take};
 ghost use Rattle.gf2.specs.Polynomials.{◌⊕◌, rem};
 ghost use Rattle.gf2.specs.Moduli.{polynomial, Proper};
-ghost use Rattle.files.specs.Files.{low_bits, bits, valueFrom, fingerprint, asPart, usedBits, partBits, misused};
-ghost use Rattle.files.specs.Ends.{wholeBytes, end_bits, countedLength};
+ghost use Rattle.files.specs.Files.{low_bits, bits, value_from, fingerprint, as_part, used_bits, part_bits, misused};
+ghost use Rattle.files.specs.Ends.{whole_bytes, end_bits, counted_length};
 
 use gf2::Modulus;
 
 // A mark (document 01's term): the fingerprint of a file and its length in bits.
-#[derive(Drop)]
+#[derive(Clone, Copy)]
 pub struct Mark {
     pub fingerprint: u64,
     pub length: u64,
@@ -18,7 +18,7 @@ pub struct Mark {
 
 // The used bits of a final byte as a length counts them: outside 1 to 8 they count as 8.
 fn used_bits(used: u32) -> u64
-    ensures { (result ≡ usedBits used) × (result ≤ 8) }
+    ensures { (result ≡ used_bits used) × (result ≤ 8) }
 {
     if used < 1 {
         return 8;
@@ -31,7 +31,7 @@ fn used_bits(used: u32) -> u64
 
 // The length of a part in bits, counted up to 2^36: more than 2^33 bytes are longer.
 pub fn part_length(part: &[u8], used: u32) -> u64
-    ensures { result ≡ countedLength (asPart part.now used) }
+    ensures { result ≡ counted_length (as_part part.now used) }
 {
     let n = part.len() as u64;
     if n == 0 {
@@ -45,7 +45,7 @@ pub fn part_length(part: &[u8], used: u32) -> u64
 
 // Does number 19 apply to a part?
 pub fn is_misused(part: &[u8], used: u32) -> bool
-    ensures { result ≡ misused (asPart part.now used) }
+    ensures { result ≡ misused (as_part part.now used) }
 {
     let n = part.len();
     if used < 1 {
@@ -62,7 +62,7 @@ pub fn is_misused(part: &[u8], used: u32) -> bool
 
 // How many bytes of a part are used whole: all, or all but the final one.
 pub fn whole_bytes(part: &[u8], used: u32) -> usize
-    ensures { (result ≡ wholeBytes (asPart part.now used)) × (result ≤ length part.now) }
+    ensures { (result ≡ whole_bytes (as_part part.now used)) × (result ≤ length part.now) }
 {
     let n = part.len();
     if used == 8 {
@@ -74,7 +74,7 @@ pub fn whole_bytes(part: &[u8], used: u32) -> usize
 // The n low bits of a byte behind a residue, the highest first.
 fn feed_low(p: Modulus, f: u64, b: u8, n: u32) -> u64
     requires { Proper p × (f < 2 ^ p.degree) × (n ≤ 8) }
-    ensures { result ≡ rem (polynomial p) (valueFrom f (low_bits n b)) }
+    ensures { result ≡ rem (polynomial p) (value_from f (low_bits n b)) }
 {
     let mut x = f;
     let mut left = n;
@@ -97,7 +97,7 @@ fn feed_byte(p: Modulus, f: u64, b: u8) -> u64
 // The bytes of a part behind a residue.
 pub fn feed_bytes(p: Modulus, f: u64, part: &[u8]) -> u64
     requires { Proper p × (f < 2 ^ p.degree) }
-    ensures { result ≡ rem (polynomial p) (valueFrom f (bits part.now)) }
+    ensures { result ≡ rem (polynomial p) (value_from f (bits part.now)) }
 {
     let mut x = f;
     let mut i = 0;
@@ -110,8 +110,8 @@ pub fn feed_bytes(p: Modulus, f: u64, part: &[u8]) -> u64
 
 // The used bits behind a part's whole bytes, fed to the residue of those: none, or the high bits of the final byte.
 pub fn feed_end(p: Modulus, f: u64, part: &[u8], used: u32) -> u64
-    requires { Proper p × (f < 2 ^ p.degree) × (misused (asPart part.now used) ≡ false) }
-    ensures { result ≡ rem (polynomial p) (valueFrom f (end_bits (asPart part.now used))) }
+    requires { Proper p × (f < 2 ^ p.degree) × (misused (as_part part.now used) ≡ false) }
+    ensures { result ≡ rem (polynomial p) (value_from f (end_bits (as_part part.now used))) }
 {
     if used == 8 {
         return f;
@@ -147,7 +147,7 @@ pub fn with_zeros(p: Modulus, f: u64, n: u64) -> u64
 // The residue of the difference of two lists of bytes, which are equally many, bit by bit.
 pub fn difference(p: Modulus, old: &[u8], new: &[u8]) -> u64
     requires { Proper p × (length old.now ≡ length new.now) }
-    ensures { result ≡ rem (polynomial p) (valueFrom 0 (bits old.now) ⊕ valueFrom 0 (bits new.now)) }
+    ensures { result ≡ rem (polynomial p) (value_from 0 (bits old.now) ⊕ value_from 0 (bits new.now)) }
 {
     let mut x: u64 = 0;
     let mut i = 0;
@@ -161,11 +161,11 @@ pub fn difference(p: Modulus, old: &[u8], new: &[u8]) -> u64
 // The difference of the fingerprints of two pages of one length, where x is that of their whole bytes, without the leading 1 of either: the difference of
 // the used bits comes in behind it.
 pub fn difference_end(p: Modulus, x: u64, old: &[u8], new: &[u8], used: u32) -> u64
-    requires { Proper p × (length old.now ≡ length new.now) × (misused (asPart old.now used) ≡ false) × (misused (asPart new.now used) ≡ false)
-        × (x ≡ rem (polynomial p) (valueFrom 0 (bits (take (wholeBytes (asPart old.now used)) old.now))
-        ⊕ valueFrom 0 (bits (take (wholeBytes (asPart old.now used)) new.now)))) }
-    ensures { result ≡ fingerprint (polynomial p) (partBits (asPart old.now used))
-        ⊕ fingerprint (polynomial p) (partBits (asPart new.now used)) }
+    requires { Proper p × (length old.now ≡ length new.now) × (misused (as_part old.now used) ≡ false) × (misused (as_part new.now used) ≡ false)
+        × (x ≡ rem (polynomial p) (value_from 0 (bits (take (whole_bytes (as_part old.now used)) old.now))
+        ⊕ value_from 0 (bits (take (whole_bytes (as_part old.now used)) new.now)))) }
+    ensures { result ≡ fingerprint (polynomial p) (part_bits (as_part old.now used))
+        ⊕ fingerprint (polynomial p) (part_bits (as_part new.now used)) }
 {
     if used == 8 {
         return x;

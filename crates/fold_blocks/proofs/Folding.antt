@@ -8,9 +8,9 @@ use native.Mathlib.Omega.{arith}
 use lib.ListN.{length, get_or, set, take, drop, take-append-drop, length-drop, length-set, drop_of_length-le}
 use lib.Seq.{drop-drop, length-take-le, take-add, take_all, take-suc, take-take, take-set-le, take-suc-set, drop-set-lt, get_or-drop, get_or-set_same}
 use Rattle.gf2.specs.Polynomials.{◌⊕◌, ◌⊗◌, rem}
-use Rattle.gf2.proofs.Sums.{⊕-shl, ⊕-lt, ⊕-swap, xor}
+use Rattle.gf2.proofs.Sums.{⊕_shl, ⊕-lt, ⊕_swap, xor}
 use Rattle.gf2.proofs.Products.{⊗-zero}
-use Rattle.files.specs.Files.{bits, valueFrom}
+use Rattle.files.specs.Files.{bits, value_from}
 use Rattle.files.proofs.Values.{value-append, value-⊕, length-bits, bits-append, rem-from}
 use Rattle.big_endian.proofs.Pieces.{value-one}
 use Rattle.fold_blocks.specs.Folds.{form, front, folded, added}
@@ -19,28 +19,28 @@ use Rattle.fold_blocks.proofs.Forms.{spread, rem-spread}
 -- ---- k bytes more, w bits
 
 value-more : (x : ℕ) (l : List ℕ) (n k w : ℕ) → n + k ≤ length l → w ≡ 8 * k
-    → valueFrom x (bits (take (n + k) l)) ≡ valueFrom x (bits (take n l)) * 2 ^ w ⊕ valueFrom 0 (bits (take k (drop n l)))
+    → value_from x (bits (take (n + k) l)) ≡ value_from x (bits (take n l)) * 2 ^ w ⊕ value_from 0 (bits (take k (drop n l)))
 value-more x l n k w h e =
-    ap (λ (q : List ℕ). valueFrom x (bits q)) (take-add n k l)
-    ∙ ap (valueFrom x) (bits-append (take n l) (take k (drop n l)))
+    ap (λ (q : List ℕ). value_from x (bits q)) (take-add n k l)
+    ∙ ap (value_from x) (bits-append (take n l) (take k (drop n l)))
     ∙ value-append x (bits (take n l)) (bits (take k (drop n l)))
-    ∙ value-⊕ (valueFrom x (bits (take n l))) (bits (take k (drop n l)))
-    ∙ ap (λ (m : ℕ). valueFrom x (bits (take n l)) * 2 ^ m ⊕ valueFrom 0 (bits (take k (drop n l)))) size
+    ∙ value-⊕ (value_from x (bits (take n l))) (bits (take k (drop n l)))
+    ∙ ap (λ (m : ℕ). value_from x (bits (take n l)) * 2 ^ m ⊕ value_from 0 (bits (take k (drop n l)))) size
   where
     size : length (bits (take k (drop n l))) ≡ w
     size = length-bits (take k (drop n l)) ∙ ap (λ (m : ℕ). 8 * m) (length-take-le k (drop n l) (rw length-drop (omega arith))) ∙ sym e
 
 -- one byte more
 value-byte-more : (x : ℕ) (l : List ℕ) (i : ℕ) → i < length l → get_or l i 0 < 256
-    → valueFrom x (bits (take (i + 1) l)) ≡ valueFrom x (bits (take i l)) * 2 ^ 8 ⊕ get_or l i 0
+    → value_from x (bits (take (i + 1) l)) ≡ value_from x (bits (take i l)) * 2 ^ 8 ⊕ get_or l i 0
 value-byte-more x l i h b =
     value-more x l i 1 8 (omega arith) refl
-    ∙ ap (λ (v : ℕ). valueFrom x (bits (take i l)) * 2 ^ 8 ⊕ v) (sym (value-one l i h b))
+    ∙ ap (λ (v : ℕ). value_from x (bits (take i l)) * 2 ^ 8 ⊕ v) (sym (value-one l i h b))
 
 -- ---- the first bytes of a list
 
 pub front-zero : (q : List ℕ) → front q 0 ≡ 0
-unfolding front bits valueFrom
+unfolding front bits value_from
 front-zero q = refl
 
 front-more : (q : List ℕ) (n k w : ℕ) → n + k ≤ length q → w ≡ 8 * k → front q (n + k) ≡ front q n * 2 ^ w ⊕ front (drop n q) k
@@ -54,7 +54,7 @@ front-next = value-byte-more 0
 pub front_same : (p q : List ℕ) (m k : ℕ) → k ≤ m → take m p ≡ take m q → front p k ≡ front q k
 unfolding front
 front_same p q m k h e =
-    ap (λ (l : List ℕ). valueFrom 0 (bits l)) (sym (take-take k m p h) ∙ ap (take k) e ∙ take-take k m q h)
+    ap (λ (l : List ℕ). value_from 0 (bits l)) (sym (take-take k m p h) ∙ ap (take k) e ∙ take-take k m q h)
 
 -- ---- the exponents
 
@@ -77,7 +77,7 @@ module _ (k s : ℕ) (q : List ℕ) (n : ℕ) (h : n + k * s ≤ length q) where
   apart [] a = rw ⊗-zero (simp xor)
   apart (e ∷ es) a =
       ap₂ (λ (x y : ℕ). x ⊕ y) (front-more q n (e * s) (e * (8 * s)) (place-le e k s n (length q) a.0 h) (scaled e)) (apart es a.1)
-      ∙ ⊕-swap (front q n * 2 ^ (e * (8 * s))) (front (drop n q) (e * s)) (front q n ⊗ form es (8 * s)) (folded es s (drop n q) 0)
+      ∙ ⊕_swap (front q n * 2 ^ (e * (8 * s))) (front (drop n q) (e * s)) (front q n ⊗ form es (8 * s)) (folded es s (drop n q) 0)
       ∙ ap₂ (λ (x j : ℕ). x ⊕ (front (drop n q) j ⊕ folded es s (drop n q) 0)) (sym (spread e es (8 * s) (front q n))) (sym (zero-add (e * s)))
     where
       scaled : (e : ℕ) → e * (8 * s) ≡ 8 * (e * s)
@@ -98,7 +98,7 @@ folded-same k s p q t (e ∷ es) a =
 -- ---- one byte of the quotient more
 
 shifted_sum : (a b c d : ℕ) → (a * 2 ^ 8 ⊕ c) ⊕ (b * 2 ^ 8 ⊕ d) ≡ (a ⊕ b) * 2 ^ 8 ⊕ (c ⊕ d)
-shifted_sum a b c d = ⊕-swap (a * 2 ^ 8) c (b * 2 ^ 8) d ∙ ap (λ (x : ℕ). x ⊕ (c ⊕ d)) (sym (⊕-shl 8 a b))
+shifted_sum a b c d = ⊕_swap (a * 2 ^ 8) c (b * 2 ^ 8) d ∙ ap (λ (x : ℕ). x ⊕ (c ⊕ d)) (sym (⊕_shl 8 a b))
 
 abbrev pub Bytes : List ℕ → Type 0
 Bytes q = (j : ℕ) → get_or q j 0 < 256
@@ -145,8 +145,8 @@ folded-next k s pos q b i c hc h es l =
 -- the loop over a part: after i bytes
 pub folding : (k s : ℕ) → 0 < s → (q src : List ℕ) (i start : ℕ) → Bytes q → i + k * s < length q → i < length src → get_or src i 0 < 256
     → (es : List ℕ) → Lower k es
-    → folded (k ∷ es) s q i ≡ valueFrom start (bits (take i src))
-    → folded (k ∷ es) s (set q (i + k * s) (get_or src i 0 ⊕ added es s q i)) (i + 1) ≡ valueFrom start (bits (take (i + 1) src))
+    → folded (k ∷ es) s q i ≡ value_from start (bits (take i src))
+    → folded (k ∷ es) s (set q (i + k * s) (get_or src i 0 ⊕ added es s q i)) (i + 1) ≡ value_from start (bits (take (i + 1) src))
 folding k s pos q src i start b h l byte es low inv =
     folded-next k s pos q b i (get_or src i 0) byte h es low
     ∙ ap (λ (v : ℕ). v * 2 ^ 8 ⊕ get_or src i 0) inv
@@ -181,24 +181,24 @@ module _ (q₀ q : List ℕ) (n i : ℕ) (h : i + n < length q₀) (l : i < leng
 pub rest_all : (l : List ℕ) (i : ℕ) → take (length l - i) (drop i l) ≡ drop i l
 rest_all l i = take_all (length l - i) (drop i l) (rw length-drop (le_refl (length l - i)))
 
-pub nothing_left : (key x : ℕ) (p : List ℕ) (i : ℕ) → length p ≤ i → rem key (valueFrom x (bits (drop i p))) ≡ rem key x
-nothing_left key x p i l = rw (drop_of_length-le p {i = i} l) (unfold valueFrom bits in refl)
+pub nothing_left : (key x : ℕ) (p : List ℕ) (i : ℕ) → length p ≤ i → rem key (value_from x (bits (drop i p))) ≡ rem key x
+nothing_left key x p i l = rw (drop_of_length-le p {i = i} l) (unfold value_from bits in refl)
 
 module _ {key : ℕ} (pos : 0 < key) where
   -- of what came before only the residue matters
-  pub same_start : (x y : ℕ) (a : List ℕ) → rem key y ≡ rem key x → rem key (valueFrom y a) ≡ rem key (valueFrom x a)
-  same_start x y a e = sym (rem-from pos y a) ∙ ap (λ (z : ℕ). rem key (valueFrom z a)) e ∙ rem-from pos x a
+  pub same_start : (x y : ℕ) (a : List ℕ) → rem key y ≡ rem key x → rem key (value_from y a) ≡ rem key (value_from x a)
+  same_start x y a e = sym (rem-from pos y a) ∙ ap (λ (z : ℕ). rem key (value_from z a)) e ∙ rem-from pos x a
 
   -- y stands for x and the bytes from place i to place b
-  pub block-fed : (p : List ℕ) (i b x y : ℕ) → i ≤ b → rem key y ≡ rem key (valueFrom x (bits (take (b - i) (drop i p))))
-      → rem key (valueFrom y (bits (drop b p))) ≡ rem key (valueFrom x (bits (drop i p)))
+  pub block-fed : (p : List ℕ) (i b x y : ℕ) → i ≤ b → rem key y ≡ rem key (value_from x (bits (take (b - i) (drop i p))))
+      → rem key (value_from y (bits (drop b p))) ≡ rem key (value_from x (bits (drop i p)))
   block-fed p i b x y l e =
-      same_start (valueFrom x (bits (take (b - i) (drop i p)))) y (bits (drop b p)) e
+      same_start (value_from x (bits (take (b - i) (drop i p)))) y (bits (drop b p)) e
       ∙ ap (rem key)
-      (ap (λ (r : List ℕ). valueFrom (valueFrom x (bits (take (b - i) (drop i p)))) (bits r)) (ap (λ (j : ℕ). drop j p) end ∙ sym (drop-drop (b - i) i p))
+      (ap (λ (r : List ℕ). value_from (value_from x (bits (take (b - i) (drop i p)))) (bits r)) (ap (λ (j : ℕ). drop j p) end ∙ sym (drop-drop (b - i) i p))
       ∙ sym (value-append x (bits (take (b - i) (drop i p))) (bits (drop (b - i) (drop i p))))
-      ∙ ap (valueFrom x) (sym (bits-append (take (b - i) (drop i p)) (drop (b - i) (drop i p))))
-      ∙ ap (λ (r : List ℕ). valueFrom x (bits r)) (take-append-drop (b - i) (drop i p)))
+      ∙ ap (value_from x) (sym (bits-append (take (b - i) (drop i p)) (drop (b - i) (drop i p))))
+      ∙ ap (λ (r : List ℕ). value_from x (bits r)) (take-append-drop (b - i) (drop i p)))
     where
       end : b ≡ i + (b - i)
       end = omega arith

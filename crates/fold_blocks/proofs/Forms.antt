@@ -8,8 +8,8 @@ use lib.Pow.{pow-add}
 use Rattle.gf2.specs.Polynomials.{◌⊕◌, ◌⊗◌, rem, Divides}
 use Rattle.gf2.proofs.Sums.{xor}
 use Rattle.gf2.proofs.Products.{zero-⊗, ⊗-pow, ⊗-⊕, square-⊕}
-use Rattle.gf2.proofs.Divisors.{dvd-by, dvd_refl, dvd-⊗}
-use Rattle.gf2.proofs.Residues.{rem-cong}
+use Rattle.gf2.proofs.Divisors.{dvd_by, dvd_refl, dvd-⊗}
+use Rattle.gf2.proofs.Residues.{rem_cong}
 use Rattle.fold_blocks.specs.Folds.{form}
 
 pow-square : (a b : ℕ) → b ≡ a + a → 2 ^ a ⊗ 2 ^ a ≡ 2 ^ b
@@ -26,7 +26,7 @@ form-square (e ∷ es) w =
 
 form-dvd : (es : List ℕ) (n : ℕ) → Divides (form es 1) (form es (2 ^ n))
 form-dvd es zero = dvd_refl (form es 1)
-form-dvd es (suc n) = dvd-by (dvd-⊗ (form es (2 ^ n)) (form-dvd es n)) (form-square es (2 ^ n) ∙ ap (form es) (sym (pow-suc 2 n)))
+form-dvd es (suc n) = dvd_by (dvd-⊗ (form es (2 ^ n)) (form-dvd es n)) (form-square es (2 ^ n) ∙ ap (form es) (sym (pow-suc 2 n)))
 
 -- x at the first place and at the others
 pub spread : (e : ℕ) (es : List ℕ) (w x : ℕ) → x ⊗ form (e ∷ es) w ≡ x * 2 ^ (e * w) ⊕ x ⊗ form es w
@@ -35,4 +35,4 @@ spread e es w x = ⊗-⊕ x (2 ^ (e * w)) (form es w) ∙ ap (λ (y : ℕ). y �
 
 -- a multiple of the form may be left out
 pub rem-spread : (es : List ℕ) → 0 < form es 1 → (n x y : ℕ) → rem (form es 1) (x ⊗ form es (2 ^ n) ⊕ y) ≡ rem (form es 1) y
-rem-spread es pos n x y = rem-cong pos (x ⊗ form es (2 ^ n) ⊕ y) y (dvd-by (dvd-⊗ x (form-dvd es n)) (simp xor))
+rem-spread es pos n x y = rem_cong pos (x ⊗ form es (2 ^ n) ⊕ y) y (dvd_by (dvd-⊗ x (form-dvd es n)) (simp xor))

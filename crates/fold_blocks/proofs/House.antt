@@ -6,18 +6,18 @@ use Prim.Native.Nat.{ℕ, ◌+◌, ◌*◌, ◌^◌, ◌≤◌, ◌<◌}
 use native.Mathlib.Omega.{arith}
 use lib.ListN.{length, drop}
 use Rattle.gf2.specs.Polynomials.{◌⊕◌, rem}
-use Rattle.house.specs.House.{houseKey}
-use Rattle.fold_blocks.specs.Folds.{form, lowExponents, exponents, folded, Word}
+use Rattle.house.specs.House.{house_key}
+use Rattle.fold_blocks.specs.Folds.{form, low_exponents, exponents, folded, Word}
 use Rattle.fold_blocks.proofs.Folding.{Lower, folded-last}
 
-house-form : form exponents 1 ≡ houseKey
+house-form : form exponents 1 ≡ house_key
 unfolding form ◌⊕◌
 house-form = refl
 
-pub house-pos : 0 < houseKey
+pub house-pos : 0 < house_key
 house-pos = omega arith
 
-pub low-exponents : Lower 61 lowExponents
+pub low-exponents : Lower 61 low_exponents
 unfolding Lower
 low-exponents = (omega arith, (omega arith, (omega arith, (omega arith, tt))))
 
@@ -44,12 +44,12 @@ pub word-pos : {s : ℕ} → Word s → 0 < s
 word-pos (inl e) = omega arith
 word-pos (inr e) = omega arith
 
-pub word-most : {s : ℕ} → Word s → s ≤ 16
-word-most (inl e) = omega arith
-word-most (inr e) = omega arith
+pub word_most : {s : ℕ} → Word s → s ≤ 16
+word_most (inl e) = omega arith
+word_most (inr e) = omega arith
 
 -- only the last 61 words matter
 pub house-last : (s : ℕ) → Word s → (q : List ℕ) (n : ℕ) → n + 61 * s ≤ length q
-    → rem houseKey (folded exponents s q n) ≡ rem houseKey (folded exponents s (drop n q) 0)
+    → rem house_key (folded exponents s q n) ≡ rem house_key (folded exponents s (drop n q) 0)
 house-last s w q n h =
     rw house-form at (folded-last 61 s q n h exponents all-exponents (rw house-form house-pos) (exponent w) (word_size w))

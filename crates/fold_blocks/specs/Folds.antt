@@ -2,7 +2,7 @@
 -- elements p(t)^w = p(t^w) where w is a power of two, so a polynomial with few terms divides a string of bytes by additions of whole words.
 use Rattle.std.specs.Prelude.{◌≡◌, ◌⊎◌, List, [], ◌∷◌, ℕ, ◌+◌, ◌*◌, ◌^◌, get_or, take}
 use Rattle.gf2.specs.Polynomials.{◌⊕◌}
-use Rattle.files.specs.Files.{bits, valueFrom}
+use Rattle.files.specs.Files.{bits, value_from}
 
 -- the polynomial with the given exponents, at t^w
 unfoldable pub form : List ℕ → ℕ → ℕ
@@ -10,15 +10,15 @@ form [] w = 0
 form (e ∷ es) w = 2 ^ (e * w) ⊕ form es w
 
 -- the house key's: t^61 + t^5 + t^2 + t + 1
-abbrev pub lowExponents : List ℕ
-lowExponents = 5 ∷ 2 ∷ 1 ∷ 0 ∷ []
+abbrev pub low_exponents : List ℕ
+low_exponents = 5 ∷ 2 ∷ 1 ∷ 0 ∷ []
 
 abbrev pub exponents : List ℕ
-exponents = 61 ∷ lowExponents
+exponents = 61 ∷ low_exponents
 
 -- the polynomial of the first n bytes
 unfoldable pub front : List ℕ → ℕ → ℕ
-front q n = valueFrom 0 (bits (take n q))
+front q n = value_from 0 (bits (take n q))
 
 -- what the bytes q, those before place i + e·s for the highest exponent e, are the quotient of: their product with the form for words of s
 -- bytes, without what stands below

@@ -3,15 +3,15 @@
 // functions are for the project's own crates: what they require, every caller proves.
 ghost use Rattle.std.specs.Prelude.{◌≡◌, ◌+◌, ◌-◌, ◌*◌, ◌≤◌, ◌<◌, length, take, drop};
 ghost use Rattle.gf2.specs.Polynomials.{rem};
-ghost use Rattle.files.specs.Files.{bits, valueFrom};
-ghost use Rattle.house.specs.House.{houseKey};
+ghost use Rattle.files.specs.Files.{bits, value_from};
+ghost use Rattle.house.specs.House.{house_key};
 ghost use Rattle.fold_blocks.specs.Folds.{exponents, folded, Word};
 
 // The quotient's bytes for the bytes of src, behind the 61 words of s bytes in front. A byte depends on bytes at least 56 words before it, so the
 // compiler makes many at once.
 fn divide(q: &mut [u8], s: usize, src: &[u8])
     requires { (0 < s) × (s ≤ 16) × (length src.now + 61 * s ≤ length q.old) }
-    ensures { folded exponents s q.new (length src.now) ≡ valueFrom (folded exponents s q.old 0) (bits src.now) }
+    ensures { folded exponents s q.new (length src.now) ≡ value_from (folded exponents s q.old 0) (bits src.now) }
 {
     let two = 2 * s;
     let five = 5 * s;
@@ -26,7 +26,7 @@ fn divide(q: &mut [u8], s: usize, src: &[u8])
 // The same with the size of a word as a constant, for which the compiler makes code of its own.
 pub fn divide_piece(q: &mut [u8], s: usize, src: &[u8])
     requires { Word s × (length src.now + 61 * s ≤ length q.old) }
-    ensures { folded exponents s q.new (length src.now) ≡ valueFrom (folded exponents s q.old 0) (bits src.now) }
+    ensures { folded exponents s q.new (length src.now) ≡ value_from (folded exponents s q.old 0) (bits src.now) }
 {
     if s == 16 {
         divide(q, 16, src);
@@ -39,8 +39,8 @@ pub fn divide_piece(q: &mut [u8], s: usize, src: &[u8])
 // compiler loads none twice where a word has 16 bytes.
 fn divide_block(q: &mut [u8], s: usize, src: &[u8])
     requires { Word s × (length src.now + 61 * s ≤ length q.old) }
-    ensures { rem houseKey (folded exponents s (drop (length src.now) q.new) 0)
-        ≡ rem houseKey (valueFrom (folded exponents s q.old 0) (bits src.now)) }
+    ensures { rem house_key (folded exponents s (drop (length src.now) q.new) 0)
+        ≡ rem house_key (value_from (folded exponents s q.old 0) (bits src.now)) }
 {
     let mut i: usize = 0;
     while 64 <= src.len() - i {
@@ -66,8 +66,8 @@ fn keep_last(q: &mut [u8], n: usize, k: usize)
 // A block behind what the 61 words in front stand for.
 fn turn(q: &mut [u8], s: usize, src: &[u8])
     requires { Word s × (length src.now + 61 * s ≤ length q.old) }
-    ensures { rem houseKey (folded exponents s q.new 0)
-        ≡ rem houseKey (valueFrom (folded exponents s q.old 0) (bits src.now)) }
+    ensures { rem house_key (folded exponents s q.new 0)
+        ≡ rem house_key (value_from (folded exponents s q.old 0) (bits src.now)) }
 {
     divide_block(q, s, src);
     keep_last(q, src.len(), house::DEGREE as usize * s);
@@ -84,8 +84,8 @@ fn block_end(at: usize, size: usize, n: usize) -> usize
 // A part behind what the 61 words in front stand for, a block a turn.
 pub fn fold(q: &mut [u8], s: usize, size: usize, part: &[u8])
     requires { Word s × (0 < size) × (size + 61 * s ≤ length q.old) }
-    ensures { rem houseKey (folded exponents s q.new 0)
-        ≡ rem houseKey (valueFrom (folded exponents s q.old 0) (bits part.now)) }
+    ensures { rem house_key (folded exponents s q.new 0)
+        ≡ rem house_key (value_from (folded exponents s q.old 0) (bits part.now)) }
 {
     let mut at: usize = 0;
     while at < part.len() {

@@ -7,16 +7,16 @@ use native.Mathlib.Omega.{arith}
 use lib.ListN.{length, get_or, set, take, drop, replicate, length-set}
 use lib.Seq.{drop-drop, take-set-le, drop-set-lt, get_or-drop, get_or-take, get_or-set_same}
 use Rattle.gf2.specs.Polynomials.{◌⊕◌}
-use Rattle.gf2.proofs.Sums.{⊕-shl, ⊕-lt, ⊕-swap, xor}
-use Rattle.files.specs.Files.{bits, valueFrom}
+use Rattle.gf2.proofs.Sums.{⊕_shl, ⊕-lt, ⊕_swap, xor}
+use Rattle.files.specs.Files.{bits, value_from}
 use Rattle.files.proofs.Values.{value-byte}
 use Rattle.fold_blocks.specs.Folds.{front, folded}
 use Rattle.fold_blocks.proofs.Folding.{Bytes, front-next, front_same}
 
 -- ---- the first bytes added to others: n bytes from place `at` on, i of them done
 
-getD-behind : (p q : List ℕ) (i : ℕ) → drop i p ≡ drop i q → get_or p i 0 ≡ get_or q i 0
-getD-behind p q i e =
+get_d_behind : (p q : List ℕ) (i : ℕ) → drop i p ≡ drop i q → get_or p i 0 ≡ get_or q i 0
+get_d_behind p q i e =
     ap (λ (j : ℕ). get_or p j 0) (sym (add-zero i)) ∙ sym (get_or-drop i p 0 0) ∙ ap (λ (r : List ℕ). get_or r 0 0) e ∙ get_or-drop i q 0 0
     ∙ ap (λ (j : ℕ). get_or q j 0) (add-zero i)
 
@@ -26,7 +26,7 @@ module _ (q₀ q : List ℕ) (b : Bytes q) (at n i : ℕ) (few : n ≤ at) (l : 
   here = get_or q₀ (at + i) 0 ⊕ get_or q₀ i 0
 
   same_here : get_or q (at + i) 0 ≡ get_or q₀ (at + i) 0
-  same_here = getD-behind q q₀ (at + i) behind
+  same_here = get_d_behind q q₀ (at + i) behind
 
   same_first : get_or q i 0 ≡ get_or q₀ i 0
   same_first = sym (get_or-take at q i 0 (omega arith)) ∙ ap (λ (r : List ℕ). get_or r i 0) before_at ∙ get_or-take at q₀ i 0 (omega arith)
@@ -65,27 +65,27 @@ module _ (q₀ q : List ℕ) (b : Bytes q) (at n i : ℕ) (few : n ≤ at) (l : 
       ∙ ap₂ (λ (u v : ℕ). u * 2 ^ 8 ⊕ v)
       (front_same (set q (at + i) x) q (at + i) (at + i) (omega arith) (take-set-le (at + i) q (at + i) x (omega arith)) ∙ inv)
       (get_or-set_same q (at + i) x 0 inside ∙ sum-here)
-      ∙ ap (λ (u : ℕ). u ⊕ here) (⊕-shl 8 (front q₀ (at + i)) (front q₀ i))
-      ∙ ⊕-swap (front q₀ (at + i) * 2 ^ 8) (front q₀ i * 2 ^ 8) (get_or q₀ (at + i) 0) (get_or q₀ i 0)
+      ∙ ap (λ (u : ℕ). u ⊕ here) (⊕_shl 8 (front q₀ (at + i)) (front q₀ i))
+      ∙ ⊕_swap (front q₀ (at + i) * 2 ^ 8) (front q₀ i * 2 ^ 8) (get_or q₀ (at + i) 0) (get_or q₀ i 0)
       ∙ ap₂ (λ (u v : ℕ). u ⊕ v)
       (sym (front-next q₀ (at + i) (omega arith) here_lt) ∙ ap (front q₀) (sym e))
       (sym (front-next q₀ i (omega arith) first-lt))
 
 -- ---- the start
 
-push : (x : ℕ) (file : List ℕ) → valueFrom (x / 256) (bits (x % 256 ∷ file)) ≡ valueFrom x (bits file)
-push x file = value-byte (x / 256) (x % 256) file ∙ ap (λ (y : ℕ). valueFrom y (bits file)) (omega arith)
+push : (x : ℕ) (file : List ℕ) → value_from (x / 256) (bits (x % 256 ∷ file)) ≡ value_from x (bits file)
+push x file = value-byte (x / 256) (x % 256) file ∙ ap (λ (y : ℕ). value_from y (bits file)) (omega arith)
 
-first : (x : ℕ) (file : List ℕ) → x < 256 → valueFrom 0 (bits (x ∷ file)) ≡ valueFrom x (bits file)
-first x file h = value-byte 0 x file ∙ ap (λ (y : ℕ). valueFrom y (bits file)) (omega arith)
+first : (x : ℕ) (file : List ℕ) → x < 256 → value_from 0 (bits (x ∷ file)) ≡ value_from x (bits file)
+first x file h = value-byte 0 x file ∙ ap (λ (y : ℕ). value_from y (bits file)) (omega arith)
 
-done : (x : ℕ) → valueFrom x (bits []) ≡ x
-unfolding bits valueFrom
+done : (x : ℕ) → value_from x (bits []) ≡ x
+unfolding bits value_from
 done x = refl
 
 -- the eight digits of a number to the base 256
 pub value-digits : (f : ℕ) → f / 256 / 256 / 256 / 256 / 256 / 256 / 256 < 256
-    → valueFrom 0 (bits (f / 256 / 256 / 256 / 256 / 256 / 256 / 256 ∷ f / 256 / 256 / 256 / 256 / 256 / 256 % 256
+    → value_from 0 (bits (f / 256 / 256 / 256 / 256 / 256 / 256 / 256 ∷ f / 256 / 256 / 256 / 256 / 256 / 256 % 256
     ∷ f / 256 / 256 / 256 / 256 / 256 % 256 ∷ f / 256 / 256 / 256 / 256 % 256 ∷ f / 256 / 256 / 256 % 256
     ∷ f / 256 / 256 % 256 ∷ f / 256 % 256 ∷ f % 256 ∷ [])) ≡ f
 value-digits f small =
@@ -100,7 +100,7 @@ value-digits f small =
     ∙ done f
 
 front-zeros : (n k : ℕ) → front (replicate n 0) k ≡ 0
-unfolding front bits valueFrom
+unfolding front bits value_from
 front-zeros n zero = refl
 front-zeros zero (suc k) = refl
 front-zeros (suc n) (suc k) = value-byte 0 0 (take k (replicate n 0)) ∙ front-zeros n k

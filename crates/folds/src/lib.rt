@@ -3,8 +3,8 @@
 // proves.
 ghost use Rattle.std.specs.Prelude.{◌≡◌, ◌+◌, ◌*◌, ◌^◌, ◌≤◌, ◌<◌, length, take, drop, replicate};
 ghost use Rattle.gf2.specs.Polynomials.{◌⊕◌, rem};
-ghost use Rattle.files.specs.Files.{bits, valueFrom};
-ghost use Rattle.house.specs.House.{houseKey};
+ghost use Rattle.files.specs.Files.{bits, value_from};
+ghost use Rattle.house.specs.House.{house_key};
 ghost use Rattle.fold_blocks.specs.Folds.{exponents, front, folded, Word};
 
 use gf2::Modulus;
@@ -12,7 +12,7 @@ use gf2::Modulus;
 // A short part behind a residue: seven bytes at a time.
 fn feed_sevens(f: u64, part: &[u8]) -> u64
     requires { f < 2 ^ 61 }
-    ensures { result ≡ rem houseKey (valueFrom f (bits part.now)) }
+    ensures { result ≡ rem house_key (value_from f (bits part.now)) }
 {
     let p = Modulus {
         degree: house::DEGREE,
@@ -46,7 +46,7 @@ fn flatten(q: &mut [u8], s: usize)
 
 // The eight bytes of a number, the highest first.
 fn eight(f: u64) -> [u8; 8]
-    ensures { valueFrom 0 (bits result) ≡ f }
+    ensures { value_from 0 (bits result) ≡ f }
 {
     let a = f / 256;
     let b = a / 256;
@@ -70,7 +70,7 @@ fn eight(f: u64) -> [u8; 8]
 // A part behind a residue, which comes first as a block of its own: what is left are the bytes of 61 words, from place 8 on.
 fn fold_from(q: &mut [u8], s: usize, size: usize, f: u64, part: &[u8])
     requires { Word s × (0 < size) × (8 + size + 61 * s ≤ length q.old) × (q.old ≡ replicate (length q.old) 0) }
-    ensures { rem houseKey (front (drop 8 q.new) (61 * s)) ≡ rem houseKey (valueFrom f (bits part.now)) }
+    ensures { rem house_key (front (drop 8 q.new) (61 * s)) ≡ rem house_key (value_from f (bits part.now)) }
 {
     let start = eight(f);
     fold_blocks::divide_piece(q, s, &start);
@@ -80,7 +80,7 @@ fn fold_from(q: &mut [u8], s: usize, size: usize, f: u64, part: &[u8])
 
 // A part of middle length behind a residue: words of four bytes.
 fn feed_middle(f: u64, part: &[u8]) -> u64
-    ensures { result ≡ rem houseKey (valueFrom f (bits part.now)) }
+    ensures { result ≡ rem house_key (value_from f (bits part.now)) }
 {
     let mut q: [u8; 1276] = [0; 1276];
     fold_from(&mut q, 4, 1024, f, part);
@@ -90,7 +90,7 @@ fn feed_middle(f: u64, part: &[u8]) -> u64
 // A long part behind a residue: words of sixteen bytes. What is left of it is a part of middle length. Eight bytes of the buffer are for its place on
 // the stack: with them the words lie at multiples of 16, which is faster by a seventh.
 fn feed_long(f: u64, part: &[u8]) -> u64
-    ensures { result ≡ rem houseKey (valueFrom f (bits part.now)) }
+    ensures { result ≡ rem house_key (value_from f (bits part.now)) }
 {
     let mut q: [u8; 5088] = [0; 5088];
     fold_from(&mut q, 16, 4096, f, part);
@@ -100,7 +100,7 @@ fn feed_long(f: u64, part: &[u8]) -> u64
 // A part behind a residue under the house key: the way for parts of less than 8,192 bytes, as pages are, which takes less stack.
 pub fn fed_page(f: u64, part: &[u8]) -> u64
     requires { f < 2 ^ 61 }
-    ensures { result ≡ rem houseKey (valueFrom f (bits part.now)) }
+    ensures { result ≡ rem house_key (value_from f (bits part.now)) }
 {
     if part.len() < 512 {
         return feed_sevens(f, part);
@@ -111,7 +111,7 @@ pub fn fed_page(f: u64, part: &[u8]) -> u64
 // A part of any length behind a residue under the house key.
 pub fn fed_house(f: u64, part: &[u8]) -> u64
     requires { f < 2 ^ 61 }
-    ensures { result ≡ rem houseKey (valueFrom f (bits part.now)) }
+    ensures { result ≡ rem house_key (value_from f (bits part.now)) }
 {
     if part.len() < 8192 {
         return fed_page(f, part);

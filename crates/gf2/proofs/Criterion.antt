@@ -11,11 +11,11 @@ use lib.Pow.{pow_mono}
 use Rattle.gf2.specs.Polynomials.{◌⊕◌, ◌⊗◌, degree, rem, Divides}
 use Rattle.gf2.specs.Criterion.{Rigid, RigidIrreducible, IrreducibleRigid}
 use Rattle.gf2.proofs.Sums.{⊕-eq, ⊕-lt, xor}
-use Rattle.gf2.proofs.Products.{one-⊗, ⊗-one, ⊗-comm, ⊗-assoc, ring}
-use Rattle.gf2.proofs.Degrees.{degree-is, degree-eq, degree-from, deg-hi, deg-le, deg-zero}
-use Rattle.gf2.proofs.Divisors.{dvd-by, dvd-left, dvd-⊕, dvd-⊗, dvd_trans, dvd-small}
-use Rattle.gf2.proofs.Residues.{rem_lt, rem-dvd, rem-cong, rem-⊗, rem-of-dvd, dvd-of-rem-zero}
-use Rattle.gf2.proofs.Irreducibles.{Bezout, bezout, euclid-lemma, pos-left, pos-right, factor-degrees, factor-lt, whole}
+use Rattle.gf2.proofs.Products.{one-⊗, ⊗-one, ⊗_comm, ⊗_assoc, ring}
+use Rattle.gf2.proofs.Degrees.{degree-is, degree-eq, degree-from, deg_hi, deg-le, deg-zero}
+use Rattle.gf2.proofs.Divisors.{dvd_by, dvd-left, dvd-⊕, dvd-⊗, dvd_trans, dvd-small}
+use Rattle.gf2.proofs.Residues.{rem_lt, rem-dvd, rem_cong, rem-⊗, rem_of_dvd, dvd_of_rem-zero}
+use Rattle.gf2.proofs.Irreducibles.{Bezout, bezout, euclid_lemma, pos-left, pos-right, factor_degrees, factor_lt, whole}
 
 dvd-one : (d : ℕ) → Divides d 1 → d ≡ 1
 dvd-one d h = whole d 1 h (le_refl 1) (rw (degree-eq 1 0 refl) (pos-right h.quotient d 1 h.product (le_refl 1)))
@@ -33,33 +33,33 @@ module _ (p q d u v : ℕ) (r : Rigid p) (is : q ⊗ d ≡ p) (one : u ⊗ q ⊕
 
   square : Divides p (w ⊗ w ⊕ w)
   unfolding w
-  square = dvd-by (dvd-left (u ⊗ v) p) (ap (λ (x : ℕ). u ⊗ v ⊗ x) (sym is) ∙ expand ∙ ap (λ (x : ℕ). w ⊗ w ⊕ w ⊗ x) one ∙ simp ⊗-one)
+  square = dvd_by (dvd-left (u ⊗ v) p) (ap (λ (x : ℕ). u ⊗ v ⊗ x) (sym is) ∙ expand ∙ ap (λ (x : ℕ). w ⊗ w ⊕ w ⊗ x) one ∙ simp ⊗-one)
     where
       expand : u ⊗ v ⊗ (q ⊗ d) ≡ u ⊗ q ⊗ (u ⊗ q) ⊕ u ⊗ q ⊗ (u ⊗ q ⊕ v ⊗ d)
       expand = simp ring
 
   idempotent : rem p (e ⊗ e) ≡ e
   unfolding e
-  idempotent = sym (rem-⊗ pos w w) ∙ rem-cong pos (w ⊗ w) w square
+  idempotent = sym (rem-⊗ pos w w) ∙ rem_cong pos (w ⊗ w) w square
 
   d-divides : Divides d p
-  d-divides = dvd-by (dvd-left q d) is
+  d-divides = dvd_by (dvd-left q d) is
 
   q-divides : Divides q p
-  q-divides = dvd-by (dvd-left d q) (⊗-comm d q ∙ is)
+  q-divides = dvd_by (dvd-left d q) (⊗_comm d q ∙ is)
 
   trivial : (d ≡ 1) ⊎ (d ≡ p)
   unfolding e w
   trivial = go (dec_lt 1 e)
     where
       at_zero : e ≡ 0 → d ≡ 1
-      at_zero z = dvd-one d (dvd-by (dvd-⊕ (dvd_trans d-divides (dvd-of-rem-zero pos w z)) (dvd-left v d)) one)
+      at_zero z = dvd-one d (dvd_by (dvd-⊕ (dvd_trans d-divides (dvd_of_rem-zero pos w z)) (dvd-left v d)) one)
 
       at_one : e ≡ 1 → d ≡ p
       at_one o = sym (one-⊗ d) ∙ ap (λ (x : ℕ). x ⊗ d) (sym q-one) ∙ is
         where
           q-one : q ≡ 1
-          q-one = dvd-one q (dvd-by (dvd-⊕ (dvd-left u q) (dvd_trans q-divides (rem-dvd pos w))) (rw o (simp xor)))
+          q-one = dvd-one q (dvd_by (dvd-⊕ (dvd-left u q) (dvd_trans q-divides (rem-dvd pos w))) (rw o (simp xor)))
 
       small : (n : ℕ) → ¬ (1 < n) → (n ≡ 0) ⊎ (n ≡ 1)
       small zero h = inl refl
@@ -67,7 +67,7 @@ module _ (p q d u v : ℕ) (r : Rigid p) (is : q ⊗ d ≡ p) (one : u ⊗ q ⊕
       small (suc (suc n)) h = absurd (omega arith)
 
       go : Dec (1 < e) → (d ≡ 1) ⊎ (d ≡ p)
-      go (yes l) = absurd (r.no-idempotent e l (rem_lt pos w) idempotent)
+      go (yes l) = absurd (r.no_idempotent e l (rem_lt pos w) idempotent)
       go (no n) = ⊎_elim (λ z. inl (at_zero z)) (λ o. inr (at_one o)) (small e n)
 
 -- p = m ⊗ (g ⊗ g) with g not 1
@@ -76,11 +76,11 @@ module _ (p : ℕ) (r : Rigid p) where
   whole_pos = omega (arith, r.proper)
 
   -- where m divides g, m ⊗ g is nilpotent modulo p, and of at most two thirds of its degree
-  no-cube : (m g : ℕ) → m ⊗ (g ⊗ g) ≡ p → Divides m g → ⊥
-  no-cube m g is d = r.no-nilpotent (m ⊗ g) some short (rem-of-dvd whole_pos (m ⊗ g ⊗ (m ⊗ g)) nilpotent)
+  no_cube : (m g : ℕ) → m ⊗ (g ⊗ g) ≡ p → Divides m g → ⊥
+  no_cube m g is d = r.no_nilpotent (m ⊗ g) some short (rem_of_dvd whole_pos (m ⊗ g ⊗ (m ⊗ g)) nilpotent)
     where
       split : m ⊗ g ⊗ g ≡ p
-      split = ⊗-assoc m g g ∙ is
+      split = ⊗_assoc m g g ∙ is
 
       some : 0 < m ⊗ g
       some = pos-left (m ⊗ g) g p split whole_pos
@@ -90,17 +90,17 @@ module _ (p : ℕ) (r : Rigid p) where
 
       short : m ⊗ g < 2 ^ (2 * degree p / 3 + 1)
       short =
-          lt_of_lt_of_le (deg-hi (m ⊗ g) (degree (m ⊗ g)) (degree-is (m ⊗ g) some))
+          lt_of_lt_of_le (deg_hi (m ⊗ g) (degree (m ⊗ g)) (degree-is (m ⊗ g) some))
           (pow_mono
           (omega (
             arith,
-            factor-degrees (m ⊗ g) g p split whole_pos,
-            factor-degrees m g (m ⊗ g) refl some,
-            factor-degrees d.quotient m g d.product g-pos,
+            factor_degrees (m ⊗ g) g p split whole_pos,
+            factor_degrees m g (m ⊗ g) refl some,
+            factor_degrees d.quotient m g d.product g-pos,
           )))
 
       nilpotent : Divides p (m ⊗ g ⊗ (m ⊗ g))
-      nilpotent = dvd-by (dvd-left m p) (ap (λ (x : ℕ). m ⊗ x) (sym is) ∙ sorted)
+      nilpotent = dvd_by (dvd-left m p) (ap (λ (x : ℕ). m ⊗ x) (sym is) ∙ sorted)
         where
           sorted : m ⊗ (m ⊗ (g ⊗ g)) ≡ m ⊗ g ⊗ (m ⊗ g)
           sorted = simp ring
@@ -131,11 +131,11 @@ module _ (p : ℕ) (r : Rigid p) where
           cubed = simp ring
 
       go : (d ≡ 1) ⊎ (d ≡ p) → n ≡ 1
-      go (inl e) = absurd (ne (dvd-one g (dvd-by (dvd-left (c ⊗ g) g) (⊗-assoc c g g ∙ e))))
+      go (inl e) = absurd (ne (dvd-one g (dvd_by (dvd-left (c ⊗ g) g) (⊗_assoc c g g ∙ e))))
       go (inr e) = deg-zero n (rw zero-degree at (degree-is n (pos-left n (c ⊗ (g ⊗ g)) p is whole_pos)))
         where
           zero-degree : degree n ≡ 0
-          zero-degree = omega (arith, factor-degrees n (c ⊗ (g ⊗ g)) p is whole_pos, ap degree e)
+          zero-degree = omega (arith, factor_degrees n (c ⊗ (g ⊗ g)) p is whole_pos, ap degree e)
 
   -- a divisor s of m / c and g divides c too: its square goes from m to g ⊗ g
   abbrev Smaller : ℕ → Type 0
@@ -145,7 +145,7 @@ module _ (p : ℕ) (r : Rigid p) where
   moved m g s i j is em ne sn again = again (i ⊗ j) (g ⊗ s) less (sorted ∙ ap (λ (x : ℕ). x ⊗ (g ⊗ g)) em ∙ is) not-one
     where
       not-one : g ⊗ s ≢ 1
-      not-one e = ne (dvd-one g (dvd-by (dvd-left s g) (⊗-comm s g ∙ e)))
+      not-one e = ne (dvd-one g (dvd_by (dvd-left s g) (⊗_comm s g ∙ e)))
 
       sorted : i ⊗ j ⊗ (g ⊗ s ⊗ (g ⊗ s)) ≡ i ⊗ s ⊗ (j ⊗ s) ⊗ (g ⊗ g)
       sorted = simp ring
@@ -162,11 +162,11 @@ module _ (p : ℕ) (r : Rigid p) where
       less : degree (i ⊗ j) < degree m
       less =
           deg-le (i ⊗ j) (degree (i ⊗ j)) (degree m) (degree-is (i ⊗ j) (pos-left (i ⊗ j) (s ⊗ s) m out m-pos))
-          (factor-lt (i ⊗ j) (s ⊗ s) m out m-pos (λ e. sn (dvd-one s (dvd-by (dvd-left s s) e))))
+          (factor_lt (i ⊗ j) (s ⊗ s) m out m-pos (λ e. sn (dvd-one s (dvd_by (dvd-left s s) e))))
 
   -- with c the greatest common divisor of m and g, and s that of n = m / c and g
   parted : (m g : ℕ) → m ⊗ (g ⊗ g) ≡ p → g ≢ 1 → Smaller m → (z : Bezout m g) → Bezout z.left.quotient g → ⊥
-  parted m g is ne again z y = by-gcd (ℕ_discrete s 1)
+  parted m g is ne again z y = by_gcd (ℕ_discrete s 1)
     where
       c : ℕ
       c = z.gcd
@@ -178,38 +178,38 @@ module _ (p : ℕ) (r : Rigid p) where
       s = y.gcd
 
       s-m : Divides s m
-      s-m = dvd-by (dvd-⊗ c y.left) (⊗-comm c n ∙ z.left.product)
+      s-m = dvd_by (dvd-⊗ c y.left) (⊗_comm c n ∙ z.left.product)
 
       s-c : Divides s c
-      s-c = dvd-by (dvd-⊕ (dvd-⊗ z.u s-m) (dvd-⊗ z.v y.right)) z.combines
+      s-c = dvd_by (dvd-⊕ (dvd-⊗ z.u s-m) (dvd-⊗ z.v y.right)) z.combines
 
       apart : n ⊗ (c ⊗ (g ⊗ g)) ≡ p
-      apart = sym (⊗-assoc n c (g ⊗ g)) ∙ ap (λ (x : ℕ). x ⊗ (g ⊗ g)) z.left.product ∙ is
+      apart = sym (⊗_assoc n c (g ⊗ g)) ∙ ap (λ (x : ℕ). x ⊗ (g ⊗ g)) z.left.product ∙ is
 
-      by-gcd : Dec (s ≡ 1) → ⊥
-      by-gcd (yes o) = no-cube m g is (rw (sym (one-⊗ c) ∙ ap (λ (x : ℕ). x ⊗ c) (sym n-one) ∙ z.left.product) at z.right)
+      by_gcd : Dec (s ≡ 1) → ⊥
+      by_gcd (yes o) = no_cube m g is (rw (sym (one-⊗ c) ∙ ap (λ (x : ℕ). x ⊗ c) (sym n-one) ∙ z.left.product) at z.right)
         where
           n-one : n ≡ 1
           n-one = rest-one g c n z.right.quotient y.u y.v apart z.right.product (y.combines ∙ o) ne
-      by-gcd (no sn) = moved m g s y.left.quotient s-c.quotient is (rw (y.left.product, s-c.product) z.left.product) ne sn again
+      by_gcd (no sn) = moved m g s y.left.quotient s-c.quotient is (rw (y.left.product, s-c.product) z.left.product) ne sn again
 
   parts : (m g : ℕ) → m ⊗ (g ⊗ g) ≡ p → g ≢ 1 → Smaller m → ⊥
   parts m g is ne again = let z = bezout m g in parted m g is ne again z (bezout z.left.quotient g)
 
   -- at most n squares are moved
-  no-square : (n m g : ℕ) → degree m ≤ n → m ⊗ (g ⊗ g) ≡ p → g ≢ 1 → ⊥
-  no-square zero m g l is ne = parts m g is ne (λ m' g' h is' ne'. omega arith)
-  no-square (suc n) m g l is ne = parts m g is ne (λ m' g' h is' ne'. no-square n m' g' (omega arith) is' ne')
+  no_square : (n m g : ℕ) → degree m ≤ n → m ⊗ (g ⊗ g) ≡ p → g ≢ 1 → ⊥
+  no_square zero m g l is ne = parts m g is ne (λ m' g' h is' ne'. omega arith)
+  no_square (suc n) m g l is ne = parts m g is ne (λ m' g' h is' ne'. no_square n m' g' (omega arith) is' ne')
 
-pub rigid-irreducible : RigidIrreducible
-rigid-irreducible p r = record { proper = r.proper; only = λ d h. split d h (bezout h.quotient d) }
+pub rigid_irreducible : RigidIrreducible
+rigid_irreducible p r = record { proper = r.proper; only = λ d h. split d h (bezout h.quotient d) }
   where
     split : (d : ℕ) (h : Divides d p) → Bezout h.quotient d → (d ≡ 1) ⊎ (d ≡ p)
     split d h z = go (ℕ_discrete z.gcd 1)
       where
         go : Dec (z.gcd ≡ 1) → (d ≡ 1) ⊎ (d ≡ p)
         go (yes o) = trivial p h.quotient d z.u z.v r h.product (z.combines ∙ o)
-        go (no n) = absurd (no-square p r (degree (a ⊗ b)) (a ⊗ b) g (le_refl (degree (a ⊗ b))) (sorted ∙ product) n)
+        go (no n) = absurd (no_square p r (degree (a ⊗ b)) (a ⊗ b) g (le_refl (degree (a ⊗ b))) (sorted ∙ product) n)
           where
             a : ℕ
             a = z.left.quotient
@@ -228,8 +228,8 @@ rigid-irreducible p r = record { proper = r.proper; only = λ d h. split d h (be
 
 -- ---- and back
 
-pub irreducible-rigid : IrreducibleRigid
-irreducible-rigid p i = record { proper = i.proper; no-nilpotent = nil; no-idempotent = idem }
+pub irreducible_rigid : IrreducibleRigid
+irreducible_rigid p i = record { proper = i.proper; no_nilpotent = nil; no_idempotent = idem }
   where
     pos : 0 < p
     pos = omega (arith, i.proper)
@@ -238,16 +238,16 @@ irreducible-rigid p i = record { proper = i.proper; no-nilpotent = nil; no-idemp
     zero_of h l k = dvd-small (degree p) (degree-is p pos) k l
 
     nil : (h : ℕ) → 0 < h → h < 2 ^ (2 * degree p / 3 + 1) → rem p (h ⊗ h) ≡ 0 → ⊥
-    nil h n l e = ⊎_elim (λ k. omega (arith, zero_of h low k)) (λ k. omega (arith, zero_of h low k)) (euclid-lemma p h h i (dvd-of-rem-zero pos (h ⊗ h) e))
+    nil h n l e = ⊎_elim (λ k. omega (arith, zero_of h low k)) (λ k. omega (arith, zero_of h low k)) (euclid_lemma p h h i (dvd_of_rem-zero pos (h ⊗ h) e))
       where
         low : h < 2 ^ degree p
         low = lt_of_lt_of_le l (pow_mono (omega (arith, degree-from 1 p i.proper)))
 
     idem : (h : ℕ) → 1 < h → h < 2 ^ degree p → rem p (h ⊗ h) ≡ h → ⊥
-    idem h n l e = ⊎_elim (λ k. omega (arith, zero_of h l k)) (λ k. omega (arith, ⊕-eq h 1 (zero_of (h ⊕ 1) sum_lt k))) (euclid-lemma p h (h ⊕ 1) i both)
+    idem h n l e = ⊎_elim (λ k. omega (arith, zero_of h l k)) (λ k. omega (arith, ⊕-eq h 1 (zero_of (h ⊕ 1) sum_lt k))) (euclid_lemma p h (h ⊕ 1) i both)
       where
         both : Divides p (h ⊗ (h ⊕ 1))
-        both = dvd-by (rem-dvd pos (h ⊗ h)) (rw e (simp ring))
+        both = dvd_by (rem-dvd pos (h ⊗ h)) (rw e (simp ring))
 
         sum_lt : h ⊕ 1 < 2 ^ degree p
         sum_lt = ⊕-lt (degree p) h 1 l (omega arith)

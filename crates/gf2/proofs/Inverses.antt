@@ -10,10 +10,10 @@ use Rattle.lists.proofs.Searches.{first-is}
 use Rattle.gf2.specs.Polynomials.{◌⊕◌, ◌⊗◌, degree, rem, Divides, Irreducible}
 use Rattle.gf2.specs.Inverses.{inverse}
 use Rattle.gf2.proofs.Sums.{xor}
-use Rattle.gf2.proofs.Products.{⊗-one, ⊗-assoc, ⊗-pow}
+use Rattle.gf2.proofs.Products.{⊗-one, ⊗_assoc, ⊗-pow}
 use Rattle.gf2.proofs.Degrees.{degree-is, degree-from}
-use Rattle.gf2.proofs.Divisors.{dvd-by, dvd-left, dvd-⊕}
-use Rattle.gf2.proofs.Residues.{rem_lt, rem-dvd, rem-cong, rem-small}
+use Rattle.gf2.proofs.Divisors.{dvd_by, dvd-left, dvd-⊕}
+use Rattle.gf2.proofs.Residues.{rem_lt, rem-dvd, rem_cong, rem-small}
 use Rattle.gf2.proofs.Powers.{rem-⊗-left, rem-⊗-right}
 use Rattle.gf2.proofs.Irreducibles.{Bezout, bezout}
 use Rattle.gf2.proofs.Congruences.{irreducible-pos, no_power, cancel}
@@ -34,7 +34,7 @@ module _ (p : ℕ) (irr : Irreducible p) where
     unfolding some
     some_is b =
         rem-⊗-left pos b.v a
-        ∙ rem-cong pos (b.v ⊗ a) 1 (dvd-by (dvd-left b.u p) (moved ∙ ap (λ (x : ℕ). b.v ⊗ a ⊕ x) is))
+        ∙ rem_cong pos (b.v ⊗ a) 1 (dvd_by (dvd-left b.u p) (moved ∙ ap (λ (x : ℕ). b.v ⊗ a ⊕ x) is))
         ∙ rem-small pos 1 one-small
       where
         is : b.u ⊗ p ⊕ b.v ⊗ a ≡ 1
@@ -43,15 +43,15 @@ module _ (p : ℕ) (irr : Irreducible p) where
         moved : b.u ⊗ p ≡ b.v ⊗ a ⊕ (b.u ⊗ p ⊕ b.v ⊗ a)
         moved = simp xor
 
-    pub inverse-unique : (x : ℕ) → x < 2 ^ degree p → rem p (x ⊗ a) ≡ 1 → inverse p a ≡ x
+    pub inverse_unique : (x : ℕ) → x < 2 ^ degree p → rem p (x ⊗ a) ≡ 1 → inverse p a ≡ x
     unfolding inverse
-    inverse-unique x l e =
+    inverse_unique x l e =
         first-is (λ y. eqb (rem p (y ⊗ a)) 1) 0 (2 ^ degree p) x (omega arith) (omega arith) (eq-eqb (rem p (x ⊗ a)) 1 e)
         (λ y h m q. omega (arith, m, cancel p a x y irr n l (omega arith) (e ∙ sym (eqb-true (rem p (y ⊗ a)) 1 q))))
 
     is_some : inverse p a ≡ some (bezout p a)
     unfolding some
-    is_some = inverse-unique (some (bezout p a)) (rem_lt pos (bezout p a).v) (some_is (bezout p a))
+    is_some = inverse_unique (some (bezout p a)) (rem_lt pos (bezout p a).v) (some_is (bezout p a))
 
     pub inverse-lt : inverse p a < 2 ^ degree p
     unfolding some
@@ -64,19 +64,19 @@ module _ (p : ℕ) (irr : Irreducible p) where
     pub divided : (c : ℕ) → rem p (rem p (c ⊗ inverse p a) ⊗ a) ≡ rem p c
     divided c =
         rem-⊗-left pos (c ⊗ inverse p a) a
-        ∙ ap (rem p) (⊗-assoc c (inverse p a) a)
+        ∙ ap (rem p) (⊗_assoc c (inverse p a) a)
         ∙ sym (rem-⊗-right pos c (inverse p a ⊗ a))
         ∙ ap (λ (x : ℕ). rem p (c ⊗ x)) inverse-is
         ∙ ap (rem p) (⊗-one c)
 
   -- it depends on the residue alone
   pub residue-divides : (a : ℕ) → (Divides p a → ⊥) → Divides p (rem p a) → ⊥
-  residue-divides a n d = n (dvd-by (dvd-⊕ (rem-dvd pos a) d) (simp xor))
+  residue-divides a n d = n (dvd_by (dvd-⊕ (rem-dvd pos a) d) (simp xor))
 
   pub inverse-residue : (a : ℕ) → (Divides p a → ⊥) → inverse p (rem p a) ≡ inverse p a
   inverse-residue a n =
       let m = residue-divides a n in
-      sym (inverse-unique a n (inverse p (rem p a)) (inverse-lt (rem p a) m) (sym (rem-⊗-right pos (inverse p (rem p a)) a) ∙ inverse-is (rem p a) m))
+      sym (inverse_unique a n (inverse p (rem p a)) (inverse-lt (rem p a) m) (sym (rem-⊗-right pos (inverse p (rem p a)) a) ∙ inverse-is (rem p a) m))
 
   -- ---- powers of t
 

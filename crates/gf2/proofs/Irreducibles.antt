@@ -13,9 +13,9 @@ use Rattle.gf2.specs.Polynomials.{◌⊕◌, ◌⊗◌, degree, rem, Divides, Ir
 use Rattle.gf2.specs.Degrees.{Degree}
 use Rattle.lists.proofs.Lists.{all-zip}
 use Rattle.gf2.proofs.Sums.{xor}
-use Rattle.gf2.proofs.Products.{zero-⊗, one-⊗, ⊕-⊗, ⊗-assoc, ⊗-comm, ring}
-use Rattle.gf2.proofs.Degrees.{degree-is, degree-eq, degree-⊗, deg-lo, deg-hi, lt-of-pow-lt, deg-zero}
-use Rattle.gf2.proofs.Divisors.{dvd-by, dvd-left, dvd_refl, dvd-zero, dvd-⊕, dvd-⊗, dvd_trans}
+use Rattle.gf2.proofs.Products.{zero-⊗, one-⊗, ⊕-⊗, ⊗_assoc, ⊗_comm, ring}
+use Rattle.gf2.proofs.Degrees.{degree-is, degree-eq, degree-⊗, deg-lo, deg_hi, lt_of_pow-lt, deg-zero}
+use Rattle.gf2.proofs.Divisors.{dvd_by, dvd-left, dvd_refl, dvd-zero, dvd-⊕, dvd-⊗, dvd_trans}
 use Rattle.gf2.proofs.Residues.{rem_lt, rem-dvd}
 
 -- ---- Bezout: a common divisor that is a combination
@@ -29,14 +29,14 @@ pub record Bezout (a b : ℕ) : Type 0 where
   pub combines : u ⊗ a ⊕ v ⊗ b ≡ gcd
 
 combine : (a b q r u v : ℕ) → q ⊗ b ≡ a ⊕ r → v ⊗ a ⊕ (u ⊕ v ⊗ q) ⊗ b ≡ u ⊗ b ⊕ v ⊗ r
-combine a b q r u v e = rw (⊕-⊗, ⊗-assoc, e) (simp ring)
+combine a b q r u v e = rw (⊕-⊗, ⊗_assoc, e) (simp ring)
 
 -- one division of Euclid's algorithm
 divide : (a b : ℕ) → 0 < b → Bezout b (rem b a) → Bezout a b
 divide a b pos e =
     record {
       gcd = e.gcd;
-      left = dvd-by (dvd-⊕ (dvd_trans e.left (rem-dvd pos a)) e.right) (simp xor);
+      left = dvd_by (dvd-⊕ (dvd_trans e.left (rem-dvd pos a)) e.right) (simp xor);
       right = e.left;
       u = e.v;
       v = e.u ⊕ e.v ⊗ (rem-dvd pos a).quotient;
@@ -63,11 +63,11 @@ bezout a b = euclid b a b (le_refl b)
 
 -- ---- irreducible polynomials
 
-pub euclid-lemma : (p a b : ℕ) → Irreducible p → Divides p (a ⊗ b) → Divides p a ⊎ Divides p b
-euclid-lemma p a b i h = go (bezout p a)
+pub euclid_lemma : (p a b : ℕ) → Irreducible p → Divides p (a ⊗ b) → Divides p a ⊎ Divides p b
+euclid_lemma p a b i h = go (bezout p a)
   where
     cases : (e : Bezout p a) → (e.gcd ≡ 1) ⊎ (e.gcd ≡ p) → Divides p a ⊎ Divides p b
-    cases e (inl one) = inr (dvd-by (dvd-⊕ (dvd-left (b ⊗ e.u) p) (dvd-⊗ e.v h)) (expand ∙ ap (λ (x : ℕ). x ⊗ b) (e.combines ∙ one) ∙ one-⊗ b))
+    cases e (inl one) = inr (dvd_by (dvd-⊕ (dvd-left (b ⊗ e.u) p) (dvd-⊗ e.v h)) (expand ∙ ap (λ (x : ℕ). x ⊗ b) (e.combines ∙ one) ∙ one-⊗ b))
       where
         expand : b ⊗ e.u ⊗ p ⊕ e.v ⊗ (a ⊗ b) ≡ (e.u ⊗ p ⊕ e.v ⊗ a) ⊗ b
         expand = simp ring
@@ -86,16 +86,16 @@ pos-left q d p e pos = go (eq-zero-or-pos q)
     go (inr l) = l
 
 pub pos-right : (q d p : ℕ) → q ⊗ d ≡ p → 0 < p → 0 < d
-pos-right q d p e pos = pos-left d q p (⊗-comm d q ∙ e) pos
+pos-right q d p e pos = pos-left d q p (⊗_comm d q ∙ e) pos
 
 -- the degrees of two factors add up,
-pub factor-degrees : (q d p : ℕ) → q ⊗ d ≡ p → 0 < p → degree p ≡ degree q + degree d
-factor-degrees q d p e pos = ap degree (sym e) ∙ degree-⊗ q d (pos-left q d p e pos) (pos-right q d p e pos)
+pub factor_degrees : (q d p : ℕ) → q ⊗ d ≡ p → 0 < p → degree p ≡ degree q + degree d
+factor_degrees q d p e pos = ap degree (sym e) ∙ degree-⊗ q d (pos-left q d p e pos) (pos-right q d p e pos)
 
 -- so beside a divisor that is not 1 the other factor is smaller,
-pub factor-lt : (q d p : ℕ) → q ⊗ d ≡ p → 0 < p → d ≢ 1 → q < 2 ^ degree p
-factor-lt q d p e pos ne =
-    lt_of_lt_of_le (deg-hi q (degree q) (degree-is q (pos-left q d p e pos))) (pow_mono (omega (arith, factor-degrees q d p e pos, proper)))
+pub factor_lt : (q d p : ℕ) → q ⊗ d ≡ p → 0 < p → d ≢ 1 → q < 2 ^ degree p
+factor_lt q d p e pos ne =
+    lt_of_lt_of_le (deg_hi q (degree q) (degree-is q (pos-left q d p e pos))) (pow_mono (omega (arith, factor_degrees q d p e pos, proper)))
   where
     proper : degree d ≢ 0
     proper z = ne (deg-zero d (rw z at (degree-is d (pos-right q d p e pos))))
@@ -114,13 +114,13 @@ whole d p h pos l = sym (one-⊗ d) ∙ ap (λ (x : ℕ). x ⊗ d) (sym q-one) �
     d-pos = pos-right q d p h.product pos
 
     no_less : degree p ≤ degree d
-    no_less = le_of_suc-le-suc (lt-of-pow-lt (degree p) (suc (degree d)) (lt_of_le_of_lt l (deg-hi d (degree d) (degree-is d d-pos))))
+    no_less = le_of_suc-le-suc (lt_of_pow-lt (degree p) (suc (degree d)) (lt_of_le_of_lt l (deg_hi d (degree d) (degree-is d d-pos))))
 
     q-one : q ≡ 1
     q-one = deg-zero q (rw zero-degree at (degree-is q q-pos))
       where
         zero-degree : degree q ≡ 0
-        zero-degree = omega (arith, factor-degrees q d p h.product pos, no_less)
+        zero-degree = omega (arith, factor_degrees q d p h.product pos, no_less)
 
 pub irreducible : (p : ℕ) → 1 < p → ((d : ℕ) → 1 < d → d < 2 ^ degree p → Divides d p → ⊥) → Irreducible p
 irreducible p lt none = record { proper = lt; only = λ d h. go d h (ℕ_discrete d 1) (dec_lt d (2 ^ degree p)) }
@@ -130,21 +130,21 @@ irreducible p lt none = record { proper = lt; only = λ d h. go d h (ℕ_discret
     go d h (no n) (yes l) = absurd (none d (omega (arith, pos-right h.quotient d p h.product (omega arith))) l h)
     go d h (no n) (no m) = inr (whole d p h (omega arith) (omega arith))
 
-pub no-divisor : (p d : ℕ) → Irreducible p → 1 < d → d < 2 ^ degree p → Divides d p → ⊥
-no-divisor p d i l h e =
+pub no_divisor : (p d : ℕ) → Irreducible p → 1 < d → d < 2 ^ degree p → Divides d p → ⊥
+no_divisor p d i l h e =
     ⊎_elim (λ o. omega arith) (λ w. omega (arith, deg-lo p (degree p) (degree-is p (omega (arith, i.proper))))) (i.only d e)
 
 -- ---- how many there are
 
 pub record Factor (k D p : ℕ) : Type 0 where
   pub irreducible : Irreducible p
-  pub of-degree : Degree p k
+  pub of_degree : Degree p k
   pub divides : Divides p D
 
 -- another irreducible factor of q ⊗ p than p divides q
 other : (k q p p' : ℕ) → Irreducible p → p' ≢ p → Factor k (q ⊗ p) p' → Factor k q p'
 other k q p p' i ne f =
-    record { irreducible = f.irreducible; of-degree = f.of-degree; divides = go (euclid-lemma p' q p f.irreducible f.divides) }
+    record { irreducible = f.irreducible; of_degree = f.of_degree; divides = go (euclid_lemma p' q p f.irreducible f.divides) }
   where
     go : Divides p' q ⊎ Divides p' p → Divides p' q
     go (inl h) = h
@@ -153,7 +153,7 @@ other k q p p' i ne f =
 -- different irreducible polynomials of degree k that divide D: their degrees add up to the degree of D at most
 pub count : (k D : ℕ) (ps : List ℕ) → 0 < D → Distinct ps → All (Factor k D) ps → length ps * k ≤ degree D
 count k D [] pos d f = rw zero-mul zero-le
-count k D (p ∷ ps) pos d f = omega (arith, count k q ps q-pos d.1 rest, degree-D)
+count k D (p ∷ ps) pos d f = omega (arith, count k q ps q-pos d.1 rest, degree_D)
   where
     q : ℕ
     q = f.0.divides.quotient
@@ -167,5 +167,5 @@ count k D (p ∷ ps) pos d f = omega (arith, count k q ps q-pos d.1 rest, degree
     rest : All (Factor k q) ps
     rest = all-zip (λ p' ne g. other k q p p' f.0.irreducible ne (rw (← is) at g)) ps d.0 f.1
 
-    degree-D : degree D ≡ degree q + k
-    degree-D = factor-degrees q p D is pos ∙ ap (λ (x : ℕ). degree q + x) (degree-eq p k f.0.of-degree)
+    degree_D : degree D ≡ degree q + k
+    degree_D = factor_degrees q p D is pos ∙ ap (λ (x : ℕ). degree q + x) (degree-eq p k f.0.of_degree)

@@ -12,15 +12,15 @@ use lib.Bits.{bit_and, and_shr, and_mod, and_mask, and_zero_r}
 use lib.Dec.{T, eqb, eqb→eq}
 use lib.Pow.{pow_pos, split, shr_lt}
 use Rattle.gf2.specs.Polynomials.{◌⊕◌, ◌⊗◌}
-use Rattle.gf2.proofs.Sums.{⊕-shr, ⊕-half, ⊕-low, ⊕-self, ⊕-swap, ⊕-append, bits-eq}
-use Rattle.gf2.proofs.Products.{bit-cases, mod-2, by_bit, square-⊕}
+use Rattle.gf2.proofs.Sums.{⊕_shr, ⊕-half, ⊕-low, ⊕_self, ⊕_swap, ⊕-append, bits-eq}
+use Rattle.gf2.proofs.Products.{bit-cases, mod_2, by_bit, square-⊕}
 use Rattle.lists.proofs.Truth.{and_left, and_right}
 
 pub record Additive (f : ℕ → ℕ) : Type 0 where
   pub sum : (a b : ℕ) → f (a ⊕ b) ≡ f a ⊕ f b
 
 pub at_zero : {f : ℕ → ℕ} → Additive f → f 0 ≡ 0
-at_zero {f} h = ap f (sym (⊕-self 0)) ∙ h.sum 0 0 ∙ ⊕-self (f 0)
+at_zero {f} h = ap f (sym (⊕_self 0)) ∙ h.sum 0 0 ∙ ⊕_self (f 0)
 
 pub at-bit : {f : ℕ → ℕ} → Additive f → (x y : ℕ) → f (x % 2 * y) ≡ x % 2 * f y
 at-bit {f} h x y = by_bit (λ (b : ℕ). f (b * y) ≡ b * f y) (rw (zero-mul, zero-mul) (at_zero h)) (rw (one-mul, one-mul)) x
@@ -31,16 +31,16 @@ pub same : Additive (λ x. x)
 same = record { sum = λ a b. refl }
 
 pub none : Additive (λ x. 0)
-none = record { sum = λ a b. sym (⊕-self 0) }
+none = record { sum = λ a b. sym (⊕_self 0) }
 
 pub after : {f g : ℕ → ℕ} → Additive f → Additive g → Additive (λ x. f (g x))
 after {f} {g} h i = record { sum = λ a b. ap f (i.sum a b) ∙ h.sum (g a) (g b) }
 
 pub both : {f g : ℕ → ℕ} → Additive f → Additive g → Additive (λ x. f x ⊕ g x)
-both {f} {g} h i = record { sum = λ a b. ap₂ (λ (x y : ℕ). x ⊕ y) (h.sum a b) (i.sum a b) ∙ ⊕-swap (f a) (f b) (g a) (g b) }
+both {f} {g} h i = record { sum = λ a b. ap₂ (λ (x y : ℕ). x ⊕ y) (h.sum a b) (i.sum a b) ∙ ⊕_swap (f a) (f b) (g a) (g b) }
 
 pub shifted : (k : ℕ) → Additive (λ x. x / 2 ^ k)
-shifted k = record { sum = ⊕-shr k }
+shifted k = record { sum = ⊕_shr k }
 
 pub squared : Additive (λ x. x ⊗ x)
 squared = record { sum = square-⊕ }
@@ -56,8 +56,8 @@ and-odd a m o = and_mod a m 1 ∙ rw o (and_mask (a % 2) 1 ∙ mod-mod a 2)
 
 and-⊕ : (m a b : ℕ) → bit_and (a ⊕ b) m ≡ bit_and a m ⊕ bit_and b m
 and-⊕ =
-    bin_ind (λ (m : ℕ). (a b : ℕ) → bit_and (a ⊕ b) m ≡ bit_and a m ⊕ bit_and b m) (λ a b. simp (and_zero_r, ⊕-self))
-    (λ m ih a b. bits-eq (simp (and-half, ⊕-half) (ih (a / 2) (b / 2))) (low m a b (bit-cases (m % 2) (mod-2 m))))
+    bin_ind (λ (m : ℕ). (a b : ℕ) → bit_and (a ⊕ b) m ≡ bit_and a m ⊕ bit_and b m) (λ a b. simp (and_zero_r, ⊕_self))
+    (λ m ih a b. bits-eq (simp (and-half, ⊕-half) (ih (a / 2) (b / 2))) (low m a b (bit-cases (m % 2) (mod_2 m))))
   where
     low : (m a b : ℕ) → (m % 2 ≡ 0) ⊎ (m % 2 ≡ 1) → bit_and (a ⊕ b) m % 2 ≡ (bit_and a m ⊕ bit_and b m) % 2
     low m a b (inl z) = omega (arith, ⊕-low (bit_and a m) (bit_and b m), and-even a m z, and-even b m z, and-even (a ⊕ b) m z)

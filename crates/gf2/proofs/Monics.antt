@@ -22,9 +22,9 @@ monic-degree k c h = degree-eq (monic k c) k (monic-deg k c h)
 pub monic-pos : (k c : ℕ) → c < 2 ^ k → 0 < monic k c
 monic-pos k c h = deg-pos (monic k c) k (monic-deg k c h)
 
-pub of-degree-one : (k c : ℕ) → 0 < k → c < 2 ^ k → 1 < monic k c
+pub of_degree-one : (k c : ℕ) → 0 < k → c < 2 ^ k → 1 < monic k c
 unfolding monic
-of-degree-one k c p h = omega (arith, pow-lt {i = 0} p)
+of_degree-one k c p h = omega (arith, pow-lt {i = 0} p)
 
 -- the coefficients below t^k
 pub monic-word : (k c : ℕ) → c < 2 ^ k → monic k c % 2 ^ k ≡ c
@@ -32,9 +32,9 @@ unfolding monic
 monic-word k c h = rw one-mul at (low 1 k h)
 
 -- every polynomial of degree k is one
-pub monic-of : (k p : ℕ) → Degree p k → monic k (p % 2 ^ k) ≡ p
+pub monic_of : (k p : ℕ) → Degree p k → monic k (p % 2 ^ k) ≡ p
 unfolding monic
-monic-of k p h = simp (h, one-mul) at (split p k)
+monic_of k p h = simp (h, one-mul) at (split p k)
 
 -- ---- a number of 64 bits, taken apart
 
@@ -42,4 +42,4 @@ pub word-degree : (p : ℕ) → 0 < p → p < 2 ^ 64 → degree p < 64
 word-degree p h l = deg-le p (degree p) 64 (degree-is p h) l
 
 pub word-whole : (p : ℕ) → 0 < p → monic (degree p) (p % 2 ^ degree p) ≡ p
-word-whole p h = monic-of (degree p) p (degree-is p h)
+word-whole p h = monic_of (degree p) p (degree-is p h)

@@ -6,7 +6,7 @@ use lib.Pow.{pow_pos}
 use Rattle.gf2.specs.Polynomials.{◌⊕◌, ◌⊗◌, rem}
 use Rattle.gf2.specs.Powers.{◌⊗^◌}
 use Rattle.gf2.proofs.Sums.{⊕-zero}
-use Rattle.gf2.proofs.Products.{one-⊗, ⊗-comm, ⊗-assoc, ⊗-pow}
+use Rattle.gf2.proofs.Products.{one-⊗, ⊗_comm, ⊗_assoc, ⊗-pow}
 use Rattle.gf2.proofs.Residues.{rem-⊗, rem_lt, rem-small, rem-append}
 
 pub pow-zero : (a : ℕ) → a ⊗^ 0 ≡ 1
@@ -20,12 +20,12 @@ pow_step a n = refl
 pub pow-add : (a m n : ℕ) → a ⊗^ (m + n) ≡ a ⊗^ m ⊗ a ⊗^ n
 pow-add a zero n = rw (zero-add, pow-zero) (sym (one-⊗ (a ⊗^ n)))
 pow-add a (suc m) n =
-    rw (suc-add, pow_step a (m + n), pow_step a m, pow-add a m n) (sym (⊗-assoc a (a ⊗^ m) (a ⊗^ n)))
+    rw (suc-add, pow_step a (m + n), pow_step a m, pow-add a m n) (sym (⊗_assoc a (a ⊗^ m) (a ⊗^ n)))
 
 -- t^n is 2 ^ n
 pub pow-t : (n : ℕ) → 2 ⊗^ n ≡ 2 ^ n
 pow-t zero = pow-zero 2
-pow-t (suc n) = rw (pow_step 2 n, pow-t n, ⊗-comm 2 (2 ^ n), pow-suc 2 n) (⊗-pow 1 (2 ^ n))
+pow-t (suc n) = rw (pow_step 2 n, pow-t n, ⊗_comm 2 (2 ^ n), pow-suc 2 n) (⊗-pow 1 (2 ^ n))
 
 -- t^w to the power n
 pub pow-word : (w n : ℕ) → (2 ^ w) ⊗^ n ≡ 2 ^ (w * n)
@@ -41,8 +41,8 @@ module _ {p : ℕ} (pos : 0 < p) where
   rem-rem a = rem-small pos (rem p a) (rem_lt pos a)
 
   -- t^w times a residue
-  pub rem-shl : (a w : ℕ) → rem p (rem p a * 2 ^ w) ≡ rem p (a * 2 ^ w)
-  rem-shl a w = sym (ap (rem p) (sym (add-zero (a * 2 ^ w))) ∙ rem-append pos a w 0 (pow_pos w) ∙ ap (rem p) (⊕-zero (rem p a * 2 ^ w)))
+  pub rem_shl : (a w : ℕ) → rem p (rem p a * 2 ^ w) ≡ rem p (a * 2 ^ w)
+  rem_shl a w = sym (ap (rem p) (sym (add-zero (a * 2 ^ w))) ∙ rem-append pos a w 0 (pow_pos w) ∙ ap (rem p) (⊕-zero (rem p a * 2 ^ w)))
 
   -- a residue may stand for what it is the residue of, with w coefficients more below
   pub rem-behind : (a w v : ℕ) → v < 2 ^ w → rem p (rem p a * 2 ^ w + v) ≡ rem p (a * 2 ^ w + v)
@@ -54,7 +54,7 @@ module _ {p : ℕ} (pos : 0 < p) where
   rem-⊗-left a b = rem-⊗ pos (rem p a) b ∙ ap (λ (x : ℕ). rem p (x ⊗ rem p b)) (rem-rem a) ∙ sym (rem-⊗ pos a b)
 
   pub rem-⊗-right : (a b : ℕ) → rem p (a ⊗ rem p b) ≡ rem p (a ⊗ b)
-  rem-⊗-right a b = ap (rem p) (⊗-comm a (rem p b)) ∙ rem-⊗-left b a ∙ ap (rem p) (⊗-comm b a)
+  rem-⊗-right a b = ap (rem p) (⊗_comm a (rem p b)) ∙ rem-⊗-left b a ∙ ap (rem p) (⊗_comm b a)
 
   -- a power of t may be reduced first
   pub rem-⊗-pow : (a n : ℕ) → rem p (a ⊗ rem p (2 ^ n)) ≡ rem p (a * 2 ^ n)

@@ -4,9 +4,9 @@ use Prim.Native.Nat.{ℕ, ◌+◌, ◌*◌, ◌^◌, ◌<◌}
 use native.Mathlib.Nat.{mul_assoc}
 use lib.Bits.{bit_and}
 use lib.Pow.{pow-add}
-use Rattle.gf2.specs.Polynomials.{◌⊕◌, ◌⊗◌, longProduct}
-use Rattle.gf2.proofs.Sums.{⊕-shl, ⊕-append}
-use Rattle.gf2.proofs.Products.{⊗-comm, ⊗-shl, square-⊕}
+use Rattle.gf2.specs.Polynomials.{◌⊕◌, ◌⊗◌, long_product}
+use Rattle.gf2.proofs.Sums.{⊕_shl, ⊕-append}
+use Rattle.gf2.proofs.Products.{⊗_comm, ⊗_shl, square-⊕}
 use Rattle.gf2.proofs.Linear.{Additive, same, after, both, masked, squared, equal}
 
 -- ---- the masks of the code
@@ -16,14 +16,14 @@ abbrev pub parted : ℕ → ℕ → ℕ → ℕ
 parted s m x = bit_and (x ⊕ x * 2 ^ s) m
 
 parted-additive : (s m : ℕ) → Additive (parted s m)
-parted-additive s m = after (masked m) (both same (record { sum = ⊕-shl s }))
+parted-additive s m = after (masked m) (both same (record { sum = ⊕_shl s }))
 
 abbrev pub spread : ℕ → ℕ
 spread x =
     parted 1 0x5555555555555555 (parted 2 0x3333333333333333 (parted 4 0xF0F0F0F0F0F0F0F (parted 8 0xFF00FF00FF00FF (parted 16 0xFFFF0000FFFF x))))
 
 pub spread-square : (x : ℕ) → x < 2 ^ 32 → spread x ≡ x ⊗ x
-unfolding ◌⊕◌ ◌⊗◌ longProduct
+unfolding ◌⊕◌ ◌⊗◌ long_product
 spread-square =
     equal
     (after (parted-additive 1 0x5555555555555555)
@@ -43,7 +43,7 @@ square-append a w b h =
   where
     shifted : (a * 2 ^ w) ⊗ (a * 2 ^ w) ≡ a ⊗ a * 2 ^ (w + w)
     shifted =
-        ⊗-shl w (a * 2 ^ w) a
-        ∙ ap (λ (x : ℕ). x * 2 ^ w) (⊗-comm (a * 2 ^ w) a ∙ ⊗-shl w a a)
+        ⊗_shl w (a * 2 ^ w) a
+        ∙ ap (λ (x : ℕ). x * 2 ^ w) (⊗_comm (a * 2 ^ w) a ∙ ⊗_shl w a a)
         ∙ mul_assoc (a ⊗ a) (2 ^ w) (2 ^ w)
         ∙ ap (λ (x : ℕ). a ⊗ a * x) (sym (pow-add 2 w w))

@@ -17,12 +17,12 @@ use Rattle.gf2.specs.Polynomials.{◌⊕◌, monic, rem, ◌⊗◌, StepIs}
 use Rattle.gf2.specs.Powers.{◌⊗^◌}
 use Rattle.gf2.specs.Moduli.{polynomial, Proper}
 use Rattle.gf2.specs.declared.Modulus.{Modulus}
-use Rattle.gf2.proofs.Sums.{⊕-append, ⊕-comm}
-use Rattle.gf2.proofs.Products.{⊗-zero, ⊗-⊕, ⊗-comm, ⊗-pow, shl-suc, bit-cases, by_bit}
+use Rattle.gf2.proofs.Sums.{⊕-append, ⊕_comm}
+use Rattle.gf2.proofs.Products.{⊗-zero, ⊗-⊕, ⊗_comm, ⊗-pow, shl_suc, bit-cases, by_bit}
 use Rattle.gf2.proofs.Degrees.{half_pow}
-use Rattle.gf2.proofs.Divisors.{dvd-by, dvd_refl}
-use Rattle.gf2.proofs.Residues.{rem_lt, rem-zero, rem-small, rem-unique, rem-⊕, rem-⊗}
-use Rattle.gf2.proofs.Powers.{pow-add, pow_step, rem-shl, rem-⊗-left}
+use Rattle.gf2.proofs.Divisors.{dvd_by, dvd_refl}
+use Rattle.gf2.proofs.Residues.{rem_lt, rem-zero, rem-small, rem_unique, rem-⊕, rem-⊗}
+use Rattle.gf2.proofs.Powers.{pow-add, pow_step, rem_shl, rem-⊗-left}
 use Rattle.gf2.proofs.Monics.{monic-⊕, monic-pos, monic-degree}
 
 -- the power 2 ^ n as the code makes it, by a shift of 1 in 64 bits
@@ -30,8 +30,8 @@ pub shifted_one : (n : ℕ) → n < 64 → 1 * 2 ^ n % 2 ^ 64 ≡ 2 ^ n
 shifted_one n h = shl_exact 1 n 64 (lit< tt) (omega arith) ∙ one-mul (2 ^ n)
 
 -- numbers gathered by or reach 2 ^ n where one of them does
-pub or-leb : (n a b : ℕ) → leb (2 ^ n) (bit_or a b) ≡ (leb (2 ^ n) a || leb (2 ^ n) b)
-or-leb n a b = go (dec_lt a (2 ^ n)) (dec_lt b (2 ^ n))
+pub or_leb : (n a b : ℕ) → leb (2 ^ n) (bit_or a b) ≡ (leb (2 ^ n) a || leb (2 ^ n) b)
+or_leb n a b = go (dec_lt a (2 ^ n)) (dec_lt b (2 ^ n))
   where
     go : Dec (a < 2 ^ n) → Dec (b < 2 ^ n) → leb (2 ^ n) (bit_or a b) ≡ (leb (2 ^ n) a || leb (2 ^ n) b)
     go (yes h) (yes l) = rw (lt-leb (2 ^ n) (bit_or a b) (or_lt n a b h l), lt-leb (2 ^ n) a h, lt-leb (2 ^ n) b l)
@@ -59,7 +59,7 @@ module _ (k c : ℕ) (h : c < 2 ^ k) where
   -- t^k is c
   pub residue-top : rem (monic k c) (2 ^ k) ≡ c
   residue-top =
-      rem-unique (monic-pos k c h) (2 ^ k) c (rw (monic-degree k c h) h) (dvd-by (dvd_refl (monic k c)) (monic-⊕ k c h))
+      rem_unique (monic-pos k c h) (2 ^ k) c (rw (monic-degree k c h) h) (dvd_by (dvd_refl (monic k c)) (monic-⊕ k c h))
 
   residue-top-bit : (b : ℕ) → b < 2 → rem (monic k c) (b * 2 ^ k) ≡ c * b
   residue-top-bit b l = go (bit-cases b l)
@@ -79,9 +79,9 @@ less_one j = omega arith
 
 -- ---- a residue, told by one shift that is right for degree 64 too
 
-pub residue-test : (k f : ℕ) → 0 < k → ltb (f / 2 ^ (k - 1)) 2 ≡ not (leb (2 ^ k) f)
-residue-test zero f h = absurd (omega arith)
-residue-test (suc j) f h = rw less_one (go (dec_lt f (2 ^ suc j)))
+pub residue_test : (k f : ℕ) → 0 < k → ltb (f / 2 ^ (k - 1)) 2 ≡ not (leb (2 ^ k) f)
+residue_test zero f h = absurd (omega arith)
+residue_test (suc j) f h = rw less_one (go (dec_lt f (2 ^ suc j)))
   where
     go : Dec (f < 2 ^ suc j) → ltb (f / 2 ^ j) 2 ≡ not (leb (2 ^ suc j) f)
     go (yes l) = rw (lt-leb (2 ^ suc j) f l) (lt-ltb (f / 2 ^ j) 2 ((div-lt_iff_lt-mul (pow_pos j)).1 (rw pow-succ' at l)))
@@ -115,7 +115,7 @@ step_is (suc j) c f b p h l m =
     (residue-split (suc j) c h (f * 2 + b)
     ∙ ap₂ (λ (x y : ℕ). rem (monic (suc j) c) (x * 2 ^ suc j) ⊕ y) above below
     ∙ ap (λ (x : ℕ). x ⊕ (f % 2 ^ j * 2 + b)) (residue-top-bit (suc j) c h (f / 2 ^ j) (rw less_one at (top_bit (suc j) f p l)))
-    ∙ ⊕-comm (c * (f / 2 ^ j)) (f % 2 ^ j * 2 + b))
+    ∙ ⊕_comm (c * (f / 2 ^ j)) (f % 2 ^ j * 2 + b))
   where
     above : (f * 2 + b) / 2 ^ suc j ≡ f / 2 ^ j
     above = half_pow (f * 2 + b) j ∙ ap (λ (x : ℕ). x / 2 ^ j) (high f 1 m)
@@ -133,7 +133,7 @@ pub ⊗-next : (a b i : ℕ) → a ⊗ (b % 2 ^ suc i) ≡ a ⊗ (b % 2 ^ i) ⊕
 ⊗-next a b i =
     ap (λ (x : ℕ). a ⊗ x) bits
     ∙ ⊗-⊕ a (b / 2 ^ i % 2 * 2 ^ i) (b % 2 ^ i)
-    ∙ ⊕-comm (a ⊗ (b / 2 ^ i % 2 * 2 ^ i)) (a ⊗ (b % 2 ^ i))
+    ∙ ⊕_comm (a ⊗ (b / 2 ^ i % 2 * 2 ^ i)) (a ⊗ (b % 2 ^ i))
     ∙ ap (λ (x : ℕ). a ⊗ (b % 2 ^ i) ⊕ x) one_bit
   where
     bits : b % 2 ^ suc i ≡ b / 2 ^ i % 2 * 2 ^ i ⊕ b % 2 ^ i
@@ -158,7 +158,7 @@ module _ {p : ℕ} (pos : 0 < p) where
           by_bit (λ (x : ℕ). rem p (a * 2 ^ i * x) ≡ rem p (a * 2 ^ i) * x) (rw (mul-zero, rem-zero, mul-zero)) (rw (mul-one, mul-one)) (b / 2 ^ i)
 
   pub shift-next : (a i : ℕ) → rem p (rem p (a * 2 ^ i) * 2 + 0) ≡ rem p (a * 2 ^ suc i)
-  shift-next a i = rw add-zero (rem-shl pos (a * 2 ^ i) 1 ∙ ap (rem p) (sym (shl-suc a i)))
+  shift-next a i = rw add-zero (rem_shl pos (a * 2 ^ i) 1 ∙ ap (rem p) (sym (shl_suc a i)))
 
   -- the square of a power, and one factor more where the exponent is odd
   pub power-even : (a q : ℕ) → (q % 2 ≡ 1 → ⊥) → rem p (rem p (a ⊗^ (q / 2)) ⊗ rem p (a ⊗^ (q / 2))) ≡ rem p (a ⊗^ q)
@@ -174,7 +174,7 @@ module _ {p : ℕ} (pos : 0 < p) where
   power-odd a q odd =
       ap (λ (x : ℕ). rem p (x ⊗ a)) (sym (rem-⊗ pos (a ⊗^ (q / 2)) (a ⊗^ (q / 2))) ∙ ap (rem p) (sym (pow-add a (q / 2) (q / 2))))
       ∙ rem-⊗-left pos (a ⊗^ (q / 2 + q / 2)) a
-      ∙ ap (rem p) (⊗-comm (a ⊗^ (q / 2 + q / 2)) a ∙ sym (pow_step a (q / 2 + q / 2)))
+      ∙ ap (rem p) (⊗_comm (a ⊗^ (q / 2 + q / 2)) a ∙ sym (pow_step a (q / 2 + q / 2)))
       ∙ ap (λ (n : ℕ). rem p (a ⊗^ n)) twice
     where
       twice : suc (q / 2 + q / 2) ≡ q
@@ -204,5 +204,5 @@ module _ {p : ℕ} (pos : 0 < p) where
     pub square-next : (n / 2 ^ (i - 1) % 2 ≡ 1 → ⊥) → y ≡ rem p (a ⊗^ (n / 2 ^ (i - 1)))
     square-next even = square ∙ rw (e, ← (next-bits n i more)) (power-even pos a (n / 2 ^ (i - 1)) even)
 
-    pub times-next : (z : ℕ) → z ≡ rem p (y ⊗ a) → n / 2 ^ (i - 1) % 2 ≡ 1 → z ≡ rem p (a ⊗^ (n / 2 ^ (i - 1)))
-    times-next z times odd = times ∙ rw (square, e, ← (next-bits n i more)) (power-odd pos a (n / 2 ^ (i - 1)) odd)
+    pub times_next : (z : ℕ) → z ≡ rem p (y ⊗ a) → n / 2 ^ (i - 1) % 2 ≡ 1 → z ≡ rem p (a ⊗^ (n / 2 ^ (i - 1)))
+    times_next z times odd = times ∙ rw (square, e, ← (next-bits n i more)) (power-odd pos a (n / 2 ^ (i - 1)) odd)

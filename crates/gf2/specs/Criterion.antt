@@ -5,8 +5,8 @@ use Rattle.gf2.specs.Polynomials.{◌⊗◌, degree, rem, Irreducible}
 
 pub record Rigid (p : ℕ) : Type 0 where
   pub proper : 1 < p
-  pub no-nilpotent : (h : ℕ) → 0 < h → h < 2 ^ (2 * degree p / 3 + 1) → rem p (h ⊗ h) ≡ 0 → ⊥
-  pub no-idempotent : (h : ℕ) → 1 < h → h < 2 ^ degree p → rem p (h ⊗ h) ≡ h → ⊥
+  pub no_nilpotent : (h : ℕ) → 0 < h → h < 2 ^ (2 * degree p / 3 + 1) → rem p (h ⊗ h) ≡ 0 → ⊥
+  pub no_idempotent : (h : ℕ) → 1 < h → h < 2 ^ degree p → rem p (h ⊗ h) ≡ h → ⊥
 
 abbrev pub RigidIrreducible : Type 0
 RigidIrreducible = (p : ℕ) → Rigid p → Irreducible p

@@ -32,25 +32,25 @@ unfoldable pub reduce : ℕ → ℕ → ℕ → ℕ
 reduce p k s = s / 2 ^ k * p ⊕ s
 
 -- by the bits of a, at most n of them: one bit comes in below, and p is added where a bit reaches t^k
-unfoldable pub longDivision : ℕ → ℕ → ℕ → ℕ → ℕ
-longDivision p k zero a = 0
-longDivision p k (suc n) zero = 0
-longDivision p k (suc n) (suc a) = reduce p k (longDivision p k n (suc a / 2) * 2 + suc a % 2)
+unfoldable pub long_division : ℕ → ℕ → ℕ → ℕ → ℕ
+long_division p k zero a = 0
+long_division p k (suc n) zero = 0
+long_division p k (suc n) (suc a) = reduce p k (long_division p k n (suc a / 2) * 2 + suc a % 2)
 
 unfoldable pub rem : ℕ → ℕ → ℕ
-rem p a = longDivision p (degree p) a a
+rem p a = long_division p (degree p) a a
 
 -- ---- claims: the residue by divisors
 
 -- the product: long multiplication without carries, by the bits of a, at most n of them
-unfoldable pub longProduct : ℕ → ℕ → ℕ → ℕ
-longProduct zero a b = 0
-longProduct (suc n) zero b = 0
-longProduct (suc n) (suc a) b = longProduct n (suc a / 2) b * 2 ⊕ suc a % 2 * b
+unfoldable pub long_product : ℕ → ℕ → ℕ → ℕ
+long_product zero a b = 0
+long_product (suc n) zero b = 0
+long_product (suc n) (suc a) b = long_product n (suc a / 2) b * 2 ⊕ suc a % 2 * b
 
 infixl 70 ◌⊗◌
 unfoldable pub ◌⊗◌ : ℕ → ℕ → ℕ
-a ⊗ b = longProduct a a b
+a ⊗ b = long_product a a b
 
 pub record Divides (d a : ℕ) : Type 0 where
   pub quotient : ℕ

@@ -5,7 +5,7 @@ ghost use Rattle.gf2.specs.Polynomials.{◌⊗◌, degree, rem};
 ghost use Rattle.gf2.specs.Moduli.{polynomial, Proper};
 
 // A modulus: its degree, from 1 to 64, and the coefficients below t^degree, so that degree 64 fits a word.
-#[derive(Drop)]
+#[derive(Clone, Copy)]
 pub struct Modulus {
     pub degree: u32,
     pub low: u64,

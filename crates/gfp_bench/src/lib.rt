@@ -2,14 +2,14 @@
 // keeps what it held. A key comes as its degree and the word of its coefficients below t^degree. A mark's length is in bits, and `used` counts
 // the used bits of a part's final byte. The guarantee over lists of these calls stands in the crate bench_book.
 ghost use Rattle.std.specs.Prelude.{◌≡◌};
-ghost use Rattle.refusals.specs.Refusals.{number_of, state_of, valueOr};
-ghost use Rattle.keys.specs.Testing.{testKey};
-ghost use Rattle.files.specs.Files.{asPart};
-ghost use Rattle.tables.specs.Tables.{makeTable, testTable};
-ghost use Rattle.marks.specs.Feeding.{begin, feedBits, feedTable, feedHouse};
-ghost use Rattle.marks.specs.PlainMarks.{beginPlain, turn};
-ghost use Rattle.stock.specs.Stock.{stockWord};
-ghost use Rattle.c_interface.specs.Interface.{key_at, markAt};
+ghost use Rattle.refusals.specs.Refusals.{number_of, state_of, value_or};
+ghost use Rattle.keys.specs.Testing.{test_key};
+ghost use Rattle.files.specs.Files.{as_part};
+ghost use Rattle.tables.specs.Tables.{make_table, test_table};
+ghost use Rattle.marks.specs.Feeding.{begin, feed_bits, feed_table, feed_house};
+ghost use Rattle.marks.specs.PlainMarks.{begin_plain, turn};
+ghost use Rattle.stock.specs.Stock.{stock_word};
+ghost use Rattle.c_interface.specs.Interface.{key_at, mark_at};
 
 use acceptance::Key;
 use keys::Tested;
@@ -18,7 +18,7 @@ use marks::Running;
 // Is the key accepted? Numbers 1, 2.
 #[unsafe(no_mangle)]
 pub extern "C" fn gfp_test_key(degree: u32, word: u64) -> u32
-    ensures { result ≡ number_of (testKey (key_at degree word)) }
+    ensures { result ≡ number_of (test_key (key_at degree word)) }
 {
     let key = Key { degree, word };
     match keys::test(key) {
@@ -30,7 +30,7 @@ pub extern "C" fn gfp_test_key(degree: u32, word: u64) -> u32
 // The word of the stock key of a degree 8 to 64: the smallest accepted key of that degree; 0 for every other number. No numbers.
 #[unsafe(no_mangle)]
 pub extern "C" fn gfp_stock_key(degree: u32) -> u64
-    ensures { result ≡ stockWord degree }
+    ensures { result ≡ stock_word degree }
 {
     stock::stock_word(degree)
 }
@@ -39,7 +39,7 @@ pub extern "C" fn gfp_stock_key(degree: u32) -> u64
 #[unsafe(no_mangle)]
 pub extern "C" fn gfp_begin(degree: u32, word: u64, fingerprint: &mut u64, bits: &mut u64) -> u32
     ensures { (result ≡ number_of (begin (key_at degree word)))
-        × (markAt fingerprint.new bits.new ≡ valueOr (markAt fingerprint.old bits.old) (begin (key_at degree word))) }
+        × (mark_at fingerprint.new bits.new ≡ value_or (mark_at fingerprint.old bits.old) (begin (key_at degree word))) }
 {
     let key = Key { degree, word };
     c_interface::store_begun(Running::begin(key), fingerprint, bits)
@@ -53,8 +53,8 @@ pub extern "C" fn gfp_begin_plain(
     fingerprint: &mut u64,
     bits: &mut u64,
 ) -> u32
-    ensures { (result ≡ number_of (beginPlain (key_at degree word)))
-        × (markAt fingerprint.new bits.new ≡ valueOr (markAt fingerprint.old bits.old) (beginPlain (key_at degree word))) }
+    ensures { (result ≡ number_of (begin_plain (key_at degree word)))
+        × (mark_at fingerprint.new bits.new ≡ value_or (mark_at fingerprint.old bits.old) (begin_plain (key_at degree word))) }
 {
     let key = Key { degree, word };
     c_interface::store_begun(Running::begin_plain(key), fingerprint, bits)
@@ -63,8 +63,8 @@ pub extern "C" fn gfp_begin_plain(
 // A plain mark turned into a mark with the leading 1, or such a mark into a plain mark. Numbers 1, 2, 7, 8.
 #[unsafe(no_mangle)]
 pub extern "C" fn gfp_turn(degree: u32, word: u64, fingerprint: &mut u64, bits: &mut u64) -> u32
-    ensures { (result ≡ number_of (turn (key_at degree word) (markAt fingerprint.old bits.old)))
-        × (markAt fingerprint.new bits.new ≡ state_of (turn (key_at degree word) (markAt fingerprint.old bits.old))) }
+    ensures { (result ≡ number_of (turn (key_at degree word) (mark_at fingerprint.old bits.old)))
+        × (mark_at fingerprint.new bits.new ≡ state_of (turn (key_at degree word) (mark_at fingerprint.old bits.old))) }
 {
     let key = Key { degree, word };
     let m = Running {
@@ -85,9 +85,9 @@ pub extern "C" fn gfp_feed(
     part: &[u8],
     used: u32,
 ) -> u32
-    ensures { (result ≡ number_of (feedBits (key_at degree word) (markAt fingerprint.old bits.old) (asPart part.now used)))
-        × (markAt fingerprint.new bits.new
-        ≡ state_of (feedBits (key_at degree word) (markAt fingerprint.old bits.old) (asPart part.now used))) }
+    ensures { (result ≡ number_of (feed_bits (key_at degree word) (mark_at fingerprint.old bits.old) (as_part part.now used)))
+        × (mark_at fingerprint.new bits.new
+        ≡ state_of (feed_bits (key_at degree word) (mark_at fingerprint.old bits.old) (as_part part.now used))) }
 {
     let key = Key { degree, word };
     let m = Running {
@@ -101,8 +101,8 @@ pub extern "C" fn gfp_feed(
 // The key's table into the lent words. Numbers 1, 2, 5.
 #[unsafe(no_mangle)]
 pub extern "C" fn gfp_make_table(degree: u32, word: u64, words: &mut [u64]) -> u32
-    ensures { (result ≡ number_of (makeTable (key_at degree word) words.old))
-        × (words.new ≡ state_of (makeTable (key_at degree word) words.old)) }
+    ensures { (result ≡ number_of (make_table (key_at degree word) words.old))
+        × (words.new ≡ state_of (make_table (key_at degree word) words.old)) }
 {
     let key = Key { degree, word };
     refusals::number_of(tables::make(key, words))
@@ -111,7 +111,7 @@ pub extern "C" fn gfp_make_table(degree: u32, word: u64, words: &mut [u64]) -> u
 // Are the words the key's table? Numbers 1, 2, 5, 6.
 #[unsafe(no_mangle)]
 pub extern "C" fn gfp_test_table(degree: u32, word: u64, words: &[u64]) -> u32
-    ensures { result ≡ number_of (testTable (key_at degree word) words.now) }
+    ensures { result ≡ number_of (test_table (key_at degree word) words.now) }
 {
     let key = Key { degree, word };
     refusals::number_of(tables::test(key, words))
@@ -128,9 +128,9 @@ pub extern "C" fn gfp_feed_table(
     part: &[u8],
     used: u32,
 ) -> u32
-    ensures { (result ≡ number_of (feedTable (key_at degree word) (markAt fingerprint.old bits.old) words.now (asPart part.now used)))
-        × (markAt fingerprint.new bits.new
-        ≡ state_of (feedTable (key_at degree word) (markAt fingerprint.old bits.old) words.now (asPart part.now used))) }
+    ensures { (result ≡ number_of (feed_table (key_at degree word) (mark_at fingerprint.old bits.old) words.now (as_part part.now used)))
+        × (mark_at fingerprint.new bits.new
+        ≡ state_of (feed_table (key_at degree word) (mark_at fingerprint.old bits.old) words.now (as_part part.now used))) }
 {
     let key = Key { degree, word };
     let m = Running {
@@ -151,9 +151,9 @@ pub extern "C" fn gfp_feed_house(
     part: &[u8],
     used: u32,
 ) -> u32
-    ensures { (result ≡ number_of (feedHouse (key_at degree word) (markAt fingerprint.old bits.old) (asPart part.now used)))
-        × (markAt fingerprint.new bits.new
-        ≡ state_of (feedHouse (key_at degree word) (markAt fingerprint.old bits.old) (asPart part.now used))) }
+    ensures { (result ≡ number_of (feed_house (key_at degree word) (mark_at fingerprint.old bits.old) (as_part part.now used)))
+        × (mark_at fingerprint.new bits.new
+        ≡ state_of (feed_house (key_at degree word) (mark_at fingerprint.old bits.old) (as_part part.now used))) }
 {
     let key = Key { degree, word };
     let m = Running {

@@ -1,6 +1,6 @@
 // The Keyholder level: drawing, for C. The guarantee of the drawn keys stands in the crate owner_risk.
 ghost use Rattle.std.specs.Prelude.{◌≡◌};
-ghost use Rattle.refusals.specs.Refusals.{number_of, valueOr};
+ghost use Rattle.refusals.specs.Refusals.{number_of, value_or};
 ghost use Rattle.draw.specs.Drawing.{draw};
 ghost use Rattle.c_interface.specs.Interface.{key_at};
 
@@ -11,7 +11,7 @@ use draw::Drawn;
 #[unsafe(no_mangle)]
 pub extern "C" fn gfp_draw(degree: u32, element: u64, word: &mut u64) -> u32
     ensures { (result ≡ number_of (draw degree element))
-        × (key_at degree word.new ≡ valueOr (key_at degree word.old) (draw degree element)) }
+        × (key_at degree word.new ≡ value_or (key_at degree word.old) (draw degree element)) }
 {
     match draw::draw(degree, element) {
         Drawn::Key(key) => {

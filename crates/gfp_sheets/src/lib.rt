@@ -1,14 +1,14 @@
 // The Site level: its functions for page sheets, and the search, which is faster where it is compiled beside them (docs/DECISIONS.md), for C. Each answers 0
 // or the refusal's number; on refusal every lent place and buffer keeps what it held.
 ghost use Rattle.std.specs.Prelude.{◌≡◌, [], ◌∷◌};
-ghost use Rattle.refusals.specs.Refusals.{number_of, state_of, valueOr, mapped};
-ghost use Rattle.files.specs.Files.{asPart};
+ghost use Rattle.refusals.specs.Refusals.{number_of, state_of, value_or, mapped};
+ghost use Rattle.files.specs.Files.{as_part};
 ghost use Rattle.c_interface.specs.Interface.{key_at};
-ghost use Rattle.search.specs.Searching.{search, placesAfter};
+ghost use Rattle.search.specs.Searching.{search, places_after};
 ghost use Rattle.search.specs.declared.Counts.{Counts};
-ghost use Rattle.sheets.specs.Layout.{contentsIn};
-ghost use Rattle.sheets.specs.Sheets.{writeSheet, readSheet, readPages, checkSheet, lengthFor};
-ghost use Rattle.sheets.specs.Outputs.{numbersOf, outcomeIn, rangeIn};
+ghost use Rattle.sheets.specs.Layout.{contents_in};
+ghost use Rattle.sheets.specs.Sheets.{write_sheet, read_sheet, read_pages, check_sheet, length_for};
+ghost use Rattle.sheets.specs.Outputs.{numbers_of, outcome_in, range_in};
 ghost use Rattle.sheets.specs.declared.Sheet.{Sheet};
 
 use acceptance::Key;
@@ -26,8 +26,8 @@ pub extern "C" fn gfp_write_sheet(
     used: u32,
     sheet: &mut [u8],
 ) -> u32
-    ensures { (result ≡ number_of (writeSheet (key_at degree word) page_size (asPart file.now used) sheet.old))
-        × (sheet.new ≡ state_of (writeSheet (key_at degree word) page_size (asPart file.now used) sheet.old)) }
+    ensures { (result ≡ number_of (write_sheet (key_at degree word) page_size (as_part file.now used) sheet.old))
+        × (sheet.new ≡ state_of (write_sheet (key_at degree word) page_size (as_part file.now used) sheet.old)) }
 {
     let key = Key { degree, word };
     refusals::number_of(sheet_writing::write(key, page_size, file, used, sheet))
@@ -46,7 +46,7 @@ pub extern "C" fn gfp_read_sheet(
     pages: &mut u64,
     fingerprint: &mut u64,
 ) -> u32
-    ensures { (result ≡ number_of (readSheet sheet.now))
+    ensures { (result ≡ number_of (read_sheet sheet.now))
         × (◌≡◌ {A = Sheet}
         (record {
           version = version.exit.now;
@@ -56,7 +56,7 @@ pub extern "C" fn gfp_read_sheet(
           pages = pages.new;
           fingerprint = fingerprint.new;
         })
-        (valueOr
+        (value_or
         (record {
           version = version.entry.now;
           key = key_at degree.old word.old;
@@ -65,7 +65,7 @@ pub extern "C" fn gfp_read_sheet(
           pages = pages.old;
           fingerprint = fingerprint.old;
         })
-        (mapped numbersOf (readSheet sheet.now)))) }
+        (mapped numbers_of (read_sheet sheet.now)))) }
 {
     match sheet_reading::read(sheet) {
         Reading::Sheet(x) => {
@@ -87,8 +87,8 @@ pub extern "C" fn gfp_read_sheet(
 // Numbers 14, 1, 2, 12, 14, in this order, as above.
 #[unsafe(no_mangle)]
 pub extern "C" fn gfp_read_pages(sheet: &[u8], fingerprints: &mut [u64]) -> u32
-    ensures { (result ≡ number_of (readPages sheet.now fingerprints.old))
-        × (fingerprints.new ≡ state_of (readPages sheet.now fingerprints.old)) }
+    ensures { (result ≡ number_of (read_pages sheet.now fingerprints.old))
+        × (fingerprints.new ≡ state_of (read_pages sheet.now fingerprints.old)) }
 {
     refusals::number_of(sheet_reading::read_pages(sheet, fingerprints))
 }
@@ -103,9 +103,9 @@ pub extern "C" fn gfp_check_file(
     outcome: &mut u32,
     page: &mut u32,
 ) -> u32
-    ensures { (result ≡ number_of (checkSheet sheet.now (asPart file.now used)))
+    ensures { (result ≡ number_of (check_sheet sheet.now (as_part file.now used)))
         × (outcome.new ∷ page.new ∷ []
-        ≡ valueOr (outcome.old ∷ page.old ∷ []) (mapped outcomeIn (checkSheet sheet.now (asPart file.now used)))) }
+        ≡ value_or (outcome.old ∷ page.old ∷ []) (mapped outcome_in (check_sheet sheet.now (as_part file.now used)))) }
 {
     let answer = sheet_checking::check(sheet, file, used);
     let Checked::Page(i) = answer else {
@@ -136,10 +136,10 @@ pub extern "C" fn gfp_changed_range(
     from: &mut u64,
     to: &mut u64,
 ) -> u32
-    ensures { (result ≡ number_of (checkSheet sheet.now (asPart file.now used)))
+    ensures { (result ≡ number_of (check_sheet sheet.now (as_part file.now used)))
         × (outcome.new ∷ from.new ∷ to.new ∷ []
-        ≡ valueOr (outcome.old ∷ from.old ∷ to.old ∷ [])
-        (mapped (rangeIn (contentsIn sheet.now)) (checkSheet sheet.now (asPart file.now used)))) }
+        ≡ value_or (outcome.old ∷ from.old ∷ to.old ∷ [])
+        (mapped (range_in (contents_in sheet.now)) (check_sheet sheet.now (as_part file.now used)))) }
 {
     match sheet_checking::first_changed_range(sheet, file, used) {
         Changed::Same => {
@@ -168,8 +168,8 @@ pub extern "C" fn gfp_changed_range(
 // Numbers 7, 12.
 #[unsafe(no_mangle)]
 pub extern "C" fn gfp_sheet_length(file_length: u64, page_size: u64, sheet_length: &mut u64) -> u32
-    ensures { (result ≡ number_of (lengthFor file_length page_size))
-        × (sheet_length.new ≡ valueOr sheet_length.old (lengthFor file_length page_size)) }
+    ensures { (result ≡ number_of (length_for file_length page_size))
+        × (sheet_length.new ≡ value_or sheet_length.old (length_for file_length page_size)) }
 {
     match sheet_writing::length(file_length, page_size) {
         SheetLength::Bytes(n) => {
@@ -193,9 +193,9 @@ pub extern "C" fn gfp_search(
     alarms: &mut u32,
 ) -> u32
     ensures { (result ≡ number_of (search (key_at degree word) text.now pattern.now))
-        × (places.exit.now ≡ placesAfter (key_at degree word) text.now pattern.now places.entry.now)
+        × (places.exit.now ≡ places_after (key_at degree word) text.now pattern.now places.entry.now)
         × (◌≡◌ {A = Counts} (record { places = count.new; alarms = alarms.new })
-        (valueOr (record { places = count.old; alarms = alarms.old }) (search (key_at degree word) text.now pattern.now))) }
+        (value_or (record { places = count.old; alarms = alarms.old }) (search (key_at degree word) text.now pattern.now))) }
 {
     let key = Key { degree, word };
     match search::search(key, text, pattern, places) {

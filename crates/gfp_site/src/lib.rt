@@ -2,10 +2,10 @@
 // functions for page sheets and the search stand in the crate gfp_sheets, the guarantee over lists of calls in the crate site_book.
 ghost use Rattle.std.specs.Prelude.{◌≡◌};
 ghost use Rattle.refusals.specs.Refusals.{number_of, state_of};
-ghost use Rattle.files.specs.Files.{asPart};
-ghost use Rattle.c_interface.specs.Interface.{key_at, markAt};
-ghost use Rattle.compose.specs.Composing.{joinBehind, joinInFront, replacePage};
-ghost use Rattle.compose.specs.PlainMarks.{joinPlainBehind, joinPlainInFront};
+ghost use Rattle.files.specs.Files.{as_part};
+ghost use Rattle.c_interface.specs.Interface.{key_at, mark_at};
+ghost use Rattle.compose.specs.Composing.{join_behind, join_in_front, replace_page};
+ghost use Rattle.compose.specs.PlainMarks.{join_plain_behind, join_plain_in_front};
 
 use acceptance::Key;
 use files::Mark;
@@ -22,8 +22,8 @@ pub extern "C" fn gfp_join_behind(
     other_fingerprint: u64,
     other_bits: u64,
 ) -> u32
-    ensures { (result ≡ number_of (joinBehind (key_at degree word) (markAt fingerprint.old bits.old) (markAt other_fingerprint other_bits)))
-        × (markAt fingerprint.new bits.new ≡ state_of (joinBehind (key_at degree word) (markAt fingerprint.old bits.old) (markAt other_fingerprint other_bits))) }
+    ensures { (result ≡ number_of (join_behind (key_at degree word) (mark_at fingerprint.old bits.old) (mark_at other_fingerprint other_bits)))
+        × (mark_at fingerprint.new bits.new ≡ state_of (join_behind (key_at degree word) (mark_at fingerprint.old bits.old) (mark_at other_fingerprint other_bits))) }
 {
     let key = Key { degree, word };
     let m = Running {
@@ -48,8 +48,8 @@ pub extern "C" fn gfp_join_in_front(
     other_fingerprint: u64,
     other_bits: u64,
 ) -> u32
-    ensures { (result ≡ number_of (joinInFront (key_at degree word) (markAt fingerprint.old bits.old) (markAt other_fingerprint other_bits)))
-        × (markAt fingerprint.new bits.new ≡ state_of (joinInFront (key_at degree word) (markAt fingerprint.old bits.old) (markAt other_fingerprint other_bits))) }
+    ensures { (result ≡ number_of (join_in_front (key_at degree word) (mark_at fingerprint.old bits.old) (mark_at other_fingerprint other_bits)))
+        × (mark_at fingerprint.new bits.new ≡ state_of (join_in_front (key_at degree word) (mark_at fingerprint.old bits.old) (mark_at other_fingerprint other_bits))) }
 {
     let key = Key { degree, word };
     let m = Running {
@@ -74,8 +74,8 @@ pub extern "C" fn gfp_join_plain_behind(
     other_fingerprint: u64,
     other_bits: u64,
 ) -> u32
-    ensures { (result ≡ number_of (joinPlainBehind (key_at degree word) (markAt fingerprint.old bits.old) (markAt other_fingerprint other_bits)))
-        × (markAt fingerprint.new bits.new ≡ state_of (joinPlainBehind (key_at degree word) (markAt fingerprint.old bits.old) (markAt other_fingerprint other_bits))) }
+    ensures { (result ≡ number_of (join_plain_behind (key_at degree word) (mark_at fingerprint.old bits.old) (mark_at other_fingerprint other_bits)))
+        × (mark_at fingerprint.new bits.new ≡ state_of (join_plain_behind (key_at degree word) (mark_at fingerprint.old bits.old) (mark_at other_fingerprint other_bits))) }
 {
     let key = Key { degree, word };
     let m = Running {
@@ -100,8 +100,8 @@ pub extern "C" fn gfp_join_plain_in_front(
     other_fingerprint: u64,
     other_bits: u64,
 ) -> u32
-    ensures { (result ≡ number_of (joinPlainInFront (key_at degree word) (markAt fingerprint.old bits.old) (markAt other_fingerprint other_bits)))
-        × (markAt fingerprint.new bits.new ≡ state_of (joinPlainInFront (key_at degree word) (markAt fingerprint.old bits.old) (markAt other_fingerprint other_bits))) }
+    ensures { (result ≡ number_of (join_plain_in_front (key_at degree word) (mark_at fingerprint.old bits.old) (mark_at other_fingerprint other_bits)))
+        × (mark_at fingerprint.new bits.new ≡ state_of (join_plain_in_front (key_at degree word) (mark_at fingerprint.old bits.old) (mark_at other_fingerprint other_bits))) }
 {
     let key = Key { degree, word };
     let m = Running {
@@ -130,10 +130,10 @@ pub extern "C" fn gfp_replace_page(
     new_page: &[u8],
     new_used: u32,
 ) -> u32
-    ensures { (result ≡ number_of (replacePage (key_at degree word) (markAt fingerprint.old bits.old) place
-        (asPart old_page.now old_used) (asPart new_page.now new_used)))
-        × (markAt fingerprint.new bits.new ≡ state_of (replacePage (key_at degree word) (markAt fingerprint.old bits.old) place
-        (asPart old_page.now old_used) (asPart new_page.now new_used))) }
+    ensures { (result ≡ number_of (replace_page (key_at degree word) (mark_at fingerprint.old bits.old) place
+        (as_part old_page.now old_used) (as_part new_page.now new_used)))
+        × (mark_at fingerprint.new bits.new ≡ state_of (replace_page (key_at degree word) (mark_at fingerprint.old bits.old) place
+        (as_part old_page.now old_used) (as_part new_page.now new_used))) }
 {
     let key = Key { degree, word };
     let m = Running {

@@ -6,9 +6,9 @@ use Prim.Native.Nat.{ℕ, zero, suc, ◌+◌, ◌*◌, ◌^◌, ◌<◌}
 use native.Mathlib.Nat.{zero-add, zero-mul, suc-mul, pow-suc}
 use native.Mathlib.Omega.{arith}
 use lib.Dec.{T}
-use Rattle.gf2.specs.Polynomials.{◌⊕◌, longProduct, ◌⊗◌, halvings, degree, reduce, longDivision, rem}
+use Rattle.gf2.specs.Polynomials.{◌⊕◌, long_product, ◌⊗◌, halvings, degree, reduce, long_division, rem}
 use Rattle.lists.specs.Lists.{list_from, same}
-use Rattle.lists.proofs.Lists.{same-eq, list-append, list-map, list_same}
+use Rattle.lists.proofs.Lists.{same-eq, list_append, list_map, list_same}
 use Rattle.lookups.specs.Rule.{word}
 use Rattle.lookups.proofs.Rule.{word_row}
 use Rattle.multiples.proofs.Doubling.{multiple-zero, multiple-double}
@@ -23,7 +23,7 @@ row key x (suc b) = doubled (rem key (2 ^ b ⊗ x)) (row key x b)
 
 -- c rows of 2^w words (`unfolding rows` opens all that they are computed with)
 unfoldable pub rows : ℕ → ℕ → ℕ → List ℕ
-unfolding row doubled rem longDivision reduce degree halvings ◌⊗◌ longProduct ◌⊕◌
+unfolding row doubled rem long_division reduce degree halvings ◌⊗◌ long_product ◌⊕◌
 rows w key zero = []
 rows w key (suc c) = rows w key c ++ row key (rem key (2 ^ degree key * 2 ^ (w * c))) w
 
@@ -36,9 +36,9 @@ module _ {key : ℕ} (pos : 0 < key) where
   row_is x (suc b) =
       ap (λ (ws : List ℕ). ws ++ map (λ v. v ⊕ y) ws) (row_is x b)
       ∙ ap (λ (ws : List ℕ). list_from f 0 (2 ^ b) ++ ws)
-      (list-map f (λ v. v ⊕ y) 0 (2 ^ b) ∙ list_same (λ i. f i ⊕ y) f 0 (0 + 2 ^ b) (2 ^ b)
+      (list_map f (λ v. v ⊕ y) 0 (2 ^ b) ∙ list_same (λ i. f i ⊕ y) f 0 (0 + 2 ^ b) (2 ^ b)
       (λ i l. rw (zero-add i, zero-add (2 ^ b)) (sym (multiple-double pos x b i l))))
-      ∙ sym (list-append f 0 (2 ^ b) (2 ^ b))
+      ∙ sym (list_append f 0 (2 ^ b) (2 ^ b))
       ∙ ap (list_from f 0) twice
     where
       f : ℕ → ℕ
@@ -57,12 +57,12 @@ module _ {key : ℕ} (pos : 0 < key) where
       ap₂ (λ (us vs : List ℕ). us ++ vs) (rows-table w c)
       (row_is x w ∙ list_same (λ i. rem key (i ⊗ x)) (word w key) 0 (0 + c * 2 ^ w) (2 ^ w)
       (λ i l. rw (zero-add i, zero-add (c * 2 ^ w)) (sym (word_row w pos c i l))))
-      ∙ sym (list-append (word w key) 0 (c * 2 ^ w) (2 ^ w))
+      ∙ sym (list_append (word w key) 0 (c * 2 ^ w) (2 ^ w))
       ∙ ap (list_from (word w key) 0) (sym (suc-mul c (2 ^ w)))
     where
       x : ℕ
       x = rem key (2 ^ degree key * 2 ^ (w * c))
 
   -- words that pass the test are the table
-  pub table-by-test : (w c : ℕ) (words : List ℕ) → T (same words (rows w key c)) → words ≡ list_from (word w key) 0 (c * 2 ^ w)
-  table-by-test w c words t = same-eq words (rows w key c) t ∙ rows-table w c
+  pub table_by_test : (w c : ℕ) (words : List ℕ) → T (same words (rows w key c)) → words ≡ list_from (word w key) 0 (c * 2 ^ w)
+  table_by_test w c words t = same-eq words (rows w key c) t ∙ rows-table w c

@@ -3,7 +3,7 @@ mod constant;
 
 ghost use Rattle.std.specs.Prelude.{◌≡◌, true};
 ghost use Rattle.gf2.specs.Moduli.{polynomial};
-ghost use Rattle.house.specs.House.{houseKey, houseWords};
+ghost use Rattle.house.specs.House.{house_key, house_words};
 
 use constant::HOUSE;
 use gf2::Modulus;
@@ -15,7 +15,7 @@ pub const WORD: u64 = 0x27;
 
 // Whether a modulus is the house key.
 pub fn is_house(p: Modulus) -> bool
-    ensures { result ≡ true → (p.degree ≡ 61) × (p.low ≡ 0x27) × (polynomial p ≡ houseKey) }
+    ensures { result ≡ true → (p.degree ≡ 61) × (p.low ≡ 0x27) × (polynomial p ≡ house_key) }
 {
     if p.degree != DEGREE {
         return false;
@@ -26,7 +26,7 @@ pub fn is_house(p: Modulus) -> bool
 // The words of its table, which document 01 asks for. Their rule is computed here, once: every other function takes them from this one. Feeding under
 // another key reads them, and tests them like a lent table (`marks::Running::feed_house`). Feeding under the house key does not: it folds (crate `feeding`).
 pub fn words() -> [u64; 1024]
-    ensures { result ≡ houseWords }
+    ensures { result ≡ house_words }
 {
     HOUSE
 }

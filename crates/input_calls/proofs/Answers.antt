@@ -22,8 +22,8 @@ use Rattle.input_calls.specs.declared.Got.TheVariants.{Bytes, End, Interrupted, 
 use Rattle.input_calls.specs.declared.Input.{Input}
 use Rattle.input_calls.specs.Reading.{failure, outcome, given, over, abandoned, after, InFront, Reading, Read}
 
-pub true-false : true ≡ false → ⊥
-true-false e = let z : ◌≡◌ {A = ℕ} 0 1 = cc in omega arith
+pub true_false : true ≡ false → ⊥
+true_false e = let z : ◌≡◌ {A = ℕ} 0 1 = cc in omega arith
 
 -- ---- the tests of `outcome`: the machine compares the bits of a signed number
 
@@ -47,7 +47,7 @@ module _ (z error : ℤ) (n : ℕ) (f : SFits w64 z) where
     where
       go : (z : ℤ) → lt_z (pos 0) z ≡ false → (of_z w64 z ≡ 0 → ⊥) → failure error ≡ outcome z error n
       go (pos zero) t h = absurd (h refl)
-      go (pos (suc k)) t h = absurd (true-false (sym (lt-ltb 0 (suc k) (omega arith)) ∙ t))
+      go (pos (suc k)) t h = absurd (true_false (sym (lt-ltb 0 (suc k) (omega arith)) ∙ t))
       go (negsuc k) t h = refl
 
 module _ (error : ℤ) (f : SFits w32 error) where
@@ -104,8 +104,8 @@ module _ (input : Input) (got g : Got) (is : got ≡ g) where
   pub after_small : input.bytes + given g < 2 ^ 64 → record { bytes = input.bytes + given g; last = g } ≡ after input got
   after_small h = rw (is, lt-ltb (input.bytes + given g) (2 ^ 64) h)
 
-  pub after-large : 2 ^ 64 ≤ input.bytes + given g → abandoned input ≡ after input got
-  after-large h = rw (is, le-ltb (input.bytes + given g) (2 ^ 64) h)
+  pub after_large : 2 ^ 64 ≤ input.bytes + given g → abandoned input ≡ after input got
+  after_large h = rw (is, le-ltb (input.bytes + given g) (2 ^ 64) h)
 
   -- of a call that gave no bytes
   pub after_none : given g ≡ 0 → input.bytes < 2 ^ 64 → record { bytes = input.bytes; last = g } ≡ after input got

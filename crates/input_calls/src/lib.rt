@@ -7,7 +7,7 @@ ghost use Rattle.input_calls.specs.Reading.{outcome, over, unread, after, abando
 use libc::STDIN_FILENO;
 
 // What a read gave.
-#[derive(Drop)]
+#[derive(Clone, Copy)]
 pub enum Got {
     Bytes(usize),
     End,
@@ -17,7 +17,7 @@ pub enum Got {
 
 // Standard input as far as it was read: how many bytes the calls gave, and what the last one gave. No other crate can make one: whoever hands on one that
 // says End, or Failed, was given it by `read_once` or `abandon`.
-#[derive(Drop)]
+#[derive(Clone, Copy)]
 pub struct Input {
     bytes: u64,
     last: Got,

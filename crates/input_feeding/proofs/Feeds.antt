@@ -12,31 +12,31 @@ use Rattle.lists.specs.Lists.{list_from}
 use Rattle.refusals.specs.declared.Refusal.{Refusal}
 use Rattle.refusals.specs.declared.Refusal.TheVariants.{TooLong, MarkNotReduced, FinalByte}
 use Rattle.refusals.specs.Refusals.{Answer, Done, Refused, ◌⇒◌, first_of, passes, longest}
-use Rattle.refusals.proofs.Laws.{Clear, clear-done, done-clear, clear_behind, more-clear, more-refused, first-true}
+use Rattle.refusals.proofs.Laws.{Clear, clear-done, done-clear, clear_behind, more-clear, more-refused, first_true}
 use Rattle.refusals.proofs.Lengths.{within, sum-passes, sum_fits}
 use Rattle.acceptance.specs.declared.Key.{Key}
-use Rattle.acceptance.specs.Keys.{polynomialOf, keyTests}
-use Rattle.acceptance.proofs.Laws.{accepted-pos, key-iff}
+use Rattle.acceptance.specs.Keys.{polynomial_of, key_tests}
+use Rattle.acceptance.proofs.Laws.{accepted-pos, key_iff}
 use Rattle.files.specs.declared.Mark.{Mark}
-use Rattle.files.specs.Files.{bits, mark_of, Part, whole, partLength, partBits, misused, unreduced, fedMark, markFrom}
+use Rattle.files.specs.Files.{bits, mark_of, Part, whole, part_length, part_bits, misused, unreduced, fed_mark, mark_from}
 use Rattle.files.proofs.Values.{length-bits, bits-append}
-use Rattle.files.proofs.Marks.{true-reduced, fed-true}
+use Rattle.files.proofs.Marks.{true_reduced, fed_true}
 use Rattle.files.proofs.Parts.{whole_long, whole-bits, whole-used}
 use Rattle.lookups.specs.Rule.{word}
-use Rattle.tables.specs.Tables.{makeTable}
-use Rattle.table_tests.specs.TableTests.{tableSizeTest, tableTests}
+use Rattle.tables.specs.Tables.{make_table}
+use Rattle.table_tests.specs.TableTests.{table_size_test, table_tests}
 use Rattle.table_tests.proofs.Laws.{size-passed, clear-table}
 use Rattle.marks.specs.declared.Running.{Running}
 use Rattle.marks.specs.declared.Fed.{Fed}
-use Rattle.marks.specs.declared.Fed.TheVariants as fed-cases
-use Rattle.mark_tests.specs.MarkTests.{feedTests}
-use Rattle.marks.specs.Feeding.{beginFrom, begin, feedTable}
-use Rattle.marks.specs.Answers.{markIn, running, fed, begunUnder, fedUnder}
-use Rattle.printing.specs.Printing.{markFile}
+use Rattle.marks.specs.declared.Fed.TheVariants as FedCases
+use Rattle.mark_tests.specs.MarkTests.{feed_tests}
+use Rattle.marks.specs.Feeding.{begin_from, begin, feed_table}
+use Rattle.marks.specs.Answers.{mark_in, running, fed, begun_under, fed_under}
+use Rattle.printing.specs.Printing.{mark_file}
 use Rattle.input_feeding.specs.declared.Marked.{Marked}
-use Rattle.input_feeding.specs.declared.Marked.TheVariants as marked-cases
+use Rattle.input_feeding.specs.declared.Marked.TheVariants as MarkedCases
 use Rattle.input_feeding.specs.declared.Step.{Step}
-use Rattle.input_feeding.specs.declared.Step.TheVariants as step-cases
+use Rattle.input_feeding.specs.declared.Step.TheVariants as StepCases
 use Rattle.input_feeding.specs.declared.Marking.{Marking}
 use Rattle.input_feeding.specs.Turns.{Turned}
 use Rattle.input_feeding.specs.Marking.{feeds, stateless, Gives, FedInParts, MarkedInParts, refused}
@@ -49,28 +49,28 @@ use Rattle.input_reading.proofs.Given.{read-bytes, read_none, gave-none, gave-ap
 -- ---- one feed, in code
 
 module _ (key : Key) where
-  pub fed-next : (a : Answer Mark Mark) (next : Running) → Done next ≡ fedUnder key a → (next.key ≡ key) × (a ≡ Done (markIn next))
-  fed-next (Done m) next e = let is : next ≡ running key m = cc in (ap (λ (x : Running). x.key) is, ap (λ (x : Running). Done (markIn x)) (sym is))
+  pub fed-next : (a : Answer Mark Mark) (next : Running) → Done next ≡ fed_under key a → (next.key ≡ key) × (a ≡ Done (mark_in next))
+  fed-next (Done m) next e = let is : next ≡ running key m = cc in (ap (λ (x : Running). x.key) is, ap (λ (x : Running). Done (mark_in x)) (sym is))
   fed-next (Refused r m) next e = absurd (apart e)
     where
-      apart : Done next ≡ fedUnder key (Refused r m) → ⊥
+      apart : Done next ≡ fed_under key (Refused r m) → ⊥
       apart e = let z : ◌≡◌ {A = ℕ} 0 1 = cc in omega arith
 
-  pub fed-refused : (a : Answer Mark Mark) (r : Refusal) (kept : Running) → Refused r kept ≡ fedUnder key a → stateless a ≡ Refused r tt
+  pub fed-refused : (a : Answer Mark Mark) (r : Refusal) (kept : Running) → Refused r kept ≡ fed_under key a → stateless a ≡ Refused r tt
   fed-refused (Done m) r kept e = cc
   fed-refused (Refused q m) r kept e = cc
 
 -- a part that is fed makes the mark longer, within the limit
-fed-longer : (x : Key) (m : Mark) (words part : List ℕ) (n : Mark) → feedTable x m words (whole part) ≡ Done n
+fed-longer : (x : Key) (m : Mark) (words part : List ℕ) (n : Mark) → feed_table x m words (whole part) ≡ Done n
     → (n.length ≡ m.length + 8 * length part) × (n.length ≤ longest)
-unfolding feedTable fedMark
+unfolding feed_table fed_mark
 fed-longer x m words part n e =
-    let key = polynomialOf x in
-    let d = done-clear (keyTests x ++ (tableTests key words ++ feedTests key m (whole part))) m (fedMark key m (whole part)) n e in
-    let c = clear_behind (tableTests key words) (feedTests key m (whole part))
-    (clear_behind (keyTests x) (tableTests key words ++ feedTests key m (whole part)) d.0) in
-    let long : m.length + partLength (whole part) ≡ n.length = ap (λ (y : Mark). y.length) d.1 in
-    let fits = within (m.length ∷ partLength (whole part) ∷ (m.length + partLength (whole part)) ∷ []) c.0 in
+    let key = polynomial_of x in
+    let d = done-clear (key_tests x ++ (table_tests key words ++ feed_tests key m (whole part))) m (fed_mark key m (whole part)) n e in
+    let c = clear_behind (table_tests key words) (feed_tests key m (whole part))
+    (clear_behind (key_tests x) (table_tests key words ++ feed_tests key m (whole part)) d.0) in
+    let long : m.length + part_length (whole part) ≡ n.length = ap (λ (y : Mark). y.length) d.1 in
+    let fits = within (m.length ∷ part_length (whole part) ∷ (m.length + part_length (whole part)) ∷ []) c.0 in
     (omega (arith, long, whole_long part), omega (arith, long, fits.1.1.0))
 
 -- ---- feeds one after another
@@ -82,56 +82,56 @@ module _ (key : Key) (words : List ℕ) where
 
   feeds-append : (a : Answer Mark Mark) (xs ys : List (List ℕ)) → feeds key words a (xs ++ ys) ≡ feeds key words (feeds key words a xs) ys
   feeds-append a [] ys = refl
-  feeds-append (Done m) (x ∷ xs) ys = feeds-append (feedTable key m words (whole x)) xs ys
+  feeds-append (Done m) (x ∷ xs) ys = feeds-append (feed_table key m words (whole x)) xs ys
   feeds-append (Refused r m) (x ∷ xs) ys = sym (stopped r m ys)
 
 -- what the turns have made of a running mark so far: the parts that the reads gave are fed to it
 abbrev pub SoFar : Running → List ℕ → Input → Running → Input → Type 0
 SoFar start words input m at =
     (m.key ≡ start.key)
-    × ((parts : List (List ℕ)) × (Gave input parts at × (feeds start.key words (Done (markIn start)) parts ≡ Done (markIn m))))
+    × ((parts : List (List ℕ)) × (Gave input parts at × (feeds start.key words (Done (mark_in start)) parts ≡ Done (mark_in m))))
 
 -- where no more is read, a read gave the end
 abbrev pub Closed : Bool → Input → Type 0
 Closed true at = Unit {0}
 Closed false at = at.last ≡ End
 
-pub still-more : (more : Bool) (at : Input) → more ≡ true → Closed more at
-still-more more at e = rw e tt
+pub still_more : (more : Bool) (at : Input) → more ≡ true → Closed more at
+still_more more at e = rw e tt
 
 pub at_first : (start : Running) (words : List ℕ) (input : Input) → SoFar start words input start input
 at_first start words input = (refl, ([], (gave-none input input refl, refl)))
 
 -- what a turn leaves, by its step
 pub record Turn (start : Running) (words : List ℕ) (input : Input) (m : Running) (next : Input) (step : Step) : Type 0 where
-  pub ends : step ≡ step-cases.End → SoFar start words input m next × (next.last ≡ End)
-  pub fails : step ≡ step-cases.Failed → FedInParts start words input (record { marked = marked-cases.Unread; input = next })
-  pub goes_on : (f : Fed) → step ≡ step-cases.Fed f → (now : Running) → f ≡ fed-cases.Next now
+  pub ends : step ≡ StepCases.End → SoFar start words input m next × (next.last ≡ End)
+  pub fails : step ≡ StepCases.Failed → FedInParts start words input (record { marked = MarkedCases.Unread; input = next })
+  pub goes_on : (f : Fed) → step ≡ StepCases.Fed f → (now : Running) → f ≡ FedCases.Next now
       → SoFar start words input now next × ((m.length < now.length) × (now.length ≤ longest))
-  pub stops : (f : Fed) → step ≡ step-cases.Fed f → (r : Refusal) (kept : Running) → f ≡ fed-cases.Refused r kept
+  pub stops : (f : Fed) → step ≡ StepCases.Fed f → (r : Refusal) (kept : Running) → f ≡ FedCases.Refused r kept
       → FedInParts start words input (refused r next)
 
 module _ (start : Running) (words : List ℕ) (input : Input) (m : Running) (at : Input) (s : SoFar start words input m at) where
   -- one part more
-  one_more : (part : List ℕ) → feeds start.key words (Done (markIn start)) (s.1.0 ++ part ∷ []) ≡ feedTable m.key (markIn m) words (whole part)
+  one_more : (part : List ℕ) → feeds start.key words (Done (mark_in start)) (s.1.0 ++ part ∷ []) ≡ feed_table m.key (mark_in m) words (whole part)
   one_more part =
-      feeds-append start.key words (Done (markIn start)) s.1.0 (part ∷ [])
+      feeds-append start.key words (Done (mark_in start)) s.1.0 (part ∷ [])
       ∙ ap (λ (a : Answer Mark Mark). feeds start.key words a (part ∷ [])) s.1.1.1
-      ∙ ap (λ (k : Key). feedTable k (markIn m) words (whole part)) (sym s.0)
+      ∙ ap (λ (k : Key). feed_table k (mark_in m) words (whole part)) (sym s.0)
 
   -- a read that gave nothing
   no_more : (next : Input) → next.bytes ≡ at.bytes → SoFar start words input m next
   no_more next e = (s.0, (s.1.0, ((s.1.1.0.0, e ∙ s.1.1.0.1), s.1.1.1)))
 
-  pub at-end : at.last ≡ End → FedInParts start words input (record { marked = marked-cases.Done m; input = at })
+  pub at-end : at.last ≡ End → FedInParts start words input (record { marked = MarkedCases.Done m; input = at })
   at-end e = (
     s.1.0,
     (
       s.1.1.0,
       (
         e,
-        ap (λ (a : Answer Mark Mark). begunUnder start.key (stateless a)) s.1.1.1
-            ∙ ap (λ (k : Key). Done (running k (markIn m))) (sym s.0),
+        ap (λ (a : Answer Mark Mark). begun_under start.key (stateless a)) s.1.1.1
+            ∙ ap (λ (k : Key). Done (running k (mark_in m))) (sym s.0),
       ),
     ),
   )
@@ -139,18 +139,18 @@ module _ (start : Running) (words : List ℕ) (input : Input) (m : Running) (at 
   -- one read, and the turn that feeds what it gave
   module _ (next : Input) (buffer : List ℕ) (read : Read at next buffer) (step : Step) (h : Turned next.last m words buffer step) where
     -- what a step says of the read
-    fed-bytes : (f : Fed) → step ≡ step-cases.Fed f
-        → (n : ℕ) × ((next.last ≡ Bytes n) × (fed f ≡ fedUnder m.key (feedTable m.key (markIn m) words (whole (take n buffer)))))
+    fed-bytes : (f : Fed) → step ≡ StepCases.Fed f
+        → (n : ℕ) × ((next.last ≡ Bytes n) × (fed f ≡ fed_under m.key (feed_table m.key (mark_in m) words (whole (take n buffer)))))
     fed-bytes f e = go next.last refl h
       where
         go : (g : Got) → next.last ≡ g → Turned g m words buffer step
-            → (n : ℕ) × ((next.last ≡ Bytes n) × (fed f ≡ fedUnder m.key (feedTable m.key (markIn m) words (whole (take n buffer)))))
+            → (n : ℕ) × ((next.last ≡ Bytes n) × (fed f ≡ fed_under m.key (feed_table m.key (mark_in m) words (whole (take n buffer)))))
         go (Bytes n) t u = let same : u.0 ≡ f = cc in (n, (t, ap fed (sym same) ∙ u.1.1))
         go End t u = absurd (let z : ◌≡◌ {A = ℕ} 0 1 = cc in omega arith)
         go Interrupted t u = absurd (let z : ◌≡◌ {A = ℕ} 0 1 = cc in omega arith)
         go Failed t u = absurd (let z : ◌≡◌ {A = ℕ} 0 1 = cc in omega arith)
 
-    turn_end : step ≡ step-cases.End → next.last ≡ End
+    turn_end : step ≡ StepCases.End → next.last ≡ End
     turn_end e = go next.last refl h
       where
         go : (g : Got) → next.last ≡ g → Turned g m words buffer step → next.last ≡ End
@@ -159,7 +159,7 @@ module _ (start : Running) (words : List ℕ) (input : Input) (m : Running) (at 
         go Interrupted t u = absurd (let z : ◌≡◌ {A = ℕ} 0 1 = cc in omega arith)
         go Failed t u = absurd (let z : ◌≡◌ {A = ℕ} 0 1 = cc in omega arith)
 
-    turn-failed : step ≡ step-cases.Failed → (next.last ≡ Interrupted → ⊥) → next.last ≡ Failed
+    turn-failed : step ≡ StepCases.Failed → (next.last ≡ Interrupted → ⊥) → next.last ≡ Failed
     turn-failed e never = go next.last refl h
       where
         go : (g : Got) → next.last ≡ g → Turned g m words buffer step → next.last ≡ Failed
@@ -171,7 +171,7 @@ module _ (start : Running) (words : List ℕ) (input : Input) (m : Running) (at 
     turn-none : given next.last ≡ 0 → SoFar start words input m next
     turn-none z = no_more next (read_none at next buffer read z)
 
-    module _ (f : Fed) (is : step ≡ step-cases.Fed f) where
+    module _ (f : Fed) (is : step ≡ StepCases.Fed f) where
       abbrev count : ℕ
       count = (fed-bytes f is).0
 
@@ -181,32 +181,32 @@ module _ (start : Running) (words : List ℕ) (input : Input) (m : Running) (at 
       gave : Gave input (s.1.0 ++ part ∷ []) next
       gave = gave-append input at next s.1.0 (part ∷ []) s.1.1.0 (gave_one at next buffer count read (fed-bytes f is).1.0)
 
-      turn-next : (now : Running) → f ≡ fed-cases.Next now → SoFar start words input now next
+      turn-next : (now : Running) → f ≡ FedCases.Next now → SoFar start words input now next
       turn-next now e =
-          let h = fed-next m.key (feedTable m.key (markIn m) words (whole part)) now (ap fed (sym e) ∙ (fed-bytes f is).1.1) in
+          let h = fed-next m.key (feed_table m.key (mark_in m) words (whole part)) now (ap fed (sym e) ∙ (fed-bytes f is).1.1) in
           (h.0 ∙ s.0, (s.1.0 ++ part ∷ [], (gave, one_more part ∙ h.1)))
 
       -- number 7 bounds the mark, and it is longer than before
-      turn-less : (now : Running) → f ≡ fed-cases.Next now → (m.length < now.length) × (now.length ≤ longest)
+      turn-less : (now : Running) → f ≡ FedCases.Next now → (m.length < now.length) × (now.length ≤ longest)
       turn-less now e =
           let b = read-bytes at next buffer read count (fed-bytes f is).1.0 in
-          let h = fed-next m.key (feedTable m.key (markIn m) words (whole part)) now (ap fed (sym e) ∙ (fed-bytes f is).1.1) in
-          let g = fed-longer m.key (markIn m) words part (markIn now) h.1 in
+          let h = fed-next m.key (feed_table m.key (mark_in m) words (whole part)) now (ap fed (sym e) ∙ (fed-bytes f is).1.1) in
+          let g = fed-longer m.key (mark_in m) words part (mark_in now) h.1 in
           (omega (arith, g.0, b.0.0, b.0.1.1), g.1)
 
-      turn-refused : (r : Refusal) (kept : Running) → f ≡ fed-cases.Refused r kept → FedInParts start words input (refused r next)
+      turn-refused : (r : Refusal) (kept : Running) → f ≡ FedCases.Refused r kept → FedInParts start words input (refused r next)
       turn-refused r kept e = (
         s.1.0 ++ part ∷ [],
         (
           gave,
-          ap (begunUnder start.key)
+          ap (begun_under start.key)
               (ap stateless (one_more part)
-              ∙ fed-refused m.key (feedTable m.key (markIn m) words (whole part)) r kept (ap fed (sym e) ∙ (fed-bytes f is).1.1)),
+              ∙ fed-refused m.key (feed_table m.key (mark_in m) words (whole part)) r kept (ap fed (sym e) ∙ (fed-bytes f is).1.1)),
         ),
       )
 
-    pub turn-of : (next.last ≡ Interrupted → ⊥) → Turn start words input m next step
-    turn-of never = record {
+    pub turn_of : (next.last ≡ Interrupted → ⊥) → Turn start words input m next step
+    turn_of never = record {
       ends = λ e. let l = turn_end e in (turn-none (ap given l), l);
       fails = λ e. let l = turn-failed e never in let so = turn-none (ap given l) in (so.1.0, (so.1.1.0, l));
       goes_on = λ f is now e. (turn-next f is now e, turn-less f is now e);
@@ -215,55 +215,55 @@ module _ (start : Running) (words : List ℕ) (input : Input) (m : Running) (at 
 
 -- ---- feeding the parts is marking the file
 
-module _ (x : Key) (h : Clear (keyTests x)) where
+module _ (x : Key) (h : Clear (key_tests x)) where
   abbrev key : ℕ
-  key = polynomialOf x
+  key = polynomial_of x
 
   pos : 0 < key
-  pos = accepted-pos (polynomialOf x) ((key-iff x).0 (h.0, h.1.0)).0
+  pos = accepted-pos (polynomial_of x) ((key_iff x).0 (h.0, h.1.0)).0
 
   -- the table that is made passes its tests
   table : List ℕ
   table = list_from (word 8 key) 0 1024
 
-  made : (blank : List ℕ) → length blank ≡ 1024 → makeTable x blank ≡ Done table
-  unfolding table makeTable
+  made : (blank : List ℕ) → length blank ≡ 1024 → make_table x blank ≡ Done table
+  unfolding table make_table
   made blank e =
-      more-clear (keyTests x) (tableSizeTest blank ∷ []) blank (list_from (word 8 key) 0 1024) h
+      more-clear (key_tests x) (table_size_test blank ∷ []) blank (list_from (word 8 key) 0 1024) h
       ∙ size-passed blank [] blank (list_from (word 8 key) 0 1024) e
 
-  tested : (m : Mark) (part : Part) → feedTable x m table part ≡ first_of (feedTests key m part) m (fedMark key m part)
-  unfolding table feedTable
+  tested : (m : Mark) (part : Part) → feed_table x m table part ≡ first_of (feed_tests key m part) m (fed_mark key m part)
+  unfolding table feed_table
   tested m part =
       let words = list_from (word 8 key) 0 1024 in
-      more-clear (keyTests x) (tableTests key words ++ feedTests key m part) m (fedMark key m part) h
-      ∙ more-clear (tableTests key words) (feedTests key m part) m (fedMark key m part) (clear-table words key refl)
+      more-clear (key_tests x) (table_tests key words ++ feed_tests key m part) m (fed_mark key m part) h
+      ∙ more-clear (table_tests key words) (feed_tests key m part) m (fed_mark key m part) (clear-table words key refl)
 
   -- whole bytes behind whole bytes
   module _ (file part : List ℕ) where
     abbrev before : Mark
     before = mark_of key (bits file)
 
-    both_long : length (bits file) + partLength (whole part) ≡ 8 * length (file ++ part)
+    both_long : length (bits file) + part_length (whole part) ≡ 8 * length (file ++ part)
     both_long = omega (arith, length-bits file, whole_long part, length-append file part)
 
-    both_bits : bits file ++ partBits (whole part) ≡ bits (file ++ part)
+    both_bits : bits file ++ part_bits (whole part) ≡ bits (file ++ part)
     both_bits = ap (λ (l : List ℕ). bits file ++ l) (whole-bits part) ∙ sym (bits-append file part)
 
-    feed-goes : 8 * length (file ++ part) ≤ longest → feedTable x before table (whole part) ≡ Done (mark_of key (bits (file ++ part)))
-    unfolding markFrom
+    feed-goes : 8 * length (file ++ part) ≤ longest → feed_table x before table (whole part) ≡ Done (mark_of key (bits (file ++ part)))
+    unfolding mark_from
     feed-goes l =
         tested before (whole part)
-        ∙ clear-done (feedTests key before (whole part)) before (fedMark key before (whole part))
-        (sum_fits (length (bits file)) (partLength (whole part)) (omega (arith, both_long)), (true-reduced 1 key pos (bits file), (whole-used part, tt)))
-        ∙ ap Done (fed-true 1 key pos (bits file) (whole part) ∙ ap (mark_of key) both_bits)
+        ∙ clear-done (feed_tests key before (whole part)) before (fed_mark key before (whole part))
+        (sum_fits (length (bits file)) (part_length (whole part)) (omega (arith, both_long)), (true_reduced 1 key pos (bits file), (whole-used part, tt)))
+        ∙ ap Done (fed_true 1 key pos (bits file) (whole part) ∙ ap (mark_of key) both_bits)
 
-    feed-stops : longest < 8 * length (file ++ part) → feedTable x before table (whole part) ≡ Refused TooLong before
-    unfolding markFrom
+    feed-stops : longest < 8 * length (file ++ part) → feed_table x before table (whole part) ≡ Refused TooLong before
+    unfolding mark_from
     feed-stops l =
         tested before (whole part)
-        ∙ first-true _ TooLong (unreduced key before ⇒ MarkNotReduced ∷ misused (whole part) ⇒ FinalByte ∷ []) before (fedMark key before (whole part))
-        (sum-passes (length (bits file)) (partLength (whole part)) (omega (arith, both_long)))
+        ∙ first_true _ TooLong (unreduced key before ⇒ MarkNotReduced ∷ misused (whole part) ⇒ FinalByte ∷ []) before (fed_mark key before (whole part))
+        (sum-passes (length (bits file)) (part_length (whole part)) (omega (arith, both_long)))
 
   -- number 7 of a whole file
   abbrev judged : List ℕ → Answer Unit Mark
@@ -278,7 +278,7 @@ module _ (x : Key) (h : Clear (keyTests x)) where
   feed-one : (file part : List ℕ) (parts : List (List ℕ)) → Dec (8 * length (file ++ part) ≤ longest)
       → (8 * length (file ++ part) ≤ longest
       → stateless (feeds x table (Done (mark_of key (bits (file ++ part)))) parts) ≡ judged (file ++ part ++ flatten parts))
-      → stateless (feeds x table (feedTable x (mark_of key (bits file)) table (whole part)) parts) ≡ judged (file ++ (part ++ flatten parts))
+      → stateless (feeds x table (feed_table x (mark_of key (bits file)) table (whole part)) parts) ≡ judged (file ++ (part ++ flatten parts))
   feed-one file part parts (yes l) ih =
       ap (λ (a : Answer Mark Mark). stateless (feeds x table a parts)) (feed-goes file part l)
       ∙ ih l
@@ -296,14 +296,14 @@ module _ (x : Key) (h : Clear (keyTests x)) where
   feeds-judged file (part ∷ parts) l =
       feed-one file part parts (dec_le (8 * length (file ++ part)) longest) (λ m. feeds-judged (file ++ part) parts m)
 
-  feeds-marked : (parts : List (List ℕ))
-      → begunUnder x (stateless (feeds x table (Done (mark_of key [])) parts)) ≡ markFile x (flatten parts)
-  unfolding markFile bits
-  feeds-marked parts =
-      ap (begunUnder x) (feeds-judged [] parts (omega arith))
+  feeds_marked : (parts : List (List ℕ))
+      → begun_under x (stateless (feeds x table (Done (mark_of key [])) parts)) ≡ mark_file x (flatten parts)
+  unfolding mark_file bits
+  feeds_marked parts =
+      ap (begun_under x) (feeds-judged [] parts (omega arith))
       ∙ sym
-      (ap (begunUnder x)
-      (more-clear (keyTests x) (passes (8 * length (flatten parts) ∷ []) ⇒ TooLong ∷ []) tt (mark_of key (bits (flatten parts))) h))
+      (ap (begun_under x)
+      (more-clear (key_tests x) (passes (8 * length (flatten parts) ∷ []) ⇒ TooLong ∷ []) tt (mark_of key (bits (flatten parts))) h))
 
 -- ---- the calls of `mark_file`, one after another
 
@@ -312,76 +312,76 @@ done_refused e = let z : ◌≡◌ {A = ℕ} 0 1 = cc in omega arith
 
 module _ (key : Key) where
   -- a key that is refused
-  pub begun-refused : (first : List ℕ) (input : Input) (r : Refusal) → Refused r tt ≡ begunUnder key (begin key)
+  pub begun-refused : (first : List ℕ) (input : Input) (r : Refusal) → Refused r tt ≡ begun_under key (begin key)
       → MarkedInParts key first input (refused r input)
-  unfolding beginFrom markFile
+  unfolding begin_from mark_file
   begun-refused first input r e =
       let file = first ++ flatten [] in
-      let p = polynomialOf key in (
+      let p = polynomial_of key in (
         [],
         (
           gave-none input input refl,
-          ap (begunUnder key)
-              (more-refused (keyTests key) (passes (8 * length file ∷ []) ⇒ TooLong ∷ []) tt tt (mark_of p []) (mark_of p (bits file)) r
+          ap (begun_under key)
+              (more-refused (key_tests key) (passes (8 * length file ∷ []) ⇒ TooLong ∷ []) tt tt (mark_of p []) (mark_of p (bits file)) r
               (go (begin key) refl e)),
         ),
       )
     where
-      go : (a : Answer Unit Mark) → begin key ≡ a → Refused r tt ≡ begunUnder key a → begin key ≡ Refused r tt
+      go : (a : Answer Unit Mark) → begin key ≡ a → Refused r tt ≡ begun_under key a → begin key ≡ Refused r tt
       go (Done m) t u = absurd (done_refused (sym u))
       go (Refused q s) t u = t ∙ cc
 
   -- a key that is accepted
-  pub begun-clear : (m : Running) → Done m ≡ begunUnder key (begin key) → Clear (keyTests key) × (m ≡ running key (mark_of (polynomialOf key) []))
-  unfolding beginFrom
+  pub begun-clear : (m : Running) → Done m ≡ begun_under key (begin key) → Clear (key_tests key) × (m ≡ running key (mark_of (polynomial_of key) []))
+  unfolding begin_from
   begun-clear m e = go (begin key) refl e
     where
-      go : (a : Answer Unit Mark) → begin key ≡ a → Done m ≡ begunUnder key a → Clear (keyTests key) × (m ≡ running key (mark_of (polynomialOf key) []))
+      go : (a : Answer Unit Mark) → begin key ≡ a → Done m ≡ begun_under key a → Clear (key_tests key) × (m ≡ running key (mark_of (polynomial_of key) []))
       go (Done x) t u =
-          let d = done-clear (keyTests key) tt (mark_of (polynomialOf key) []) x t in
+          let d = done-clear (key_tests key) tt (mark_of (polynomial_of key) []) x t in
           let is : m ≡ running key x = cc in
           (d.0, is ∙ ap (running key) (sym d.1))
       go (Refused q s) t u = absurd (done_refused u)
 
-  module _ (first : List ℕ) (m : Running) (begun-is : Done m ≡ begunUnder key (begin key)) (blank words : List ℕ) where
-    clear : Clear (keyTests key)
+  module _ (first : List ℕ) (m : Running) (begun-is : Done m ≡ begun_under key (begin key)) (blank words : List ℕ) where
+    clear : Clear (key_tests key)
     clear = (begun-clear m begun-is).0
 
-    pub made-always : (r : Refusal) → Refused r words ≡ makeTable key blank → 1024 ≡ length blank → ⊥
-    made-always r e size = done_refused (sym (e ∙ made key clear blank (sym size)))
+    pub made_always : (r : Refusal) → Refused r words ≡ make_table key blank → 1024 ≡ length blank → ⊥
+    made_always r e size = done_refused (sym (e ∙ made key clear blank (sym size)))
 
-    module _ (e : Done words ≡ makeTable key blank) (size : 1024 ≡ length blank) where
+    module _ (e : Done words ≡ make_table key blank) (size : 1024 ≡ length blank) where
       table-words : words ≡ table key clear
       table-words = let d : ◌≡◌ {A = Answer (List ℕ) (List ℕ)} (Done words) (Done (table key clear)) = e ∙ made key clear blank (sym size) in cc
 
       -- the first bytes and the parts behind them, fed by the table that was made
-      fed-marked : (parts : List (List ℕ))
-          → begunUnder key (stateless (feeds key words (feedTable m.key (markIn m) words (whole first)) parts)) ≡ markFile key (first ++ flatten parts)
+      fed_marked : (parts : List (List ℕ))
+          → begun_under key (stateless (feeds key words (feed_table m.key (mark_in m) words (whole first)) parts)) ≡ mark_file key (first ++ flatten parts)
       unfolding flatten
-      fed-marked parts =
-          rw ((begun-clear m begun-is).1, table-words) (feeds-marked key clear (first ∷ parts))
+      fed_marked parts =
+          rw ((begun-clear m begun-is).1, table-words) (feeds_marked key clear (first ∷ parts))
 
       pub first-refused : (input : Input) (r : Refusal) (kept : Running)
-          → Refused r kept ≡ fedUnder m.key (feedTable m.key (markIn m) words (whole first)) → MarkedInParts key first input (refused r input)
+          → Refused r kept ≡ fed_under m.key (feed_table m.key (mark_in m) words (whole first)) → MarkedInParts key first input (refused r input)
       first-refused input r kept u = (
         [],
         (
           gave-none input input refl,
-          sym (fed-marked []) ∙ ap (begunUnder key) (fed-refused m.key (feedTable m.key (markIn m) words (whole first)) r kept u),
+          sym (fed_marked []) ∙ ap (begun_under key) (fed-refused m.key (feed_table m.key (mark_in m) words (whole first)) r kept u),
         ),
       )
 
-      pub rest-marked : (input : Input) (next : Running) (r : Marking)
-          → Done next ≡ fedUnder m.key (feedTable m.key (markIn m) words (whole first)) → FedInParts next words input r
+      pub rest_marked : (input : Input) (next : Running) (r : Marking)
+          → Done next ≡ fed_under m.key (feed_table m.key (mark_in m) words (whole first)) → FedInParts next words input r
           → MarkedInParts key first input r
-      rest-marked input next r u p = (p.0, (p.1.0, subst (Gives r.marked r.input.last) same p.1.1))
+      rest_marked input next r u p = (p.0, (p.1.0, subst (Gives r.marked r.input.last) same p.1.1))
         where
-          fed-is : (next.key ≡ m.key) × (feedTable m.key (markIn m) words (whole first) ≡ Done (markIn next))
-          fed-is = fed-next m.key (feedTable m.key (markIn m) words (whole first)) next u
+          fed-is : (next.key ≡ m.key) × (feed_table m.key (mark_in m) words (whole first) ≡ Done (mark_in next))
+          fed-is = fed-next m.key (feed_table m.key (mark_in m) words (whole first)) next u
 
-          same : begunUnder next.key (stateless (feeds next.key words (Done (markIn next)) p.0)) ≡ markFile key (first ++ flatten p.0)
+          same : begun_under next.key (stateless (feeds next.key words (Done (mark_in next)) p.0)) ≡ mark_file key (first ++ flatten p.0)
           same =
-              ap (λ (k : Key). begunUnder k (stateless (feeds k words (Done (markIn next)) p.0)))
+              ap (λ (k : Key). begun_under k (stateless (feeds k words (Done (mark_in next)) p.0)))
               (fed-is.0 ∙ ap (λ (x : Running). x.key) (begun-clear m begun-is).1)
-              ∙ ap (λ (a : Answer Mark Mark). begunUnder key (stateless (feeds key words a p.0))) (sym fed-is.1)
-              ∙ fed-marked p.0
+              ∙ ap (λ (a : Answer Mark Mark). begun_under key (stateless (feeds key words a p.0))) (sym fed-is.1)
+              ∙ fed_marked p.0

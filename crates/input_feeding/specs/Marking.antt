@@ -7,21 +7,21 @@ use Rattle.acceptance.specs.declared.Key.{Key}
 use Rattle.files.specs.declared.Mark.{Mark}
 use Rattle.files.specs.Files.{whole}
 use Rattle.marks.specs.declared.Running.{Running}
-use Rattle.marks.specs.Feeding.{feedTable}
-use Rattle.marks.specs.Answers.{markIn, begunUnder}
-use Rattle.printing.specs.Printing.{markFile}
+use Rattle.marks.specs.Feeding.{feed_table}
+use Rattle.marks.specs.Answers.{mark_in, begun_under}
+use Rattle.printing.specs.Printing.{mark_file}
 use Rattle.input_calls.specs.declared.Got.{Got}
-use Rattle.input_calls.specs.declared.Got.TheVariants as got-cases
+use Rattle.input_calls.specs.declared.Got.TheVariants as GotCases
 use Rattle.input_calls.specs.declared.Input.{Input}
 use Rattle.input_calls.specs.Reading.{Gave}
 use Rattle.input_feeding.specs.declared.Marked.{Marked}
-use Rattle.input_feeding.specs.declared.Marked.TheVariants as marked-cases
+use Rattle.input_feeding.specs.declared.Marked.TheVariants as MarkedCases
 use Rattle.input_feeding.specs.declared.Marking.{Marking}
 
 -- feeds by the words of a table, one after another, until one is refused
 abbrev pub feeds : Key → List ℕ → Answer Mark Mark → List (List ℕ) → Answer Mark Mark
 feeds key words a [] = a
-feeds key words (Done m) (part ∷ parts) = feeds key words (feedTable key m words (whole part)) parts
+feeds key words (Done m) (part ∷ parts) = feeds key words (feed_table key m words (whole part)) parts
 feeds key words (Refused r m) (part ∷ parts) = Refused r m
 
 -- an answer without the state handed in
@@ -31,21 +31,21 @@ stateless (Refused r m) = Refused r tt
 
 -- the code's answer, by what the last read gave: this one behind the end; this one, which is a refusal; none, where a read failed
 abbrev pub Gives : Marked → Got → Answer Unit Running → Type 0
-Gives (marked-cases.Done m) got a = (got ≡ got-cases.End) × (a ≡ Done m)
-Gives (marked-cases.Refused r) got a = a ≡ Refused r tt
-Gives marked-cases.Unread got a = got ≡ got-cases.Failed
+Gives (MarkedCases.Done m) got a = (got ≡ GotCases.End) × (a ≡ Done m)
+Gives (MarkedCases.Refused r) got a = a ≡ Refused r tt
+Gives MarkedCases.Unread got a = got ≡ GotCases.Failed
 
 -- the parts that the reads gave, fed one after another to a running mark
 abbrev pub FedInParts : Running → List ℕ → Input → Marking → Type 0
 FedInParts m words input r =
     (parts : List (List ℕ))
     × (Gave input parts r.input
-    × Gives r.marked r.input.last (begunUnder m.key (stateless (feeds m.key words (Done (markIn m)) parts))))
+    × Gives r.marked r.input.last (begun_under m.key (stateless (feeds m.key words (Done (mark_in m)) parts))))
 
 -- the file of the first bytes and the parts that the reads gave behind them, marked
 abbrev pub MarkedInParts : Key → List ℕ → Input → Marking → Type 0
 MarkedInParts key first input r =
-    (parts : List (List ℕ)) × (Gave input parts r.input × Gives r.marked r.input.last (markFile key (first ++ flatten parts)))
+    (parts : List (List ℕ)) × (Gave input parts r.input × Gives r.marked r.input.last (mark_file key (first ++ flatten parts)))
 
 abbrev pub refused : Refusal → Input → Marking
-refused r input = record { marked = marked-cases.Refused r; input = input }
+refused r input = record { marked = MarkedCases.Refused r; input = input }

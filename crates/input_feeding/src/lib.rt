@@ -11,7 +11,7 @@ use marks::{Begun, Fed, Running};
 use refusals::{Refusal, Reply};
 
 // One turn: the answer to feeding the bytes that were read, or that there were none.
-#[derive(Drop)]
+#[derive(Clone, Copy)]
 enum Step {
     Fed(Fed),
     End,
@@ -19,7 +19,7 @@ enum Step {
 }
 
 // The mark of what was read to its end.
-#[derive(Drop)]
+#[derive(Clone, Copy)]
 pub enum Marked {
     Done(Running),
     Refused(Refusal),
@@ -27,7 +27,7 @@ pub enum Marked {
 }
 
 // The same, and the input as it was left.
-#[derive(Drop)]
+#[derive(Clone, Copy)]
 pub struct Marking {
     pub marked: Marked,
     pub input: Input,

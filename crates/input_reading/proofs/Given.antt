@@ -11,7 +11,7 @@ use Rattle.input_calls.specs.declared.Got.{Got}
 use Rattle.input_calls.specs.declared.Got.TheVariants.{Bytes, End, Interrupted, Failed}
 use Rattle.input_calls.specs.declared.Input.{Input}
 use Rattle.input_calls.specs.Reading.{given, over, abandoned, InFront, Reading, Read, NonEmpty, Gave}
-use Rattle.input_calls.proofs.Answers.{true-false}
+use Rattle.input_calls.proofs.Answers.{true_false}
 
 -- ---- what a read gave
 
@@ -44,7 +44,7 @@ module _ (input next : Input) (l : List ℕ) (r : Read input next l) where
   read-front = go (over input.last) refl r
     where
       none : (g : Got) → over g ≡ true → InFront g l
-      none (Bytes n) t = absurd (true-false (sym t))
+      none (Bytes n) t = absurd (true_false (sym t))
       none End t = tt
       none Interrupted t = tt
       none Failed t = tt
@@ -62,8 +62,8 @@ Waiting input at turns =
 
 module _ (input at : Input) (turns : ℕ) (w : Waiting input at turns) where
   -- the next call is as good as the first
-  pub read-on : (next : Input) (l : List ℕ) → Read at next l → Read input next l
-  read-on next l r = go w
+  pub read_on : (next : Input) (l : List ℕ) → Read at next l → Read input next l
+  read_on next l r = go w
     where
       go : Waiting input at turns → Read input next l
       go (inl e) = subst (λ (x : Input). Read x next l) e.0 r
@@ -72,9 +72,9 @@ module _ (input at : Input) (turns : ℕ) (w : Waiting input at turns) where
           = subst (λ (g : Got). Reading (over g) at next l) e.1.0 r in
           rw e.0 (got.0, got.1 ∙ ap (λ (n : ℕ). n + given next.last) e.1.1)
 
-  pub wait-on : (next : Input) (l : List ℕ) (left : ℕ) → Read at next l → next.last ≡ Interrupted → Waiting input next left
-  wait-on next l left r e =
-      let s = read-on next l r in
+  pub wait_on : (next : Input) (l : List ℕ) (left : ℕ) → Read at next l → next.last ≡ Interrupted → Waiting input next left
+  wait_on next l left r e =
+      let s = read_on next l r in
       inr (made input next l s (ap over e), (e, read_none input next l s (ap given e)))
 
   pub interrupted-last : turns ≡ 0 → at.last ≡ Interrupted
@@ -84,8 +84,8 @@ module _ (input at : Input) (turns : ℕ) (w : Waiting input at turns) where
       go (inl e) = absurd (omega (arith, e.1))
       go (inr e) = e.1.0
 
-  pub given-up : (l : List ℕ) → turns ≡ 0 → Read input (abandoned at) l
-  given-up l z = go w
+  pub given_up : (l : List ℕ) → turns ≡ 0 → Read input (abandoned at) l
+  given_up l z = go w
     where
       go : Waiting input at turns → Read input (abandoned at) l
       go (inl e) = absurd (omega (arith, e.1))
@@ -97,28 +97,28 @@ pub gave-none : (input next : Input) → next.bytes ≡ input.bytes → Gave inp
 unfolding flatten
 gave-none input next e = (tt, omega arith)
 
-nonempty-append : (xs ys : List (List ℕ)) → NonEmpty xs → NonEmpty ys → NonEmpty (xs ++ ys)
-nonempty-append [] ys p q = q
-nonempty-append (x ∷ xs) ys p q = (p.0, nonempty-append xs ys p.1 q)
+nonempty_append : (xs ys : List (List ℕ)) → NonEmpty xs → NonEmpty ys → NonEmpty (xs ++ ys)
+nonempty_append [] ys p q = q
+nonempty_append (x ∷ xs) ys p q = (p.0, nonempty_append xs ys p.1 q)
 
-pub flatten-append : (xs ys : List (List ℕ)) → flatten (xs ++ ys) ≡ flatten xs ++ flatten ys
+pub flatten_append : (xs ys : List (List ℕ)) → flatten (xs ++ ys) ≡ flatten xs ++ flatten ys
 unfolding flatten
-flatten-append [] ys = refl
-flatten-append (x ∷ xs) ys = ap (λ (l : List ℕ). x ++ l) (flatten-append xs ys) ∙ sym (append_assoc x (flatten xs) (flatten ys))
+flatten_append [] ys = refl
+flatten_append (x ∷ xs) ys = ap (λ (l : List ℕ). x ++ l) (flatten_append xs ys) ∙ sym (append_assoc x (flatten xs) (flatten ys))
 
 pub gave-append : (a b c : Input) (xs ys : List (List ℕ)) → Gave a xs b → Gave b ys c → Gave a (xs ++ ys) c
 gave-append a b c xs ys p q =
-    let both = ap length (flatten-append xs ys) ∙ length-append (flatten xs) (flatten ys) in
-    (nonempty-append xs ys p.0 q.0, omega (arith, p.1, q.1, both))
+    let both = ap length (flatten_append xs ys) ∙ length-append (flatten xs) (flatten ys) in
+    (nonempty_append xs ys p.0 q.0, omega (arith, p.1, q.1, both))
 
-pub flatten-one : (l : List ℕ) → flatten (l ∷ []) ≡ l
+pub flatten_one : (l : List ℕ) → flatten (l ∷ []) ≡ l
 unfolding flatten
-flatten-one l = append-nil l
+flatten_one l = append-nil l
 
 pub gave_one : (input next : Input) (l : List ℕ) (n : ℕ) → Read input next l → next.last ≡ Bytes n → Gave input (take n l ∷ []) next
 gave_one input next l n r e =
     let b = read-bytes input next l r n e in
-    let one = ap length (flatten-one (take n l)) in
+    let one = ap length (flatten_one (take n l)) in
     ((omega (arith, b.0.0, b.0.1.1), tt), omega (arith, b.0.1.1, b.1, one))
 
 -- ---- loops that go on while there is more to read

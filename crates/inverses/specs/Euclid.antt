@@ -4,8 +4,8 @@ use Rattle.gf2.specs.Polynomials.{◌⊕◌, ◌⊗◌, degree, rem, Divides}
 use Rattle.inverses.specs.declared.Pairs.{Pairs}
 
 -- f divided by t modulo p, h being the inverse of t: p without its lowest coefficient, divided by t
-unfoldable pub overT : ℕ → ℕ → ℕ
-overT h f = f / 2 ⊕ h * (f % 2)
+unfoldable pub over_t : ℕ → ℕ → ℕ
+over_t h f = f / 2 ⊕ h * (f % 2)
 
 -- the smaller one of r and 2s + 1 where r is odd: r / 2 takes the place of s
 abbrev pub smaller : Pairs → Bool
@@ -16,7 +16,7 @@ unfoldable pub next : ℕ → Pairs → Pairs
 next h x =
     record {
       r = x.r / 2 ⊕ x.s * (x.r % 2);
-      u = overT h (x.u ⊕ x.v * (x.r % 2));
+      u = over_t h (x.u ⊕ x.v * (x.r % 2));
       s = cond (smaller x) (x.r / 2) x.s;
       v = cond (smaller x) x.u x.v;
     }

@@ -4,13 +4,13 @@ ghost use Rattle.std.specs.Prelude.{◌≡◌, ◌/◌, ◌^◌, ◌≤◌, ◌<
 ghost use Rattle.gf2.specs.Polynomials.{◌⊗◌, rem, Irreducible};
 ghost use Rattle.gf2.specs.Moduli.{polynomial, Proper};
 ghost use Rattle.gf2.specs.Inverses.{inverse as inverseOf};
-ghost use Rattle.inverses.specs.Euclid.{overT, next};
+ghost use Rattle.inverses.specs.Euclid.{over_t, next};
 
 use gf2::Modulus;
 
 // Two products of what is to be inverted, a, modulo p: u·a = r and v·a = 2s + 1. The second is odd, so that its half s tells it: at first it is p
 // itself, of which the half fits a word also at degree 64.
-#[derive(Drop)]
+#[derive(Clone, Copy)]
 pub struct Pairs {
     pub r: u64,
     pub u: u64,
@@ -20,7 +20,7 @@ pub struct Pairs {
 
 // A residue divided by t, h being the inverse of t. No branch: the bit is data.
 fn over_t(h: u64, f: u64) -> u64
-    ensures { result ≡ overT h f }
+    ensures { result ≡ over_t h f }
 {
     (f / 2) ^ (h * (f % 2))
 }

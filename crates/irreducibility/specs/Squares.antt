@@ -13,23 +13,23 @@ unfoldable pub square : ℕ → ℕ → ℕ
 square p i = rem p (2 ^ (2 * i))
 
 -- the coefficients at the even places below 2 n, closed up: a polynomial whose square has them at their places
-unfoldable pub evenRoot : ℕ → ℕ → ℕ
-evenRoot zero x = 0
-evenRoot (suc n) x = evenRoot n (x / 4) * 2 + x % 2
+unfoldable pub even_root : ℕ → ℕ → ℕ
+even_root zero x = 0
+even_root (suc n) x = even_root n (x / 4) * 2 + x % 2
 
 -- the coefficients at the odd places, of a word
-unfoldable pub oddPart : ℕ → ℕ
-oddPart x = bit_and x 0xAAAAAAAAAAAAAAAA
+unfoldable pub odd_part : ℕ → ℕ
+odd_part x = bit_and x 0xAAAAAAAAAAAAAAAA
 
 -- coefficients at even places moved to half their place, n times over: for a word and n = 6 to an odd place, or 0
 unfoldable pub folded : ℕ → ℕ → ℕ
 folded zero x = x
-folded (suc n) x = oddPart x ⊕ folded n (evenRoot 32 x)
+folded (suc n) x = odd_part x ⊕ folded n (even_root 32 x)
 
 -- the rows of the squares, of n powers of t from t^h on
-unfoldable pub squareRows : ℕ → ℕ → ℕ → List ℕ
-squareRows p h n = list_from (λ i. oddPart (square p i)) h n
+unfoldable pub square_rows : ℕ → ℕ → ℕ → List ℕ
+square_rows p h n = list_from (λ i. odd_part (square p i)) h n
 
 -- the rows of the squares, each less its power of t
-unfoldable pub differenceRows : ℕ → ℕ → ℕ → List ℕ
-differenceRows p h n = list_from (λ i. folded 6 (square p i ⊕ 2 ^ i)) h n
+unfoldable pub difference_rows : ℕ → ℕ → ℕ → List ℕ
+difference_rows p h n = list_from (λ i. folded 6 (square p i ⊕ 2 ^ i)) h n

@@ -7,7 +7,7 @@ ghost use Rattle.lists.specs.Lists.{list_from};
 ghost use Rattle.lists.specs.Inner.{Scratch};
 ghost use Rattle.acceptance.specs.Keys.{reducible};
 ghost use Rattle.basis.specs.Rows.{Independent};
-ghost use Rattle.irreducibility.specs.Squares.{square, evenRoot, oddPart, folded};
+ghost use Rattle.irreducibility.specs.Squares.{square, even_root, odd_part, folded};
 
 use gf2::Modulus;
 
@@ -27,14 +27,14 @@ fn square_rows(p: Modulus, rows: &mut [u64])
 
 // The coefficients at the odd places.
 fn odd_part(x: u64) -> u64
-    ensures { result ≡ oddPart x }
+    ensures { result ≡ odd_part x }
 {
     x & 0xAAAAAAAAAAAAAAAA
 }
 
 // The coefficients at the even places, closed up.
 fn even_root(x: u64) -> u64
-    ensures { result ≡ evenRoot 32 x }
+    ensures { result ≡ even_root 32 x }
 {
     let a = x & 0x5555555555555555;
     let b = (a ^ (a >> 1)) & 0x3333333333333333;
@@ -61,7 +61,7 @@ fn fold(x: u64) -> u64
 
 // Are the rows independent modulo all squares? What is left of them is free.
 fn independent_squares(rows: &mut [u64]) -> bool
-    ensures { ((result ≡ true) ↔ Independent (list_from (λ i. oddPart (get_or rows.old i 0)) 0 (length rows.old)))
+    ensures { ((result ≡ true) ↔ Independent (list_from (λ i. odd_part (get_or rows.old i 0)) 0 (length rows.old)))
         × Scratch rows.old rows.new }
 {
     for i in 0..rows.len() {

@@ -2,31 +2,31 @@
 -- before the first newline.
 use Rattle.std.specs.Prelude.{Bool, true, cond, ◌&&◌, List, [], ◌∷◌, ℕ, ◌+◌, ◌-◌, ◌*◌, ◌^◌, leb, ltb, length, take}
 use Rattle.bytes.specs.Bytes.{index_of}
-use Rattle.acceptance.specs.Keys.{keyOf}
+use Rattle.acceptance.specs.Keys.{key_of}
 use Rattle.key_lines.specs.declared.KeyLine.{KeyLine}
-use Rattle.key_lines.specs.declared.KeyLine.TheVariants as line-cases
+use Rattle.key_lines.specs.declared.KeyLine.TheVariants as LineCases
 
 -- the value of a digit; 16 of a byte that is none
 unfoldable pub digit : ℕ → ℕ
 digit b = cond (leb 48 b && leb b 57) (b - 48) (cond (leb 97 b && leb b 102) (b - 87) 16)
 
-unfoldable pub allDigits : List ℕ → Bool
-allDigits [] = true
-allDigits (b ∷ bs) = ltb (digit b) 16 && allDigits bs
+unfoldable pub all_digits : List ℕ → Bool
+all_digits [] = true
+all_digits (b ∷ bs) = ltb (digit b) 16 && all_digits bs
 
 -- the number that digits write behind the number s
-unfoldable pub hexFrom : ℕ → List ℕ → ℕ
-hexFrom s [] = s
-hexFrom s (b ∷ bs) = hexFrom (s * 16 + digit b) bs
+unfoldable pub hex_from : ℕ → List ℕ → ℕ
+hex_from s [] = s
+hex_from s (b ∷ bs) = hex_from (s * 16 + digit b) bs
 
 -- digits that write v, with the file from a place on: the key, or a number of degree above 64
 unfoldable pub line_of : ℕ → ℕ → KeyLine
-line_of v at = cond (ltb v (2 ^ 65)) (line-cases.Key (keyOf v) at) line-cases.TooLarge
+line_of v at = cond (ltb v (2 ^ 65)) (LineCases.Key (key_of v) at) LineCases.TooLarge
 
 -- of an input with its first newline at place n, or of n bytes where it has none
-unfoldable pub keyBefore : ℕ → List ℕ → KeyLine
-keyBefore n input =
-    cond (ltb n (length input) && (leb 1 n && leb n 17) && allDigits (take n input)) (line_of (hexFrom 0 (take n input)) (n + 1)) line-cases.NoKey
+unfoldable pub key_before : ℕ → List ℕ → KeyLine
+key_before n input =
+    cond (ltb n (length input) && (leb 1 n && leb n 17) && all_digits (take n input)) (line_of (hex_from 0 (take n input)) (n + 1)) LineCases.NoKey
 
-unfoldable pub keyLine : List ℕ → KeyLine
-keyLine input = keyBefore (index_of 10 input) input
+unfoldable pub key_line : List ℕ → KeyLine
+key_line input = key_before (index_of 10 input) input

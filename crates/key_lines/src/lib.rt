@@ -1,12 +1,12 @@
 // The key's line that the printing program reads. These functions are for the project's own crates: what they require, every caller proves.
 ghost use Rattle.std.specs.Prelude.{◌≡◌, true, ◌≤◌, length};
-ghost use Rattle.key_lines.specs.KeyLines.{digit, allDigits, hexFrom, line_of, keyLine};
+ghost use Rattle.key_lines.specs.KeyLines.{digit, all_digits, hex_from, line_of, key_line};
 ghost use Rattle.key_lines.specs.Deciding.{undecided};
 
 use acceptance::Key;
 
 // What the first line of an input says: the key, and the place where the file begins; or a number of 2^65 or more.
-#[derive(Drop)]
+#[derive(Clone, Copy)]
 pub enum KeyLine {
     NoKey,
     Key(Key, usize),
@@ -33,7 +33,7 @@ fn digit(b: u8) -> u64
 }
 
 fn all_digits(line: &[u8]) -> bool
-    ensures { result ≡ allDigits line.now }
+    ensures { result ≡ all_digits line.now }
 {
     let mut i = 0;
     while i < line.len() {
@@ -47,8 +47,8 @@ fn all_digits(line: &[u8]) -> bool
 
 // The number that the digits write.
 fn hex_value(line: &[u8]) -> u64
-    requires { (length line.now ≤ 16) × (allDigits line.now ≡ true) }
-    ensures { result ≡ hexFrom 0 line.now }
+    requires { (length line.now ≤ 16) × (all_digits line.now ≡ true) }
+    ensures { result ≡ hex_from 0 line.now }
 {
     let mut value = 0;
     let mut i = 0;
@@ -61,8 +61,8 @@ fn hex_value(line: &[u8]) -> u64
 
 // What 1 to 17 digits say, with the file from a place on. Seventeen are a top digit and a word.
 fn line_of(line: &[u8], at: usize) -> KeyLine
-    requires { (length line.now ≤ 17) × (allDigits line.now ≡ true) }
-    ensures { result ≡ line_of (hexFrom 0 line.now) at }
+    requires { (length line.now ≤ 17) × (all_digits line.now ≡ true) }
+    ensures { result ≡ line_of (hex_from 0 line.now) at }
 {
     if line.len() < 17 {
         return KeyLine::Key(acceptance::key_of(hex_value(line)), at);
@@ -86,7 +86,7 @@ fn line_of(line: &[u8], at: usize) -> KeyLine
 
 // The key that the first line of an input gives.
 pub fn key_line(input: &[u8]) -> KeyLine
-    ensures { result ≡ keyLine input.now }
+    ensures { result ≡ key_line input.now }
 {
     let n = bytes::scan::find(input, 0, input.len(), b'\n');
     if n == input.len() {

@@ -1,4 +1,4 @@
--- What the callers of the test rely on. A caller that takes the answer t apart has `tested t ≡ testKey x` and, of its arm, t ≡ Accepted p or
+-- What the callers of the test rely on. A caller that takes the answer t apart has `tested t ≡ test_key x` and, of its arm, t ≡ Accepted p or
 -- t ≡ Refused q.
 use mathlib.Core.Path.{◌≡◌, sym, ap, ◌∙◌}
 use mathlib.Core.List.{List, ◌++◌}
@@ -7,23 +7,23 @@ use Rattle.refusals.specs.declared.Refusal.{Refusal}
 use Rattle.refusals.specs.Refusals.{Refused, Test, first_of}
 use Rattle.refusals.proofs.Laws.{done-clear, more-refused}
 use Rattle.acceptance.specs.declared.Key.{Key}
-use Rattle.acceptance.specs.Keys.{asModulus, keyTests}
+use Rattle.acceptance.specs.Keys.{as_modulus, key_tests}
 use Rattle.acceptance.specs.Opened.{Opened}
-use Rattle.acceptance.proofs.Laws.{key-iff}
+use Rattle.acceptance.proofs.Laws.{key_iff}
 use Rattle.keys.specs.declared.Tested.{Tested}
 use Rattle.keys.specs.declared.Tested.TheVariants as cases
-use Rattle.keys.specs.Testing.{testKey}
+use Rattle.keys.specs.Testing.{test_key}
 use Rattle.keys.specs.Answers.{tested}
 
-module _ (t : Tested) (x : Key) (e : tested t ≡ testKey x) where
+module _ (t : Tested) (x : Key) (e : tested t ≡ test_key x) where
   -- the accepted key is opened
   pub opened : (p : Modulus) → t ≡ cases.Accepted p → Opened x p
-  unfolding testKey
+  unfolding test_key
   opened p a =
-      let c = done-clear (keyTests x) tt (asModulus x) p (sym e ∙ ap tested a) in
-      record { in-range = c.0.0; is-accepted = ((key-iff x).0 (c.0.0, c.0.1.0)).0; parts = sym c.1 }
+      let c = done-clear (key_tests x) tt (as_modulus x) p (sym e ∙ ap tested a) in
+      record { in_range = c.0.0; is-accepted = ((key_iff x).0 (c.0.0, c.0.1.0)).0; parts = sym c.1 }
 
   -- the tests of a call that begin with those of the key
-  pub refused : {S A : Type 0} (ts : List Test) (s : S) (v : A) (q : Refusal) → t ≡ cases.Refused q → first_of (keyTests x ++ ts) s v ≡ Refused q s
-  unfolding testKey
-  refused ts s v q a = more-refused (keyTests x) ts tt s (asModulus x) v q (sym e ∙ ap tested a)
+  pub refused : {S A : Type 0} (ts : List Test) (s : S) (v : A) (q : Refusal) → t ≡ cases.Refused q → first_of (key_tests x ++ ts) s v ≡ Refused q s
+  unfolding test_key
+  refused ts s v q a = more-refused (key_tests x) ts tt s (as_modulus x) v q (sym e ∙ ap tested a)

@@ -2,8 +2,8 @@
 use Rattle.gf2.specs.declared.Modulus.{Modulus}
 use Rattle.refusals.specs.Refusals.{Answer, first_of}
 use Rattle.acceptance.specs.declared.Key.{Key}
-use Rattle.acceptance.specs.Keys.{asModulus, keyTests}
+use Rattle.acceptance.specs.Keys.{as_modulus, key_tests}
 
 -- the opened key: its degree and the coefficients below
-unfoldable pub testKey : Key → Answer Unit Modulus
-testKey x = first_of (keyTests x) tt (asModulus x)
+unfoldable pub test_key : Key → Answer Unit Modulus
+test_key x = first_of (key_tests x) tt (as_modulus x)

@@ -1,8 +1,8 @@
 // The test of a key.
 ghost use Rattle.std.specs.Prelude.{◌≡◌, true};
 ghost use Rattle.acceptance.specs.Keys.{outside};
-ghost use Rattle.stock.specs.Stock.{stockWord};
-ghost use Rattle.keys.specs.Testing.{testKey};
+ghost use Rattle.stock.specs.Stock.{stock_word};
+ghost use Rattle.keys.specs.Testing.{test_key};
 ghost use Rattle.keys.specs.Answers.{tested};
 
 use acceptance::Key;
@@ -10,7 +10,7 @@ use gf2::Modulus;
 use refusals::Refusal;
 
 // The answer to the test of a key: the opened key, or a refusal.
-#[derive(Drop)]
+#[derive(Clone, Copy)]
 pub enum Tested {
     Accepted(Modulus),
     Refused(Refusal),
@@ -34,7 +34,7 @@ fn out_of_range(key: Key) -> bool
 
 // Is the key the stock key of its degree? The coefficients of a stock key below the leading one are below 256: no other key is looked up.
 fn is_stock(p: Modulus) -> bool
-    ensures { result ≡ true → p.low ≡ stockWord p.degree }
+    ensures { result ≡ true → p.low ≡ stock_word p.degree }
 {
     if 256 <= p.low {
         return false;
@@ -44,7 +44,7 @@ fn is_stock(p: Modulus) -> bool
 
 // Is the key accepted, and if not, by which number is it refused? The stock key of its degree is known to be accepted. Numbers 1, 2.
 pub fn test(key: Key) -> Tested
-    ensures { tested result ≡ testKey key }
+    ensures { tested result ≡ test_key key }
 {
     if out_of_range(key) {
         return Tested::Refused(Refusal::KeyRange);

@@ -3,14 +3,14 @@
 // degrees outside 8 to 64, and words with a bit at or above t^k.
 ghost use Rattle.std.specs.Prelude.{◌≡◌};
 ghost use Rattle.refusals.specs.Refusals.{number_of};
-ghost use Rattle.keys.specs.Testing.{testKey};
+ghost use Rattle.keys.specs.Testing.{test_key};
 
 use acceptance::Key;
 use keys::Tested;
 
 // The number of the refusal, 0 where the key is accepted.
 fn number_of(key: Key) -> u32
-    ensures { result ≡ number_of (testKey key) }
+    ensures { result ≡ number_of (test_key key) }
 {
     if let Tested::Refused(r) = keys::test(key) {
         return refusals::number(r);

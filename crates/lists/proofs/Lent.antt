@@ -7,30 +7,30 @@ use lib.ListN.{length, set, drop}
 use lib.Seq.{sets, take_all, take-nil, length-sets}
 use Rattle.lists.specs.Lists.{overlay}
 
-pub sets-append : (l : List ℕ) (i : ℕ) (x y : List ℕ) → sets l i (x ++ y) ≡ sets (sets l i x) (i + length x) y
-sets-append l i [] y = rw add-zero
-sets-append l i (a ∷ x) y = sets-append (set l i a) (suc i) x y ∙ rw (suc-add i (length x), add-suc i (length x))
+pub sets_append : (l : List ℕ) (i : ℕ) (x y : List ℕ) → sets l i (x ++ y) ≡ sets (sets l i x) (i + length x) y
+sets_append l i [] y = rw add-zero
+sets_append l i (a ∷ x) y = sets_append (set l i a) (suc i) x y ∙ rw (suc-add i (length x), add-suc i (length x))
 
 sets_behind : (y : ℕ) (l : List ℕ) (i : ℕ) (ns : List ℕ) → sets (y ∷ l) (suc i) ns ≡ y ∷ sets l i ns
 sets_behind y l i [] = refl
 sets_behind y l i (n ∷ ns) = sets_behind y (set l i n) (suc i) ns
 
-sets-empty : (i : ℕ) (ns : List ℕ) → sets {A = ℕ} [] i ns ≡ []
-sets-empty i [] = refl
-sets-empty i (n ∷ ns) = sets-empty (suc i) ns
+sets_empty : (i : ℕ) (ns : List ℕ) → sets {A = ℕ} [] i ns ≡ []
+sets_empty i [] = refl
+sets_empty i (n ∷ ns) = sets_empty (suc i) ns
 
 pub overlay-none : (l : List ℕ) → overlay [] l ≡ l
 unfolding overlay
 overlay-none l = ap (λ (r : List ℕ). r ++ l) (take-nil (length l))
 
-pub overlay-sets : (ns l : List ℕ) → overlay ns l ≡ sets l 0 ns
+pub overlay_sets : (ns l : List ℕ) → overlay ns l ≡ sets l 0 ns
 unfolding overlay
-overlay-sets [] l = overlay-none l
-overlay-sets (n ∷ ns) [] = sym (sets-empty 1 ns)
-overlay-sets (n ∷ ns) (w ∷ l) = ap (λ (r : List ℕ). n ∷ r) (overlay-sets ns l) ∙ sym (sets_behind n l 0 ns)
+overlay_sets [] l = overlay-none l
+overlay_sets (n ∷ ns) [] = sym (sets_empty 1 ns)
+overlay_sets (n ∷ ns) (w ∷ l) = ap (λ (r : List ℕ). n ∷ r) (overlay_sets ns l) ∙ sym (sets_behind n l 0 ns)
 
 pub overlay-length : (ns l : List ℕ) → length (overlay ns l) ≡ length l
-overlay-length ns l = ap length (overlay-sets ns l) ∙ length-sets l 0 ns
+overlay-length ns l = ap length (overlay_sets ns l) ∙ length-sets l 0 ns
 
 pub overlay-fits : (ns l : List ℕ) → length ns ≤ length l → overlay ns l ≡ ns ++ drop (length ns) l
 unfolding overlay

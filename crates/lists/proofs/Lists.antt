@@ -47,33 +47,33 @@ Some P (x ∷ xs) = P x ⊎ Some P xs
 -- ---- two lists, entry by entry
 
 module _ (f : ℕ → ℕ → ℕ) where
-  pub length-zipWith : (a b : List ℕ) → length a ≡ length b → length (zip_with f a b) ≡ length a
+  pub length_zip_with : (a b : List ℕ) → length a ≡ length b → length (zip_with f a b) ≡ length a
   unfolding zip_with
-  length-zipWith [] b l = refl
-  length-zipWith (x ∷ a) [] l = absurd (omega arith)
-  length-zipWith (x ∷ a) (y ∷ b) l = ap suc (length-zipWith a b (omega arith))
+  length_zip_with [] b l = refl
+  length_zip_with (x ∷ a) [] l = absurd (omega arith)
+  length_zip_with (x ∷ a) (y ∷ b) l = ap suc (length_zip_with a b (omega arith))
 
-  pub take-zipWith : (n : ℕ) (a b : List ℕ) → take n (zip_with f a b) ≡ zip_with f (take n a) (take n b)
+  pub take_zip_with : (n : ℕ) (a b : List ℕ) → take n (zip_with f a b) ≡ zip_with f (take n a) (take n b)
   unfolding zip_with
-  take-zipWith zero a b = refl
-  take-zipWith (suc n) [] b = refl
-  take-zipWith (suc n) (x ∷ a) [] = refl
-  take-zipWith (suc n) (x ∷ a) (y ∷ b) = ap {B = List ℕ} (λ r. f x y ∷ r) (take-zipWith n a b)
+  take_zip_with zero a b = refl
+  take_zip_with (suc n) [] b = refl
+  take_zip_with (suc n) (x ∷ a) [] = refl
+  take_zip_with (suc n) (x ∷ a) (y ∷ b) = ap {B = List ℕ} (λ r. f x y ∷ r) (take_zip_with n a b)
 
-  pub append-zipWith : (a b c d : List ℕ) → length a ≡ length b → zip_with f (a ++ c) (b ++ d) ≡ zip_with f a b ++ zip_with f c d
+  pub append_zip_with : (a b c d : List ℕ) → length a ≡ length b → zip_with f (a ++ c) (b ++ d) ≡ zip_with f a b ++ zip_with f c d
   unfolding zip_with
-  append-zipWith [] [] c d l = refl
-  append-zipWith [] (y ∷ b) c d l = absurd (omega arith)
-  append-zipWith (x ∷ a) [] c d l = absurd (omega arith)
-  append-zipWith (x ∷ a) (y ∷ b) c d l = ap {B = List ℕ} (λ r. f x y ∷ r) (append-zipWith a b c d (omega arith))
+  append_zip_with [] [] c d l = refl
+  append_zip_with [] (y ∷ b) c d l = absurd (omega arith)
+  append_zip_with (x ∷ a) [] c d l = absurd (omega arith)
+  append_zip_with (x ∷ a) (y ∷ b) c d l = ap {B = List ℕ} (λ r. f x y ∷ r) (append_zip_with a b c d (omega arith))
 
-  pub getD-zipWith : f 0 0 ≡ 0 → (a b : List ℕ) (i : ℕ) → length a ≡ length b → get_or (zip_with f a b) i 0 ≡ f (get_or a i 0) (get_or b i 0)
+  pub get_d_zip_with : f 0 0 ≡ 0 → (a b : List ℕ) (i : ℕ) → length a ≡ length b → get_or (zip_with f a b) i 0 ≡ f (get_or a i 0) (get_or b i 0)
   unfolding zip_with
-  getD-zipWith z [] [] i l = sym z
-  getD-zipWith z [] (y ∷ b) i l = absurd (omega arith)
-  getD-zipWith z (x ∷ a) [] i l = absurd (omega arith)
-  getD-zipWith z (x ∷ a) (y ∷ b) zero l = refl
-  getD-zipWith z (x ∷ a) (y ∷ b) (suc i) l = getD-zipWith z a b i (omega arith)
+  get_d_zip_with z [] [] i l = sym z
+  get_d_zip_with z [] (y ∷ b) i l = absurd (omega arith)
+  get_d_zip_with z (x ∷ a) [] i l = absurd (omega arith)
+  get_d_zip_with z (x ∷ a) (y ∷ b) zero l = refl
+  get_d_zip_with z (x ∷ a) (y ∷ b) (suc i) l = get_d_zip_with z a b i (omega arith)
 
 -- ---- a test at every entry
 
@@ -81,10 +81,10 @@ unfoldable pub every : (ℕ → Bool) → List ℕ → Bool
 every f [] = true
 every f (x ∷ xs) = f x && every f xs
 
-pub all-by-test : (f : ℕ → Bool) (xs : List ℕ) → T (every f xs) → All (λ x. T (f x)) xs
+pub all_by_test : (f : ℕ → Bool) (xs : List ℕ) → T (every f xs) → All (λ x. T (f x)) xs
 unfolding every
-all-by-test f [] t = tt
-all-by-test f (x ∷ xs) t = (and_left (f x) (every f xs) t, all-by-test f xs (and_right (f x) (every f xs) t))
+all_by_test f [] t = tt
+all_by_test f (x ∷ xs) t = (and_left (f x) (every f xs) t, all_by_test f xs (and_right (f x) (every f xs) t))
 
 -- ---- the same entries
 
@@ -110,19 +110,19 @@ above b (x ∷ xs) t =
     let l = ltb→lt b x (and_left (ltb b x) (rising x xs) t) in
     (l, all_map (λ y h. lt_trans l h) xs (above x xs (and_right (ltb b x) (rising x xs) t)))
 
-pub distinct-by-test : (b : ℕ) (xs : List ℕ) → T (rising b xs) → Distinct xs
+pub distinct_by_test : (b : ℕ) (xs : List ℕ) → T (rising b xs) → Distinct xs
 unfolding rising
-distinct-by-test b [] t = tt
-distinct-by-test b (x ∷ xs) t =
+distinct_by_test b [] t = tt
+distinct_by_test b (x ∷ xs) t =
     let s = and_right (ltb b x) (rising x xs) t in
-    (all_map (λ y h. ne_of_gt h) xs (above x xs s), distinct-by-test x xs s)
+    (all_map (λ y h. ne_of_gt h) xs (above x xs s), distinct_by_test x xs s)
 
 -- ---- listed values
 
-pub length-list : (f : ℕ → ℕ) (i n : ℕ) → length (list_from f i n) ≡ n
+pub length_list : (f : ℕ → ℕ) (i n : ℕ) → length (list_from f i n) ≡ n
 unfolding list_from
-length-list f i zero = refl
-length-list f i (suc n) = ap suc (length-list f (suc i) n)
+length_list f i zero = refl
+length_list f i (suc n) = ap suc (length_list f (suc i) n)
 
 pub list_at : (f : ℕ → ℕ) (a n i : ℕ) → i < n → get_or (list_from f a n) i 0 ≡ f (a + i)
 unfolding list_from
@@ -130,19 +130,19 @@ list_at f a zero i h = absurd (not-suc-le-zero h)
 list_at f a (suc n) zero h = rw add-zero
 list_at f a (suc n) (suc i) h = list_at f (suc a) n i (le_of_suc-le-suc h) ∙ rw (suc-add, add-suc)
 
-pub list-append : (f : ℕ → ℕ) (a m n : ℕ) → list_from f a (m + n) ≡ list_from f a m ++ list_from f (a + m) n
+pub list_append : (f : ℕ → ℕ) (a m n : ℕ) → list_from f a (m + n) ≡ list_from f a m ++ list_from f (a + m) n
 unfolding list_from
-list-append f a zero n = rw (zero-add, add-zero)
-list-append f a (suc m) n = rw (suc-add, add-suc) (ap (λ (xs : List ℕ). f a ∷ xs) (rw suc-add at (list-append f (suc a) m n)))
+list_append f a zero n = rw (zero-add, add-zero)
+list_append f a (suc m) n = rw (suc-add, add-suc) (ap (λ (xs : List ℕ). f a ∷ xs) (rw suc-add at (list_append f (suc a) m n)))
 
-pub list-more : (f : ℕ → ℕ) (a n : ℕ) → list_from f a (n + 1) ≡ list_from f a n ++ (f (a + n) ∷ [])
+pub list_more : (f : ℕ → ℕ) (a n : ℕ) → list_from f a (n + 1) ≡ list_from f a n ++ (f (a + n) ∷ [])
 unfolding list_from
-list-more f a n = list-append f a n 1
+list_more f a n = list_append f a n 1
 
-pub list-map : (f g : ℕ → ℕ) (a n : ℕ) → map g (list_from f a n) ≡ list_from (λ i. g (f i)) a n
+pub list_map : (f g : ℕ → ℕ) (a n : ℕ) → map g (list_from f a n) ≡ list_from (λ i. g (f i)) a n
 unfolding list_from
-list-map f g a zero = refl
-list-map f g a (suc n) = ap (λ (xs : List ℕ). g (f a) ∷ xs) (list-map f g (suc a) n)
+list_map f g a zero = refl
+list_map f g a (suc n) = ap (λ (xs : List ℕ). g (f a) ∷ xs) (list_map f g (suc a) n)
 
 -- the same values, counted from a or from b
 pub list_same : (f g : ℕ → ℕ) (a b n : ℕ) → ((i : ℕ) → i < n → f (a + i) ≡ g (b + i)) → list_from f a n ≡ list_from g b n
@@ -199,11 +199,11 @@ module _ (test : ℕ → Bool) where
   pub passing-above : (n c : ℕ) → All (λ y. n < y) (passing test (suc n) c)
   passing-above n c = all_map (λ y p. p.from) (passing test (suc n) c) (all-passing (suc n) c)
 
-  distinct-keep : (b : Bool) (n : ℕ) (xs : List ℕ) → All (λ y. n < y) xs → Distinct xs → Distinct (cond b (n ∷ xs) xs)
-  distinct-keep true n xs h d = (all_map (λ y l. ne_of_gt l) xs h, d)
-  distinct-keep false n xs h d = d
+  distinct_keep : (b : Bool) (n : ℕ) (xs : List ℕ) → All (λ y. n < y) xs → Distinct xs → Distinct (cond b (n ∷ xs) xs)
+  distinct_keep true n xs h d = (all_map (λ y l. ne_of_gt l) xs h, d)
+  distinct_keep false n xs h d = d
 
-  pub distinct-passing : (n c : ℕ) → Distinct (passing test n c)
+  pub distinct_passing : (n c : ℕ) → Distinct (passing test n c)
   unfolding passing
-  distinct-passing n zero = tt
-  distinct-passing n (suc c) = distinct-keep (test n) n (passing test (suc n) c) (passing-above n c) (distinct-passing (suc n) c)
+  distinct_passing n zero = tt
+  distinct_passing n (suc c) = distinct_keep (test n) n (passing test (suc n) c) (passing-above n c) (distinct_passing (suc n) c)

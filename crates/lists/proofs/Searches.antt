@@ -10,24 +10,24 @@ use native.Mathlib.Omega.{arith}
 use lib.Dec.{eqb}
 use borrow.Author.Tests.{eqb-true, eq-eqb, ne_eqb}
 use types.Run.{OneOf}
-use Rattle.lists.specs.Lists.{All, anyBelow}
-use Rattle.lists.specs.Searches.{firstFrom}
+use Rattle.lists.specs.Lists.{All, any_below}
+use Rattle.lists.specs.Searches.{first_from}
 use Rattle.lists.specs.Members.{among}
 use Rattle.lists.proofs.Truth.{or-neither}
 
 -- ---- whether some number below n passes
 
-pub any_false : (f : ℕ → Bool) (n d : ℕ) → anyBelow f n ≡ false → d < n → f d ≡ false
-unfolding anyBelow
+pub any_false : (f : ℕ → Bool) (n d : ℕ) → any_below f n ≡ false → d < n → f d ≡ false
+unfolding any_below
 any_false f zero d e l = absurd (not-suc-le-zero l)
-any_false f (suc n) d e l = go (ℕ_discrete d n) (λ m. any_false f n d (or-neither (f n) (anyBelow f n) e).1 m)
+any_false f (suc n) d e l = go (ℕ_discrete d n) (λ m. any_false f n d (or-neither (f n) (any_below f n) e).1 m)
   where
     go : Dec (d ≡ n) → (d < n → f d ≡ false) → f d ≡ false
-    go (yes q) h = rw q (or-neither (f n) (anyBelow f n) e).0
+    go (yes q) h = rw q (or-neither (f n) (any_below f n) e).0
     go (no q) h = h (omega arith)
 
-pub any_none : (f : ℕ → Bool) (n : ℕ) → ((d : ℕ) → d < n → f d ≡ false) → anyBelow f n ≡ false
-unfolding anyBelow
+pub any_none : (f : ℕ → Bool) (n : ℕ) → ((d : ℕ) → d < n → f d ≡ false) → any_below f n ≡ false
+unfolding any_below
 any_none f zero h = refl
 any_none f (suc n) h = rw (h n (le_refl (suc n))) (any_none f n (λ d l. h d (omega arith)))
 
@@ -39,22 +39,22 @@ skip false n m h = refl
 
 -- the search finds p, where p passes and nothing before it
 pub first-is : (f : ℕ → Bool) (n c p : ℕ) → n ≤ p → p < n + c → f p ≡ true → ((q : ℕ) → n ≤ q → q < p → f q ≡ true → ⊥)
-    → firstFrom f n c ≡ p
-unfolding firstFrom
+    → first_from f n c ≡ p
+unfolding first_from
 first-is f n zero p lo hi e none = absurd (omega arith)
 first-is f n (suc c) p lo hi e none = go (ℕ_discrete n p) (λ m. first-is f (suc n) c p m (omega arith) e (λ q l s. none q (omega arith) s))
   where
-    go : Dec (n ≡ p) → (suc n ≤ p → firstFrom f (suc n) c ≡ p) → cond (f n) n (firstFrom f (suc n) c) ≡ p
+    go : Dec (n ≡ p) → (suc n ≤ p → first_from f (suc n) c ≡ p) → cond (f n) n (first_from f (suc n) c) ≡ p
     go (yes d) rest = rw (ap f d ∙ e) d
-    go (no d) rest = skip (f n) n (firstFrom f (suc n) c) (none n (le_refl n) (omega arith)) ∙ rest (omega arith)
+    go (no d) rest = skip (f n) n (first_from f (suc n) c) (none n (le_refl n) (omega arith)) ∙ rest (omega arith)
 
 -- nothing before what it finds passes
-pub none_before : (f : ℕ → Bool) (n c q : ℕ) → n ≤ q → q < firstFrom f n c → f q ≡ false
-unfolding firstFrom
+pub none_before : (f : ℕ → Bool) (n c q : ℕ) → n ≤ q → q < first_from f n c → f q ≡ false
+unfolding first_from
 none_before f n zero q l h = absurd (omega arith)
 none_before f n (suc c) q l h = go (f n) refl h (ℕ_discrete n q) (none_before f (suc n) c q)
   where
-    go : (b : Bool) → f n ≡ b → q < cond b n (firstFrom f (suc n) c) → Dec (n ≡ q) → (suc n ≤ q → q < firstFrom f (suc n) c → f q ≡ false)
+    go : (b : Bool) → f n ≡ b → q < cond b n (first_from f (suc n) c) → Dec (n ≡ q) → (suc n ≤ q → q < first_from f (suc n) c → f q ≡ false)
         → f q ≡ false
     go true e h d rest = absurd (omega arith)
     go false e h (yes d) rest = ap f (sym d) ∙ e

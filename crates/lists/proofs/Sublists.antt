@@ -11,8 +11,8 @@ use lib.Seq.{ext_get_or, get_or-take, get_or-drop, take_at, drop_at, drop-length
 use borrow.Rule.Slice.PartMut.{put_mid, Post-is}
 
 -- before the place `first`, k entries from there on, and those behind
-pub three-parts : {A : Type 0} (first k : ℕ) (l : List A) → take first l ++ take k (drop first l) ++ drop k (drop first l) ≡ l
-three-parts first k l =
+pub three_parts : {A : Type 0} (first k : ℕ) (l : List A) → take first l ++ take k (drop first l) ++ drop k (drop first l) ≡ l
+three_parts first k l =
     append_assoc (take first l) (take k (drop first l)) (drop k (drop first l))
     ∙ ap (λ r. take first l ++ r) (take-append-drop k (drop first l))
     ∙ take-append-drop first l
@@ -43,20 +43,20 @@ module _ {A : Type 0} (d : A) (first k : ℕ) (a b : List A) (len : length a ≡
       (omega (arith, length-drop k (drop first a), length-drop first a, length-drop k (drop first b), length-drop first b))
       (λ i l. at a i ∙ agree (first + (k + i)) (inr (omega arith)) ∙ sym (at b i))
 
-  pub middles-length : length (take k (drop first a)) ≡ length (take k (drop first b))
-  middles-length = omega (arith, length-take k (drop first a), length-drop first a, length-take k (drop first b), length-drop first b)
+  pub middles_length : length (take k (drop first a)) ≡ length (take k (drop first b))
+  middles_length = omega (arith, length-take k (drop first a), length-drop first a, length-take k (drop first b), length-drop first b)
 
   -- the second list is the first with another middle
   pub other-middle : b ≡ take first a ++ take k (drop first b) ++ drop k (drop first a)
-  other-middle = sym (ap₂ (λ x y. x ++ take k (drop first b) ++ y) same-front same_back ∙ three-parts first k b)
+  other-middle = sym (ap₂ (λ x y. x ++ take k (drop first b) ++ y) same-front same_back ∙ three_parts first k b)
 
 module _ {A : Type 0} (a b common : List A) where
-  pub behind-common : common ++ a ≡ common ++ b → a ≡ b
-  behind-common e =
+  pub behind_common : common ++ a ≡ common ++ b → a ≡ b
+  behind_common e =
       sym (drop_at common a (length common) refl) ∙ ap (drop (length common)) e ∙ drop_at common b (length common) refl
 
-  pub before-common : a ++ common ≡ b ++ common → a ≡ b
-  before-common e =
+  pub before_common : a ++ common ≡ b ++ common → a ≡ b
+  before_common e =
       sym (take_at a common (length a) refl)
       ∙ ap (take (length a)) e
       ∙ take_at b common (length a) (omega (arith, ap length e, length-append a common, length-append b common))

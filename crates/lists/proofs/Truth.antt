@@ -11,8 +11,8 @@ pub or-neither : (a b : Bool) → (a || b) ≡ false → (a ≡ false) × (b ≡
 or-neither true b e = absurd (true≢false e)
 or-neither false b e = (refl, e)
 
-pub or-left-comm : (x y z : Bool) → (x || (y || z)) ≡ (y || (x || z))
-or-left-comm x y z = sym (or_assoc x y z) ∙ ap (λ (b : Bool). b || z) (or_comm x y) ∙ or_assoc y x z
+pub or-left_comm : (x y z : Bool) → (x || (y || z)) ≡ (y || (x || z))
+or-left_comm x y z = sym (or_assoc x y z) ∙ ap (λ (b : Bool). b || z) (or_comm x y) ∙ or_assoc y x z
 
 pub by_cases : (b : Bool) → (b ≡ true → ⊥) → b ≡ false
 by_cases true h = absurd (h refl)

@@ -13,9 +13,9 @@ passing test n zero = []
 passing test n (suc c) = cond (test n) (n ∷ passing test (suc n) c) (passing test (suc n) c)
 
 -- some number below n passes the test
-unfoldable pub anyBelow : (ℕ → Bool) → ℕ → Bool
-anyBelow f zero = false
-anyBelow f (suc n) = f n || anyBelow f n
+unfoldable pub any_below : (ℕ → Bool) → ℕ → Bool
+any_below f zero = false
+any_below f (suc n) = f n || any_below f n
 
 -- the same numbers in the same order
 unfoldable pub same : List ℕ → List ℕ → Bool

@@ -11,8 +11,8 @@ use lib.Pow.{pow_pos, pow_mono, pow-add, shr_lt, shr-shr, split, high, low, mod-
 use Rattle.gf2.specs.Polynomials.{◌⊕◌, ◌⊗◌, rem}
 use Rattle.gf2.specs.Moduli.{polynomial, Proper}
 use Rattle.gf2.specs.declared.Modulus.{Modulus}
-use Rattle.gf2.proofs.Sums.{⊕-append, ⊕-comm, ⊕-assoc, ⊕-zero, ⊕-mod}
-use Rattle.gf2.proofs.Products.{zero-⊗, ⊗-comm, ⊗-shl, ⊗-pow, ⊕-⊗}
+use Rattle.gf2.proofs.Sums.{⊕-append, ⊕_comm, ⊕_assoc, ⊕-zero, ⊕-mod}
+use Rattle.gf2.proofs.Products.{zero-⊗, ⊗_comm, ⊗_shl, ⊗-pow, ⊕-⊗}
 use Rattle.gf2.proofs.Powers.{rem-⊗-right}
 use Rattle.gf2.proofs.Residues.{rem-zero, rem-⊕}
 use Rattle.gf2.proofs.Monics.{monic-pos}
@@ -49,14 +49,14 @@ below-fits f v n j h l = lt_of_lt_of_le (rw (← (pow-add 2 j n)) at (digits_lt 
     (pow_mono {i = j + n} {j = 64} l)
 
 shift-over : (w h y : ℕ) → h ⊗ (y * 2 ^ w) ≡ h * 2 ^ w ⊗ y
-shift-over w h y = ⊗-shl w h y ∙ ap (λ (z : ℕ). z * 2 ^ w) (⊗-comm h y) ∙ sym (⊗-shl w y h) ∙ ⊗-comm y (h * 2 ^ w)
+shift-over w h y = ⊗_shl w h y ∙ ap (λ (z : ℕ). z * 2 ^ w) (⊗_comm h y) ∙ sym (⊗_shl w y h) ∙ ⊗_comm y (h * 2 ^ w)
 
 -- the low w bits of h and the others, times y
 digits : (w h y : ℕ) → h % 2 ^ w ⊗ y ⊕ h / 2 ^ w ⊗ (y * 2 ^ w) ≡ h ⊗ y
 digits w h y =
     ap (λ (z : ℕ). h % 2 ^ w ⊗ y ⊕ z) (shift-over w (h / 2 ^ w) y)
     ∙ sym (⊕-⊗ (h % 2 ^ w) (h / 2 ^ w * 2 ^ w) y)
-    ∙ ap (λ (z : ℕ). z ⊗ y) (⊕-comm (h % 2 ^ w) (h / 2 ^ w * 2 ^ w) ∙ ⊕-append (h / 2 ^ w) w (h % 2 ^ w) (mod-lt h (pow_pos w)) ∙ split h w)
+    ∙ ap (λ (z : ℕ). z ⊗ y) (⊕_comm (h % 2 ^ w) (h / 2 ^ w * 2 ^ w) ∙ ⊕-append (h / 2 ^ w) w (h % 2 ^ w) (mod-lt h (pow_pos w)) ∙ split h w)
 
 module _ (w : ℕ) {key : ℕ} (pos : 0 < key) (x c : ℕ) (words : List ℕ) (rows : Rows w key x c words) where
   -- n groups of w bits, the lowest looked up in row j
@@ -103,7 +103,7 @@ module _ (w : ℕ) (p : Modulus) (proper : Proper p) (words : List ℕ) (c : ℕ
       (looked-shift w pos k c words rows n (v / 2 ^ k) l (shr_lt {n = v} (w * n) k b))
       ∙ sym (rem-⊕ pos (v % 2 ^ k) (v / 2 ^ k * 2 ^ k))
       ∙ ap (rem (polynomial p))
-      (⊕-comm (v % 2 ^ k) (v / 2 ^ k * 2 ^ k)
+      (⊕_comm (v % 2 ^ k) (v / 2 ^ k * 2 ^ k)
       ∙ ⊕-append (v / 2 ^ k) k (v % 2 ^ k) (mod-lt v (pow_pos k))
       ∙ split v k)
 
@@ -176,15 +176,15 @@ top_lt f n k l h =
 
 -- ---- the sums as the code has them
 
-pub look-two : (words : List ℕ) (row h : ℕ) → get_or words (row * 256 + h % 256) 0 ⊕ get_or words (row * 256 + 256 + h / 256 % 256) 0 ≡ looked 8 words 2 row h
+pub look_two : (words : List ℕ) (row h : ℕ) → get_or words (row * 256 + h % 256) 0 ⊕ get_or words (row * 256 + 256 + h / 256 % 256) 0 ≡ looked 8 words 2 row h
 unfolding looked
-look-two words row h =
+look_two words row h =
     let e : row * 256 + 256 + h / 256 % 256 ≡ suc row * 256 + h / 256 % 256 = omega arith in
     rw (e, ⊕-zero)
 
-pub look-four : (words : List ℕ) (rest h : ℕ) → rest ⊕ looked 8 words 2 0 h ⊕ looked 8 words 2 2 (h / 65536) ≡ rest ⊕ looked 8 words 4 0 h
+pub look_four : (words : List ℕ) (rest h : ℕ) → rest ⊕ looked 8 words 2 0 h ⊕ looked 8 words 2 2 (h / 65536) ≡ rest ⊕ looked 8 words 4 0 h
 unfolding looked
-look-four words rest h = rw (← (shr-shr h 8 8)) (simp (⊕-assoc, ⊕-zero))
+look_four words rest h = rw (← (shr-shr h 8 8)) (simp (⊕_assoc, ⊕-zero))
 
 pub look_one : (words : List ℕ) (rest h : ℕ) → h < 256 → rest ⊕ get_or words h 0 ≡ rest ⊕ looked 8 words 1 0 h
 unfolding looked

@@ -12,7 +12,7 @@ use lib.ListN.{length, get_or}
 use lib.Pow.{pow-add, pow_pos, split}
 use borrow.Author.Tests.{eqb-true, eq-eqb, not-false}
 use Rattle.lists.specs.Lists.{list_from}
-use Rattle.lists.proofs.Lists.{length-list}
+use Rattle.lists.proofs.Lists.{length_list}
 use Rattle.lists.proofs.Truth.{or-neither}
 use Rattle.gf2.specs.Polynomials.{◌⊗◌, degree, rem}
 use Rattle.gf2.specs.Moduli.{polynomial, Proper}
@@ -82,10 +82,10 @@ table_is rule c words l f = table-only rule 0 words (none-differs rule words (λ
 
 -- what is known of the words where they are the table
 pub table-length : (rule : ℕ → ℕ) (c : ℕ) (words : List ℕ) → words ≡ list_from rule 0 c → length words ≡ c
-table-length rule c words e = ap length e ∙ length-list rule 0 c
+table-length rule c words e = ap length e ∙ length_list rule 0 c
 
-pub table-rule : (rule : ℕ → ℕ) (c : ℕ) (words : List ℕ) → words ≡ list_from rule 0 c → Follows rule (length words) words
-table-rule rule c words e = follows rule words (rw e (table-follows rule 0 c))
+pub table_rule : (rule : ℕ → ℕ) (c : ℕ) (words : List ℕ) → words ≡ list_from rule 0 c → Follows rule (length words) words
+table_rule rule c words e = follows rule words (rw e (table-follows rule 0 c))
 
 -- ---- the table and its rows, for every width and number of groups
 
@@ -101,8 +101,8 @@ module _ (w : ℕ) {key : ℕ} (pos : 0 < key) where
     pub follows-rows : Follows (word w key) (c * 2 ^ w) words → Rows w key (2 ^ degree key) c words
     follows-rows f j l i h = f (j * 2 ^ w + i) (digits_lt l h) ∙ word_row j i h
 
-    pub rows-follow : Rows w key (2 ^ degree key) c words → Follows (word w key) (c * 2 ^ w) words
-    rows-follow r n l =
+    pub rows_follow : Rows w key (2 ^ degree key) c words → Follows (word w key) (c * 2 ^ w) words
+    rows_follow r n l =
         let j = n / 2 ^ w in
         let h = mod-lt n (pow_pos w) in
         ap (λ (m : ℕ). get_or words m 0) (sym (split n w))
@@ -121,7 +121,7 @@ module _ (p : Modulus) (words : List ℕ) where
       let rule = word 8 (polynomial p) in
       let m = t.0.2 in
       rw (monic-degree p.degree p.low m) at
-      (follows-rows 8 (monic-pos p.degree p.low m) words 4 (λ n l. table-rule rule 1024 words t.2 n (rw (table-long t) l)))
+      (follows-rows 8 (monic-pos p.degree p.low m) words 4 (λ n l. table_rule rule 1024 words t.2 n (rw (table-long t) l)))
 
   -- the words for four bytes are words for one
   pub first-row : TableOf p words → ReducesByte p words
@@ -138,15 +138,15 @@ module _ (p : Modulus) (words : List ℕ) where
         ∙ sym (residue-top p.degree p.low proper.2)
         ∙ ap (λ (n : ℕ). rem (polynomial p) (2 ^ n)) (sym (monic-degree p.degree p.low proper.2))
 
-    rows-iff : Rows 8 (polynomial p) p.low 4 words ↔ Follows (word 8 (polynomial p)) (length words) words
-    rows-iff = (
-      λ r n l. rows-follow 8 pos words 4 (rows_same pos 8 p.low (2 ^ degree (polynomial p)) 4 words same_start r) n (rw long at l),
+    rows_iff : Rows 8 (polynomial p) p.low 4 words ↔ Follows (word 8 (polynomial p)) (length words) words
+    rows_iff = (
+      λ r n l. rows_follow 8 pos words 4 (rows_same pos 8 p.low (2 ^ degree (polynomial p)) 4 words same_start r) n (rw long at l),
       λ f. rows_same pos 8 (2 ^ degree (polynomial p)) p.low 4 words (sym same_start) (follows-rows 8 pos words 4 (λ n l. f n (rw long l))),
     )
 
     pub table-made : Rows 8 (polynomial p) p.low 4 words → Table (polynomial p) words
-    table-made r = table_is (word 8 (polynomial p)) 1024 words long (λ n l. rows-iff.0 r n (rw long l))
+    table-made r = table_is (word 8 (polynomial p)) 1024 words long (λ n l. rows_iff.0 r n (rw long l))
 
     pub table-told : (b : Bool) → (b ≡ true) ↔ Rows 8 (polynomial p) p.low 4 words → b ≡ not (differs (word 8 (polynomial p)) 0 words)
-    table-told true h = rw (none-differs (word 8 (polynomial p)) words (rows-iff.0 (h.0 refl)))
-    table-told false h = rw (some-differs (word 8 (polynomial p)) words (λ f. true≢false (sym (h.1 (rows-iff.1 f)))))
+    table-told true h = rw (none-differs (word 8 (polynomial p)) words (rows_iff.0 (h.0 refl)))
+    table-told false h = rw (some-differs (word 8 (polynomial p)) words (λ f. true≢false (sym (h.1 (rows_iff.1 f)))))

@@ -3,7 +3,7 @@
 ghost use Rattle.std.specs.Prelude.{◌≡◌, ◌+◌, ◌*◌, ◌%◌, ◌^◌, ◌≤◌, ◌<◌, length, drop, not};
 ghost use Rattle.gf2.specs.Polynomials.{◌⊕◌, rem};
 ghost use Rattle.gf2.specs.Moduli.{polynomial, Proper};
-ghost use Rattle.files.specs.Files.{bits, valueFrom};
+ghost use Rattle.files.specs.Files.{bits, value_from};
 ghost use Rattle.lookups.specs.Rule.{word, differs};
 ghost use Rattle.lookups.specs.Groups.{Table, TableOf, looked, ReducesByte, Appended};
 
@@ -127,7 +127,7 @@ pub fn residue(words: &[u64], p: Modulus, x: u64) -> u64
 // The bytes from place `from` on, one at a time.
 fn feed_tail(words: &[u64], p: Modulus, f: u64, part: &[u8], from: usize) -> u64
     requires { TableOf p words.now × (f < 2 ^ p.degree) × (from ≤ length part.now) }
-    ensures { result ≡ rem (polynomial p) (valueFrom f (bits (drop from part.now))) }
+    ensures { result ≡ rem (polynomial p) (value_from f (bits (drop from part.now))) }
 {
     let mut x = f;
     let mut i = from;
@@ -141,7 +141,7 @@ fn feed_tail(words: &[u64], p: Modulus, f: u64, part: &[u8], from: usize) -> u64
 // One lane: four bytes at a time, and the last ones one at a time.
 pub fn feed_lane(words: &[u64], p: Modulus, f: u64, part: &[u8]) -> u64
     requires { TableOf p words.now × (f < 2 ^ p.degree) }
-    ensures { result ≡ rem (polynomial p) (valueFrom f (bits part.now)) }
+    ensures { result ≡ rem (polynomial p) (value_from f (bits part.now)) }
 {
     let mut x = f;
     let mut i: usize = 0;

@@ -17,7 +17,7 @@ use Rattle.input_calls.specs.declared.Input.{Input}
 use Rattle.input_calls.specs.Reading.{given, over, Read, Gave}
 use Rattle.input_calls.specs.contracts.Got.{the_type}
 use Rattle.input_calls.proofs.Answers.{counts}
-use Rattle.input_reading.proofs.Given.{read-bytes, read_none, gave-none, gave-append, gave_one, flatten-append, flatten-one}
+use Rattle.input_reading.proofs.Given.{read-bytes, read_none, gave-none, gave-append, gave_one, flatten_append, flatten_one}
 use Rattle.mark.specs.declared.Head.{Head}
 use Rattle.mark.specs.Heads.{HeadRead}
 
@@ -46,13 +46,13 @@ module _ (input at : Input) (done : ℕ) (before : List ℕ) (s : Stands input a
         let b = read-bytes at next (drop done head) read n e in
         (b.0.0, omega (arith, b.0.1.0, length-drop done head))
 
-    pub bytes-stand : Stands input next (done + n) head
-    bytes-stand = (
+    pub bytes_stand : Stands input next (done + n) head
+    bytes_stand = (
       s.0 ++ take n (drop done head) ∷ [],
       (
         gave-append input at next s.0 (take n (drop done head) ∷ []) s.1.0 (gave_one at next (drop done head) n read e),
-        flatten-append s.0 (take n (drop done head) ∷ [])
-            ∙ ap (λ (l : List ℕ). flatten s.0 ++ l) (flatten-one (take n (drop done head)))
+        flatten_append s.0 (take n (drop done head) ∷ [])
+            ∙ ap (λ (l : List ℕ). flatten s.0 ++ l) (flatten_one (take n (drop done head)))
             ∙ ap (λ (l : List ℕ). l ++ take n (drop done head)) (s.1.1 ∙ sym same)
             ∙ sym (take-add done n head),
       ),
@@ -66,14 +66,14 @@ module _ (input at : Input) (done : ℕ) (before : List ℕ) (s : Stands input a
   none_more z = (s.0, ((s.1.0.0, read_none at next (drop done head) read z ∙ s.1.0.1), s.1.1 ∙ sym same))
 
 -- a read that gave no bytes and was not interrupted
-pub over-now : (g : Got) → (tag_of the_type g ≡ 1) ⊎ ((tag_of the_type g ≡ 2) ⊎ (tag_of the_type g ≡ 3)) → (g ≡ Interrupted → ⊥)
+pub over_now : (g : Got) → (tag_of the_type g ≡ 1) ⊎ ((tag_of the_type g ≡ 2) ⊎ (tag_of the_type g ≡ 3)) → (g ≡ Interrupted → ⊥)
     → (over g ≡ true) × (given g ≡ 0)
-over-now (Bytes n) (inl e) never = absurd (omega arith)
-over-now (Bytes n) (inr (inl e)) never = absurd (omega arith)
-over-now (Bytes n) (inr (inr e)) never = absurd (omega arith)
-over-now End k never = (refl, refl)
-over-now Interrupted k never = absurd (never refl)
-over-now Failed k never = (refl, refl)
+over_now (Bytes n) (inl e) never = absurd (omega arith)
+over_now (Bytes n) (inr (inl e)) never = absurd (omega arith)
+over_now (Bytes n) (inr (inr e)) never = absurd (omega arith)
+over_now End k never = (refl, refl)
+over_now Interrupted k never = absurd (never refl)
+over_now Failed k never = (refl, refl)
 
 -- a number that is 0, 1 or 2 is not 3
 pub not_three : (x : ℕ) → (x ≡ 0) ⊎ ((x ≡ 1) ⊎ (x ≡ 2)) → x ≡ 3 → ⊥
@@ -81,9 +81,9 @@ not_three x (inl a) e = omega arith
 not_three x (inr (inl a)) e = omega arith
 not_three x (inr (inr a)) e = omega arith
 
-pub read-so : (input at : Input) (done : ℕ) (head : List ℕ) → done ≤ length head → Stands input at done head → Going false at done head
+pub read_so : (input at : Input) (done : ℕ) (head : List ℕ) → done ≤ length head → Stands input at done head → Going false at done head
     → HeadRead input head (record { count = done; input = at })
-read-so input at done head l s g = (counts done head l, (g, s))
+read_so input at done head l s g = (counts done head l, (g, s))
 
 -- the head has less room than before, or nothing more is read
 pub fuller : (done n : ℕ) (b more : Bool) → 0 < n → done + n ≤ 18 → more ≡ true → 18 - (done + n) + cond b 1 0 < 18 - done + cond more 1 0

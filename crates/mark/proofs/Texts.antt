@@ -13,32 +13,32 @@ use Rattle.refusals.specs.declared.Refusal.TheVariants.{KeyRange, TooLong}
 use Rattle.refusals.specs.Refusals.{Answer, Done, Refused, Test, ◌⇒◌, first_of, passes}
 use Rattle.refusals.proofs.Laws.{done-clear}
 use Rattle.acceptance.specs.declared.Key.{Key}
-use Rattle.acceptance.specs.Keys.{polynomialOf, outside, keyTests}
+use Rattle.acceptance.specs.Keys.{polynomial_of, outside, key_tests}
 use Rattle.files.specs.declared.Mark.{Mark}
 use Rattle.files.specs.Files.{bits, mark_of}
 use Rattle.marks.specs.declared.Running.{Running}
-use Rattle.marks.specs.Answers.{begunUnder}
+use Rattle.marks.specs.Answers.{begun_under}
 use Rattle.key_lines.specs.declared.KeyLine.{KeyLine}
-use Rattle.key_lines.specs.declared.KeyLine.TheVariants as line-cases
-use Rattle.key_lines.specs.KeyLines.{keyLine}
+use Rattle.key_lines.specs.declared.KeyLine.TheVariants as LineCases
+use Rattle.key_lines.specs.KeyLines.{key_line}
 use Rattle.key_lines.specs.Deciding.{undecided}
-use Rattle.printing.specs.Printing.{noKey, refused, report, answerText, markFile, printedAfter, printed}
-use Rattle.printing.proofs.Settled.{none-settled, large-settled, refused-settled}
+use Rattle.printing.specs.Printing.{no_key, refused, report, answer_text, mark_file, printed_after, printed}
+use Rattle.printing.proofs.Settled.{none_settled, large_settled, refused_settled}
 use Rattle.numerals.specs.Buffers.{PutInFront}
 use Rattle.key_lines.proofs.Laws.{key-within, key-stays}
 use Rattle.input_calls.specs.declared.Got.{Got}
-use Rattle.input_calls.specs.declared.Got.TheVariants as got-cases
+use Rattle.input_calls.specs.declared.Got.TheVariants as GotCases
 use Rattle.input_calls.specs.declared.Input.{Input}
 use Rattle.input_calls.specs.Reading.{over, Gave}
-use Rattle.input_calls.proofs.Answers.{true-false}
-use Rattle.input_reading.proofs.Given.{gave-none, gave-append, flatten-append}
+use Rattle.input_calls.proofs.Answers.{true_false}
+use Rattle.input_reading.proofs.Given.{gave-none, gave-append, flatten_append}
 use Rattle.input_feeding.specs.declared.Marked.{Marked}
-use Rattle.input_feeding.specs.declared.Marked.TheVariants as marked-cases
+use Rattle.input_feeding.specs.declared.Marked.TheVariants as MarkedCases
 use Rattle.input_feeding.specs.declared.Marking.{Marking}
 use Rattle.input_feeding.specs.Marking.{Gives, MarkedInParts}
 use Rattle.input_feeding.proofs.Feeds.{done_refused}
 use Rattle.mark.specs.declared.Front.{Front}
-use Rattle.mark.specs.declared.Front.TheVariants as front-cases
+use Rattle.mark.specs.declared.Front.TheVariants as FrontCases
 use Rattle.mark.specs.declared.Text.{Text}
 use Rattle.mark.specs.declared.Head.{Head}
 use Rattle.mark.specs.Program.{Settled, Told, Ran}
@@ -50,73 +50,73 @@ from at l = take_all (length l - at) (drop at l) (omega (arith, length-drop at l
 
 module _ (head before after : List ℕ) (n : ℕ) (input : Input) (known : Known head input) where
   -- of the head alone
-  head-printed : (line : KeyLine) → keyLine head ≡ line → (undecided head ≡ false → Settled head) → PutInFront before after n (printedAfter line head)
-      → Answered head input before after (told (front-cases.Bytes n) input)
+  head-printed : (line : KeyLine) → key_line head ≡ line → (undecided head ≡ false → Settled head) → PutInFront before after n (printed_after line head)
+      → Answered head input before after (told (FrontCases.Bytes n) input)
   unfolding flatten printed
   head-printed line e settles p = (
     [],
     (
       gave-none input input refl,
-      (subst (PutInFront before after n) (sym (ap printed (append-nil head) ∙ ap (λ (l : KeyLine). printedAfter l head) e)) p, go known),
+      (subst (PutInFront before after n) (sym (ap printed (append-nil head) ∙ ap (λ (l : KeyLine). printed_after l head) e)) p, go known),
     ),
   )
     where
-      go : Known head input → (input.last ≡ got-cases.End) ⊎ Settled (head ++ [])
+      go : Known head input → (input.last ≡ GotCases.End) ⊎ Settled (head ++ [])
       go (inl d) = inr (subst Settled (sym (append-nil head)) (settles d))
       go (inr l) = inl l
 
-  pub none-printed : keyLine head ≡ line-cases.NoKey → PutInFront before after n noKey → Answered head input before after (told (front-cases.Bytes n) input)
-  none-printed e p = head-printed line-cases.NoKey e (λ d more. none-settled head more d e) p
+  pub none-printed : key_line head ≡ LineCases.NoKey → PutInFront before after n no_key → Answered head input before after (told (FrontCases.Bytes n) input)
+  none-printed e p = head-printed LineCases.NoKey e (λ d more. none_settled head more d e) p
 
-  pub large-printed : keyLine head ≡ line-cases.TooLarge → PutInFront before after n (refused KeyRange)
-      → Answered head input before after (told (front-cases.Bytes n) input)
-  large-printed e p = head-printed line-cases.TooLarge e (λ d more. large-settled head more e) p
+  pub large_printed : key_line head ≡ LineCases.TooLarge → PutInFront before after n (refused KeyRange)
+      → Answered head input before after (told (FrontCases.Bytes n) input)
+  large_printed e p = head-printed LineCases.TooLarge e (λ d more. large_settled head more e) p
 
 -- of the file behind the key's line
-module _ (head before after : List ℕ) (input : Input) (key : Key) (at : ℕ) (line : keyLine head ≡ line-cases.Key key at) (r : Marking)
+module _ (head before after : List ℕ) (input : Input) (key : Key) (at : ℕ) (line : key_line head ≡ LineCases.Key key at) (r : Marking)
     (p : MarkedInParts key (drop at head) input r) where
   file-at : drop at (head ++ flatten p.0) ≡ drop at head ++ flatten p.0
   file-at = drop-append-le at head (flatten p.0) (key-within head key at line)
 
-  printed-is : (a : Answer Unit Running) → markFile key (drop at head ++ flatten p.0) ≡ a → printed (head ++ flatten p.0) ≡ answerText a
+  printed-is : (a : Answer Unit Running) → mark_file key (drop at head ++ flatten p.0) ≡ a → printed (head ++ flatten p.0) ≡ answer_text a
   unfolding printed
   printed-is a e =
-      ap (λ (l : KeyLine). printedAfter l (head ++ flatten p.0)) (key-stays head (flatten p.0) key at line)
-      ∙ ap (λ (file : List ℕ). answerText (markFile key file)) file-at
-      ∙ ap answerText e
+      ap (λ (l : KeyLine). printed_after l (head ++ flatten p.0)) (key-stays head (flatten p.0) key at line)
+      ∙ ap (λ (file : List ℕ). answer_text (mark_file key file)) file-at
+      ∙ ap answer_text e
 
-  gives : (s : Marked) → r.marked ≡ s → Gives s r.input.last (markFile key (drop at head ++ flatten p.0))
-  gives s e = subst (λ (x : Marked). Gives x r.input.last (markFile key (drop at head ++ flatten p.0))) e p.1.1
+  gives : (s : Marked) → r.marked ≡ s → Gives s r.input.last (mark_file key (drop at head ++ flatten p.0))
+  gives s e = subst (λ (x : Marked). Gives x r.input.last (mark_file key (drop at head ++ flatten p.0))) e p.1.1
 
-  pub done-printed : (n : ℕ) (m : Running) → r.marked ≡ marked-cases.Done m → PutInFront before after n (report m)
-      → Answered head input before after (told (front-cases.Bytes n) r.input)
+  pub done-printed : (n : ℕ) (m : Running) → r.marked ≡ MarkedCases.Done m → PutInFront before after n (report m)
+      → Answered head input before after (told (FrontCases.Bytes n) r.input)
   done-printed n m e put =
-      let g = gives (marked-cases.Done m) e in
+      let g = gives (MarkedCases.Done m) e in
       (p.0, (p.1.0, (subst (PutInFront before after n) (sym (printed-is (Done m) g.1)) put, inl g.0)))
 
-  pub refused-printed : (n : ℕ) (q : Refusal) → r.marked ≡ marked-cases.Refused q → PutInFront before after n (refused q)
-      → Answered head input before after (told (front-cases.Bytes n) r.input)
+  pub refused-printed : (n : ℕ) (q : Refusal) → r.marked ≡ MarkedCases.Refused q → PutInFront before after n (refused q)
+      → Answered head input before after (told (FrontCases.Bytes n) r.input)
   refused-printed n q e put =
-      let g = gives (marked-cases.Refused q) e in (
+      let g = gives (MarkedCases.Refused q) e in (
         p.0,
         (
           p.1.0,
           (
             subst (PutInFront before after n) (sym (printed-is (Refused q tt) g)) put,
-            inr (λ more. refused-settled (head ++ flatten p.0) more key at q (key-stays head (flatten p.0) key at line) (ap (markFile key) file-at ∙ g)),
+            inr (λ more. refused_settled (head ++ flatten p.0) more key at q (key-stays head (flatten p.0) key at line) (ap (mark_file key) file-at ∙ g)),
           ),
         ),
       )
 
-  pub unread-printed : r.marked ≡ marked-cases.Unread → Answered head input before before (told front-cases.Unread r.input)
-  unread-printed e = (p.0, (p.1.0, (refl, gives marked-cases.Unread e)))
+  pub unread-printed : r.marked ≡ MarkedCases.Unread → Answered head input before before (told FrontCases.Unread r.input)
+  unread-printed e = (p.0, (p.1.0, (refl, gives MarkedCases.Unread e)))
 
 -- a mark that was made has a key to which number 1 does not apply
-pub marked-range : (key : Key) (first : List ℕ) (input : Input) (r : Marking) (m : Running) → MarkedInParts key first input r
-    → r.marked ≡ marked-cases.Done m → outside m.key ≡ false
-unfolding markFile
-marked-range key first input r m p e =
-    go (first_of (keyTests key ++ rest) tt mark) refl (subst (λ (s : Marked). Gives s r.input.last (markFile key file)) e p.1.1).1
+pub marked_range : (key : Key) (first : List ℕ) (input : Input) (r : Marking) (m : Running) → MarkedInParts key first input r
+    → r.marked ≡ MarkedCases.Done m → outside m.key ≡ false
+unfolding mark_file
+marked_range key first input r m p e =
+    go (first_of (key_tests key ++ rest) tt mark) refl (subst (λ (s : Marked). Gives s r.input.last (mark_file key file)) e p.1.1).1
   where
     file : List ℕ
     file = first ++ flatten p.0
@@ -125,39 +125,39 @@ marked-range key first input r m p e =
     rest = passes (8 * length file ∷ []) ⇒ TooLong ∷ []
 
     mark : Mark
-    mark = mark_of (polynomialOf key) (bits file)
+    mark = mark_of (polynomial_of key) (bits file)
 
-    keyIn : Answer Unit Running → Key
-    keyIn (Done n) = n.key
-    keyIn (Refused q s) = key
+    key_in : Answer Unit Running → Key
+    key_in (Done n) = n.key
+    key_in (Refused q s) = key
 
-    go : (a : Answer Unit Mark) → first_of (keyTests key ++ rest) tt mark ≡ a → begunUnder key a ≡ Done m → outside m.key ≡ false
+    go : (a : Answer Unit Mark) → first_of (key_tests key ++ rest) tt mark ≡ a → begun_under key a ≡ Done m → outside m.key ≡ false
     go (Done x) t u =
-        let is : key ≡ m.key = ap keyIn u in
-        rw (sym is) (done-clear (keyTests key ++ rest) tt mark x t).0.0
+        let is : key ≡ m.key = ap key_in u in
+        rw (sym is) (done-clear (key_tests key ++ rest) tt mark x t).0.0
     go (Refused q s) t u = absurd (done_refused (sym u))
 
 -- ---- the head, and what is read behind it
 
 -- where the input is over and no read failed, one gave the end
-pub ended : (input : Input) → over input.last ≡ true → (input.last ≡ got-cases.Failed → ⊥) → input.last ≡ got-cases.End
+pub ended : (input : Input) → over input.last ≡ true → (input.last ≡ GotCases.Failed → ⊥) → input.last ≡ GotCases.End
 ended input o never = go input.last refl
   where
-    go : (g : Got) → input.last ≡ g → input.last ≡ got-cases.End
-    go (got-cases.Bytes n) t = absurd (true-false (sym o ∙ ap over t))
-    go got-cases.End t = t
-    go got-cases.Interrupted t = absurd (true-false (sym o ∙ ap over t))
-    go got-cases.Failed t = absurd (never t)
+    go : (g : Got) → input.last ≡ g → input.last ≡ GotCases.End
+    go (GotCases.Bytes n) t = absurd (true_false (sym o ∙ ap over t))
+    go GotCases.End t = t
+    go GotCases.Interrupted t = absurd (true_false (sym o ∙ ap over t))
+    go GotCases.Failed t = absurd (never t)
 
 module _ (input : Input) (head : List ℕ) (h : Head) (read : HeadRead input head h) where
-  pub head-known : (h.input.last ≡ got-cases.Failed → ⊥) → Known (take h.count head) h.input
+  pub head-known : (h.input.last ≡ GotCases.Failed → ⊥) → Known (take h.count head) h.input
   head-known never = go read.1.0
     where
       go : (undecided (take h.count head) ≡ false) ⊎ (over h.input.last ≡ true) → Known (take h.count head) h.input
       go (inl d) = inl d
       go (inr o) = inr (ended h.input o never)
 
-  pub head-failed : (before : List ℕ) → h.input.last ≡ got-cases.Failed → Ran input before before (told front-cases.Unread h.input)
+  pub head-failed : (before : List ℕ) → h.input.last ≡ GotCases.Failed → Ran input before before (told FrontCases.Unread h.input)
   head-failed before e = (read.1.1.0, (read.1.1.1.0, (refl, e)))
 
   pub head-answered : (before after : List ℕ) (r : Text) → Answered (take h.count head) h.input before after r → Ran input before after r
@@ -166,9 +166,9 @@ module _ (input : Input) (head : List ℕ) (h : Head) (read : HeadRead input hea
     (
       gave-append input h.input r.input read.1.1.0 p.0 read.1.1.1.0 p.1.0,
       subst (λ (bytes : List ℕ). Told r.front bytes r.input.last before after)
-          (ap (λ (l : List ℕ). l ++ flatten p.0) (sym read.1.1.1.1) ∙ sym (flatten-append read.1.1.0 p.0)) p.1.1,
+          (ap (λ (l : List ℕ). l ++ flatten p.0) (sym read.1.1.1.1) ∙ sym (flatten_append read.1.1.0 p.0)) p.1.1,
     ),
   )
 
-pub text-counts : (input : Input) (before after : List ℕ) (r : Text) (n : ℕ) → Ran input before after r → r.front ≡ front-cases.Bytes n → IsPrefixLen n after
+pub text-counts : (input : Input) (before after : List ℕ) (r : Text) (n : ℕ) → Ran input before after r → r.front ≡ FrontCases.Bytes n → IsPrefixLen n after
 text-counts input before after r n p e = (subst (λ (x : Front). Told x (flatten p.0) r.input.last before after) e p.1.1).0.1.0

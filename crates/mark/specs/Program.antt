@@ -8,7 +8,7 @@ use Rattle.input_calls.specs.declared.Got.TheVariants.{End, Failed}
 use Rattle.input_calls.specs.declared.Input.{Input}
 use Rattle.input_calls.specs.Reading.{Gave}
 use Rattle.mark.specs.declared.Front.{Front}
-use Rattle.mark.specs.declared.Front.TheVariants as front-cases
+use Rattle.mark.specs.declared.Front.TheVariants as FrontCases
 use Rattle.mark.specs.declared.Text.{Text}
 
 -- no byte behind these changes the text
@@ -18,8 +18,8 @@ Settled bytes = (more : List ℕ) → printed (bytes ++ more) ≡ printed bytes
 -- a buffer before and after, by what was read and what the last read gave: the text is at its front, where that was the end or more would change
 -- nothing; or a read failed, and the buffer stays
 abbrev pub Told : Front → List ℕ → Got → List ℕ → List ℕ → Type 0
-Told (front-cases.Bytes n) bytes got before after = PutInFront before after n (printed bytes) × ((got ≡ End) ⊎ Settled bytes)
-Told front-cases.Unread bytes got before after = (after ≡ before) × (got ≡ Failed)
+Told (FrontCases.Bytes n) bytes got before after = PutInFront before after n (printed bytes) × ((got ≡ End) ⊎ Settled bytes)
+Told FrontCases.Unread bytes got before after = (after ≡ before) × (got ≡ Failed)
 
 -- the program, from a state of the input on
 abbrev pub Ran : Input → List ℕ → List ℕ → Text → Type 0

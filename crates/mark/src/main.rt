@@ -18,21 +18,21 @@ use libc::{STDERR_FILENO, STDOUT_FILENO};
 use refusals::Refusal;
 
 // The length of the text at the front of a buffer, or that standard input cannot be read.
-#[derive(Drop)]
+#[derive(Clone, Copy)]
 enum Front {
     Bytes(usize),
     Unread,
 }
 
 // The same, and the input as it was left.
-#[derive(Drop)]
+#[derive(Clone, Copy)]
 struct Text {
     front: Front,
     input: Input,
 }
 
 // The bytes at the front of the head, and the input behind them.
-#[derive(Drop)]
+#[derive(Clone, Copy)]
 struct Head {
     count: usize,
     input: Input,

@@ -12,15 +12,15 @@ use Rattle.refusals.specs.declared.Refusal.TheVariants.{TooLong, MarkNotReduced,
 use Rattle.refusals.specs.Refusals.{Answer, Done, Refused, first_of, passes}
 use Rattle.refusals.proofs.Laws.{holds, fails}
 use Rattle.files.specs.declared.Mark.{Mark}
-use Rattle.files.specs.Files.{unreduced, Part, partLength, misused}
-use Rattle.mark_tests.specs.MarkTests.{feedTests}
+use Rattle.files.specs.Files.{unreduced, Part, part_length, misused}
+use Rattle.mark_tests.specs.MarkTests.{feed_tests}
 
 module _ (key : ℕ) (m : Mark) (part : Part) (v : ℕ) where
   abbrev lengths : List ℕ
-  lengths = m.length ∷ partLength part ∷ (m.length + partLength part) ∷ []
+  lengths = m.length ∷ part_length part ∷ (m.length + part_length part) ∷ []
 
   abbrev answer : Answer Unit ℕ
-  answer = first_of (feedTests key m part) tt v
+  answer = first_of (feed_tests key m part) tt v
 
   pub feed-long : passes lengths ≡ true → answer ≡ Refused TooLong tt
   feed-long e = rw e

@@ -2,9 +2,9 @@
 use Rattle.std.specs.Prelude.{ℕ}
 use Rattle.refusals.specs.Refusals.{Answer, Done, Refused}
 use Rattle.mark_tests.specs.declared.Measured.{Measured}
-use Rattle.mark_tests.specs.declared.Measured.TheVariants as measured-cases
+use Rattle.mark_tests.specs.declared.Measured.TheVariants as MeasuredCases
 
 -- the length that feeding gives
 abbrev pub measured : Measured → Answer Unit ℕ
-measured (measured-cases.Length n) = Done n
-measured (measured-cases.Refused r) = Refused r tt
+measured (MeasuredCases.Length n) = Done n
+measured (MeasuredCases.Refused r) = Refused r tt

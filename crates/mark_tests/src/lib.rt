@@ -3,8 +3,8 @@
 ghost use Rattle.std.specs.Prelude.{◌≡◌, ◌+◌};
 ghost use Rattle.gf2.specs.Moduli.{polynomial, Proper};
 ghost use Rattle.refusals.specs.Refusals.{first_of};
-ghost use Rattle.files.specs.Files.{asPart, partLength};
-ghost use Rattle.mark_tests.specs.MarkTests.{feedTests};
+ghost use Rattle.files.specs.Files.{as_part, part_length};
+ghost use Rattle.mark_tests.specs.MarkTests.{feed_tests};
 ghost use Rattle.mark_tests.specs.Answers.{measured};
 
 use files::Mark;
@@ -12,7 +12,7 @@ use gf2::Modulus;
 use refusals::Refusal;
 
 // The answer to judging a mark and a part: the length in bits that feeding gives, or a refusal.
-#[derive(Drop)]
+#[derive(Clone, Copy)]
 pub enum Measured {
     Length(u64),
     Refused(Refusal),
@@ -21,8 +21,8 @@ pub enum Measured {
 // Numbers 7, 8 and 19 of a mark and of a part that is to be fed to it.
 pub fn judge(p: Modulus, m: Mark, part: &[u8], used: u32) -> Measured
     requires { Proper p }
-    ensures { measured result ≡ first_of (feedTests (polynomial p) m (asPart part.now used)) tt
-        (m.length + partLength (asPart part.now used)) }
+    ensures { measured result ≡ first_of (feed_tests (polynomial p) m (as_part part.now used)) tt
+        (m.length + part_length (as_part part.now used)) }
 {
     let f = m.fingerprint;
     let n = files::part_length(part, used);

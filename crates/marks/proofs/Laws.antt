@@ -11,41 +11,41 @@ use Rattle.refusals.specs.declared.Refusal.TheVariants.{MarkNotReduced}
 use Rattle.refusals.specs.Refusals.{Done, Refused, Test, ◌⇒◌, first_of}
 use Rattle.refusals.proofs.Laws.{Clear, skip, clear-done, done-clear, more-refused, more-clear}
 use Rattle.acceptance.specs.declared.Key.{Key}
-use Rattle.acceptance.specs.Keys.{accepted, polynomialOf, keyOf}
+use Rattle.acceptance.specs.Keys.{accepted, polynomial_of, key_of}
 use Rattle.acceptance.specs.Opened.{Opened}
-use Rattle.acceptance.proofs.Laws.{accepted-iff, accepted-pos, whole-key}
-use Rattle.acceptance.proofs.Opened.{open-accepted, opened-first, opened-whole, residue-below}
+use Rattle.acceptance.proofs.Laws.{accepted_iff, accepted-pos, whole-key}
+use Rattle.acceptance.proofs.Opened.{open_accepted, opened-first, opened-whole, residue-below}
 use Rattle.files.specs.declared.Mark.{Mark}
-use Rattle.files.specs.Files.{valueFrom, markFrom, unreduced, Part, partLength, partBits, misused, fedMark}
-use Rattle.files.proofs.Marks.{mark-eq, true-reduced, empty-mark}
+use Rattle.files.specs.Files.{value_from, mark_from, unreduced, Part, part_length, part_bits, misused, fed_mark}
+use Rattle.files.proofs.Marks.{mark-eq, true_reduced, empty-mark}
 use Rattle.mark_tests.specs.declared.Measured.{Measured}
-use Rattle.mark_tests.specs.declared.Measured.TheVariants as measured-cases
-use Rattle.mark_tests.specs.MarkTests.{feedTests}
+use Rattle.mark_tests.specs.declared.Measured.TheVariants as MeasuredCases
+use Rattle.mark_tests.specs.MarkTests.{feed_tests}
 use Rattle.mark_tests.specs.Answers.{measured}
 use Rattle.lookups.specs.Rule.{table}
-use Rattle.table_tests.specs.TableTests.{tableTests}
+use Rattle.table_tests.specs.TableTests.{table_tests}
 use Rattle.table_tests.proofs.Laws.{clear-table}
-use Rattle.house.specs.House.{houseKey, houseWords}
+use Rattle.house.specs.House.{house_key, house_words}
 use Rattle.house.proofs.House.{house-accepted}
-use Rattle.marks.specs.Feeding.{beginFrom, feedBits, feedTable, feedHouse, BeginsTrue, EmptyIsOne, HouseFirst, HouseBits}
-use Rattle.marks.specs.Answers.{fedUnder}
+use Rattle.marks.specs.Feeding.{begin_from, feed_bits, feed_table, feed_house, BeginsTrue, EmptyIsOne, HouseFirst, HouseBits}
+use Rattle.marks.specs.Answers.{fed_under}
 
 -- ---- what a caller of `mark_tests::judge` knows in each arm
 
 module _ {x : Key} {p : Modulus} (h : Opened x p) (m : Mark) (part : Part) (r : Measured)
-    (e : measured r ≡ first_of (feedTests (polynomial p) m part) tt (m.length + partLength part)) where
+    (e : measured r ≡ first_of (feed_tests (polynomial p) m part) tt (m.length + part_length part)) where
   abbrev key : ℕ
-  key = polynomialOf x
+  key = polynomial_of x
 
-  under-key : measured r ≡ first_of (feedTests key m part) tt (m.length + partLength part)
-  under-key = e ∙ ap (λ (q : ℕ). first_of (feedTests q m part) tt (m.length + partLength part)) (opened-whole h)
+  under_key : measured r ≡ first_of (feed_tests key m part) tt (m.length + part_length part)
+  under_key = e ∙ ap (λ (q : ℕ). first_of (feed_tests q m part) tt (m.length + part_length part)) (opened-whole h)
 
-  pub feed-refused : (q : Refusal) → r ≡ measured-cases.Refused q → first_of (feedTests key m part) m (fedMark key m part) ≡ Refused q m
-  feed-refused q a = more-refused (feedTests key m part) [] tt m (m.length + partLength part) (fedMark key m part) q (sym under-key ∙ ap measured a)
+  pub feed-refused : (q : Refusal) → r ≡ MeasuredCases.Refused q → first_of (feed_tests key m part) m (fed_mark key m part) ≡ Refused q m
+  feed-refused q a = more-refused (feed_tests key m part) [] tt m (m.length + part_length part) (fed_mark key m part) q (sym under_key ∙ ap measured a)
 
-  module _ (n : ℕ) (a : r ≡ measured-cases.Length n) where
-    clear : Clear (feedTests key m part) × (m.length + partLength part ≡ n)
-    clear = done-clear (feedTests key m part) tt (m.length + partLength part) n (sym under-key ∙ ap measured a)
+  module _ (n : ℕ) (a : r ≡ MeasuredCases.Length n) where
+    clear : Clear (feed_tests key m part) × (m.length + part_length part ≡ n)
+    clear = done-clear (feed_tests key m part) tt (m.length + part_length part) n (sym under_key ∙ ap measured a)
 
     pub clear-below : m.fingerprint < 2 ^ p.degree
     clear-below = residue-below h m.fingerprint clear.0.1.0
@@ -54,59 +54,59 @@ module _ {x : Key} {p : Modulus} (h : Opened x p) (m : Mark) (part : Part) (r : 
     clear-used = clear.0.1.1.0
 
     -- the residue of the part behind the fingerprint, however it was computed, is the value
-    pub fed-next : (y : ℕ) → y ≡ rem (polynomial p) (valueFrom m.fingerprint (partBits part))
-        → fedUnder x (Done (record { fingerprint = y; length = n })) ≡ fedUnder x (first_of (feedTests key m part) m (fedMark key m part))
-    unfolding fedMark
+    pub fed-next : (y : ℕ) → y ≡ rem (polynomial p) (value_from m.fingerprint (part_bits part))
+        → fed_under x (Done (record { fingerprint = y; length = n })) ≡ fed_under x (first_of (feed_tests key m part) m (fed_mark key m part))
+    unfolding fed_mark
     fed-next y is =
-        ap (λ (z : Mark). fedUnder x (Done z))
-        (mark-eq (is ∙ ap (λ (q : ℕ). rem q (valueFrom m.fingerprint (partBits part))) (opened-whole h)) (sym clear.1))
-        ∙ sym (ap (fedUnder x) (clear-done (feedTests key m part) m (fedMark key m part) clear.0))
+        ap (λ (z : Mark). fed_under x (Done z))
+        (mark-eq (is ∙ ap (λ (q : ℕ). rem q (value_from m.fingerprint (part_bits part))) (opened-whole h)) (sym clear.1))
+        ∙ sym (ap (fed_under x) (clear-done (feed_tests key m part) m (fed_mark key m part) clear.0))
 
 -- ---- marks of files
 
 -- a true mark is reduced, so number 8 may be left out, wherever it stands
-pub leave-out-8 : (s key : ℕ) (pos : 0 < key) (file : List ℕ) (ts us vs : List Test) (x y : Mark)
-    → first_of (ts ++ (us ++ unreduced key (markFrom s key file) ⇒ MarkNotReduced ∷ vs)) x y ≡ first_of (ts ++ (us ++ vs)) x y
-leave-out-8 s key pos file ts us vs x y =
-    ap (λ (l : List Test). first_of l x y) (sym (append_assoc ts us (unreduced key (markFrom s key file) ⇒ MarkNotReduced ∷ vs)))
-    ∙ ap (λ (b : Bool). first_of (ts ++ us ++ b ⇒ MarkNotReduced ∷ vs) x y) (true-reduced s key pos file)
+pub leave_out_8 : (s key : ℕ) (pos : 0 < key) (file : List ℕ) (ts us vs : List Test) (x y : Mark)
+    → first_of (ts ++ (us ++ unreduced key (mark_from s key file) ⇒ MarkNotReduced ∷ vs)) x y ≡ first_of (ts ++ (us ++ vs)) x y
+leave_out_8 s key pos file ts us vs x y =
+    ap (λ (l : List Test). first_of l x y) (sym (append_assoc ts us (unreduced key (mark_from s key file) ⇒ MarkNotReduced ∷ vs)))
+    ∙ ap (λ (b : Bool). first_of (ts ++ us ++ b ⇒ MarkNotReduced ∷ vs) x y) (true_reduced s key pos file)
     ∙ skip (ts ++ us) vs MarkNotReduced x y
     ∙ ap (λ (l : List Test). first_of l x y) (append_assoc ts us vs)
 
 -- beginning, behind any start
-pub begins-from : (s key : ℕ) → accepted key ≡ true → beginFrom s (keyOf key) ≡ Done (markFrom s key [])
-unfolding beginFrom
+pub begins-from : (s key : ℕ) → accepted key ≡ true → begin_from s (key_of key) ≡ Done (mark_from s key [])
+unfolding begin_from
 begins-from s key a =
-    opened-first (open-accepted key a) [] tt (markFrom s (polynomialOf (keyOf key)) [])
-    ∙ ap (λ (q : ℕ). Done (markFrom s q [])) (whole-key key (accepted-pos key a))
+    opened-first (open_accepted key a) [] tt (mark_from s (polynomial_of (key_of key)) [])
+    ∙ ap (λ (q : ℕ). Done (mark_from s q [])) (whole-key key (accepted-pos key a))
 
 pub begins : BeginsTrue
 begins key a = begins-from 1 key a
 
 pub empty-is-one : EmptyIsOne
-unfolding markFrom
-empty-is-one key a = ap (λ (m : Mark). m.fingerprint) (empty-mark key ((accepted-iff key).0 a).2.proper)
+unfolding mark_from
+empty-is-one key a = ap (λ (m : Mark). m.fingerprint) (empty-mark key ((accepted_iff key).0 a).2.proper)
 
 -- ---- the house key's constant words
 
 -- under the house key no test of key and words holds
-pub house-clear : {x : Key} {p : Modulus} → Opened x p → polynomialOf x ≡ houseKey → (m : Mark) (part : Part)
-    → feedHouse x m part ≡ first_of (feedTests (polynomialOf x) m part) m (fedMark (polynomialOf x) m part)
-unfolding feedHouse feedTable
+pub house-clear : {x : Key} {p : Modulus} → Opened x p → polynomial_of x ≡ house_key → (m : Mark) (part : Part)
+    → feed_house x m part ≡ first_of (feed_tests (polynomial_of x) m part) m (fed_mark (polynomial_of x) m part)
+unfolding feed_house feed_table
 house-clear {x} h e m part =
-    let key = polynomialOf x in
-    opened-first h (tableTests key houseWords ++ feedTests key m part) m (fedMark key m part)
-    ∙ more-clear (tableTests key houseWords) (feedTests key m part) m (fedMark key m part) (clear-table houseWords key (ap table (sym e)))
+    let key = polynomial_of x in
+    opened-first h (table_tests key house_words ++ feed_tests key m part) m (fed_mark key m part)
+    ∙ more-clear (table_tests key house_words) (feed_tests key m part) m (fed_mark key m part) (clear-table house_words key (ap table (sym e)))
 
 pub house-first : HouseFirst
 house-first m part =
-    let e = whole-key houseKey (accepted-pos houseKey house-accepted) in
-    house-clear (open-accepted houseKey house-accepted) e m part ∙ ap (λ (q : ℕ). first_of (feedTests q m part) m (fedMark q m part)) e
+    let e = whole-key house_key (accepted-pos house_key house-accepted) in
+    house-clear (open_accepted house_key house-accepted) e m part ∙ ap (λ (q : ℕ). first_of (feed_tests q m part) m (fed_mark q m part)) e
 
 -- so feeding by the house key's words, under that key, is feeding by bits
 pub house-bits : HouseBits
-unfolding feedBits
+unfolding feed_bits
 house-bits m part =
-    let h = open-accepted houseKey house-accepted in
-    let key = polynomialOf (keyOf houseKey) in
-    house-clear h (whole-key houseKey (accepted-pos houseKey house-accepted)) m part ∙ sym (opened-first h (feedTests key m part) m (fedMark key m part))
+    let h = open_accepted house_key house-accepted in
+    let key = polynomial_of (key_of house_key) in
+    house-clear h (whole-key house_key (accepted-pos house_key house-accepted)) m part ∙ sym (opened-first h (feed_tests key m part) m (fed_mark key m part))

@@ -3,16 +3,16 @@
 // leading 1, or it is a plain mark: feeding is the same for both, and a mark can be turned into the other kind.
 ghost use Rattle.std.specs.Prelude.{◌≡◌, ◌++◌, ◌<◌};
 ghost use Rattle.refusals.specs.Refusals.{first_of};
-ghost use Rattle.acceptance.specs.Keys.{polynomialOf};
+ghost use Rattle.acceptance.specs.Keys.{polynomial_of};
 ghost use Rattle.acceptance.specs.Opened.{Opened};
-ghost use Rattle.files.specs.Files.{asPart, fedMark};
+ghost use Rattle.files.specs.Files.{as_part, fed_mark};
 ghost use Rattle.files.specs.PlainMarks.{turned};
-ghost use Rattle.mark_tests.specs.MarkTests.{feedTests};
+ghost use Rattle.mark_tests.specs.MarkTests.{feed_tests};
 ghost use Rattle.lookups.specs.Groups.{Table};
-ghost use Rattle.table_tests.specs.TableTests.{tableTests};
-ghost use Rattle.marks.specs.Feeding.{beginFrom, begin, feedBits, feedTable, feedHouse};
-ghost use Rattle.marks.specs.PlainMarks.{beginPlain, turnTests, turn};
-ghost use Rattle.marks.specs.Answers.{markIn, begun, begunUnder, fed, fedUnder};
+ghost use Rattle.table_tests.specs.TableTests.{table_tests};
+ghost use Rattle.marks.specs.Feeding.{begin_from, begin, feed_bits, feed_table, feed_house};
+ghost use Rattle.marks.specs.PlainMarks.{begin_plain, turn_tests, turn};
+ghost use Rattle.marks.specs.Answers.{mark_in, begun, begun_under, fed, fed_under};
 
 use acceptance::Key;
 use files::Mark;
@@ -22,7 +22,7 @@ use mark_tests::Measured;
 use refusals::{Refusal, Reply};
 
 // A running mark (document 01's term): the state of a fingerprint that is taken as the file is read. The length is in bits. Numbers only.
-#[derive(Drop)]
+#[derive(Clone, Copy)]
 pub struct Running {
     pub key: Key,
     pub fingerprint: u64,
@@ -30,14 +30,14 @@ pub struct Running {
 }
 
 // The answer to beginning a mark under a key.
-#[derive(Drop)]
+#[derive(Clone, Copy)]
 pub enum Begun {
     Started(Running),
     Refused(Refusal),
 }
 
 // The answer to a feed: the next running mark, or a refusal with the running mark handed in.
-#[derive(Drop)]
+#[derive(Clone, Copy)]
 pub enum Fed {
     Next(Running),
     Refused(Refusal, Running),
@@ -47,8 +47,8 @@ pub enum Fed {
 // a copy of both at once would wait for that.
 fn feed_alone(p: Modulus, m: Running, part: &[u8], used: u32) -> Fed
     requires { Opened m.key p }
-    ensures { fed result ≡ fedUnder m.key (first_of (feedTests (polynomialOf m.key) (markIn m) (asPart part.now used)) (markIn m)
-        (fedMark (polynomialOf m.key) (markIn m) (asPart part.now used))) }
+    ensures { fed result ≡ fed_under m.key (first_of (feed_tests (polynomial_of m.key) (mark_in m) (as_part part.now used)) (mark_in m)
+        (fed_mark (polynomial_of m.key) (mark_in m) (as_part part.now used))) }
 {
     let mark = Mark {
         fingerprint: m.fingerprint,
@@ -73,9 +73,9 @@ fn feed_alone(p: Modulus, m: Running, part: &[u8], used: u32) -> Fed
 
 // A part fed by the table of the key, after the tests of key and words.
 fn feed_looked(p: Modulus, m: Running, words: &[u64], part: &[u8], used: u32) -> Fed
-    requires { Opened m.key p × Table (polynomialOf m.key) words.now }
-    ensures { fed result ≡ fedUnder m.key (first_of (feedTests (polynomialOf m.key) (markIn m) (asPart part.now used)) (markIn m)
-        (fedMark (polynomialOf m.key) (markIn m) (asPart part.now used))) }
+    requires { Opened m.key p × Table (polynomial_of m.key) words.now }
+    ensures { fed result ≡ fed_under m.key (first_of (feed_tests (polynomial_of m.key) (mark_in m) (as_part part.now used)) (mark_in m)
+        (fed_mark (polynomial_of m.key) (mark_in m) (as_part part.now used))) }
 {
     let mark = Mark {
         fingerprint: m.fingerprint,
@@ -101,9 +101,9 @@ fn feed_looked(p: Modulus, m: Running, words: &[u64], part: &[u8], used: u32) ->
 // The same, after the test of the key: all words are tested first.
 fn feed_under(p: Modulus, m: Running, words: &[u64], part: &[u8], used: u32) -> Fed
     requires { Opened m.key p }
-    ensures { fed result ≡ fedUnder m.key (first_of (tableTests (polynomialOf m.key) words.now
-        ++ feedTests (polynomialOf m.key) (markIn m) (asPart part.now used)) (markIn m)
-        (fedMark (polynomialOf m.key) (markIn m) (asPart part.now used))) }
+    ensures { fed result ≡ fed_under m.key (first_of (table_tests (polynomial_of m.key) words.now
+        ++ feed_tests (polynomial_of m.key) (mark_in m) (as_part part.now used)) (mark_in m)
+        (fed_mark (polynomial_of m.key) (mark_in m) (as_part part.now used))) }
 {
     match table_tests::judge(p, words) {
         Reply::Refused(r) => Fed::Refused(r, m),
@@ -114,7 +114,7 @@ fn feed_under(p: Modulus, m: Running, words: &[u64], part: &[u8], used: u32) -> 
 // The mark of the empty file behind a start.
 fn begin_from(start: u64, key: Key) -> Begun
     requires { start < 2 }
-    ensures { begun result ≡ begunUnder key (beginFrom start key) }
+    ensures { begun result ≡ begun_under key (begin_from start key) }
 {
     match keys::test(key) {
         Tested::Refused(r) => Begun::Refused(r),
@@ -129,8 +129,8 @@ fn begin_from(start: u64, key: Key) -> Begun
 // A mark turned, after the test of the key.
 fn turn_under(p: Modulus, m: Running) -> Fed
     requires { Opened m.key p }
-    ensures { fed result ≡ fedUnder m.key (first_of (turnTests (polynomialOf m.key) (markIn m)) (markIn m)
-        (turned (polynomialOf m.key) (markIn m))) }
+    ensures { fed result ≡ fed_under m.key (first_of (turn_tests (polynomial_of m.key) (mark_in m)) (mark_in m)
+        (turned (polynomial_of m.key) (mark_in m))) }
 {
     if !refusals::bits_fit(m.length) {
         return Fed::Refused(Refusal::TooLong, m);
@@ -153,7 +153,7 @@ fn turn_under(p: Modulus, m: Running) -> Fed
 impl Running {
     // Its mark, without the key.
     pub fn mark(self) -> Mark
-        ensures { result ≡ markIn self }
+        ensures { result ≡ mark_in self }
     {
         Mark {
             fingerprint: self.fingerprint,
@@ -163,21 +163,21 @@ impl Running {
 
     // The mark of the empty file under a key. Numbers 1, 2.
     pub fn begin(key: Key) -> Begun
-        ensures { begun result ≡ begunUnder key (begin key) }
+        ensures { begun result ≡ begun_under key (begin key) }
     {
         begin_from(1, key)
     }
 
     // The plain mark of the empty file under a key. Numbers 1, 2.
     pub fn begin_plain(key: Key) -> Begun
-        ensures { begun result ≡ begunUnder key (beginPlain key) }
+        ensures { begun result ≡ begun_under key (begin_plain key) }
     {
         begin_from(0, key)
     }
 
     // A plain mark turned into a mark with the leading 1, or such a mark into a plain mark: t^n is added, n being the length. Numbers 1, 2, 7, 8.
     pub fn turn(self) -> Fed
-        ensures { fed result ≡ fedUnder self.key (turn self.key (markIn self)) }
+        ensures { fed result ≡ fed_under self.key (turn self.key (mark_in self)) }
     {
         match keys::test(self.key) {
             Tested::Refused(r) => Fed::Refused(r, self),
@@ -187,7 +187,7 @@ impl Running {
 
     // The mark of what was fed with the part behind it, of whose final byte `used` bits are used. Numbers 1, 2, 7, 8, 19.
     pub fn feed(self, part: &[u8], used: u32) -> Fed
-        ensures { fed result ≡ fedUnder self.key (feedBits self.key (markIn self) (asPart part.now used)) }
+        ensures { fed result ≡ fed_under self.key (feed_bits self.key (mark_in self) (as_part part.now used)) }
     {
         match keys::test(self.key) {
             Tested::Refused(r) => Fed::Refused(r, self),
@@ -197,7 +197,7 @@ impl Running {
 
     // The same by the lent table, all of whose words are tested first. Numbers 1, 2, 5, 6, 7, 8, 19.
     pub fn feed_table(self, words: &[u64], part: &[u8], used: u32) -> Fed
-        ensures { fed result ≡ fedUnder self.key (feedTable self.key (markIn self) words.now (asPart part.now used)) }
+        ensures { fed result ≡ fed_under self.key (feed_table self.key (mark_in self) words.now (as_part part.now used)) }
     {
         let key = Key {
             degree: self.key.degree,
@@ -212,7 +212,7 @@ impl Running {
     // The same by the house key's constant words. Under that key they are right: they are not read, and nothing is tested but the lengths, the
     // mark and the final byte. Under another key they are tested like a lent table. Numbers 1, 2, 6, 7, 8, 19.
     pub fn feed_house(self, part: &[u8], used: u32) -> Fed
-        ensures { fed result ≡ fedUnder self.key (feedHouse self.key (markIn self) (asPart part.now used)) }
+        ensures { fed result ≡ fed_under self.key (feed_house self.key (mark_in self) (as_part part.now used)) }
     {
         let p = Modulus {
             degree: self.key.degree,
@@ -227,7 +227,7 @@ impl Running {
 
 // A part fed by the house key's constant words, which are copied here alone.
 fn feed_constant(m: Running, part: &[u8], used: u32) -> Fed
-    ensures { fed result ≡ fedUnder m.key (feedHouse m.key (markIn m) (asPart part.now used)) }
+    ensures { fed result ≡ fed_under m.key (feed_house m.key (mark_in m) (as_part part.now used)) }
 {
     let words = house::words();
     m.feed_table(&words, part, used)

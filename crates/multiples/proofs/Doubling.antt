@@ -14,10 +14,10 @@ use lib.ListN.{length, get_or, set}
 use lib.Pow.{pow-add, pow_mono}
 use lib.Seq.{get_or-set_same, get_or-set_other}
 use Rattle.gf2.specs.Polynomials.{◌⊕◌, degree, monic, rem, ◌⊗◌}
-use Rattle.gf2.proofs.Sums.{⊕-comm, ⊕-assoc, ⊕-self, ⊕-eq}
-use Rattle.gf2.proofs.Products.{zero-⊗, one-⊗, dbl-⊗, ⊕-⊗}
+use Rattle.gf2.proofs.Sums.{⊕_comm, ⊕_assoc, ⊕_self, ⊕-eq}
+use Rattle.gf2.proofs.Products.{zero-⊗, one-⊗, dbl_⊗, ⊕-⊗}
 use Rattle.gf2.proofs.Residues.{rem-zero, rem-small, rem-⊕}
-use Rattle.gf2.proofs.Powers.{rem-shl}
+use Rattle.gf2.proofs.Powers.{rem_shl}
 use Rattle.gf2.proofs.Monics.{monic-⊕}
 use Rattle.multiples.specs.Rows.{Multiples, Shifted, SameBefore, SameFrom}
 
@@ -25,11 +25,11 @@ module _ {key : ℕ} (pos : 0 < key) (x : ℕ) where
   pub multiple-double : (b m : ℕ) → m < 2 ^ b → rem key ((2 ^ b + m) ⊗ x) ≡ rem key (m ⊗ x) ⊕ rem key (2 ^ b ⊗ x)
   unfolding monic
   multiple-double b m h =
-      ap (λ (y : ℕ). rem key (y ⊗ x)) (monic-⊕ b m h ∙ ⊕-comm (2 ^ b) m) ∙ ap (rem key) (⊕-⊗ m (2 ^ b) x) ∙ rem-⊕ pos (m ⊗ x) (2 ^ b ⊗ x)
+      ap (λ (y : ℕ). rem key (y ⊗ x)) (monic-⊕ b m h ∙ ⊕_comm (2 ^ b) m) ∙ ap (rem key) (⊕-⊗ m (2 ^ b) x) ∙ rem-⊕ pos (m ⊗ x) (2 ^ b ⊗ x)
 
   -- the multiple by twice z, from the one by z
   pub multiple-next : (z : ℕ) → rem key (rem key (z ⊗ x) * 2 + 0) ≡ rem key (z * 2 ⊗ x)
-  multiple-next z = rw add-zero (rem-shl pos (z ⊗ x) 1 ∙ ap (rem key) (sym (dbl-⊗ z x)))
+  multiple-next z = rw add-zero (rem_shl pos (z ⊗ x) 1 ∙ ap (rem key) (sym (dbl_⊗ z x)))
 
   pub multiple-step : (z y v : ℕ) → y ≡ rem key (z ⊗ x) → v ≡ rem key (y * 2 + 0) → v ≡ rem key (z * 2 ⊗ x)
   multiple-step z y v ey ev = ev ∙ ap (λ (w : ℕ). rem key (w * 2 + 0)) ey ∙ multiple-next z
@@ -129,20 +129,20 @@ both_zero : (s d : ℕ) → s ≡ 0 → d ≡ 0 → bit_or s d ≡ 0
 both_zero s d e f = rw (e, f) (or_zero_l 0)
 
 -- two tests, as one
-pub or-iff : (s d : ℕ) {P Q : Type 0} → (s ≡ 0) ↔ P → (d ≡ 0) ↔ Q → (bit_or s d ≡ 0) ↔ (P × Q)
-or-iff s d p q = (λ e. (p.0 (or-zero s d e).0, q.0 (or-zero s d e).1), λ h. both_zero s d (p.1 h.0) (q.1 h.1))
+pub or_iff : (s d : ℕ) {P Q : Type 0} → (s ≡ 0) ↔ P → (d ≡ 0) ↔ Q → (bit_or s d ≡ 0) ↔ (P × Q)
+or_iff s d p q = (λ e. (p.0 (or-zero s d e).0, q.0 (or-zero s d e).1), λ h. both_zero s d (p.1 h.0) (q.1 h.1))
 
-pub iff-trans : {P Q R : Type 0} → P ↔ Q → Q ↔ R → P ↔ R
-iff-trans f g = (λ p. g.0 (f.0 p), λ r. f.1 (g.1 r))
+pub iff_trans : {P Q R : Type 0} → P ↔ Q → Q ↔ R → P ↔ R
+iff_trans f g = (λ p. g.0 (f.0 p), λ r. f.1 (g.1 r))
 
 -- one word is another with y added
-pub difference-iff : (u v y : ℕ) → (u ⊕ v ⊕ y ≡ 0) ↔ (u ≡ v ⊕ y)
-difference-iff u v y = (λ e. ⊕-eq u (v ⊕ y) (sym (⊕-assoc u v y) ∙ e), λ e. ⊕-assoc u v y ∙ rw e (⊕-self (v ⊕ y)))
+pub difference_iff : (u v y : ℕ) → (u ⊕ v ⊕ y ≡ 0) ↔ (u ≡ v ⊕ y)
+difference_iff u v y = (λ e. ⊕-eq u (v ⊕ y) (sym (⊕_assoc u v y) ∙ e), λ e. ⊕_assoc u v y ∙ rw e (⊕_self (v ⊕ y)))
 
 -- one word more
-pub shifted-iff : (a b i y : ℕ) (words : List ℕ)
+pub shifted_iff : (a b i y : ℕ) (words : List ℕ)
     → (Shifted a b i y words words × (get_or words (b + i) 0 ≡ get_or words (a + i) 0 ⊕ y)) ↔ Shifted a b (i + 1) y words words
-shifted-iff a b i y words = (there, back)
+shifted_iff a b i y words = (there, back)
   where
     there : Shifted a b i y words words × (get_or words (b + i) 0 ≡ get_or words (a + i) 0 ⊕ y) → Shifted a b (i + 1) y words words
     there h = below_more (λ m. get_or words (b + m) 0 ≡ get_or words (a + m) 0 ⊕ y) i h.0 h.1
@@ -152,8 +152,8 @@ shifted-iff a b i y words = (there, back)
 
 -- the row, and its double
 module _ {key : ℕ} (pos : 0 < key) (x a : ℕ) (words : List ℕ) where
-  pub row-iff-one : (get_or words a 0 ≡ 0) ↔ Multiples key x a 1 words
-  row-iff-one = (there, back)
+  pub row_iff_one : (get_or words a 0 ≡ 0) ↔ Multiples key x a 1 words
+  row_iff_one = (there, back)
     where
       there : get_or words a 0 ≡ 0 → Multiples key x a 1 words
       there h i l = let e : i ≡ 0 = omega arith in rw (e, add-zero) (h ∙ sym (multiple-zero pos x))
@@ -161,29 +161,29 @@ module _ {key : ℕ} (pos : 0 < key) (x a : ℕ) (words : List ℕ) where
       back : Multiples key x a 1 words → get_or words a 0 ≡ 0
       back f = ap (λ (n : ℕ). get_or words n 0) (sym (add-zero a)) ∙ f 0 (omega arith) ∙ multiple-zero pos x
 
-  pub row-iff : (b z y : ℕ) → z ≡ 2 ^ b → y ≡ rem key (z ⊗ x)
+  pub row_iff : (b z y : ℕ) → z ≡ 2 ^ b → y ≡ rem key (z ⊗ x)
       → (Multiples key x a z words × Shifted a (a + z) z y words words) ↔ Multiples key x a (z * 2) words
-  row-iff b z y ez ey =
+  row_iff b z y ez ey =
       (λ h. row_more pos x a b z y words ez ey h.0 h.1, λ f. (row-half pos x a b z y words ez ey f, row-shifted pos x a b z y words ez ey f))
 
   -- three doublings
-  pub row-iff-eight : (b n y z v : ℕ) → n ≡ 2 ^ b → y ≡ rem key (n ⊗ x) → z ≡ rem key (n * 2 ⊗ x) → v ≡ rem key (n * 2 * 2 ⊗ x)
+  pub row_iff_eight : (b n y z v : ℕ) → n ≡ 2 ^ b → y ≡ rem key (n ⊗ x) → z ≡ rem key (n * 2 ⊗ x) → v ≡ rem key (n * 2 * 2 ⊗ x)
       → (Multiples key x a n words × (Shifted a (a + n) n y words words × (Shifted a (a + n * 2) (n * 2) z words words
       × Shifted a (a + n * 2 * 2) (n * 2 * 2) v words words)))
       ↔ Multiples key x a (n * 2 * 2 * 2) words
-  row-iff-eight b n y z v en ey ez ev = (there, back)
+  row_iff_eight b n y z v en ey ez ev = (there, back)
     where
       next : (c m : ℕ) → m ≡ 2 ^ c → m * 2 ≡ 2 ^ suc c
       next c m e = rw (pow-suc, ← e)
 
       once : (Multiples key x a n words × Shifted a (a + n) n y words words) ↔ Multiples key x a (n * 2) words
-      once = row-iff b n y en ey
+      once = row_iff b n y en ey
 
       twice : (Multiples key x a (n * 2) words × Shifted a (a + n * 2) (n * 2) z words words) ↔ Multiples key x a (n * 2 * 2) words
-      twice = row-iff (suc b) (n * 2) z (next b n en) ez
+      twice = row_iff (suc b) (n * 2) z (next b n en) ez
 
       thrice : (Multiples key x a (n * 2 * 2) words × Shifted a (a + n * 2 * 2) (n * 2 * 2) v words words) ↔ Multiples key x a (n * 2 * 2 * 2) words
-      thrice = row-iff (suc (suc b)) (n * 2 * 2) v (next (suc b) (n * 2) (next b n en)) ev
+      thrice = row_iff (suc (suc b)) (n * 2 * 2) v (next (suc b) (n * 2) (next b n en)) ev
 
       there : Multiples key x a n words × (Shifted a (a + n) n y words words × (Shifted a (a + n * 2) (n * 2) z words words
           × Shifted a (a + n * 2 * 2) (n * 2 * 2) v words words))
@@ -201,8 +201,8 @@ module _ {key : ℕ} (pos : 0 < key) (x a : ℕ) (words : List ℕ) where
 -- ---- three doublings in one pass, by eight parts of the row
 
 -- two pairs, as one
-zip-iff : {A B C P Q R : Type 0} → (A × B) ↔ C → (P × Q) ↔ R → ((A × P) × (B × Q)) ↔ (C × R)
-zip-iff f g =
+zip_iff : {A B C P Q R : Type 0} → (A × B) ↔ C → (P × Q) ↔ R → ((A × P) × (B × Q)) ↔ (C × R)
+zip_iff f g =
     (λ h. (f.0 (h.0.0, h.1.0), g.0 (h.0.1, h.1.1)), λ h. let u = f.1 h.0 in let w = g.1 h.1 in ((u.0, w.0), (u.1, w.1)))
 
 module _ (p₀ p₁ p₂ p₃ p₄ p₅ p₆ p₇ y z v : ℕ) (words : List ℕ) where
@@ -222,31 +222,31 @@ module _ (p₀ p₁ p₂ p₃ p₄ p₅ p₆ p₇ y z v : ℕ) (words : List ℕ
   pub parts_none : Parts 0
   parts_none = (((none p₀ p₁ y, (none p₀ p₂ z, none p₁ p₃ z)), (none p₀ p₄ v, none p₁ p₅ v)), (none p₂ p₆ v, none p₃ p₇ v))
 
-  abbrev pub partDifferences : ℕ → ℕ
-  partDifferences i =
+  abbrev pub part_differences : ℕ → ℕ
+  part_differences i =
       bit_or
       (bit_or (bit_or (word p₁ i ⊕ word p₀ i ⊕ y) (bit_or (word p₂ i ⊕ word p₀ i ⊕ z) (word p₃ i ⊕ word p₁ i ⊕ z)))
       (bit_or (word p₄ i ⊕ word p₀ i ⊕ v) (word p₅ i ⊕ word p₁ i ⊕ v)))
       (bit_or (word p₆ i ⊕ word p₂ i ⊕ v) (word p₇ i ⊕ word p₃ i ⊕ v))
 
   difference-at : (p q u i : ℕ) → (word q i ⊕ word p i ⊕ u ≡ 0) ↔ (word q i ≡ word p i ⊕ u)
-  difference-at p q u i = difference-iff (word q i) (word p i) u
+  difference-at p q u i = difference_iff (word q i) (word p i) u
 
   -- one word more of each
-  pub parts-iff : (i sum : ℕ) → (sum ≡ 0) ↔ Parts i → (bit_or sum (partDifferences i) ≡ 0) ↔ Parts (i + 1)
-  parts-iff i sum h =
-      iff-trans
-      (or-iff sum (partDifferences i) h
-      (or-iff _ _
-      (or-iff _ _ (or-iff _ _ (difference-at p₀ p₁ y i) (or-iff _ _ (difference-at p₀ p₂ z i) (difference-at p₁ p₃ z i)))
-      (or-iff _ _ (difference-at p₀ p₄ v i) (difference-at p₁ p₅ v i)))
-      (or-iff _ _ (difference-at p₂ p₆ v i) (difference-at p₃ p₇ v i))))
-      (zip-iff
-      (zip-iff (zip-iff (more p₀ p₁ y) (zip-iff (more p₀ p₂ z) (more p₁ p₃ z))) (zip-iff (more p₀ p₄ v) (more p₁ p₅ v)))
-      (zip-iff (more p₂ p₆ v) (more p₃ p₇ v)))
+  pub parts_iff : (i sum : ℕ) → (sum ≡ 0) ↔ Parts i → (bit_or sum (part_differences i) ≡ 0) ↔ Parts (i + 1)
+  parts_iff i sum h =
+      iff_trans
+      (or_iff sum (part_differences i) h
+      (or_iff _ _
+      (or_iff _ _ (or_iff _ _ (difference-at p₀ p₁ y i) (or_iff _ _ (difference-at p₀ p₂ z i) (difference-at p₁ p₃ z i)))
+      (or_iff _ _ (difference-at p₀ p₄ v i) (difference-at p₁ p₅ v i)))
+      (or_iff _ _ (difference-at p₂ p₆ v i) (difference-at p₃ p₇ v i))))
+      (zip_iff
+      (zip_iff (zip_iff (more p₀ p₁ y) (zip_iff (more p₀ p₂ z) (more p₁ p₃ z))) (zip_iff (more p₀ p₄ v) (more p₁ p₅ v)))
+      (zip_iff (more p₂ p₆ v) (more p₃ p₇ v)))
     where
       more : (p q u : ℕ) → (Shifted p q i u words words × (word q i ≡ word p i ⊕ u)) ↔ Shifted p q (i + 1) u words words
-      more p q u = shifted-iff p q i u words
+      more p q u = shifted_iff p q i u words
 
 -- the parts one behind the other
 shifted-append : (a b m n y : ℕ) (words : List ℕ)

@@ -15,8 +15,8 @@ use lib.Pow.{pow-add, pow_pos}
 use Rattle.gf2.specs.Polynomials.{◌⊗◌, rem}
 use Rattle.gf2.specs.Moduli.{polynomial, Proper}
 use Rattle.gf2.specs.declared.Modulus.{Modulus}
-use Rattle.gf2.proofs.Products.{one-⊗, ⊗-comm, ⊗-pow}
-use Rattle.gf2.proofs.Powers.{rem-rem, rem-shl, rem-⊗-right}
+use Rattle.gf2.proofs.Products.{one-⊗, ⊗_comm, ⊗-pow}
+use Rattle.gf2.proofs.Powers.{rem-rem, rem_shl, rem-⊗-right}
 use Rattle.gf2.proofs.Monics.{monic-pos}
 use Rattle.gf2.proofs.Steps.{residue-small, residue-below}
 use Rattle.multiples.specs.Rows.{Multiples, Rows, SameBefore}
@@ -25,7 +25,7 @@ use Rattle.multiples.proofs.Doubling.{multiple-next, power-half}
 -- the rows of another number with the same residue
 pub rows_same : {key : ℕ} (pos : 0 < key) (w x y c : ℕ) (words : List ℕ) → rem key x ≡ rem key y → Rows w key x c words → Rows w key y c words
 rows_same {key} pos w x y c words e f j l =
-    rw (sym (rem-shl pos x (w * j)) ∙ ap (λ (z : ℕ). rem key (z * 2 ^ (w * j))) e ∙ rem-shl pos y (w * j)) at (f j l)
+    rw (sym (rem_shl pos x (w * j)) ∙ ap (λ (z : ℕ). rem key (z * 2 ^ (w * j))) e ∙ rem_shl pos y (w * j)) at (f j l)
 
 -- word 1 of the rows is the number itself, reduced
 pub first-multiple : {key : ℕ} (pos : 0 < key) (w x c : ℕ) (words : List ℕ) → 1 < 2 ^ w → 0 < c → Rows w key x c words → get_or words 1 0 ≡ rem key x
@@ -45,8 +45,8 @@ module _ (w j c size n : ℕ) (es : size ≡ 2 ^ w) (h : j < c) (l : c * 2 ^ w �
       let m : suc j * 2 ^ w ≤ c * 2 ^ w = mul-le-mul_right (2 ^ w) h in
       rw es (omega (arith, m, l))
 
-  pub middle-in : j * size + size / 2 < n
-  middle-in = omega (arith, row-le, es, pow_pos w)
+  pub middle_in : j * size + size / 2 < n
+  middle_in = omega (arith, row-le, es, pow_pos w)
 
 -- ---- one turn
 
@@ -93,7 +93,7 @@ module _ {p : Modulus} {w x size j y : ℕ} {words : List ℕ} (r : Row p w x si
       ∙ ap (λ (v : ℕ). rem (polynomial p) (v ⊗ y)) half
       ∙ ap (λ (v : ℕ). rem (polynomial p) (2 ^ w ⊗ v)) r.start
       ∙ rem-⊗-right pos (2 ^ w) (x * 2 ^ (w * j))
-      ∙ ap (rem (polynomial p)) (⊗-comm (2 ^ w) (x * 2 ^ (w * j)) ∙ ⊗-pow w (x * 2 ^ (w * j)) ∙ next)
+      ∙ ap (rem (polynomial p)) (⊗_comm (2 ^ w) (x * 2 ^ (w * j)) ∙ ⊗-pow w (x * 2 ^ (w * j)) ∙ next)
     where
       pos : 0 < polynomial p
       pos = monic-pos p.degree p.low r.proper.2

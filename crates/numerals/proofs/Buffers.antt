@@ -13,7 +13,7 @@ use Rattle.io.specs.Digits.{last_digits, IsDigitCount}
 use Rattle.gf2.specs.Polynomials.{monic}
 use Rattle.numerals.specs.Numerals.{numeral}
 use Rattle.numerals.specs.Buffers.{put_at, PutInFront}
-use Rattle.numerals.proofs.Numerals.{numeral-is, numeral-64, fewest-le}
+use Rattle.numerals.proofs.Numerals.{numeral-is, numeral_64, fewest-le}
 
 module _ (out : List ℕ) (at : ℕ) where
   -- a text copied to the front of what lies from the place on
@@ -97,8 +97,8 @@ module _ (b s n : ℕ) (two : 1 < b) (some : 0 < s) (fits : n < b ^ s) {k : ℕ}
 
 -- a label with the digit 1, and behind it all sixteen digits of a word
 module _ (w : ℕ) (fits : w < 2 ^ 64) {k : ℕ} (few : IsDigitCount 16 16 w k) where
-  pub all-sixteen : k ≡ 16
-  all-sixteen = omega (arith, few.0, fewest-le 16 (lit< tt) 16 16 w k (omega arith) fits few)
+  pub all_sixteen : k ≡ 16
+  all_sixteen = omega (arith, few.0, fewest-le 16 (lit< tt) 16 16 w k (omega arith) fits few)
 
   pub seventeen-put : {out : List ℕ} {at next r : ℕ} {m l : List ℕ} (label text : List ℕ) → k ≡ length text → text ≡ last_digits 16 k w
       → next ≤ length out → Holds out at next m (label ++ 49 ∷ []) → r ≡ next + length text → l ≡ put_at m next text
@@ -109,7 +109,7 @@ module _ (w : ℕ) (fits : w < 2 ^ 64) {k : ℕ} (few : IsDigitCount 16 16 w k) 
       let one = length-append label (49 ∷ []) in
       let same : label ++ 49 ∷ [] ++ text ≡ label ++ numeral 16 (monic 64 w)
       = append_assoc label (49 ∷ []) text
-      ∙ ap (λ (x : List ℕ). label ++ x) (ap (λ (x : List ℕ). 49 ∷ x) (is ∙ ap (λ (n : ℕ). last_digits 16 n w) all-sixteen) ∙ numeral-64 w fits) in (
+      ∙ ap (λ (x : List ℕ). label ++ x) (ap (λ (x : List ℕ). 49 ∷ x) (is ∙ ap (λ (n : ℕ). last_digits 16 n w) all_sixteen) ∙ numeral_64 w fits) in (
         all.behind ∙ ap (λ (x : List ℕ). at + length x) same,
-        (omega (arith, e, h.behind, one, long, all-sixteen), all.put ∙ ap (put_at out at) same),
+        (omega (arith, e, h.behind, one, long, all_sixteen), all.put ∙ ap (put_at out at) same),
       )

@@ -14,23 +14,23 @@ use Rattle.gf2.specs.Polynomials.{monic}
 use Rattle.gf2.proofs.Steps.{less_one}
 use Rattle.acceptance.specs.declared.Key.{Key}
 use Rattle.acceptance.specs.Keys.{outside}
-use Rattle.acceptance.proofs.Laws.{in-range}
-use Rattle.numerals.specs.Numerals.{digitsOf, numeral}
+use Rattle.acceptance.proofs.Laws.{in_range}
+use Rattle.numerals.specs.Numerals.{digits_of, numeral}
 
 module _ (b : ℕ) (two : 1 < b) where
   -- a power above the first is no smaller than the base
-  base-le : (j : ℕ) → b ≤ b ^ suc j
-  base-le j = let p : 1 ≤ b ^ j = one-le-pow j b (omega arith) in rw pow-suc (rw one-mul at (mul-le-mul_right b p))
+  base_le : (j : ℕ) → b ≤ b ^ suc j
+  base_le j = let p : 1 ≤ b ^ j = one-le-pow j b (omega arith) in rw pow-suc (rw one-mul at (mul-le-mul_right b p))
 
-  pos-base : 0 < b
-  pos-base = omega arith
+  pos_base : 0 < b
+  pos_base = omega arith
 
   -- a number below the base has one digit, any other has more
   single : (n j : ℕ) → n < b → IsDigitCount b 1 n (suc j) → j ≡ 0
   single n zero l h = refl
   single n (suc j) l h =
       let q : b ^ suc j ≤ n = rw (less_one (suc j)) at (h.2 (omega arith)) in
-      absurd (omega (arith, base-le j))
+      absurd (omega (arith, base_le j))
 
   several : (n j : ℕ) → b ≤ n → IsDigitCount b 1 n (suc j) → 0 < j
   several n zero l h = let e : b ^ 1 ≡ b = pow-suc b 0 ∙ simp (pow-zero, one-mul) in absurd (omega (arith, h.1))
@@ -38,7 +38,7 @@ module _ (b : ℕ) (two : 1 < b) where
 
   -- the digits above the last
   above : (n j : ℕ) → b ≤ n → IsDigitCount b 1 n (suc j) → IsDigitCount b 1 (n / b) j
-  above n j l h = (pos, (div-lt_iff_lt-mul pos-base).1 (rw pow-suc at h.1), low j h)
+  above n j l h = (pos, (div-lt_iff_lt-mul pos_base).1 (rw pow-suc at h.1), low j h)
     where
       pos : 0 < j
       pos = several n j l h
@@ -47,20 +47,20 @@ module _ (b : ℕ) (two : 1 < b) where
       low zero h m = absurd (omega arith)
       low (suc j) h m =
           let q : b ^ suc j ≤ n = rw (less_one (suc j)) at (h.2 (omega arith)) in
-          rw less_one ((le-div_iff_mul-le pos-base).1 (rw pow-suc at q))
+          rw less_one ((le-div_iff_mul-le pos_base).1 (rw pow-suc at q))
 
   step : (s n j : ℕ) → n ≤ suc s → IsDigitCount b 1 n (suc j) → Dec (n < b)
-      → (n / b ≤ s → IsDigitCount b 1 (n / b) j → last_digits b j (n / b) ≡ digitsOf s b (n / b))
-      → last_digits b (suc j) n ≡ digitsOf (suc s) b n
-  unfolding digitsOf
+      → (n / b ≤ s → IsDigitCount b 1 (n / b) j → last_digits b j (n / b) ≡ digits_of s b (n / b))
+      → last_digits b (suc j) n ≡ digits_of (suc s) b n
+  unfolding digits_of
   step s n j l h (yes q) ih = rw (lt-ltb n b q, single n j q h, mod-eq_of_lt q)
   step s n j l h (no q) ih =
       let m : b ≤ n = omega arith in
       let d : n / b < n = div-lt_self (omega arith) two in
       rw (le-ltb n b m, ih (omega arith) (above n j m h))
 
-  fewest : (s n k : ℕ) → n ≤ s → IsDigitCount b 1 n k → last_digits b k n ≡ digitsOf s b n
-  unfolding digitsOf
+  fewest : (s n k : ℕ) → n ≤ s → IsDigitCount b 1 n k → last_digits b k n ≡ digits_of s b n
+  unfolding digits_of
   fewest s n zero l h = absurd (omega (arith, h.0))
   fewest zero n (suc j) l h = rw (single n j (omega arith) h)
   fewest (suc s) n (suc j) l h = step s n j l h (dec_lt n b) (λ m f. fewest s (n / b) j m f)
@@ -72,7 +72,7 @@ module _ (b : ℕ) (two : 1 < b) where
       go : Dec (s < k) → k ≤ s
       go (yes q) =
           let m : s ≤ k - 1 = omega arith in
-          let w : b ^ s ≤ b ^ (k - 1) = pow-le-pow_right pos-base m in
+          let w : b ^ s ≤ b ^ (k - 1) = pow-le-pow_right pos_base m in
           let v : b ^ (k - 1) ≤ n = h.2 (omega arith) in
           absurd (omega arith)
       go (no q) = omega arith
@@ -89,14 +89,14 @@ top_one (suc k) w l =
     rw (d, m) (ap (λ (xs : List ℕ). xs ++ hex_digit_ascii (w % 16) ∷ []) (top_one k (w / 16) (omega (arith, pow-suc 16 k))))
 
 -- the polynomial of a key of degree 64
-pub numeral-64 : (w : ℕ) → w < 2 ^ 64 → 49 ∷ last_digits 16 16 w ≡ numeral 16 (monic 64 w)
+pub numeral_64 : (w : ℕ) → w < 2 ^ 64 → 49 ∷ last_digits 16 16 w ≡ numeral 16 (monic 64 w)
 unfolding monic
-numeral-64 w l = sym (top_one 16 w l) ∙ numeral-is 16 (omega arith) (2 ^ 64 + w) 17 (omega arith, omega arith, λ m. omega arith)
+numeral_64 w l = sym (top_one 16 w l) ∙ numeral-is 16 (omega arith) (2 ^ 64 + w) 17 (omega arith, omega arith, λ m. omega arith)
 
 -- below degree 64 a key's polynomial is a number of 64 bits
 pub word_fits : (x : Key) → outside x ≡ false → x.degree < 64 → 2 ^ x.degree + x.word < 2 ^ 64
 word_fits x r h =
-    let l = (in-range x r).2 in
+    let l = (in_range x r).2 in
     let m : x.degree + 1 ≤ 64 = omega arith in
     let p : 2 ^ (x.degree + 1) ≤ 2 ^ 64 = pow_mono m in
     omega (arith, l, p, pow-add 2 x.degree 1)

@@ -1,7 +1,7 @@
 // Texts and numbers in digits, put into a lent buffer. These functions are for the project's own crates: what they require, every caller proves.
 ghost use Rattle.std.specs.Prelude.{◌≡◌, false, ◌+◌, ◌≤◌, ◌++◌, length};
 ghost use Rattle.gf2.specs.Polynomials.{monic};
-ghost use Rattle.acceptance.specs.Keys.{polynomialOf, outside};
+ghost use Rattle.acceptance.specs.Keys.{polynomial_of, outside};
 ghost use Rattle.numerals.specs.Numerals.{numeral};
 ghost use Rattle.numerals.specs.Buffers.{put_at};
 
@@ -68,9 +68,9 @@ fn put_seventeen(out: &mut [u8], at: usize, label: &[u8], word: u64) -> usize
 pub fn put_polynomial(out: &mut [u8], at: usize, label: &[u8], x: Key) -> usize
     requires label_in_bounds { at + length label.now + 17 ≤ length out.old }
     requires x_value { outside x ≡ false }
-    ensures value { result ≡ at + length (label.now ++ numeral 16 (polynomialOf x)) }
+    ensures value { result ≡ at + length (label.now ++ numeral 16 (polynomial_of x)) }
     ensures upper_bound { result ≤ at + length label.now + 17 }
-    ensures out_after { out.new ≡ put_at out.old at (label.now ++ numeral 16 (polynomialOf x)) }
+    ensures out_after { out.new ≡ put_at out.old at (label.now ++ numeral 16 (polynomial_of x)) }
 {
     let k = x.degree;
     let word = x.word;

@@ -3,10 +3,10 @@ use mathlib.Core.Path.{refl}
 use Prim.Native.Nat.{ℕ}
 use Rattle.lists.proofs.Lists.{rising}
 use Rattle.refusals.proofs.Laws.{gives-lowest}
-use Rattle.acceptance.specs.Keys.{keyOf}
-use Rattle.draw.specs.Drawing.{drawnKey, draw}
+use Rattle.acceptance.specs.Keys.{key_of}
+use Rattle.draw.specs.Drawing.{drawn_key, draw}
 use Rattle.owner_risk.specs.Calls.{CallLowest}
 
-pub each-call : CallLowest
+pub each_call : CallLowest
 unfolding draw rising
-each-call k e = record { draw-key = gives-lowest tt (keyOf (drawnKey k e)) refl refl tt }
+each_call k e = record { draw-key = gives-lowest tt (key_of (drawn_key k e)) refl refl tt }

@@ -8,27 +8,27 @@ use lib.ListN.{length, get_or, set, take, drop, length-set}
 use lib.Seq.{drop-drop, take-add}
 use Rattle.gf2.specs.Polynomials.{rem}
 use Rattle.lists.proofs.Lists.{stored}
-use Rattle.files.specs.Files.{bits, valueFrom, fingerprintFrom, fingerprint}
+use Rattle.files.specs.Files.{bits, value_from, fingerprint_from, fingerprint}
 use Rattle.files.proofs.Values.{bits-append, rem-from}
 use Rattle.files.proofs.Marks.{fed}
-use Rattle.page_marks.specs.Marks.{pageFront, Begun, Reduced, Finished}
+use Rattle.page_marks.specs.Marks.{page_front, Begun, Reduced, Finished}
 
 -- ---- one page more, or two
 
 module _ (key s w : ℕ) (pages marks : List ℕ) (i : ℕ) where
   -- two pages more, the second the next one or the same
   pub begun-two : (j x y : ℕ) → i ≤ j → j ≤ i + 1 → j < length marks → Begun key s w i pages marks
-      → rem key x ≡ rem key (valueFrom 1 (bits (pageFront s w pages i)))
-      → rem key y ≡ rem key (valueFrom 1 (bits (pageFront s w pages j)))
+      → rem key x ≡ rem key (value_from 1 (bits (page_front s w pages i)))
+      → rem key y ≡ rem key (value_from 1 (bits (page_front s w pages j)))
       → Begun key s w (j + 1) pages (set (set marks i x) j y)
   begun-two j x y lo hi l f ex ey m b =
-      let P : ℕ → ℕ → Type 0 = λ n z. rem key z ≡ rem key (valueFrom 1 (bits (pageFront s w pages n))) in
+      let P : ℕ → ℕ → Type 0 = λ n z. rem key z ≡ rem key (value_from 1 (bits (page_front s w pages n))) in
       stored 0 P (set marks i x) j y (simp length-set l) ey m (λ d. stored 0 P marks i x (omega arith) ex m (λ e. f m (omega (arith, d, e))))
 
   -- one page more
-  pub finished-more : (v : ℕ) → i < length marks → Finished key s i pages marks → v ≡ fingerprint key (bits (pageFront s s pages i))
+  pub finished_more : (v : ℕ) → i < length marks → Finished key s i pages marks → v ≡ fingerprint key (bits (page_front s s pages i))
       → Finished key s (i + 1) pages (set marks i v)
-  finished-more v l f e m b = stored 0 (λ n z. z ≡ fingerprint key (bits (pageFront s s pages n))) marks i v l e m (λ d. f m (omega (arith, d)))
+  finished_more v l f e m b = stored 0 (λ n z. z ≡ fingerprint key (bits (page_front s s pages n))) marks i v l e m (λ d. f m (omega (arith, d)))
 
 -- one number more is a residue
 pub reduced-more : (key : ℕ) (before marks : List ℕ) (i v : ℕ) → i < length marks → Reduced key i before marks → v ≡ rem key (get_or before i 0)
@@ -36,10 +36,10 @@ pub reduced-more : (key : ℕ) (before marks : List ℕ) (i v : ℕ) → i < len
 reduced-more key before marks i v l f e m b = stored 0 (λ n z. z ≡ rem key (get_or before n 0)) marks i v l e m (λ d. f m (omega (arith, d)))
 
 -- whole pages that are begun, and reduced
-pub cut-finished : (key s w n : ℕ) (pages before marks : List ℕ) → w ≡ s → Begun key s w n pages before → Reduced key n before marks
+pub cut_finished : (key s w n : ℕ) (pages before marks : List ℕ) → w ≡ s → Begun key s w n pages before → Reduced key n before marks
     → Finished key s n pages marks
-unfolding fingerprintFrom
-cut-finished key s w n pages before marks e b r i l = r i l ∙ b i l ∙ ap (λ (m : ℕ). rem key (valueFrom 1 (bits (pageFront s m pages i)))) e
+unfolding fingerprint_from
+cut_finished key s w n pages before marks e b r i l = r i l ∙ b i l ∙ ap (λ (m : ℕ). rem key (value_from 1 (bits (page_front s m pages i)))) e
 
 -- ---- the bytes of a page in the block
 
@@ -50,22 +50,22 @@ pub front_cut : (a w : ℕ) (pages : List ℕ) → take (a + w - a) (drop a page
 front_cut a w pages = let e : a + w - a ≡ w = omega arith in rw e
 
 -- the first w bytes, which x stands for, and the others behind them
-pub page-finished : {key : ℕ} (pos : 0 < key) (s w i : ℕ) (pages : List ℕ) (x r : ℕ) → w ≤ s
-    → rem key x ≡ rem key (valueFrom 1 (bits (pageFront s w pages i)))
-    → r ≡ rem key (valueFrom x (bits (take (i * s + s - (i * s + w)) (drop (i * s + w) pages))))
-    → r ≡ fingerprint key (bits (pageFront s s pages i))
-unfolding fingerprintFrom
-page-finished {key} pos s w i pages x r l ex er =
+pub page_finished : {key : ℕ} (pos : 0 < key) (s w i : ℕ) (pages : List ℕ) (x r : ℕ) → w ≤ s
+    → rem key x ≡ rem key (value_from 1 (bits (page_front s w pages i)))
+    → r ≡ rem key (value_from x (bits (take (i * s + s - (i * s + w)) (drop (i * s + w) pages))))
+    → r ≡ fingerprint key (bits (page_front s s pages i))
+unfolding fingerprint_from
+page_finished {key} pos s w i pages x r l ex er =
     let e : i * s + s - (i * s + w) ≡ s - w = omega arith in
     let d : w + (s - w) ≡ s = omega arith in
     let rest = take (s - w) (drop (i * s + w) pages) in
     er
-    ∙ ap (λ (n : ℕ). rem key (valueFrom x (bits (take n (drop (i * s + w) pages))))) e
+    ∙ ap (λ (n : ℕ). rem key (value_from x (bits (take n (drop (i * s + w) pages))))) e
     ∙ sym (rem-from pos x (bits rest))
-    ∙ ap (λ (y : ℕ). rem key (valueFrom y (bits rest))) ex
-    ∙ fed pos 1 (bits (pageFront s w pages i)) (bits rest)
-    ∙ ap (fingerprint key) (sym (bits-append (pageFront s w pages i) rest))
+    ∙ ap (λ (y : ℕ). rem key (value_from y (bits rest))) ex
+    ∙ fed pos 1 (bits (page_front s w pages i)) (bits rest)
+    ∙ ap (fingerprint key) (sym (bits-append (page_front s w pages i) rest))
     ∙ ap (λ (q : List ℕ). fingerprint key (bits q))
-    (ap (λ (q : List ℕ). pageFront s w pages i ++ take (s - w) q) (sym (drop-drop w (i * s) pages))
+    (ap (λ (q : List ℕ). page_front s w pages i ++ take (s - w) q) (sym (drop-drop w (i * s) pages))
     ∙ sym (take-add w (s - w) (drop (i * s) pages))
     ∙ ap (λ (n : ℕ). take n (drop (i * s) pages)) d)

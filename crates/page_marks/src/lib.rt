@@ -3,10 +3,10 @@
 ghost use Rattle.std.specs.Prelude.{◌≡◌, true, ◌+◌, ◌-◌, ◌*◌, ◌%◌, ◌≤◌, ◌<◌, min, length};
 ghost use Rattle.gf2.specs.Polynomials.{rem};
 ghost use Rattle.gf2.specs.Moduli.{polynomial};
-ghost use Rattle.files.specs.Files.{bits, valueFrom};
+ghost use Rattle.files.specs.Files.{bits, value_from};
 ghost use Rattle.multiples.specs.Rows.{SameFrom};
 ghost use Rattle.lookups.specs.Groups.{TableOf};
-ghost use Rattle.house.specs.House.{houseKey};
+ghost use Rattle.house.specs.House.{house_key};
 ghost use Rattle.page_marks.specs.Marks.{Begun, BegunBy, Reduced, Finished};
 
 use gf2::Modulus;
@@ -49,7 +49,7 @@ pub fn begin_pages(
 // The residue of x with the bytes that are left of a page behind it.
 fn finished(words: &[u64], p: Modulus, x: u64, rest: &[u8]) -> u64
     requires { TableOf p words.now }
-    ensures { result ≡ rem (polynomial p) (valueFrom x (bits rest.now)) }
+    ensures { result ≡ rem (polynomial p) (value_from x (bits rest.now)) }
 {
     let f = lookups::residue(words, p, x);
     if rest.len() == 0 {
@@ -139,7 +139,7 @@ pub fn finish(
 // The fingerprints of n pages under the house key, by folding: no table is read. The places behind the first n stay.
 pub fn fold_pages(marks: &mut [u64], size: usize, n: usize, pages: &[u8])
     requires { (n * size ≤ length pages.now) × (n ≤ length marks.old) }
-    ensures { Finished houseKey size n pages.now marks.new × SameFrom n marks.old marks.new }
+    ensures { Finished house_key size n pages.now marks.new × SameFrom n marks.old marks.new }
 {
     let mut i: usize = 0;
     while i < n {

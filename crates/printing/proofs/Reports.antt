@@ -11,23 +11,23 @@ use lib.Dec.{ltb}
 use lib.ListN.{length, get_or, drop}
 use borrow.Author.Tests.{lt-ltb, le-ltb}
 use Rattle.io.specs.Digits.{hex_digit_ascii}
-use Rattle.lists.proofs.Sublists.{behind-common, before-common}
+use Rattle.lists.proofs.Sublists.{behind_common, before_common}
 use Rattle.refusals.specs.declared.Refusal.TheVariants.{TooLong}
 use Rattle.refusals.specs.Refusals.{Answer, ◌⇒◌, first_of, passes}
 use Rattle.acceptance.specs.declared.Key.{Key}
-use Rattle.acceptance.specs.Keys.{accepted, polynomialOf, keyOf}
+use Rattle.acceptance.specs.Keys.{accepted, polynomial_of, key_of}
 use Rattle.acceptance.proofs.Laws.{accepted-pos, whole-key}
-use Rattle.acceptance.proofs.Opened.{open-accepted, opened-first}
+use Rattle.acceptance.proofs.Opened.{open_accepted, opened-first}
 use Rattle.files.specs.declared.Mark.{Mark}
-use Rattle.files.specs.Files.{bits, fingerprint, mark_of, markFrom}
+use Rattle.files.specs.Files.{bits, fingerprint, mark_of, mark_from}
 use Rattle.marks.specs.declared.Running.{Running}
-use Rattle.marks.specs.Answers.{begunUnder}
+use Rattle.marks.specs.Answers.{begun_under}
 use Rattle.key_lines.specs.declared.KeyLine.{KeyLine}
-use Rattle.key_lines.specs.declared.KeyLine.TheVariants as line-cases
-use Rattle.key_lines.specs.KeyLines.{digit, hexFrom, keyLine}
-use Rattle.numerals.specs.Numerals.{digitsOf, numeral}
-use Rattle.printing.specs.Printing.{ascii, report, refused, answerText, markFile, printedAfter, printed}
-use Rattle.key_lines.proofs.Laws.{digit-decimal, digit-letter}
+use Rattle.key_lines.specs.declared.KeyLine.TheVariants as LineCases
+use Rattle.key_lines.specs.KeyLines.{digit, hex_from, key_line}
+use Rattle.numerals.specs.Numerals.{digits_of, numeral}
+use Rattle.printing.specs.Printing.{ascii, report, refused, answer_text, mark_file, printed_after, printed}
+use Rattle.key_lines.proofs.Laws.{digit_decimal, digit_letter}
 
 -- ---- a numeral in base 16 reads back
 
@@ -35,31 +35,31 @@ digit-back : (d : ℕ) → d < 16 → digit (hex_digit_ascii d) ≡ d
 digit-back d l = go (dec_lt d 10)
   where
     go : Dec (d < 10) → digit (hex_digit_ascii d) ≡ d
-    go (yes h) = rw (lt-ltb d 10 h) (digit-decimal (48 + d) (omega arith) (omega arith) ∙ omega arith)
-    go (no h) = rw (le-ltb d 10 (omega arith)) (digit-letter (87 + d) (omega arith) (omega arith) ∙ omega arith)
+    go (yes h) = rw (lt-ltb d 10 h) (digit_decimal (48 + d) (omega arith) (omega arith) ∙ omega arith)
+    go (no h) = rw (le-ltb d 10 (omega arith)) (digit_letter (87 + d) (omega arith) (omega arith) ∙ omega arith)
 
-hex-more : (s d : ℕ) (xs : List ℕ) → d < 16 → hexFrom s (xs ++ hex_digit_ascii d ∷ []) ≡ hexFrom s xs * 16 + d
-unfolding hexFrom
-hex-more s d [] l = ap (λ (x : ℕ). s * 16 + x) (digit-back d l)
-hex-more s d (x ∷ xs) l = hex-more (s * 16 + digit x) d xs l
+hex_more : (s d : ℕ) (xs : List ℕ) → d < 16 → hex_from s (xs ++ hex_digit_ascii d ∷ []) ≡ hex_from s xs * 16 + d
+unfolding hex_from
+hex_more s d [] l = ap (λ (x : ℕ). s * 16 + x) (digit-back d l)
+hex_more s d (x ∷ xs) l = hex_more (s * 16 + digit x) d xs l
 
-digits-back : (s n : ℕ) → n ≤ s → hexFrom 0 (digitsOf s 16 n) ≡ n
-unfolding digitsOf
-digits-back zero n l = hex-more 0 (n % 16) [] (omega arith) ∙ unfold hexFrom in (omega arith)
+digits-back : (s n : ℕ) → n ≤ s → hex_from 0 (digits_of s 16 n) ≡ n
+unfolding digits_of
+digits-back zero n l = hex_more 0 (n % 16) [] (omega arith) ∙ unfold hex_from in (omega arith)
 digits-back (suc s) n l = go (dec_lt n 16) (λ m. digits-back s (n / 16) m)
   where
-    go : Dec (n < 16) → (n / 16 ≤ s → hexFrom 0 (digitsOf s 16 (n / 16)) ≡ n / 16)
-        → hexFrom 0 (cond (ltb n 16) (hex_digit_ascii n ∷ []) (digitsOf s 16 (n / 16) ++ hex_digit_ascii (n % 16) ∷ [])) ≡ n
-    go (yes h) ih = rw (lt-ltb n 16 h) (hex-more 0 n [] h ∙ unfold hexFrom in (omega arith))
+    go : Dec (n < 16) → (n / 16 ≤ s → hex_from 0 (digits_of s 16 (n / 16)) ≡ n / 16)
+        → hex_from 0 (cond (ltb n 16) (hex_digit_ascii n ∷ []) (digits_of s 16 (n / 16) ++ hex_digit_ascii (n % 16) ∷ [])) ≡ n
+    go (yes h) ih = rw (lt-ltb n 16 h) (hex_more 0 n [] h ∙ unfold hex_from in (omega arith))
     go (no h) ih =
         rw (le-ltb n 16 (omega arith))
-        (hex-more 0 (n % 16) (digitsOf s 16 (n / 16)) (omega arith)
+        (hex_more 0 (n % 16) (digits_of s 16 (n / 16)) (omega arith)
         ∙ ap (λ (x : ℕ). x * 16 + n % 16) (ih (omega arith))
         ∙ omega arith)
 
-numeral-inj : (m n : ℕ) → numeral 16 m ≡ numeral 16 n → m ≡ n
+numeral_inj : (m n : ℕ) → numeral 16 m ≡ numeral 16 n → m ≡ n
 unfolding numeral
-numeral-inj m n e = sym (digits-back m m (le_refl m)) ∙ ap (hexFrom 0) e ∙ digits-back n n (le_refl n)
+numeral_inj m n e = sym (digits-back m m (le_refl m)) ∙ ap (hex_from 0) e ∙ digits-back n n (le_refl n)
 
 -- ---- reports
 
@@ -68,24 +68,24 @@ module _ (x : Key) (n f g : ℕ) where
   pub report-fingerprint : report (record { key = x; fingerprint = f; length = n }) ≡ report (record { key = x; fingerprint = g; length = n }) → f ≡ g
   unfolding report
   report-fingerprint e =
-      numeral-inj f g
-      (behind-common (numeral 16 f) (numeral 16 g) (ascii "\nmark ")
-      (behind-common (ascii "\nmark " ++ numeral 16 f) (ascii "\nmark " ++ numeral 16 g) front
-      (before-common (front ++ (ascii "\nmark " ++ numeral 16 f)) (front ++ (ascii "\nmark " ++ numeral 16 g)) (ascii "\n") e)))
+      numeral_inj f g
+      (behind_common (numeral 16 f) (numeral 16 g) (ascii "\nmark ")
+      (behind_common (ascii "\nmark " ++ numeral 16 f) (ascii "\nmark " ++ numeral 16 g) front
+      (before_common (front ++ (ascii "\nmark " ++ numeral 16 f)) (front ++ (ascii "\nmark " ++ numeral 16 g)) (ascii "\n") e)))
     where
       front : List ℕ
-      front = ascii "key " ++ numeral 10 x.degree ++ (ascii " " ++ numeral 16 (polynomialOf x)) ++ (ascii "\nbytes " ++ numeral 10 (n / 8))
+      front = ascii "key " ++ numeral 10 x.degree ++ (ascii " " ++ numeral 16 (polynomial_of x)) ++ (ascii "\nbytes " ++ numeral 10 (n / 8))
 
 -- a report is no refusal
-no-report : (m : Running) → refused TooLong ≡ report m → ⊥
+no_report : (m : Running) → refused TooLong ≡ report m → ⊥
 unfolding refused report ascii
-no-report m e = omega (arith, ap (λ (text : List ℕ). get_or text 0 0) e)
+no_report m e = omega (arith, ap (λ (text : List ℕ). get_or text 0 0) e)
 
 -- where a report is printed, its fingerprint is that of the file behind the key's line
-pub printed-fingerprint : (input : List ℕ) (key at f : ℕ) → accepted key ≡ true → keyLine input ≡ line-cases.Key (keyOf key) at
-    → printed input ≡ report (record { key = keyOf key; fingerprint = f; length = length (bits (drop at input)) })
+pub printed-fingerprint : (input : List ℕ) (key at f : ℕ) → accepted key ≡ true → key_line input ≡ LineCases.Key (key_of key) at
+    → printed input ≡ report (record { key = key_of key; fingerprint = f; length = length (bits (drop at input)) })
     → f ≡ fingerprint key (bits (drop at input))
-unfolding printed markFile markFrom
+unfolding printed mark_file mark_from
 printed-fingerprint input key at f a line e =
     go (passes (8 * length file ∷ [])) (sym is ∙ e) ∙ ap (λ (k : ℕ). fingerprint k (bits (drop at input))) (whole-key key (accepted-pos key a))
   where
@@ -93,17 +93,17 @@ printed-fingerprint input key at f a line e =
     file = drop at input
 
     answer : Bool → Answer Unit Running
-    answer b = begunUnder (keyOf key) (first_of (b ⇒ TooLong ∷ []) tt (mark_of (polynomialOf (keyOf key)) (bits (drop at input))))
+    answer b = begun_under (key_of key) (first_of (b ⇒ TooLong ∷ []) tt (mark_of (polynomial_of (key_of key)) (bits (drop at input))))
 
-    is : printed input ≡ answerText (answer (passes (8 * length file ∷ [])))
+    is : printed input ≡ answer_text (answer (passes (8 * length file ∷ [])))
     is =
-        ap (λ (l : KeyLine). printedAfter l input) line
-        ∙ ap (λ (m : Answer Unit Mark). answerText (begunUnder (keyOf key) m))
-        (opened-first (open-accepted key a) (passes (8 * length (drop at input) ∷ []) ⇒ TooLong ∷ []) tt
-        (mark_of (polynomialOf (keyOf key)) (bits (drop at input))))
+        ap (λ (l : KeyLine). printed_after l input) line
+        ∙ ap (λ (m : Answer Unit Mark). answer_text (begun_under (key_of key) m))
+        (opened-first (open_accepted key a) (passes (8 * length (drop at input) ∷ []) ⇒ TooLong ∷ []) tt
+        (mark_of (polynomial_of (key_of key)) (bits (drop at input))))
 
-    go : (b : Bool) → answerText (answer b) ≡ report (record { key = keyOf key; fingerprint = f; length = length (bits (drop at input)) })
-        → f ≡ fingerprint (polynomialOf (keyOf key)) (bits (drop at input))
-    go true h = absurd (no-report (record { key = keyOf key; fingerprint = f; length = length (bits (drop at input)) }) h)
+    go : (b : Bool) → answer_text (answer b) ≡ report (record { key = key_of key; fingerprint = f; length = length (bits (drop at input)) })
+        → f ≡ fingerprint (polynomial_of (key_of key)) (bits (drop at input))
+    go true h = absurd (no_report (record { key = key_of key; fingerprint = f; length = length (bits (drop at input)) }) h)
     go false h =
-        sym (report-fingerprint (keyOf key) (length (bits (drop at input))) (fingerprint (polynomialOf (keyOf key)) (bits (drop at input))) f h)
+        sym (report-fingerprint (key_of key) (length (bits (drop at input))) (fingerprint (polynomial_of (key_of key)) (bits (drop at input))) f h)

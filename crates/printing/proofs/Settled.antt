@@ -13,40 +13,40 @@ use Rattle.refusals.specs.declared.Refusal.{Refusal}
 use Rattle.refusals.specs.declared.Refusal.TheVariants.{KeyRange, KeyReducible, TooLong}
 use Rattle.refusals.specs.Refusals.{Answer, Done, Refused, ◌⇒◌, first_of, longest}
 use Rattle.acceptance.specs.declared.Key.{Key}
-use Rattle.acceptance.specs.Keys.{reducible, polynomialOf, outside}
+use Rattle.acceptance.specs.Keys.{reducible, polynomial_of, outside}
 use Rattle.files.specs.declared.Mark.{Mark}
 use Rattle.files.specs.Files.{bits, mark_of}
 use Rattle.marks.specs.declared.Running.{Running}
-use Rattle.marks.specs.Answers.{begunUnder}
+use Rattle.marks.specs.Answers.{begun_under}
 use Rattle.key_lines.specs.declared.KeyLine.{KeyLine}
-use Rattle.key_lines.specs.declared.KeyLine.TheVariants as line-cases
-use Rattle.key_lines.specs.KeyLines.{keyLine}
+use Rattle.key_lines.specs.declared.KeyLine.TheVariants as LineCases
+use Rattle.key_lines.specs.KeyLines.{key_line}
 use Rattle.key_lines.specs.Deciding.{undecided}
-use Rattle.printing.specs.Printing.{answerText, markFile, printedAfter, printed}
-use Rattle.key_lines.proofs.Laws.{key-within, key-stays, large-stays, decided-stays}
+use Rattle.printing.specs.Printing.{answer_text, mark_file, printed_after, printed}
+use Rattle.key_lines.proofs.Laws.{key-within, key-stays, large_stays, decided-stays}
 
-pub none-settled : (input more : List ℕ) → undecided input ≡ false → keyLine input ≡ line-cases.NoKey → printed (input ++ more) ≡ printed input
+pub none_settled : (input more : List ℕ) → undecided input ≡ false → key_line input ≡ LineCases.NoKey → printed (input ++ more) ≡ printed input
 unfolding printed
-none-settled input more h e =
-    ap (λ (l : KeyLine). printedAfter l (input ++ more)) (decided-stays input more h ∙ e) ∙ ap (λ (l : KeyLine). printedAfter l input) (sym e)
+none_settled input more h e =
+    ap (λ (l : KeyLine). printed_after l (input ++ more)) (decided-stays input more h ∙ e) ∙ ap (λ (l : KeyLine). printed_after l input) (sym e)
 
-pub large-settled : (input more : List ℕ) → keyLine input ≡ line-cases.TooLarge → printed (input ++ more) ≡ printed input
+pub large_settled : (input more : List ℕ) → key_line input ≡ LineCases.TooLarge → printed (input ++ more) ≡ printed input
 unfolding printed
-large-settled input more e =
-    ap (λ (l : KeyLine). printedAfter l (input ++ more)) (large-stays input more e) ∙ ap (λ (l : KeyLine). printedAfter l input) (sym e)
+large_settled input more e =
+    ap (λ (l : KeyLine). printed_after l (input ++ more)) (large_stays input more e) ∙ ap (λ (l : KeyLine). printed_after l input) (sym e)
 
 done_refused : {m : Running} {r : Refusal} → ◌≡◌ {A = Answer Unit Running} (Done m) (Refused r tt) → ⊥
 done_refused e = let z : ◌≡◌ {A = ℕ} 0 1 = cc in omega arith
 
-file-settled : (x : Key) (file more : List ℕ) (r : Refusal) → markFile x file ≡ Refused r tt → markFile x (file ++ more) ≡ Refused r tt
-unfolding markFile
-file-settled x file more r e = go (outside x) (reducible (polynomialOf x)) (ltb longest (8 * length file)) refl e
+file_settled : (x : Key) (file more : List ℕ) (r : Refusal) → mark_file x file ≡ Refused r tt → mark_file x (file ++ more) ≡ Refused r tt
+unfolding mark_file
+file_settled x file more r e = go (outside x) (reducible (polynomial_of x)) (ltb longest (8 * length file)) refl e
   where
     answer : Bool → Bool → Bool → Mark → Answer Unit Running
-    answer a b c m = begunUnder x (first_of (a ⇒ KeyRange ∷ b ⇒ KeyReducible ∷ c ⇒ TooLong ∷ []) tt m)
+    answer a b c m = begun_under x (first_of (a ⇒ KeyRange ∷ b ⇒ KeyReducible ∷ c ⇒ TooLong ∷ []) tt m)
 
-    go : (a b c : Bool) → ltb longest (8 * length file) ≡ c → answer a b (c || false) (mark_of (polynomialOf x) (bits file)) ≡ Refused r tt
-        → answer a b (ltb longest (8 * length (file ++ more)) || false) (mark_of (polynomialOf x) (bits (file ++ more))) ≡ Refused r tt
+    go : (a b c : Bool) → ltb longest (8 * length file) ≡ c → answer a b (c || false) (mark_of (polynomial_of x) (bits file)) ≡ Refused r tt
+        → answer a b (ltb longest (8 * length (file ++ more)) || false) (mark_of (polynomial_of x) (bits (file ++ more))) ≡ Refused r tt
     go true b c t u = u
     go false true c t u = u
     go false false true t u =
@@ -54,11 +54,11 @@ file-settled x file more r e = go (outside x) (reducible (polynomialOf x)) (ltb 
         rw (lt-ltb longest (8 * length (file ++ more)) (omega (arith, length-append file more))) u
     go false false false t u = absurd (done_refused u)
 
-pub refused-settled : (input more : List ℕ) (x : Key) (at : ℕ) (r : Refusal) → keyLine input ≡ line-cases.Key x at
-    → markFile x (drop at input) ≡ Refused r tt → printed (input ++ more) ≡ printed input
+pub refused_settled : (input more : List ℕ) (x : Key) (at : ℕ) (r : Refusal) → key_line input ≡ LineCases.Key x at
+    → mark_file x (drop at input) ≡ Refused r tt → printed (input ++ more) ≡ printed input
 unfolding printed
-refused-settled input more x at r line e =
-    ap (λ (l : KeyLine). printedAfter l (input ++ more)) (key-stays input more x at line)
-    ∙ ap (λ (file : List ℕ). answerText (markFile x file)) (drop-append-le at input more (key-within input x at line))
-    ∙ ap answerText (file-settled x (drop at input) more r e ∙ sym e)
-    ∙ ap (λ (l : KeyLine). printedAfter l input) (sym line)
+refused_settled input more x at r line e =
+    ap (λ (l : KeyLine). printed_after l (input ++ more)) (key-stays input more x at line)
+    ∙ ap (λ (file : List ℕ). answer_text (mark_file x file)) (drop-append-le at input more (key-within input x at line))
+    ∙ ap answer_text (file_settled x (drop at input) more r e ∙ sym e)
+    ∙ ap (λ (l : KeyLine). printed_after l input) (sym line)

@@ -6,13 +6,13 @@ use Rattle.refusals.specs.declared.Refusal.{Refusal}
 use Rattle.refusals.specs.declared.Refusal.TheVariants.{KeyRange, TooLong}
 use Rattle.refusals.specs.Refusals.{Answer, Done, Refused, number, ◌⇒◌, first_of, passes}
 use Rattle.acceptance.specs.declared.Key.{Key}
-use Rattle.acceptance.specs.Keys.{polynomialOf, keyTests}
+use Rattle.acceptance.specs.Keys.{polynomial_of, key_tests}
 use Rattle.files.specs.Files.{bits, mark_of}
 use Rattle.marks.specs.declared.Running.{Running}
-use Rattle.marks.specs.Answers.{begunUnder}
+use Rattle.marks.specs.Answers.{begun_under}
 use Rattle.key_lines.specs.declared.KeyLine.{KeyLine}
-use Rattle.key_lines.specs.declared.KeyLine.TheVariants as line-cases
-use Rattle.key_lines.specs.KeyLines.{keyLine}
+use Rattle.key_lines.specs.declared.KeyLine.TheVariants as LineCases
+use Rattle.key_lines.specs.KeyLines.{key_line}
 use Rattle.numerals.specs.Numerals.{numeral}
 
 -- the ASCII bytes of a text
@@ -23,7 +23,7 @@ ascii (c then s) = code c ∷ ascii s
 -- of a running mark, whose length is in bits: the program prints bytes
 unfoldable pub report : Running → List ℕ
 report m =
-    ascii "key " ++ numeral 10 m.key.degree ++ (ascii " " ++ numeral 16 (polynomialOf m.key))
+    ascii "key " ++ numeral 10 m.key.degree ++ (ascii " " ++ numeral 16 (polynomial_of m.key))
     ++ (ascii "\nbytes " ++ numeral 10 (m.length / 8))
     ++ (ascii "\nmark " ++ numeral 16 m.fingerprint)
     ++ ascii "\n"
@@ -31,22 +31,22 @@ report m =
 unfoldable pub refused : Refusal → List ℕ
 refused r = ascii "refused " ++ numeral 10 (number r) ++ ascii "\n"
 
-unfoldable pub noKey : List ℕ
-noKey = ascii "no key\n"
+unfoldable pub no_key : List ℕ
+no_key = ascii "no key\n"
 
-abbrev pub answerText : {S : Type 0} → Answer S Running → List ℕ
-answerText (Done m) = report m
-answerText (Refused r s) = refused r
+abbrev pub answer_text : {S : Type 0} → Answer S Running → List ℕ
+answer_text (Done m) = report m
+answer_text (Refused r s) = refused r
 
 -- The mark of the file behind the key's line, which is whole bytes. Number 7 applies to the file's length.
-unfoldable pub markFile : Key → List ℕ → Answer Unit Running
-markFile x file = begunUnder x (first_of (keyTests x ++ passes (8 * length file ∷ []) ⇒ TooLong ∷ []) tt (mark_of (polynomialOf x) (bits file)))
+unfoldable pub mark_file : Key → List ℕ → Answer Unit Running
+mark_file x file = begun_under x (first_of (key_tests x ++ passes (8 * length file ∷ []) ⇒ TooLong ∷ []) tt (mark_of (polynomial_of x) (bits file)))
 
-abbrev pub printedAfter : KeyLine → List ℕ → List ℕ
-printedAfter line-cases.NoKey input = noKey
-printedAfter (line-cases.Key x at) input = answerText (markFile x (drop at input))
-printedAfter line-cases.TooLarge input = refused KeyRange
+abbrev pub printed_after : KeyLine → List ℕ → List ℕ
+printed_after LineCases.NoKey input = no_key
+printed_after (LineCases.Key x at) input = answer_text (mark_file x (drop at input))
+printed_after LineCases.TooLarge input = refused KeyRange
 
 -- what the program prints on an input
 unfoldable pub printed : List ℕ → List ℕ
-printed input = printedAfter (keyLine input) input
+printed input = printed_after (key_line input) input

@@ -2,7 +2,7 @@
 ghost use Rattle.std.specs.Prelude.{◌≡◌, false};
 ghost use Rattle.acceptance.specs.Keys.{outside};
 ghost use Rattle.numerals.specs.Buffers.{PutInFront};
-ghost use Rattle.printing.specs.Printing.{report, refused, noKey};
+ghost use Rattle.printing.specs.Printing.{report, refused, no_key};
 
 use marks::Running;
 use refusals::Refusal;
@@ -32,7 +32,7 @@ pub fn refusal(r: Refusal, out: &mut [u8; 96]) -> usize
 
 // The line where the input gives no key.
 pub fn no_key(out: &mut [u8; 96]) -> usize
-    ensures { PutInFront out.old out.new result noKey }
+    ensures { PutInFront out.old out.new result no_key }
 {
     numerals::put(out, 0, b"no key\n")
 }

@@ -9,7 +9,7 @@ use lib.ListN.{length, get_or, take, get_or-eq_default}
 use lib.Seq.{get_or-take}
 use Rattle.files.specs.Files.{low_bits, bits}
 use Rattle.files.specs.Bursts.{Burst}
-use Rattle.readings.specs.Readings.{zeroFile, keyFile, longZeroFile, longKeyFile}
+use Rattle.readings.specs.Readings.{zero_file, key_file, long_zero_file, long_key_file}
 
 module _ (a b : List ℕ) (first last : ℕ) where
   -- files that are alike before the first place and end with the last
@@ -28,18 +28,18 @@ module _ (a b : List ℕ) (first last : ℕ) where
   not-across : (k : ℕ) → first + k ≡ last → get_or a first 0 ≢ get_or b first 0 → get_or a last 0 ≢ get_or b last 0 → Burst k a b → ⊥
   not-across k e f l s = omega (arith, s.near, (s.between first f).0, (s.between last l).1)
 
-pub nine-bits : Burst 9 (bits zeroFile) (bits keyFile)
+pub nine-bits : Burst 9 (bits zero_file) (bits key_file)
 unfolding bits low_bits
-nine-bits = across (bits zeroFile) (bits keyFile) 7 15 9 refl refl refl refl
+nine-bits = across (bits zero_file) (bits key_file) 7 15 9 refl refl refl refl
 
-pub not_eight : Burst 8 (bits zeroFile) (bits keyFile) → ⊥
+pub not_eight : Burst 8 (bits zero_file) (bits key_file) → ⊥
 unfolding bits low_bits
-not_eight = not-across (bits zeroFile) (bits keyFile) 7 15 8 refl (λ e. omega (arith, e)) (λ e. omega (arith, e))
+not_eight = not-across (bits zero_file) (bits key_file) 7 15 8 refl (λ e. omega (arith, e)) (λ e. omega (arith, e))
 
-pub sixty-five-bits : Burst 65 (bits longZeroFile) (bits longKeyFile)
+pub sixty_five_bits : Burst 65 (bits long_zero_file) (bits long_key_file)
 unfolding bits low_bits
-sixty-five-bits = across (bits longZeroFile) (bits longKeyFile) 7 71 65 refl refl refl refl
+sixty_five_bits = across (bits long_zero_file) (bits long_key_file) 7 71 65 refl refl refl refl
 
-pub not-sixty-four : Burst 64 (bits longZeroFile) (bits longKeyFile) → ⊥
+pub not_sixty_four : Burst 64 (bits long_zero_file) (bits long_key_file) → ⊥
 unfolding bits low_bits
-not-sixty-four = not-across (bits longZeroFile) (bits longKeyFile) 7 71 64 refl (λ e. omega (arith, e)) (λ e. omega (arith, e))
+not_sixty_four = not-across (bits long_zero_file) (bits long_key_file) 7 71 64 refl (λ e. omega (arith, e)) (λ e. omega (arith, e))

@@ -2,35 +2,35 @@
 use mathlib.Core.Path.{◌≡◌, refl}
 use mathlib.Core.Bool.{true}
 use native.Mathlib.Omega.{arith}
-use Rattle.lists.specs.Lists.{anyBelow}
+use Rattle.lists.specs.Lists.{any_below}
 use Rattle.lists.specs.Members.{among}
-use Rattle.gf2.specs.Polynomials.{◌⊕◌, halvings, degree, monic, reduce, longDivision, rem}
+use Rattle.gf2.specs.Polynomials.{◌⊕◌, halvings, degree, monic, reduce, long_division, rem}
 use Rattle.refusals.specs.Refusals.{Done}
 use Rattle.refusals.proofs.Laws.{clear-done}
-use Rattle.acceptance.specs.Keys.{reducible, accepted, keyOf, keyTests}
-use Rattle.acceptance.proofs.Opened.{open-accepted, opened-clear}
-use Rattle.stock.proofs.Table.{stock-smallest, stock-64}
-use Rattle.keys.specs.Testing.{testKey}
-use Rattle.files.specs.Files.{low_bits, bits, valueFrom, fingerprintFrom, joinedFrom}
+use Rattle.acceptance.specs.Keys.{reducible, accepted, key_of, key_tests}
+use Rattle.acceptance.proofs.Opened.{open_accepted, opened-clear}
+use Rattle.stock.proofs.Table.{stock_smallest, stock_64}
+use Rattle.keys.specs.Testing.{test_key}
+use Rattle.files.specs.Files.{low_bits, bits, value_from, fingerprint_from, joined_from}
 use Rattle.draw.specs.Drawing.{draw}
-use Rattle.compose.specs.Composing.{joinBehindFrom}
-use Rattle.search.proofs.Readings.{collision-reading}
+use Rattle.compose.specs.Composing.{join_behind_from}
+use Rattle.search.proofs.Readings.{collision_reading}
 use Rattle.readings.specs.Readings.{Readings, At64}
-use Rattle.readings.proofs.Drawing.{drawn-by-3}
-use Rattle.readings.proofs.Apart.{nine-bits, not_eight, sixty-five-bits, not-sixty-four}
+use Rattle.readings.proofs.Drawing.{drawn_by_3}
+use Rattle.readings.proofs.Apart.{nine-bits, not_eight, sixty_five_bits, not_sixty_four}
 
 pub readings : Readings
-unfolding testKey reducible anyBelow fingerprintFrom valueFrom bits low_bits joinBehindFrom joinedFrom monic rem longDivision reduce degree halvings ◌⊕◌
-readings = (refl, refl, refl, drawn-by-3, refl, refl, refl, refl, refl, refl, collision-reading, refl, nine-bits, not_eight)
+unfolding test_key reducible any_below fingerprint_from value_from bits low_bits join_behind_from joined_from monic rem long_division reduce degree halvings ◌⊕◌
+readings = (refl, refl, refl, drawn_by_3, refl, refl, refl, refl, refl, refl, collision_reading, refl, nine-bits, not_eight)
 
 -- the stock key of degree 64
-accepted-64 : accepted 0x1000000000000001B ≡ true
-accepted-64 = rw stock-64 at (stock-smallest 64 (omega arith) (omega arith)).is-accepted
+accepted_64 : accepted 0x1000000000000001B ≡ true
+accepted_64 = rw stock_64 at (stock_smallest 64 (omega arith) (omega arith)).is-accepted
 
-tested-64 : testKey (record { degree = 64; word = 0x1B }) ≡ Done (record { degree = 64; low = 0x1B })
-unfolding testKey degree halvings
-tested-64 = clear-done (keyTests (keyOf 0x1000000000000001B)) tt _ (opened-clear (open-accepted 0x1000000000000001B accepted-64))
+tested_64 : test_key (record { degree = 64; word = 0x1B }) ≡ Done (record { degree = 64; low = 0x1B })
+unfolding test_key degree halvings
+tested_64 = clear-done (key_tests (key_of 0x1000000000000001B)) tt _ (opened-clear (open_accepted 0x1000000000000001B accepted_64))
 
-pub at-64 : At64
-unfolding testKey draw among fingerprintFrom valueFrom bits low_bits rem longDivision reduce degree halvings ◌⊕◌
-at-64 = (accepted-64, tested-64, refl, refl, refl, refl, refl, refl, sixty-five-bits, not-sixty-four)
+pub at_64 : At64
+unfolding test_key draw among fingerprint_from value_from bits low_bits rem long_division reduce degree halvings ◌⊕◌
+at_64 = (accepted_64, tested_64, refl, refl, refl, refl, refl, refl, sixty_five_bits, not_sixty_four)

@@ -44,10 +44,10 @@ first-from b (false ⇒ r ∷ ts) x y t = first-from (number r) ts x y (and_righ
 pub first-is-lowest : {S A : Type 0} (ts : List Test) (x : S) (y : A) → T (rising 0 (numbers ts)) → number_of (first_of ts x y) ≡ lowest (applying ts)
 first-is-lowest ts x y t = first-from 0 ts x y t
 
-first-applies : {S A : Type 0} (ts : List Test) (x : S) (y : A) → number_of (first_of ts x y) ≡ foremost (applying ts)
-first-applies [] x y = refl
-first-applies (true ⇒ r ∷ ts) x y = refl
-first-applies (false ⇒ r ∷ ts) x y = first-applies ts x y
+first_applies : {S A : Type 0} (ts : List Test) (x : S) (y : A) → number_of (first_of ts x y) ≡ foremost (applying ts)
+first_applies [] x y = refl
+first_applies (true ⇒ r ∷ ts) x y = refl
+first_applies (false ⇒ r ∷ ts) x y = first_applies ts x y
 
 -- of a call, by its definition and its numbers
 module _ {S A : Type 0} {ns : List ℕ} {ts : List Test} {answer : Answer S A} (kept : S) (value : A) (is : answer ≡ first_of ts kept value)
@@ -56,7 +56,7 @@ module _ {S A : Type 0} {ns : List ℕ} {ts : List Test} {answer : Answer S A} (
   gives-lowest t = record { numbered = numbered; given = ap number_of is ∙ first-is-lowest ts kept value (rw numbered t) }
 
   pub gives-first : GivesFirst ns ts answer
-  gives-first = record { numbered = numbered; given = ap number_of is ∙ first-applies ts kept value }
+  gives-first = record { numbered = numbered; given = ap number_of is ∙ first_applies ts kept value }
 
 -- ---- where nothing is refused
 
@@ -141,11 +141,11 @@ agree f (false ⇒ r ∷ ts) kept next nxt h = agree f ts kept next nxt h
 -- ---- one test, by what the code finds
 
 module _ {S A : Type 0} (b : Bool) (r : Refusal) (ts : List Test) (s : S) (v : A) where
-  pub first-true : b ≡ true → first_of (b ⇒ r ∷ ts) s v ≡ Refused r s
-  first-true e = rw e
+  pub first_true : b ≡ true → first_of (b ⇒ r ∷ ts) s v ≡ Refused r s
+  first_true e = rw e
 
-  pub first-false : b ≡ false → first_of (b ⇒ r ∷ ts) s v ≡ first_of ts s v
-  first-false e = rw e
+  pub first_false : b ≡ false → first_of (b ⇒ r ∷ ts) s v ≡ first_of ts s v
+  first_false e = rw e
 
 -- a function answers whether a test does not hold: what it says by each answer
 pub holds : (r b : Bool) → r ≡ not b → not r ≡ true → b ≡ true

@@ -5,34 +5,34 @@ use mathlib.Core.List.{List, [], ◌∷◌, ◌++◌}
 use Prim.Native.Nat.{ℕ}
 use Rattle.refusals.specs.declared.Refusal.{Refusal}
 use Rattle.refusals.specs.declared.Reply.{Reply}
-use Rattle.refusals.specs.declared.Reply.TheVariants as reply-cases
-use Rattle.refusals.specs.Refusals.{Answer, Done, Refused, number_of, state_of, valueOr, mapped, Test, ◌⇒◌, first_of, judged}
+use Rattle.refusals.specs.declared.Reply.TheVariants as ReplyCases
+use Rattle.refusals.specs.Refusals.{Answer, Done, Refused, number_of, state_of, value_or, mapped, Test, ◌⇒◌, first_of, judged}
 use Rattle.refusals.specs.Answers.{reply, told}
 use Rattle.refusals.proofs.Laws.{Clear, done-clear, more-refused}
 
 -- the tests that were judged, whatever stands behind them
 module _ (ts : List Test) (r : Reply) (e : told r ≡ judged ts) where
-  pub judged-refused : {S A : Type 0} (us : List Test) (s : S) (v : A) (q : Refusal) → r ≡ reply-cases.Refused q → first_of (ts ++ us) s v ≡ Refused q s
+  pub judged-refused : {S A : Type 0} (us : List Test) (s : S) (v : A) (q : Refusal) → r ≡ ReplyCases.Refused q → first_of (ts ++ us) s v ≡ Refused q s
   judged-refused us s v q a = more-refused ts us tt s tt v q (sym e ∙ ap told a)
 
-  pub judged-clear : r ≡ reply-cases.Done → Clear ts
+  pub judged-clear : r ≡ ReplyCases.Done → Clear ts
   judged-clear a = (done-clear ts tt tt tt (sym e ∙ ap told a)).0
 
 -- the number and the state of a reply, for the functions for C
 reply-number : {A : Type 0} (left : A) (r : Reply) → number_of (told r) ≡ number_of (reply left r)
-reply-number left reply-cases.Done = refl
-reply-number left (reply-cases.Refused q) = refl
+reply-number left ReplyCases.Done = refl
+reply-number left (ReplyCases.Refused q) = refl
 
-reply-state : {A : Type 0} (left : A) (r : Reply) → left ≡ state_of (reply left r)
-reply-state left reply-cases.Done = refl
-reply-state left (reply-cases.Refused q) = refl
+reply_state : {A : Type 0} (left : A) (r : Reply) → left ≡ state_of (reply left r)
+reply_state left ReplyCases.Done = refl
+reply_state left (ReplyCases.Refused q) = refl
 
 pub replied : {A : Type 0} {left : A} {answer : Answer A A} (r : Reply) {n : ℕ} → reply left r ≡ answer → n ≡ number_of (told r)
     → (n ≡ number_of answer) × (left ≡ state_of answer)
-replied {left = left} r e h = (h ∙ reply-number left r ∙ ap number_of e, reply-state left r ∙ ap state_of e)
+replied {left = left} r e h = (h ∙ reply-number left r ∙ ap number_of e, reply_state left r ∙ ap state_of e)
 
 -- On refusal the state is the one handed in: a function that writes nothing then leaves it.
-pub first-keeps : {A : Type 0} (ts : List Test) (before value : A) → valueOr before (first_of ts before value) ≡ state_of (first_of ts before value)
+pub first-keeps : {A : Type 0} (ts : List Test) (before value : A) → value_or before (first_of ts before value) ≡ state_of (first_of ts before value)
 first-keeps [] before value = refl
 first-keeps (true ⇒ r ∷ ts) before value = refl
 first-keeps (false ⇒ r ∷ ts) before value = first-keeps ts before value

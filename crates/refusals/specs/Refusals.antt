@@ -39,9 +39,9 @@ state_of (Done a) = a
 state_of (Refused r a) = a
 
 -- what a lent place holds after a call that writes its value there: on refusal what it held before
-abbrev pub valueOr : {S A : Type 0} → A → Answer S A → A
-valueOr before (Done a) = a
-valueOr before (Refused r s) = before
+abbrev pub value_or : {S A : Type 0} → A → Answer S A → A
+value_or before (Done a) = a
+value_or before (Refused r s) = before
 
 -- the same answer, with f of the value
 abbrev pub mapped : {S A B : Type 0} → (A → B) → Answer S A → Answer S B

@@ -8,7 +8,7 @@ pub const LONGEST: u64 = 34359738360;
 
 pub const LONGEST_BYTES: u64 = 4294967295;
 
-#[derive(Drop)]
+#[derive(Clone, Copy)]
 pub enum Refusal {
     KeyRange,
     KeyReducible,
@@ -28,7 +28,7 @@ pub enum Refusal {
 }
 
 // The answer of a call that gives no value: done, or refused.
-#[derive(Drop)]
+#[derive(Clone, Copy)]
 pub enum Reply {
     Done,
     Refused(Refusal),

@@ -7,34 +7,34 @@ use lib.Seq.{take-length}
 use borrow.Rule.Slice.PartMut.{put_mid, mid_len, same_len_mid}
 use Rattle.gf2.specs.Polynomials.{◌⊕◌}
 use Rattle.gf2.specs.Degrees.{Degree}
-use Rattle.gf2.proofs.Sums.{⊕-left-comm, ⊕-lt, ⊕-zero}
+use Rattle.gf2.proofs.Sums.{⊕-left_comm, ⊕-lt, ⊕-zero}
 use Rattle.gf2.proofs.Products.{by_bit, bit-cases}
-use Rattle.gf2.proofs.Degrees.{deg-hi, deg-pos, deg-⊕}
+use Rattle.gf2.proofs.Degrees.{deg_hi, deg-pos, deg-⊕}
 use Rattle.gf2.proofs.Linear.{at-bit}
 use Rattle.basis.specs.Rows.{sum_of, Independent, NoRelation, clear}
-use Rattle.relations.specs.Adding.{addWhere}
+use Rattle.relations.specs.Adding.{add_where}
 use Rattle.basis.proofs.Sums.{sum-additive, sum-take, sum-place}
-use Rattle.basis.proofs.Turns.{part-cons, put-part, turn-behind}
+use Rattle.basis.proofs.Turns.{part_cons, put-part, turn-behind}
 
 -- ---- a list of sums that is changed one by one, from the front
 
 module _ (c w : ℕ) where
-  pub length-added : (rows sums : List ℕ) → length (addWhere c w rows sums) ≡ length sums
-  unfolding addWhere
+  pub length-added : (rows sums : List ℕ) → length (add_where c w rows sums) ≡ length sums
+  unfolding add_where
   length-added [] sums = refl
   length-added (r ∷ rows) [] = refl
   length-added (r ∷ rows) (s ∷ sums) = ap suc (length-added rows sums)
 
-  added-at : (j : ℕ) (rows sums : List ℕ) → get_or (addWhere c w (take j rows) sums) j 0 ≡ get_or sums j 0
-  unfolding addWhere
+  added-at : (j : ℕ) (rows sums : List ℕ) → get_or (add_where c w (take j rows) sums) j 0 ≡ get_or sums j 0
+  unfolding add_where
   added-at zero rows sums = refl
   added-at (suc j) [] sums = refl
   added-at (suc j) (r ∷ rows) [] = refl
   added-at (suc j) (r ∷ rows) (s ∷ sums) = added-at j rows sums
 
   more : (j : ℕ) (rows sums : List ℕ) → j < length rows
-      → set (addWhere c w (take j rows) sums) j (get_or rows j 0 / 2 ^ c % 2 * w ⊕ get_or sums j 0) ≡ addWhere c w (take (suc j) rows) sums
-  unfolding addWhere
+      → set (add_where c w (take j rows) sums) j (get_or rows j 0 / 2 ^ c % 2 * w ⊕ get_or sums j 0) ≡ add_where c w (take (suc j) rows) sums
+  unfolding add_where
   more j [] sums h = absurd (not-suc-le-zero h)
   more zero (r ∷ rows) [] h = refl
   more zero (r ∷ rows) (s ∷ sums) h = refl
@@ -43,7 +43,7 @@ module _ (c w : ℕ) where
 
   -- the sums of the first j rows are changed
   abbrev pub Added : ℕ → List ℕ → List ℕ → List ℕ → Type 0
-  Added j rows given sums = sums ≡ addWhere c w (take j rows) given
+  Added j rows given sums = sums ≡ add_where c w (take j rows) given
 
   module _ (j : ℕ) (rows given : List ℕ) {sums : List ℕ} (h : Added j rows given sums) where
     pub added-length : length sums ≡ length given
@@ -54,7 +54,7 @@ module _ (c w : ℕ) where
         let same = ap (λ (t : List ℕ). get_or t j 0) h ∙ added-at j rows given in
         ap₂ (λ (t : List ℕ) (z : ℕ). set t j z) h (e ∙ ap₂ (λ (r s : ℕ). r / 2 ^ c % 2 * w ⊕ s) at same) ∙ rw add-one (more j rows given l)
 
-    pub added-whole : j ≡ length rows → sums ≡ addWhere c w rows given
+    pub added-whole : j ≡ length rows → sums ≡ add_where c w rows given
     added-whole e = rw (e, take-length) at h
 
 -- ---- rows and sums
@@ -79,13 +79,13 @@ module _ (given : List ℕ) where
 
   -- a column is cleared by a row v before them, the sum of the given rows that w chooses
   pub tied-cleared : (c v w : ℕ) → sum_of w given ≡ v → (i : ℕ) (rows sums : List ℕ) → w < 2 ^ i → Tied i rows sums
-      → Tied i (map (clear c v) rows) (addWhere c w rows sums)
-  unfolding clear addWhere
+      → Tied i (map (clear c v) rows) (add_where c w rows sums)
+  unfolding clear add_where
   tied-cleared c v w e i [] sums l t = tt
   tied-cleared c v w e i (r ∷ rows) [] l t = t
   tied-cleared c v w e i (r ∷ rows) (s ∷ sums) l t = (
     ⊕-lt i (r / 2 ^ c % 2 * w) s (by_bit (λ (b : ℕ). b * w < 2 ^ i) (rw zero-mul (pow_pos i)) (rw one-mul l) (r / 2 ^ c)) t.0,
-    ap (λ (x : ℕ). sum_of x given) (⊕-left-comm (2 ^ i) (r / 2 ^ c % 2 * w) s) ∙ (sum-additive given).sum (r / 2 ^ c % 2 * w) (2 ^ i ⊕ s)
+    ap (λ (x : ℕ). sum_of x given) (⊕-left_comm (2 ^ i) (r / 2 ^ c % 2 * w) s) ∙ (sum-additive given).sum (r / 2 ^ c % 2 * w) (2 ^ i ⊕ s)
         ∙ ap₂ (λ (x y : ℕ). x ⊕ y) (at-bit (sum-additive given) (r / 2 ^ c) w ∙ ap (λ (x : ℕ). r / 2 ^ c % 2 * x) e) t.1,
     tied-cleared c v w e (suc i) rows sums (lt_of_lt_of_le l (pow_mono (le-suc i))) t.2,
   )
@@ -95,7 +95,7 @@ module _ (given : List ℕ) where
 module _ (given : List ℕ) (i n : ℕ) (rows sums : List ℕ) (l : i < n) (lr : n ≤ length rows) (ls : n ≤ length sums)
     (t : Tied given i (take (n - i) (drop i rows)) (take (n - i) (drop i sums))) where
   parts : Tied given i (get_or rows i 0 ∷ take (n - (i + 1)) (drop (i + 1) rows)) (get_or sums i 0 ∷ take (n - (i + 1)) (drop (i + 1) sums))
-  parts = rw (part-cons i n rows l lr, part-cons i n sums l ls) at t
+  parts = rw (part_cons i n rows l lr, part_cons i n sums l ls) at t
 
   pub sum-before : get_or sums i 0 < 2 ^ i
   sum-before = parts.0
@@ -107,7 +107,7 @@ module _ (given : List ℕ) (i n : ℕ) (rows sums : List ℕ) (l : i < n) (lr :
   new-degree = deg-⊕ (2 ^ i) (get_or sums i 0) i (div_self (pow_pos i)) sum-before
 
   pub tied-turn : (c : ℕ) (ys zs : List ℕ) → ys ≡ map (clear c (get_or rows i 0)) (take (n - (i + 1)) (drop (i + 1) rows))
-      → zs ≡ addWhere c (2 ^ i ⊕ get_or sums i 0) (take (n - (i + 1)) (drop (i + 1) rows)) (take (n - (i + 1)) (drop (i + 1) sums))
+      → zs ≡ add_where c (2 ^ i ⊕ get_or sums i 0) (take (n - (i + 1)) (drop (i + 1) rows)) (take (n - (i + 1)) (drop (i + 1) sums))
       → Tied given (i + 1)
       (take (n - (i + 1)) (drop (i + 1) (put_mid (i + 1) (n - (i + 1)) rows ys)))
       (take (n - (i + 1)) (drop (i + 1) (put_mid (i + 1) (n - (i + 1)) sums zs)))
@@ -115,7 +115,7 @@ module _ (given : List ℕ) (i n : ℕ) (rows sums : List ℕ) (l : i < n) (lr :
       rw (put-part (i + 1) (n - (i + 1)) rows ys (omega arith) ly, put-part (i + 1) (n - (i + 1)) sums zs (omega arith) lz, ey, ez, add-one i)
       (tied-cleared given c (get_or rows i 0) (2 ^ i ⊕ get_or sums i 0) row-value (suc i)
       (take (n - suc i) (drop (suc i) rows)) (take (n - suc i) (drop (suc i) sums))
-      (deg-hi (2 ^ i ⊕ get_or sums i 0) i new-degree) (rw (add-one i) at parts.2))
+      (deg_hi (2 ^ i ⊕ get_or sums i 0) i new-degree) (rw (add-one i) at parts.2))
     where
       ly : length ys ≡ n - (i + 1)
       ly = ap length ey ∙ length-map (take (n - (i + 1)) (drop (i + 1) rows)) (clear c (get_or rows i 0)) ∙ mid_len (i + 1) n rows lr
@@ -153,7 +153,7 @@ module _ (rows : List ℕ) (k : ℕ) where
   -- the rows before row i have cleared their columns: the rows from i to k are not independent, and each has its sum beside it
   pub record Kept (i : ℕ) (work sums : List ℕ) : Type 0 where
     pub reached : i ≤ k
-    pub work-length : length work ≡ 64
+    pub work_length : length work ≡ 64
     pub sums-length : length sums ≡ 64
     pub dependent : Independent (take (k + 1 - i) (drop i work)) → ⊥
     pub tied : Tied rows i (take (k + 1 - i) (drop i work)) (take (k + 1 - i) (drop i sums))
@@ -163,7 +163,7 @@ module _ (rows : List ℕ) (k : ℕ) where
     kept-start e d =
         record {
           reached = omega arith;
-          work-length = e;
+          work_length = e;
           sums-length = length-replicate {A = ℕ} 64 0;
           dependent = λ i. d (independent-none (k + 1) rows (omega arith) (rw sub-zero at i));
           tied =
@@ -183,7 +183,7 @@ module _ (rows : List ℕ) (k : ℕ) where
       i_lt = omega (arith, s.reached)
 
       rows-there : k + 1 ≤ length work
-      rows-there = omega (arith, s.work-length)
+      rows-there = omega (arith, s.work_length)
 
       sums-there : k + 1 ≤ length sums
       sums-there = omega (arith, s.sums-length)
@@ -203,31 +203,31 @@ module _ (rows : List ℕ) (k : ℕ) where
           go (inl z) =
               absurd (omega (
                 arith,
-                none x (lt_of_lt_of_le (deg-hi x i d) (pow_mono l)) (row-value rows i (k + 1) work sums i_lt rows-there sums-there s.tied ∙ z),
+                none x (lt_of_lt_of_le (deg_hi x i d) (pow_mono l)) (row-value rows i (k + 1) work sums i_lt rows-there sums-there s.tied ∙ z),
                 deg-pos x i d,
               ))
 
       pub kept-turn : i < k → (c : ℕ) → get_or work i 0 / 2 ^ c % 2 ≡ 1 → (ys zs : List ℕ)
           → ys ≡ map (clear c (get_or work i 0)) (take (k + 1 - (i + 1)) (drop (i + 1) work))
-          → zs ≡ addWhere c (2 ^ i ⊕ get_or sums i 0) (take (k + 1 - (i + 1)) (drop (i + 1) work)) (take (k + 1 - (i + 1)) (drop (i + 1) sums))
+          → zs ≡ add_where c (2 ^ i ⊕ get_or sums i 0) (take (k + 1 - (i + 1)) (drop (i + 1) work)) (take (k + 1 - (i + 1)) (drop (i + 1) sums))
           → Kept (i + 1) (put_mid (i + 1) (k + 1 - (i + 1)) work ys) (put_mid (i + 1) (k + 1 - (i + 1)) sums zs)
       kept-turn l c one ys zs ey ez =
           record {
             reached = omega arith;
-            work-length = same_len_mid (i + 1) (k + 1 - (i + 1)) work ys (ap length ey ∙ simp length-map) ∙ s.work-length;
+            work_length = same_len_mid (i + 1) (k + 1 - (i + 1)) work ys (ap length ey ∙ simp length-map) ∙ s.work_length;
             sums-length = same_len_mid (i + 1) (k + 1 - (i + 1)) sums zs (ap length ez ∙ length-added c (2 ^ i ⊕ get_or sums i 0) _ _) ∙ s.sums-length;
             dependent = λ j. s.dependent ((turn-behind i (k + 1) c work ys i_lt rows-there one ey).1 j);
             tied = tied-turn rows i (k + 1) work sums i_lt rows-there sums-there s.tied c ys zs ey ez;
           }
 
     -- of the last row nothing is left: t^k with its sum is the relation
-    pub relation-found : (work sums : List ℕ) → Kept k work sums → (place : ℕ) → place ≡ 2 ^ k
+    pub relation_found : (work sums : List ℕ) → Kept k work sums → (place : ℕ) → place ≡ 2 ^ k
         → Degree (place ⊕ get_or sums k 0) k × (sum_of (place ⊕ get_or sums k 0) rows ≡ 0)
-    relation-found work sums s place e =
+    relation_found work sums s place e =
         rw e (
           new-degree rows k (k + 1) work sums (i_lt k work sums s) (rows-there k work sums s) (sums-there k work sums s) s.tied,
           row-value rows k (k + 1) work sums (i_lt k work sums s) (rows-there k work sums s) (sums-there k work sums s) s.tied
-              ∙ last_row (get_or work k 0) (λ j. s.dependent (rw (part-cons k (k + 1) work (i_lt k work sums s) (rows-there k work sums s), none_left) j)),
+              ∙ last_row (get_or work k 0) (λ j. s.dependent (rw (part_cons k (k + 1) work (i_lt k work sums s) (rows-there k work sums s), none_left) j)),
         )
       where
         none_left : k + 1 - (k + 1) ≡ 0

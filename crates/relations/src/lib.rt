@@ -3,7 +3,7 @@
 ghost use Rattle.std.specs.Prelude.{◌≡◌, ◌+◌, ◌*◌, ◌%◌, ◌<◌, map, length};
 ghost use Rattle.gf2.specs.Degrees.{Degree};
 ghost use Rattle.basis.specs.Rows.{sum_of, NoRelation, clear};
-ghost use Rattle.relations.specs.Adding.{addWhere};
+ghost use Rattle.relations.specs.Adding.{add_where};
 
 // v where the lowest bit of x is 1, 0 where it is 0. No branch: the bits are data.
 fn chosen(x: u64, v: u64) -> u64
@@ -29,7 +29,7 @@ pub fn sum_of(x: u64, rows: &[u64]) -> u64
 fn clear_with_sums(rows: &mut [u64], sums: &mut [u64], v: u64, w: u64, c: u32)
     requires { (c < 64) × (length rows.old ≡ length sums.old) }
     ensures { (rows.new ≡ map (clear c v) rows.old)
-        × (sums.new ≡ addWhere c w rows.old sums.old) }
+        × (sums.new ≡ add_where c w rows.old sums.old) }
 {
     for j in 0..rows.len() {
         let r = rows[j];

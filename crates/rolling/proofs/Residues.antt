@@ -13,29 +13,29 @@ use lib.Pow.{pow-add}
 use Rattle.gf2.specs.Polynomials.{◌⊕◌, ◌⊗◌, rem}
 use Rattle.gf2.specs.Moduli.{polynomial, Proper}
 use Rattle.gf2.specs.declared.Modulus.{Modulus}
-use Rattle.gf2.proofs.Sums.{⊕-comm, ⊕-move}
+use Rattle.gf2.proofs.Sums.{⊕_comm, ⊕_move}
 use Rattle.gf2.proofs.Products.{⊗-pow}
 use Rattle.gf2.proofs.Residues.{rem-zero, rem-⊕}
-use Rattle.gf2.proofs.Powers.{rem-⊗-right, rem-shl}
+use Rattle.gf2.proofs.Powers.{rem-⊗-right, rem_shl}
 use Rattle.gf2.proofs.Monics.{monic-pos}
 use Rattle.gf2.proofs.Steps.{residue-below, residue-top}
 use Rattle.multiples.specs.Rows.{Multiples, Rows}
-use Rattle.files.specs.Files.{bits, valueFrom, fingerprint, fingerprintFrom}
+use Rattle.files.specs.Files.{bits, value_from, fingerprint, fingerprint_from}
 use Rattle.files.proofs.Values.{value-append, value-⊕, value-byte, length-bits, bits-append, rem-from}
 use Rattle.files.proofs.Turning.{equal-starts}
 use Rattle.rolling.specs.declared.Setup.{Setup}
-use Rattle.rolling.specs.Rolling.{window, residue, keyOf, ResidueAt}
+use Rattle.rolling.specs.Rolling.{window, residue, key_of, ResidueAt}
 use Rattle.rolling.proofs.Windows.{window-length, window_more, window-front, window-none}
 
-one_byte : (s b : ℕ) → b < 256 → valueFrom s (bits (b ∷ [])) ≡ s * 256 + b
-unfolding valueFrom bits
+one_byte : (s b : ℕ) → b < 256 → value_from s (bits (b ∷ [])) ≡ s * 256 + b
+unfolding value_from bits
 one_byte s b h = value-byte s b [] ∙ ap (λ (x : ℕ). s * 256 + x) (mod-eq_of_lt h)
 
 module _ {p : ℕ} (pos : 0 < p) where
   -- among bytes of one length the leading 1 plays no part
-  pub without-one : (a b : List ℕ) → length a ≡ length b → eqb (fingerprint p (bits a)) (fingerprint p (bits b)) ≡ eqb (residue p a) (residue p b)
+  pub without_one : (a b : List ℕ) → length a ≡ length b → eqb (fingerprint p (bits a)) (fingerprint p (bits b)) ≡ eqb (residue p a) (residue p b)
   unfolding residue
-  without-one a b e = go (ℕ_discrete (residue p a) (residue p b))
+  without_one a b e = go (ℕ_discrete (residue p a) (residue p b))
     where
       same_length : length (bits a) ≡ length (bits b)
       same_length = length-bits a ∙ ap (λ (n : ℕ). 8 * n) e ∙ sym (length-bits b)
@@ -51,30 +51,30 @@ module _ {p : ℕ} (pos : 0 < p) where
   -- ---- bytes appended, and the next window
 
   pub residue-none : residue p [] ≡ 0
-  unfolding residue fingerprintFrom bits valueFrom
+  unfolding residue fingerprint_from bits value_from
   residue-none = rem-zero p
 
   pub residue-append : (a : List ℕ) (b : ℕ) → b < 256 → residue p (a ++ b ∷ []) ≡ rem p (residue p a * 256 + b)
-  unfolding residue fingerprintFrom
+  unfolding residue fingerprint_from
   residue-append a b h =
-      ap (rem p) (ap (valueFrom 0) (bits-append a (b ∷ [])) ∙ value-append 0 (bits a) (bits (b ∷ [])))
-      ∙ sym (rem-from pos (valueFrom 0 (bits a)) (bits (b ∷ [])))
-      ∙ ap (rem p) (one_byte (rem p (valueFrom 0 (bits a))) b h)
+      ap (rem p) (ap (value_from 0) (bits-append a (b ∷ [])) ∙ value-append 0 (bits a) (bits (b ∷ [])))
+      ∙ sym (rem-from pos (value_from 0 (bits a)) (bits (b ∷ [])))
+      ∙ ap (rem p) (one_byte (rem p (value_from 0 (bits a))) b h)
 
   -- a power of t, eight places up
   pub shift-more : (i x r : ℕ) → x ≡ rem p (2 ^ (8 * i)) → r ≡ rem p (x * 256 + 0) → r ≡ rem p (2 ^ (8 * (i + 1)))
   shift-more i x r ex er =
       er ∙ rw (ex, add-zero)
-      (rem-shl pos (2 ^ (8 * i)) 8 ∙ ap (rem p) (sym (pow-add 2 (8 * i) 8) ∙ ap (λ (n : ℕ). 2 ^ n) e))
+      (rem_shl pos (2 ^ (8 * i)) 8 ∙ ap (rem p) (sym (pow-add 2 (8 * i) 8) ∙ ap (λ (n : ℕ). 2 ^ n) e))
     where
       e : 8 * i + 8 ≡ 8 * (i + 1)
       e = omega arith
 
   residue-front : (x : ℕ) (a : List ℕ) → x < 256 → residue p (x ∷ a) ≡ rem p (x ⊗ 2 ^ (8 * length a)) ⊕ residue p a
-  unfolding residue fingerprintFrom
+  unfolding residue fingerprint_from
   residue-front x a h =
       ap (rem p) (value-byte 0 x a ∙ rw (zero-mul, zero-add, mod-eq_of_lt h) (value-⊕ x (bits a)))
-      ∙ rem-⊕ pos (x * 2 ^ length (bits a)) (valueFrom 0 (bits a))
+      ∙ rem-⊕ pos (x * 2 ^ length (bits a)) (value_from 0 (bits a))
       ∙ rw (length-bits a, ⊗-pow (8 * length a) x)
 
   pub residue-more : (m : ℕ) (text : List ℕ) (i : ℕ) → i + m < length text → get_or text (i + m) 0 < 256
@@ -86,9 +86,9 @@ module _ {p : ℕ} (pos : 0 < p) where
   pub residue-next : (m : ℕ) (text : List ℕ) (i : ℕ) → i + m < length text → get_or text i 0 < 256 → get_or text (i + m) 0 < 256
       → residue p (window m text (i + 1)) ≡ rem p (residue p (window m text i) * 256 + get_or text (i + m) 0) ⊕ rem p (get_or text i 0 ⊗ 2 ^ (8 * m))
   residue-next m text i h lx ly =
-      ⊕-move (rem p (get_or text i 0 ⊗ 2 ^ (8 * m))) (residue p (window m text (i + 1))) (residue p (window (m + 1) text i)) (sym front)
+      ⊕_move (rem p (get_or text i 0 ⊗ 2 ^ (8 * m))) (residue p (window m text (i + 1))) (residue p (window (m + 1) text i)) (sym front)
       ∙ ap (λ (x : ℕ). rem p (get_or text i 0 ⊗ 2 ^ (8 * m)) ⊕ x) (residue-more m text i h ly)
-      ∙ ⊕-comm (rem p (get_or text i 0 ⊗ 2 ^ (8 * m))) (rem p (residue p (window m text i) * 256 + get_or text (i + m) 0))
+      ∙ ⊕_comm (rem p (get_or text i 0 ⊗ 2 ^ (8 * m))) (rem p (residue p (window m text i) * 256 + get_or text (i + m) 0))
     where
       front : residue p (window (m + 1) text i) ≡ rem p (get_or text i 0 ⊗ 2 ^ (8 * m)) ⊕ residue p (window m text (i + 1))
       front =
@@ -118,8 +118,8 @@ module _ (p : Modulus) (proper : Proper p) (text : List ℕ) (i : ℕ) where
   read_none = sym (rw window-none (residue-none pos))
 
   pub read_below : (j x : ℕ) → Read j x → x < 2 ^ p.degree
-  unfolding residue fingerprintFrom
-  read_below j x e = residue-below p proper x (valueFrom 0 (bits (window j text i))) e
+  unfolding residue fingerprint_from
+  read_below j x e = residue-below p proper x (value_from 0 (bits (window j text i))) e
 
   -- the byte at e comes in behind
   pub read_more : (j e x r : ℕ) → i + j ≡ e → e < length text → get_or text e 0 < 256 → Read j x → r ≡ rem (polynomial p) (x * 256 + get_or text e 0)
@@ -130,14 +130,14 @@ module _ (p : Modulus) (proper : Proper p) (text : List ℕ) (i : ℕ) where
   read_all j m x e h = rw (← e) h
 
 pub same_place : (s : Setup) (text : List ℕ) (i j x : ℕ) → i ≡ j → ResidueAt s text i x → ResidueAt s text j x
-same_place s text i j x e h = h ∙ ap (λ (n : ℕ). residue (keyOf s) (window s.m text n)) e
+same_place s text i j x e h = h ∙ ap (λ (n : ℕ). residue (key_of s) (window s.m text n)) e
 
 -- ---- the tables
 
 -- the multiples of a residue are those of what it is the residue of
-pub multiples-of : (p : Modulus) → Proper p → (c x : ℕ) (table : List ℕ) → x ≡ rem (polynomial p) c → Multiples (polynomial p) x 0 256 table
+pub multiples_of : (p : Modulus) → Proper p → (c x : ℕ) (table : List ℕ) → x ≡ rem (polynomial p) c → Multiples (polynomial p) x 0 256 table
     → Multiples (polynomial p) c 0 256 table
-multiples-of p h c x table e t i l =
+multiples_of p h c x table e t i l =
     t i l ∙ ap (λ (y : ℕ). rem (polynomial p) (i ⊗ y)) e ∙ rem-⊗-right (monic-pos p.degree p.low h.2) i c
 
 -- t^k is the low word, so its multiples are the one row of words that takes a byte at t^k and above off

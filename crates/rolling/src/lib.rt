@@ -11,7 +11,7 @@ use gf2::Modulus;
 use table_lanes::Lanes;
 
 // What stays the same from window to window: the modulus, the pattern's length and its residue.
-#[derive(Drop)]
+#[derive(Clone, Copy)]
 pub struct Setup {
     pub modulus: Modulus,
     pub m: usize,
@@ -19,7 +19,7 @@ pub struct Setup {
 }
 
 // The residues of the first window and of the pattern, and t^(8m) for a pattern of m bytes.
-#[derive(Drop)]
+#[derive(Clone, Copy)]
 pub struct Start {
     pub first: u64,
     pub wanted: u64,

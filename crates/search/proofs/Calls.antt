@@ -12,7 +12,7 @@ use Rattle.lists.proofs.Lent.{overlay-none}
 use Rattle.refusals.specs.declared.Refusal.TheVariants.{TooLong, EmptyPattern}
 use Rattle.refusals.specs.Refusals.{Answer, Done, Refused, state_of, first_of, longest, passes}
 use Rattle.search.specs.declared.Counts.{Counts}
-use Rattle.search.specs.Searching.{windows, isPlace, places, alarms, counts, textTests}
+use Rattle.search.specs.Searching.{windows, is_place, places, alarms, counts, text_tests}
 
 -- number 7, as the code finds it of both lengths
 pub both-fit : (x y : Bool) (m n : ℕ) → x ≡ not (passes (8 * m ∷ [])) → y ≡ not (passes (8 * n ∷ [])) → (x && y) ≡ not (passes (8 * m ∷ 8 * n ∷ []))
@@ -26,23 +26,23 @@ module _ (key : ℕ) (text pattern words : List ℕ) where
   -- the answer, and the words after the call
   abbrev pub Answers : Answer Unit Counts → List ℕ → Type 0
   Answers r after =
-      (r ≡ first_of (textTests text pattern) tt (counts key text pattern))
-      × (after ≡ state_of (first_of (textTests text pattern) words (overlay (places text pattern) words)))
+      (r ≡ first_of (text_tests text pattern) tt (counts key text pattern))
+      × (after ≡ state_of (first_of (text_tests text pattern) words (overlay (places text pattern) words)))
 
   pub call_long : passes (8 * length text ∷ 8 * length pattern ∷ []) ≡ true → Answers (Refused TooLong tt) words
   call_long e = (rw e, rw e)
 
   module _ (short : passes (8 * length text ∷ 8 * length pattern ∷ []) ≡ false) where
-    pub call-empty : length pattern ≡ 0 → Answers (Refused EmptyPattern tt) words
-    call-empty e = (rw (short, eq-eqb (length pattern) 0 e), rw (short, eq-eqb (length pattern) 0 e))
+    pub call_empty : length pattern ≡ 0 → Answers (Refused EmptyPattern tt) words
+    call_empty e = (rw (short, eq-eqb (length pattern) 0 e), rw (short, eq-eqb (length pattern) 0 e))
 
-    pub call-done : (length pattern ≡ 0 → ⊥) → Answers (Done (counts key text pattern)) (overlay (places text pattern) words)
-    call-done n = (rw (short, ne_eqb (length pattern) 0 n), rw (short, ne_eqb (length pattern) 0 n))
+    pub call_done : (length pattern ≡ 0 → ⊥) → Answers (Done (counts key text pattern)) (overlay (places text pattern) words)
+    call_done n = (rw (short, ne_eqb (length pattern) 0 n), rw (short, ne_eqb (length pattern) 0 n))
 
     -- a pattern longer than the text has no windows
     pub call_none : (length pattern ≡ 0 → ⊥) → length text < length pattern → Answers (Done (record { places = 0; alarms = 0 })) words
     unfolding counts places alarms passing windows
     call_none n l =
         let e : length text + 1 - length pattern ≡ 0 = omega arith in
-        let d = call-done n in
-        (ap Done (rw e) ∙ d.0, sym (overlay-none words) ∙ ap (λ (n : ℕ). overlay (passing (isPlace text pattern) 0 n) words) (sym e) ∙ d.1)
+        let d = call_done n in
+        (ap Done (rw e) ∙ d.0, sym (overlay-none words) ∙ ap (λ (n : ℕ). overlay (passing (is_place text pattern) 0 n) words) (sym e) ∙ d.1)

@@ -14,7 +14,7 @@ use Rattle.lists.specs.Lists.{passing, All}
 use Rattle.lists.proofs.Lists.{Passes, all-passing, passing-above}
 use Rattle.lists.proofs.Truth.{and_both, by_cases}
 use Rattle.files.specs.Files.{bits, fingerprint}
-use Rattle.search.specs.Searching.{windows, isPlace, isAlarm, places, alarms}
+use Rattle.search.specs.Searching.{windows, is_place, is_alarm, places, alarms}
 use Rattle.search.specs.Claims.{In, Rising, PlacesIff, PlacesRising, AlarmsIff, AlarmsRising}
 use Rattle.comparing.proofs.Comparing.{same-is, same_refl}
 
@@ -34,13 +34,13 @@ module _ (test : ℕ → Bool) where
       go true h = (passing-above test n c, h)
       go false h = h
 
-  passing-in : (i n c : ℕ) → In i (passing test n c) → Passes test n c i
-  passing-in i n c s = entry (Passes test n c) i (passing test n c) (all-passing test n c) s
+  passing_in : (i n c : ℕ) → In i (passing test n c) → Passes test n c i
+  passing_in i n c s = entry (Passes test n c) i (passing test n c) (all-passing test n c) s
 
-  in-passing : (i n c : ℕ) → n ≤ i → i < n + c → test i ≡ true → In i (passing test n c)
+  in_passing : (i n c : ℕ) → n ≤ i → i < n + c → test i ≡ true → In i (passing test n c)
   unfolding passing
-  in-passing i n zero l h e = absurd (omega arith)
-  in-passing i n (suc c) l h e = go (test n) refl (ℕ_discrete n i) (λ m. in-passing i (suc n) c m (omega arith) e)
+  in_passing i n zero l h e = absurd (omega arith)
+  in_passing i n (suc c) l h e = go (test n) refl (ℕ_discrete n i) (λ m. in_passing i (suc n) c m (omega arith) e)
     where
       go : (b : Bool) → test n ≡ b → Dec (n ≡ i) → (suc n ≤ i → In i (passing test (suc n) c))
           → In i (cond b (n ∷ passing test (suc n) c) (passing test (suc n) c))
@@ -51,27 +51,27 @@ module _ (test : ℕ → Bool) where
 
 -- the test of a place compares the window's bytes
 module _ (text pattern : List ℕ) (i : ℕ) where
-  place-there : isPlace text pattern i ≡ true → take (length pattern) (drop i text) ≡ pattern
-  unfolding isPlace
+  place-there : is_place text pattern i ≡ true → take (length pattern) (drop i text) ≡ pattern
+  unfolding is_place
   place-there e = same-is (take (length pattern) (drop i text)) pattern e
 
-  place-back : take (length pattern) (drop i text) ≡ pattern → isPlace text pattern i ≡ true
-  unfolding isPlace
+  place-back : take (length pattern) (drop i text) ≡ pattern → is_place text pattern i ≡ true
+  unfolding is_place
   place-back e = rw e (same_refl pattern)
 
-  no_place : take (length pattern) (drop i text) ≢ pattern → isPlace text pattern i ≡ false
-  no_place n = by_cases (isPlace text pattern i) (λ e. n (place-there e))
+  no_place : take (length pattern) (drop i text) ≢ pattern → is_place text pattern i ≡ false
+  no_place n = by_cases (is_place text pattern i) (λ e. n (place-there e))
 
 pub places-rising : PlacesRising
 unfolding places
-places-rising text pattern = passing-rising (isPlace text pattern) 0 (windows text pattern)
+places-rising text pattern = passing-rising (is_place text pattern) 0 (windows text pattern)
 
-pub places-iff : PlacesIff
+pub places_iff : PlacesIff
 unfolding places windows
-places-iff text pattern i = (
-  λ s. let p = passing-in (isPlace text pattern) i 0 (length text + 1 - length pattern) s in
+places_iff text pattern i = (
+  λ s. let p = passing_in (is_place text pattern) i 0 (length text + 1 - length pattern) s in
       (omega (arith, p.below), place-there text pattern i p.holds),
-  λ h. in-passing (isPlace text pattern) i 0 (length text + 1 - length pattern) (omega arith) (omega (arith, h.0)) (place-back text pattern i h.1),
+  λ h. in_passing (is_place text pattern) i 0 (length text + 1 - length pattern) (omega arith) (omega (arith, h.0)) (place-back text pattern i h.1),
 )
 
 -- a false alarm: a window with the pattern's fingerprint and other bytes
@@ -84,29 +84,29 @@ module _ (key : ℕ) (text pattern : List ℕ) (i : ℕ) where
   abbrev Alarm : Type 0
   Alarm = (there ≡ fingerprint key (bits pattern)) × (take (length pattern) (drop i text) ≢ pattern)
 
-  alarm-there : isAlarm key text pattern i ≡ true → Alarm
-  unfolding isAlarm
-  alarm-there e =
-      let h = and_both (eqb there (fingerprint key (bits pattern))) (not (isPlace text pattern i)) e in (
+  alarm_there : is_alarm key text pattern i ≡ true → Alarm
+  unfolding is_alarm
+  alarm_there e =
+      let h = and_both (eqb there (fingerprint key (bits pattern))) (not (is_place text pattern i)) e in (
         eqb-true there (fingerprint key (bits pattern)) h.0,
-        (λ q. true≢false (sym (place-back text pattern i q) ∙ not-true (isPlace text pattern i) h.1)),
+        (λ q. true≢false (sym (place-back text pattern i q) ∙ not-true (is_place text pattern i) h.1)),
       )
 
-  alarm-back : Alarm → isAlarm key text pattern i ≡ true
-  unfolding isAlarm
-  alarm-back (e, n) =
+  alarm_back : Alarm → is_alarm key text pattern i ≡ true
+  unfolding is_alarm
+  alarm_back (e, n) =
       rw (eq-eqb there (fingerprint key (bits pattern)) e, no_place text pattern i n)
 
-pub alarms-iff : AlarmsIff
+pub alarms_iff : AlarmsIff
 unfolding alarms windows
-alarms-iff key text pattern i = (
-  λ s. let p = passing-in (isAlarm key text pattern) i 0 (length text + 1 - length pattern) s in
-      let a = alarm-there key text pattern i p.holds in
+alarms_iff key text pattern i = (
+  λ s. let p = passing_in (is_alarm key text pattern) i 0 (length text + 1 - length pattern) s in
+      let a = alarm_there key text pattern i p.holds in
       (omega (arith, p.below), a.0, a.1),
-  λ h. in-passing (isAlarm key text pattern) i 0 (length text + 1 - length pattern) (omega arith) (omega (arith, h.0))
-      (alarm-back key text pattern i (h.1, h.2)),
+  λ h. in_passing (is_alarm key text pattern) i 0 (length text + 1 - length pattern) (omega arith) (omega (arith, h.0))
+      (alarm_back key text pattern i (h.1, h.2)),
 )
 
 pub alarms-rising : AlarmsRising
 unfolding alarms
-alarms-rising key text pattern = passing-rising (isAlarm key text pattern) 0 (windows text pattern)
+alarms-rising key text pattern = passing-rising (is_alarm key text pattern) 0 (windows text pattern)

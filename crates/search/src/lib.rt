@@ -3,8 +3,8 @@ ghost use Rattle.std.specs.Prelude.{◌≡◌, ◌*◌, ◌≤◌, ◌<◌, leng
 ghost use Rattle.lists.specs.Lists.{overlay};
 ghost use Rattle.gf2.specs.Moduli.{polynomial, Proper};
 ghost use Rattle.refusals.specs.Refusals.{first_of, state_of, longest};
-ghost use Rattle.rolling.specs.Rolling.{residue, keyOf, ResidueAt, Ready};
-ghost use Rattle.search.specs.Searching.{places as places_of, counts, textTests, search, placesAfter};
+ghost use Rattle.rolling.specs.Rolling.{residue, key_of, ResidueAt, Ready};
+ghost use Rattle.search.specs.Searching.{places as places_of, counts, text_tests, search, places_after};
 ghost use Rattle.search.specs.Answers.{searched};
 
 use acceptance::Key;
@@ -15,14 +15,14 @@ use refusals::Refusal;
 use rolling::Setup;
 
 // The number of places, and the number of false alarms.
-#[derive(Drop)]
+#[derive(Clone, Copy)]
 pub struct Counts {
     pub places: u32,
     pub alarms: u32,
 }
 
 // The answer to a search.
-#[derive(Drop)]
+#[derive(Clone, Copy)]
 pub enum Searched {
     Found(Counts),
     Refused(Refusal),
@@ -40,11 +40,11 @@ fn search_blocks(
 ) -> Counts
     requires { Ready s reduce.now outgoing.now
         × (s.m ≡ length pattern.now)
-        × (s.wanted ≡ residue (keyOf s) pattern.now)
+        × (s.wanted ≡ residue (key_of s) pattern.now)
         × ResidueAt s text.now 0 first
         × (length pattern.now ≤ length text.now)
         × (8 * length text.now ≤ longest) }
-    ensures { (result ≡ counts (keyOf s) text.now pattern.now)
+    ensures { (result ≡ counts (key_of s) text.now pattern.now)
         × (places.new ≡ overlay (places_of text.now pattern.now) places.old) }
 {
     let mut flags: [bool; 1024] = [false; 1024];
@@ -89,9 +89,9 @@ fn search_text(p: Modulus, text: &[u8], pattern: &[u8], places: &mut [u32]) -> C
 // The search under an opened key. Numbers 7, 11.
 fn search_under(p: Modulus, text: &[u8], pattern: &[u8], places: &mut [u32]) -> Searched
     requires { Proper p × (8 ≤ p.degree) }
-    ensures { (searched result ≡ first_of (textTests text.now pattern.now) tt
+    ensures { (searched result ≡ first_of (text_tests text.now pattern.now) tt
         (counts (polynomial p) text.now pattern.now))
-        × (places.new ≡ state_of (first_of (textTests text.now pattern.now) places.old
+        × (places.new ≡ state_of (first_of (text_tests text.now pattern.now) places.old
         (overlay (places_of text.now pattern.now) places.old))) }
 {
     let fit = refusals::bytes_fit(text.len() as u64) & refusals::bytes_fit(pattern.len() as u64);
@@ -114,7 +114,7 @@ fn search_under(p: Modulus, text: &[u8], pattern: &[u8], places: &mut [u32]) -> 
 // Numbers 1, 2, 7, 11.
 pub fn search(key: Key, text: &[u8], pattern: &[u8], places: &mut [u32]) -> Searched
     ensures { (searched result ≡ search key text.now pattern.now)
-        × (places.new ≡ placesAfter key text.now pattern.now places.old) }
+        × (places.new ≡ places_after key text.now pattern.now places.old) }
 {
     match keys::test(key) {
         Tested::Refused(r) => Searched::Refused(r),

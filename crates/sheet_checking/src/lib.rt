@@ -1,9 +1,9 @@
 // Checking a file against a page sheet.
 ghost use Rattle.std.specs.Prelude.{◌≡◌, ◌≤◌, min};
-ghost use Rattle.files.specs.Files.{asPart};
-ghost use Rattle.sheets.specs.Sheets.{checkSheet};
-ghost use Rattle.sheets.specs.Answers.{changedRange};
-ghost use Rattle.sheets.specs.Answers.{checkAnswer, changeAnswer};
+ghost use Rattle.files.specs.Files.{as_part};
+ghost use Rattle.sheets.specs.Sheets.{check_sheet};
+ghost use Rattle.sheets.specs.Answers.{changed_range};
+ghost use Rattle.sheets.specs.Answers.{check_answer, change_answer};
 ghost use Rattle.sheets.specs.Inner.{ReadAs, comparison, NoPage, WithoutPage, RangeOf};
 ghost use Rattle.sheet_opening.specs.Opening.{KeptOf};
 
@@ -14,7 +14,7 @@ use sheets::{Changed, Checked};
 // A file against a sheet that was opened as x. Numbers 7, 19.
 fn compare(sheet: &[u8], x: OpenSheet, file: &[u8], used: u32) -> Checked
     requires { ReadAs sheet.now x.numbers × KeptOf x }
-    ensures { checkAnswer result ≡ comparison sheet.now (asPart file.now used) }
+    ensures { check_answer result ≡ comparison sheet.now (as_part file.now used) }
 {
     let y = x.numbers;
     let size = y.size as usize;
@@ -39,7 +39,7 @@ fn compare(sheet: &[u8], x: OpenSheet, file: &[u8], used: u32) -> Checked
 
 // Checks a file against a sheet. Numbers 14, 1, 2, 12, 14 of reading, then 7, 19.
 pub fn check(sheet: &[u8], file: &[u8], used: u32) -> Checked
-    ensures { checkAnswer result ≡ checkSheet sheet.now (asPart file.now used) }
+    ensures { check_answer result ≡ check_sheet sheet.now (as_part file.now used) }
 {
     match sheet_opening::open_sheet(sheet) {
         Opening::Refused(r) => Checked::Refused(r),
@@ -85,7 +85,7 @@ fn in_bytes(answer: Checked, size: u64, n: u64) -> Changed
 // The bytes of the first changed page: from the first to before the last, where the check names a page.
 // Numbers 14, 1, 2, 12, 14, 7, 19, as above.
 pub fn first_changed_range(sheet: &[u8], file: &[u8], used: u32) -> Changed
-    ensures { changeAnswer result ≡ changedRange sheet.now (asPart file.now used) }
+    ensures { change_answer result ≡ changed_range sheet.now (as_part file.now used) }
 {
     match sheet_opening::open_sheet(sheet) {
         Opening::Refused(r) => Changed::Refused(r),

@@ -2,19 +2,19 @@
 use Rattle.std.specs.Prelude.{◌≡◌, Bool, true, false, List, [], ℕ, ◌^◌, ◌≤◌, ◌<◌, length}
 use Rattle.refusals.specs.Refusals.{longest}
 use Rattle.acceptance.specs.declared.Key.{Key}
-use Rattle.sheets.specs.Layout.{versionIn, newest, layout_of, pagePlace, Contents, sizeIn, keyIn, lengthIn}
+use Rattle.sheets.specs.Layout.{version_in, newest, layout_of, page_place, Contents, size_in, key_in, length_in}
 use Rattle.sheet_heads.specs.declared.Head.{Head}
 use Rattle.sheet_heads.specs.declared.Header.{Header}
 use Rattle.sheet_heads.specs.declared.Header.TheVariants as cases
 
 -- the numbers in front of a sheet's fingerprints, as the code reads them
 pub record HeadOf (sheet : List ℕ) (head : Head) : Type 0 where
-  pub version : head.version ≡ versionIn sheet
-  pub key : head.key ≡ keyIn (layout_of (versionIn sheet)) sheet
-  pub length : head.length ≡ lengthIn (layout_of (versionIn sheet)) sheet
-  pub size : head.size ≡ sizeIn (layout_of (versionIn sheet)) sheet
-  pub place : head.place ≡ pagePlace (layout_of (versionIn sheet)) 0
-  pub filled : head.filled ≡ (layout_of (versionIn sheet)).filled
+  pub version : head.version ≡ version_in sheet
+  pub key : head.key ≡ key_in (layout_of (version_in sheet)) sheet
+  pub length : head.length ≡ length_in (layout_of (version_in sheet)) sheet
+  pub size : head.size ≡ size_in (layout_of (version_in sheet)) sheet
+  pub place : head.place ≡ page_place (layout_of (version_in sheet)) 0
+  pub filled : head.filled ≡ (layout_of (version_in sheet)).filled
   pub length-fits : head.length ≤ longest
   pub size_fits : head.size < 2 ^ 16
   pub place-fits : head.place < 32
@@ -25,5 +25,5 @@ HeaderOf sheet wrong cases.Wrong = wrong ≡ true
 HeaderOf sheet wrong (cases.Right head) = (wrong ≡ false) × HeadOf sheet head
 
 -- what stands in front of the fingerprints, as the code writes it
-abbrev pub headOnly : Key → ℕ → ℕ → Contents
-headOnly key n size = record { version = newest.version; key = key; length = n; pageSize = size; pages = []; fingerprint = 0 }
+abbrev pub head_only : Key → ℕ → ℕ → Contents
+head_only key n size = record { version = newest.version; key = key; length = n; page_size = size; pages = []; fingerprint = 0 }

@@ -3,10 +3,10 @@
 ghost use Rattle.std.specs.Prelude.{◌≡◌, cond, ◌||◌, ◌+◌, ◌≤◌, ltb, length};
 ghost use Rattle.std.proofs.lemmas.List.Edits.{sets};
 ghost use Rattle.refusals.specs.Refusals.{longest};
-ghost use Rattle.big_endian.specs.Numbers.{number_at, bytesIn};
-ghost use Rattle.sheets.specs.Layout.{versionIn, newest, layouts, layout_of, fieldWidths, pagePlace, sheetLength, keyFrom, head_of, lengthIn};
-ghost use Rattle.sheets.specs.Sheets.{headWrong};
-ghost use Rattle.sheet_heads.specs.Heads.{HeaderOf, headOnly};
+ghost use Rattle.big_endian.specs.Numbers.{number_at, bytes_in};
+ghost use Rattle.sheets.specs.Layout.{version_in, newest, layouts, layout_of, field_widths, page_place, sheet_length, key_from, head_of, length_in};
+ghost use Rattle.sheets.specs.Sheets.{head_wrong};
+ghost use Rattle.sheet_heads.specs.Heads.{HeaderOf, head_only};
 
 use acceptance::Key;
 
@@ -18,7 +18,7 @@ const LEAST: usize = 27;
 
 // The numbers in front of the fingerprints: the version's, the key, the file's length in bits and the page size in bytes; and of the version, where
 // the fingerprints begin and whether a last page is filled up.
-#[derive(Drop)]
+#[derive(Clone, Copy)]
 pub struct Head {
     pub version: u64,
     pub key: Key,
@@ -29,7 +29,7 @@ pub struct Head {
 }
 
 // The answer to opening a head: wrong, or its numbers.
-#[derive(Drop)]
+#[derive(Clone, Copy)]
 pub enum Header {
     Wrong,
     Right(Head),
@@ -38,7 +38,7 @@ pub enum Header {
 // The key, as a pair or as a number.
 fn key_in(sheet: &[u8], paired: bool) -> Key
     requires { 5 + cond paired 9 8 ≤ length sheet.now }
-    ensures { result ≡ keyFrom paired (number_at 5 (cond paired 9 8) sheet.now) }
+    ensures { result ≡ key_from paired (number_at 5 (cond paired 9 8) sheet.now) }
 {
     if paired {
         return Key {
@@ -55,9 +55,9 @@ fn key_in(sheet: &[u8], paired: bool) -> Key
 
 // The numbers in the fields of a version, where its least size and the limit of lengths are right.
 fn head_in(sheet: &[u8], version: u64) -> Header
-    requires { version ≡ versionIn sheet.now }
+    requires { version ≡ version_in sheet.now }
     ensures { HeaderOf sheet.now
-        (ltb (length sheet.now) (sheetLength (layout_of version) 0) || ltb longest (lengthIn (layout_of version) sheet.now)) result }
+        (ltb (length sheet.now) (sheet_length (layout_of version) 0) || ltb longest (length_in (layout_of version) sheet.now)) result }
 {
     let v = sheet_layout::fields_of(version);
     let length_place = sheet_layout::KEY_PLACE + v.key;
@@ -83,7 +83,7 @@ fn head_in(sheet: &[u8], version: u64) -> Header
 
 // The head of a sheet, where size, letters, version, the version's least size and the limit of lengths are right.
 pub fn open_head(sheet: &[u8]) -> Header
-    ensures { HeaderOf sheet.now (headWrong layouts sheet.now) result }
+    ensures { HeaderOf sheet.now (head_wrong layouts sheet.now) result }
 {
     if sheet.len() < LEAST {
         return Header::Wrong;
@@ -104,8 +104,8 @@ pub fn open_head(sheet: &[u8]) -> Header
 
 // Writes what stands in front of the fingerprints, in the fields of the newest version, which holds the key as a pair.
 pub fn put_head(buffer: &mut [u8], key: Key, n: u64, size: u64)
-    requires { pagePlace (layout_of newest.version) 0 ≤ length buffer.old }
-    ensures { buffer.new ≡ sets buffer.old 0 (bytesIn (fieldWidths (layout_of newest.version)) (head_of (headOnly key n size))) }
+    requires { page_place (layout_of newest.version) 0 ≤ length buffer.old }
+    ensures { buffer.new ≡ sets buffer.old 0 (bytes_in (field_widths (layout_of newest.version)) (head_of (head_only key n size))) }
 {
     let v = sheet_layout::fields_of(sheet_layout::NEWEST);
     let counted = n / v.unit;

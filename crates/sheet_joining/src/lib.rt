@@ -2,22 +2,22 @@
 ghost use Rattle.std.specs.Prelude.{◌≡◌, ◌∷◌, ◌+◌, ◌*◌, ◌%◌, ◌≤◌, ◌<◌, ◌^◌, length};
 ghost use Rattle.gf2.specs.Moduli.{polynomial, Proper};
 ghost use Rattle.refusals.specs.Refusals.{longest};
-ghost use Rattle.big_endian.specs.Numbers.{numbersAt};
-ghost use Rattle.sheets.specs.Layout.{pageCount, pagesFor};
+ghost use Rattle.big_endian.specs.Numbers.{numbers_at};
+ghost use Rattle.sheets.specs.Layout.{page_count, pages_for};
 ghost use Rattle.sheets.specs.Inner.{filling};
 ghost use Rattle.sheet_joining.specs.Joining.{looping, BitsOf, LanesJoined, RunJoined, LastJoined, WholeOf, PagesJoined};
 
 use gf2::Modulus;
 
 // Marks joined, and the bits that stand in any of their fields: all fields are below 2^k exactly where these bits are.
-#[derive(Drop)]
+#[derive(Clone, Copy)]
 pub struct Joined {
     pub mark: u64,
     pub bits: u64,
 }
 
 // Four lanes of marks joined, and the bits of all their fields.
-#[derive(Drop)]
+#[derive(Clone, Copy)]
 pub struct Lanes {
     pub a: u64,
     pub b: u64,
@@ -29,8 +29,8 @@ pub struct Lanes {
 // One lane: n fields from a place on, behind f and behind the bits of the fields before, by the table of the shift by a page.
 fn join_lane(shift: &[u64], fields: &[u8], from: usize, n: u64, f: u64, before: u64) -> Joined
     requires { (length shift.now ≡ 2048) × (from + 8 * n ≤ length fields.now) }
-    ensures { (result.mark ≡ looping shift.now f (numbersAt from 8 n fields.now))
-        × BitsOf (before ∷ numbersAt from 8 n fields.now) result.bits }
+    ensures { (result.mark ≡ looping shift.now f (numbers_at from 8 n fields.now))
+        × BitsOf (before ∷ numbers_at from 8 n fields.now) result.bits }
 {
     let mut x = f;
     let mut bits = before;
@@ -90,7 +90,7 @@ fn low_part(x: u64, n: u32) -> u64
 // field that is not below 2^k shows in the bits. The mark then means nothing: a lane may reach 2^k too, and the products take its low bits.
 fn join_run(fields: &[u8], p: Modulus, size: u64, n: u64) -> Joined
     requires { Proper p × (size ≤ 4096) × (n < 2 ^ 29) × (8 * n ≤ length fields.now) }
-    ensures { RunJoined (polynomial p) p.degree (8 * size) (numbersAt 0 8 n fields.now) result }
+    ensures { RunJoined (polynomial p) p.degree (8 * size) (numbers_at 0 8 n fields.now) result }
 {
     let mut shift = [0u64; 2048];
     shifts::fill(&mut shift, p, size);
@@ -123,7 +123,7 @@ fn join_last(p: Modulus, x: Joined, last: u64, n: u64) -> Joined
 
 // How many of the pages of a file of n bits count as whole ones: all where the last is whole or filled up, else all but the last.
 fn whole_pages(count: u64, page: u64, n: u64, filled: bool) -> u64
-    requires { (0 < page) × (page ≤ 32768) × (count < 2 ^ 29) × (count ≡ pageCount page n) }
+    requires { (0 < page) × (page ≤ 32768) × (count < 2 ^ 29) × (count ≡ page_count page n) }
     ensures { WholeOf filled count page n result }
 {
     if filled {
@@ -145,8 +145,8 @@ pub fn pages_joined(
     count: u64,
     filled: bool,
 ) -> Joined
-    requires { Proper p × (16 ≤ size) × (size ≤ 4096) × (n ≤ longest) × (count ≡ pagesFor size n) × (8 * count ≤ length fields.now) }
-    ensures { PagesJoined (filling filled) (polynomial p) p.degree (8 * size) n (numbersAt 0 8 count fields.now) result }
+    requires { Proper p × (16 ≤ size) × (size ≤ 4096) × (n ≤ longest) × (count ≡ pages_for size n) × (8 * count ≤ length fields.now) }
+    ensures { PagesJoined (filling filled) (polynomial p) p.degree (8 * size) n (numbers_at 0 8 count fields.now) result }
 {
     let page = 8 * size;
     let whole = whole_pages(count, page, n, filled);

@@ -7,7 +7,7 @@ use Rattle.sheet_layout.specs.declared.Fields.{Fields}
 pub record LaidOut (v : Layout) (r : Fields) : Type 0 where
   pub widths : v.widths ≡ r.key ∷ r.length ∷ r.size ∷ []
   pub paired : v.paired ≡ r.paired
-  pub unit : v.lengthUnit ≡ r.unit
+  pub unit : v.length_unit ≡ r.unit
   pub filled : v.filled ≡ r.filled
   pub key-width : r.key ≡ cond r.paired 9 8
   pub key_fits : r.key ≤ 9

@@ -2,7 +2,7 @@
 // number of pages. These functions are for the project's own crates: what they require, every caller proves.
 ghost use Rattle.std.specs.Prelude.{◌≡◌, false, ◌||◌, not, ◌+◌, ◌*◌, ◌≤◌, ◌<◌, ◌^◌, ltb, length, drop};
 ghost use Rattle.refusals.specs.Refusals.{longest};
-ghost use Rattle.sheets.specs.Layout.{newest, layouts, known, layout_of, pagePlace, pageCount, pagesFor};
+ghost use Rattle.sheets.specs.Layout.{newest, layouts, known, layout_of, page_place, page_count, pages_for};
 ghost use Rattle.sheet_layout.specs.Laid.{LaidOut};
 
 // The letters GFP and the version's number stand in front of every sheet: their widths, and where the key begins.
@@ -22,7 +22,7 @@ pub const NEWEST: u64 = 4;
 
 // A version: the width of each field behind the version's number, whether the key is a byte of its degree and its word, the bits that the
 // length counts as one, and whether a last page that is not whole is filled up with zeros.
-#[derive(Drop)]
+#[derive(Clone, Copy)]
 pub struct Fields {
     pub key: usize,
     pub paired: bool,
@@ -87,7 +87,7 @@ pub fn is_known(version: u64) -> bool
 
 // Where the fingerprints begin in the newest version.
 pub fn pages_place() -> usize
-    ensures { (result ≡ pagePlace (layout_of newest.version) 0) × (result < 32) }
+    ensures { (result ≡ page_place (layout_of newest.version) 0) × (result < 32) }
 {
     let v = fields_of(NEWEST);
     KEY_PLACE + v.key + v.length + v.size
@@ -112,7 +112,7 @@ pub fn sheet_length(place: usize, pages: u64) -> u64
 // How many pages of s bytes a file of n bytes has.
 pub fn page_count(s: u64, n: u64) -> u64
     requires { (0 < s) × (s ≤ 4096) × (n < 2 ^ 32) }
-    ensures { result ≡ pageCount s n }
+    ensures { result ≡ page_count s n }
 {
     (n + s - 1) / s
 }
@@ -120,7 +120,7 @@ pub fn page_count(s: u64, n: u64) -> u64
 // How many pages of s bytes a file of n bits has: an unfinished byte counts as one.
 pub fn pages_for(s: u64, n: u64) -> u64
     requires { (0 < s) × (s ≤ 4096) × (n ≤ longest) }
-    ensures { result ≡ pagesFor s n }
+    ensures { result ≡ pages_for s n }
 {
     page_count(s, (n + 7) / 8)
 }

@@ -4,9 +4,9 @@ ghost use Rattle.std.specs.Prelude.{◌≡◌, false, cond, not, ◌-◌, ◌*�
 ghost use Rattle.gf2.specs.Polynomials.{rem};
 ghost use Rattle.gf2.specs.Moduli.{polynomial, Proper};
 ghost use Rattle.acceptance.specs.Opened.{Opened};
-ghost use Rattle.sheets.specs.Layout.{layouts, contentsIn};
-ghost use Rattle.sheets.specs.Sheets.{headWrong, bodyWrong, readSheet};
-ghost use Rattle.sheets.specs.Answers.{sheetRead};
+ghost use Rattle.sheets.specs.Layout.{layouts, contents_in};
+ghost use Rattle.sheets.specs.Sheets.{head_wrong, body_wrong, read_sheet};
+ghost use Rattle.sheets.specs.Answers.{sheet_read};
 ghost use Rattle.sheets.specs.Inner.{read_body};
 ghost use Rattle.sheet_heads.specs.Heads.{HeadOf};
 ghost use Rattle.sheet_opening.specs.Opening.{opening, Kept, Sized};
@@ -18,7 +18,7 @@ use sheet_heads::{Head, Header};
 use sheets::Sheet;
 
 // A sheet that was read: its numbers, its opened key, where its fingerprints begin, and whether a last page is filled up.
-#[derive(Drop)]
+#[derive(Clone, Copy)]
 pub struct OpenSheet {
     pub numbers: Sheet,
     pub p: Modulus,
@@ -27,7 +27,7 @@ pub struct OpenSheet {
 }
 
 // The answer to opening a sheet.
-#[derive(Drop)]
+#[derive(Clone, Copy)]
 pub enum Opening {
     Opened(OpenSheet),
     Refused(Refusal),
@@ -47,7 +47,7 @@ fn file_filled(p: Modulus, f: u64, filled: bool, all: u64, n: u64) -> u64
 // Are fingerprints and joining right, in a sheet with so many pages? `file` is the file's fingerprint.
 fn body_right(sheet: &[u8], head: Head, p: Modulus, count: u64, file: u64) -> bool
     requires { HeadOf sheet.now head × (16 ≤ head.size) × (head.size ≤ 4096) × Opened head.key p × Sized sheet.now head count file }
-    ensures { result ≡ not (bodyWrong (length sheet.now) (contentsIn sheet.now)) }
+    ensures { result ≡ not (body_wrong (length sheet.now) (contents_in sheet.now)) }
 {
     let size = head.size;
     let n = head.length;
@@ -63,7 +63,7 @@ fn body_right(sheet: &[u8], head: Head, p: Modulus, count: u64, file: u64) -> bo
 // What stands behind a head that is right, under its opened key. Numbers 12, 14 (total, fingerprints, joining).
 fn open_under(p: Modulus, sheet: &[u8], head: Head) -> Opening
     requires { HeadOf sheet.now head × Opened head.key p }
-    ensures { (opening result ≡ sheetRead (read_body sheet.now)) × Kept result }
+    ensures { (opening result ≡ sheet_read (read_body sheet.now)) × Kept result }
 {
     if !sheet_layout::size_right(head.size) {
         return Opening::Refused(Refusal::PageSize);
@@ -96,8 +96,8 @@ fn open_under(p: Modulus, sheet: &[u8], head: Head) -> Opening
 
 // The same of a sheet whose head is right. Numbers 1, 2, 12, 14.
 fn open_key(sheet: &[u8], head: Head) -> Opening
-    requires { (headWrong layouts sheet.now ≡ false) × HeadOf sheet.now head }
-    ensures { (opening result ≡ sheetRead (readSheet sheet.now)) × Kept result }
+    requires { (head_wrong layouts sheet.now ≡ false) × HeadOf sheet.now head }
+    ensures { (opening result ≡ sheet_read (read_sheet sheet.now)) × Kept result }
 {
     let key = head.key;
     match keys::test(key) {
@@ -108,7 +108,7 @@ fn open_key(sheet: &[u8], head: Head) -> Opening
 
 // Opens a sheet. Numbers 14 (size, letters, version, least size, limit of lengths), 1, 2, 12, 14 (total, fingerprints, joining).
 pub fn open_sheet(sheet: &[u8]) -> Opening
-    ensures { (opening result ≡ sheetRead (readSheet sheet.now)) × Kept result }
+    ensures { (opening result ≡ sheet_read (read_sheet sheet.now)) × Kept result }
 {
     match sheet_heads::open_head(sheet) {
         Header::Wrong => Opening::Refused(Refusal::SheetMalformed),

@@ -3,10 +3,10 @@
 ghost use Rattle.std.specs.Prelude.{◌≡◌, true, false, ◌+◌, ◌-◌, ◌*◌, ◌/◌, ◌≤◌, ◌<◌, min, length, take};
 ghost use Rattle.gf2.specs.Polynomials.{rem};
 ghost use Rattle.gf2.specs.Moduli.{polynomial, Proper};
-ghost use Rattle.files.specs.Files.{bits, valueFrom, fingerprint, asPart, partBits, misused};
+ghost use Rattle.files.specs.Files.{bits, value_from, fingerprint, as_part, part_bits, misused};
 ghost use Rattle.multiples.specs.Rows.{SameFrom};
 ghost use Rattle.lookups.specs.Groups.{TableOf};
-ghost use Rattle.house.specs.House.{houseKey};
+ghost use Rattle.house.specs.House.{house_key};
 ghost use Rattle.sheets.specs.Sheets.{page_of};
 ghost use Rattle.sheets.specs.Inner.{filling};
 ghost use Rattle.sheet_pages.specs.Blocks.{PageTables, FedBy, LastBy, NextPages};
@@ -25,7 +25,7 @@ fn fill_tables(words: &mut [u64], eights: &mut [u64], p: Modulus)
 
 // Whether pages are folded.
 fn folding(p: Modulus, size: usize) -> bool
-    ensures { result ≡ true → polynomial p ≡ houseKey }
+    ensures { result ≡ true → polynomial p ≡ house_key }
 {
     feeding::pages_folded(p, size)
 }
@@ -78,7 +78,7 @@ fn whole_marks(
 // The residue of the whole bytes of a last page, behind the leading 1.
 fn fed_front(words: &[u64], p: Modulus, front: &[u8]) -> u64
     requires { TableOf p words.now }
-    ensures { result ≡ rem (polynomial p) (valueFrom 1 (bits front.now)) }
+    ensures { result ≡ rem (polynomial p) (value_from 1 (bits front.now)) }
 {
     feeding::page_by_table(words, p, front)
 }
@@ -86,7 +86,7 @@ fn fed_front(words: &[u64], p: Modulus, front: &[u8]) -> u64
 // The same by folding where there is no table.
 fn begun_last(words: &[u64], p: Modulus, front: &[u8]) -> u64
     requires { LastBy p words.now }
-    ensures { result ≡ rem (polynomial p) (valueFrom 1 (bits front.now)) }
+    ensures { result ≡ rem (polynomial p) (value_from 1 (bits front.now)) }
 {
     if words.len() == 0 {
         return folds::fed_page(1, front);
@@ -96,8 +96,8 @@ fn begun_last(words: &[u64], p: Modulus, front: &[u8]) -> u64
 
 // The fingerprint of a last page at its own length: its whole bytes, and the used bits behind them.
 fn fed_last(words: &[u64], p: Modulus, page: &[u8], used: u32) -> u64
-    requires { LastBy p words.now × (misused (asPart page.now used) ≡ false) }
-    ensures { result ≡ fingerprint (polynomial p) (partBits (asPart page.now used)) }
+    requires { LastBy p words.now × (misused (as_part page.now used) ≡ false) }
+    ensures { result ≡ fingerprint (polynomial p) (part_bits (as_part page.now used)) }
 {
     let w = files::whole_bytes(page, used);
     let front = begun_last(words, p, &page[..w]);
@@ -105,7 +105,7 @@ fn fed_last(words: &[u64], p: Modulus, page: &[u8], used: u32) -> u64
 }
 
 // How a file is cut into pages: the opened key, the bytes of a page, the used bits of the file's final byte, and whether a last page is filled up.
-#[derive(Drop)]
+#[derive(Clone, Copy)]
 pub struct Paging {
     pub p: Modulus,
     pub size: usize,
@@ -115,9 +115,9 @@ pub struct Paging {
 
 // The fingerprint of a last page, filled up or not: zeros behind it come in as one power of t.
 fn last_page(words: &[u64], x: Paging, page: &[u8]) -> u64
-    requires { LastBy x.p words.now × (length page.now ≤ x.size) × (x.size ≤ 4096) × (misused (asPart page.now x.used) ≡ false) }
+    requires { LastBy x.p words.now × (length page.now ≤ x.size) × (x.size ≤ 4096) × (misused (as_part page.now x.used) ≡ false) }
     ensures { result ≡ fingerprint (polynomial x.p)
-        (page_of (filling x.filled) (8 * x.size) (partBits (asPart page.now x.used))) }
+        (page_of (filling x.filled) (8 * x.size) (part_bits (as_part page.now x.used))) }
 {
     let own = fed_last(words, x.p, page, x.used);
     if x.filled {
@@ -130,8 +130,8 @@ fn last_page(words: &[u64], x: Paging, page: &[u8]) -> u64
 // The fingerprints of the next pages, at most 64, into the first places: how many. A page whose final byte is not used whole is no whole page.
 pub fn next_pages(marks: &mut [u64], words: &[u64], eights: &[u64], x: Paging, rest: &[u8]) -> usize
     requires { FedBy x.p words.now eights.now × (8 ≤ x.size) × (x.size ≤ 4096) × (64 ≤ length marks.old)
-        × (misused (asPart rest.now x.used) ≡ false) }
-    ensures { NextPages (filling x.filled) (polynomial x.p) x.size (asPart rest.now x.used) result
+        × (misused (as_part rest.now x.used) ≡ false) }
+    ensures { NextPages (filling x.filled) (polynomial x.p) x.size (as_part rest.now x.used) result
         marks.old marks.new }
 {
     let size = x.size;

@@ -6,11 +6,11 @@ use native.Mathlib.Nat.{zero-add}
 use native.Mathlib.Omega.{arith}
 use lib.ListN.{length, take, drop, length-append, length-drop, take-append-drop}
 use lib.Seq.{sets, drop-drop, length-take-le, take-add, take-take, take-length}
-use Rattle.big_endian.specs.Numbers.{fields_of, numbersAt}
-use Rattle.sheets.specs.Sheets.{Same, Page, firstChange}
+use Rattle.big_endian.specs.Numbers.{fields_of, numbers_at}
+use Rattle.sheets.specs.Sheets.{Same, Page, first_change}
 use Rattle.sheets.specs.Inner.{agreeing}
-use Rattle.big_endian.proofs.Numbers.{length-fieldsOf, length-numbersAt, numbers-append, fields-append, sets_behind}
-use Rattle.sheets.proofs.Changes.{agree-le, agree-all, agree-here, agree-further, changed-at, changed-nowhere}
+use Rattle.big_endian.proofs.Numbers.{length-fields_of, length-numbers_at, numbers-append, fields-append, sets_behind}
+use Rattle.sheets.proofs.Changes.{agree-le, agree-all, agree-here, agree-further, changed_at, changed_nowhere}
 use Rattle.sheet_pass.specs.Passes.{expected, Passed}
 
 -- ---- the expected fingerprints
@@ -18,17 +18,17 @@ use Rattle.sheet_pass.specs.Passes.{expected, Passed}
 pub length-expected : (known : List ℕ) (from : ℕ) (fs : List ℕ) → length (expected known from fs) ≡ length fs
 unfolding expected
 length-expected [] from fs = refl
-length-expected (b ∷ known) from fs = length-numbersAt from 8 (length fs) (b ∷ known)
+length-expected (b ∷ known) from fs = length-numbers_at from 8 (length fs) (b ∷ known)
 
 expected-append : (known : List ℕ) (from : ℕ) (us vs : List ℕ)
     → expected known from (us ++ vs) ≡ expected known from us ++ expected known (from + 8 * length us) vs
 unfolding expected
 expected-append [] from us vs = refl
 expected-append (b ∷ known) from us vs =
-    ap (λ (n : ℕ). numbersAt from 8 n (b ∷ known)) (length-append us vs)
+    ap (λ (n : ℕ). numbers_at from 8 n (b ∷ known)) (length-append us vs)
     ∙ numbers-append from 8 (length us) (length vs) (b ∷ known)
 
-pub expected-known : (known : List ℕ) (from : ℕ) (fs : List ℕ) → 0 < length known → expected known from fs ≡ numbersAt from 8 (length fs) known
+pub expected-known : (known : List ℕ) (from : ℕ) (fs : List ℕ) → 0 < length known → expected known from fs ≡ numbers_at from 8 (length fs) known
 unfolding expected
 expected-known [] from fs l = absurd (omega arith)
 expected-known (b ∷ known) from fs l = refl
@@ -70,9 +70,9 @@ module _ (known fs us : List ℕ) (i n : ℕ) (e : us ≡ take n (drop i fs)) (h
         (length-expected known (8 * i) us) (omega (arith, er, block-long))
         ∙ sym er
 
-    pub block-agrees : n ≤ r → agreeing (expected known (8 * i) (drop i fs)) (drop i fs)
+    pub block_agrees : n ≤ r → agreeing (expected known (8 * i) (drop i fs)) (drop i fs)
         ≡ r + agreeing (expected known (8 * (i + r)) (drop (i + r) fs)) (drop (i + r) fs)
-    block-agrees l =
+    block_agrees l =
         let all : n ≡ r = omega (arith, block-few) in
         agreed
         ∙ agree-further (expected known (8 * (i + n)) (drop (i + n) fs)) (drop (i + n) fs) (expected known (8 * i) us) us
@@ -85,56 +85,56 @@ pub block_written : (fs marks before : List ℕ) (i n r : ℕ) → take n marks 
     → sets (sets before 0 (fields_of 8 (take i fs))) (8 * i) (fields_of 8 (take r marks)) ≡ sets before 0 (fields_of 8 (take (i + r) fs))
 block_written fs marks before i n r e h l =
     let first = fields_of 8 (take i fs) in
-    let place : 8 * i ≡ 0 + length first = omega (arith, length-fieldsOf 8 (take i fs), length-take-le i fs (omega arith)) in
+    let place : 8 * i ≡ 0 + length first = omega (arith, length-fields_of 8 (take i fs), length-take-le i fs (omega arith)) in
     let same : take r marks ≡ take r (drop i fs) = sym (take-take r n marks l) ∙ ap (take r) e ∙ take-take r n (drop i fs) l in
     sets_behind first (fields_of 8 (take r marks)) before 0 (8 * i) place
     ∙ ap (sets before 0) (sym (fields-append 8 (take i fs) (take r marks)))
     ∙ ap (λ (l : List ℕ). sets before 0 (fields_of 8 l)) (ap (λ (l : List ℕ). take i fs ++ l) same ∙ sym (take-add i r fs))
 
 -- nothing is lent
-pub sets-none : (vs l : List ℕ) (i : ℕ) → length l ≡ 0 → l ≡ sets l i vs
-sets-none [] l i e = refl
-sets-none (v ∷ vs) [] i e = sets-none vs [] (suc i) e
-sets-none (v ∷ vs) (b ∷ l) i e = absurd (omega arith)
+pub sets_none : (vs l : List ℕ) (i : ℕ) → length l ≡ 0 → l ≡ sets l i vs
+sets_none [] l i e = refl
+sets_none (v ∷ vs) [] i e = sets_none vs [] (suc i) e
+sets_none (v ∷ vs) (b ∷ l) i e = absurd (omega arith)
 
 -- ---- what a pass gives
 
 -- nothing is known: all pages are passed,
-pub pass-count : (fs before after : List ℕ) (n : ℕ) → Passed fs [] before after n → n ≡ length fs
+pub pass_count : (fs before after : List ℕ) (n : ℕ) → Passed fs [] before after n → n ≡ length fs
 unfolding expected
-pass-count fs before after n h = h.same ∙ agree-all fs
+pass_count fs before after n h = h.same ∙ agree-all fs
 
 -- and all fingerprints are written
 pub pass_all : (fs before after : List ℕ) (n : ℕ) → Passed fs [] before after n → after ≡ sets before 0 (fields_of 8 fs)
 unfolding expected
 pass_all fs before after n h =
-    let all : take n fs ≡ fs = ap (λ (m : ℕ). take m fs) (pass-count fs before after n h) ∙ take-length fs in
+    let all : take n fs ≡ fs = ap (λ (m : ℕ). take m fs) (pass_count fs before after n h) ∙ take-length fs in
     h.written ∙ ap (λ (us : List ℕ). sets before 0 (fields_of 8 us)) all
 
-expected-all : (known fs : List ℕ) → 8 * length fs ≤ length known → expected known 0 fs ≡ numbersAt 0 8 (length fs) known
-unfolding expected numbersAt
+expected-all : (known fs : List ℕ) → 8 * length fs ≤ length known → expected known 0 fs ≡ numbers_at 0 8 (length fs) known
+unfolding expected numbers_at
 expected-all [] [] l = refl
 expected-all [] (f ∷ fs) l = absurd (omega arith)
 expected-all (b ∷ known) fs l = refl
 
 -- all c are known: the first that differs
 module _ (fs known before after : List ℕ) (n c : ℕ) (h : Passed fs known before after n) (long : length fs ≡ c) (room : 8 * c ≤ length known) where
-  there : expected known 0 fs ≡ numbersAt 0 8 c known
-  there = expected-all known fs (omega arith) ∙ ap (λ (m : ℕ). numbersAt 0 8 m known) long
+  there : expected known 0 fs ≡ numbers_at 0 8 c known
+  there = expected-all known fs (omega arith) ∙ ap (λ (m : ℕ). numbers_at 0 8 m known) long
 
-  agreed-here : n ≡ agreeing (numbersAt 0 8 c known) fs
+  agreed-here : n ≡ agreeing (numbers_at 0 8 c known) fs
   agreed-here = h.same ∙ ap (λ (us : List ℕ). agreeing us fs) there
 
-  equally : length (numbersAt 0 8 c known) ≡ length fs
-  equally = length-numbersAt 0 8 c known ∙ sym long
+  equally : length (numbers_at 0 8 c known) ≡ length fs
+  equally = length-numbers_at 0 8 c known ∙ sym long
 
-  pub pass-few : n ≤ c
-  pass-few = omega (arith, agreed-here, agree-le (numbersAt 0 8 c known) fs)
+  pub pass_few : n ≤ c
+  pass_few = omega (arith, agreed-here, agree-le (numbers_at 0 8 c known) fs)
 
-  pub pass-changed : n < c → firstChange 0 (numbersAt 0 8 c known) fs ≡ Page n
-  pass-changed l =
-      changed-at 0 (numbersAt 0 8 c known) fs equally (omega (arith, agreed-here))
-      ∙ ap Page (zero-add (agreeing (numbersAt 0 8 c known) fs) ∙ sym agreed-here)
+  pub pass_changed : n < c → first_change 0 (numbers_at 0 8 c known) fs ≡ Page n
+  pass_changed l =
+      changed_at 0 (numbers_at 0 8 c known) fs equally (omega (arith, agreed-here))
+      ∙ ap Page (zero-add (agreeing (numbers_at 0 8 c known) fs) ∙ sym agreed-here)
 
-  pub pass_same : c ≤ n → firstChange 0 (numbersAt 0 8 c known) fs ≡ Same
-  pass_same l = changed-nowhere 0 (numbersAt 0 8 c known) fs equally (omega (arith, agreed-here))
+  pub pass_same : c ≤ n → first_change 0 (numbers_at 0 8 c known) fs ≡ Same
+  pass_same l = changed_nowhere 0 (numbers_at 0 8 c known) fs equally (omega (arith, agreed-here))

@@ -3,10 +3,10 @@
 ghost use Rattle.std.specs.Prelude.{◌≡◌, false, ◌+◌, ◌*◌, ◌≤◌, ◌<◌, ◌^◌, length};
 ghost use Rattle.std.proofs.lemmas.List.Edits.{sets};
 ghost use Rattle.gf2.specs.Moduli.{polynomial, Proper};
-ghost use Rattle.files.specs.Files.{asPart, partBits, misused};
+ghost use Rattle.files.specs.Files.{as_part, part_bits, misused};
 ghost use Rattle.big_endian.specs.Numbers.{fields_of};
-ghost use Rattle.sheets.specs.Layout.{pageCount};
-ghost use Rattle.sheets.specs.Sheets.{pageFingerprints};
+ghost use Rattle.sheets.specs.Layout.{page_count};
+ghost use Rattle.sheets.specs.Sheets.{page_fingerprints};
 ghost use Rattle.sheets.specs.Inner.{filling, agreeing};
 ghost use Rattle.sheet_pages.specs.Blocks.{FedBy};
 ghost use Rattle.sheet_pass.specs.Passes.{Room, expected, Passed};
@@ -61,11 +61,11 @@ fn over_blocks(
     file: &[u8],
 ) -> usize
     requires { FedBy x.p words.now eights.now × (16 ≤ x.size) × (x.size ≤ 4096) × (length file.now < 2 ^ 32)
-        × Room (8 * pageCount x.size (length file.now)) out.old × Room (8 * pageCount x.size (length file.now)) known.now
-        × (misused (asPart file.now x.used) ≡ false) }
+        × Room (8 * page_count x.size (length file.now)) out.old × Room (8 * page_count x.size (length file.now)) known.now
+        × (misused (as_part file.now x.used) ≡ false) }
     ensures { Passed
-        (pageFingerprints (filling x.filled) (polynomial x.p) (8 * x.size) (pageCount x.size (length file.now))
-        (partBits (asPart file.now x.used)))
+        (page_fingerprints (filling x.filled) (polynomial x.p) (8 * x.size) (page_count x.size (length file.now))
+        (part_bits (as_part file.now x.used)))
         known.now out.old out.new result }
 {
     let size = x.size;
@@ -97,11 +97,11 @@ pub fn over_pages(
     used: u32,
 ) -> usize
     requires { Proper p × (8 ≤ p.degree) × (16 ≤ size) × (size ≤ 4096) × (length file.now < 2 ^ 32)
-        × Room (8 * pageCount size (length file.now)) out.old × Room (8 * pageCount size (length file.now)) known.now
-        × (misused (asPart file.now used) ≡ false) }
+        × Room (8 * page_count size (length file.now)) out.old × Room (8 * page_count size (length file.now)) known.now
+        × (misused (as_part file.now used) ≡ false) }
     ensures { Passed
-        (pageFingerprints (filling filled) (polynomial p) (8 * size) (pageCount size (length file.now))
-        (partBits (asPart file.now used)))
+        (page_fingerprints (filling filled) (polynomial p) (8 * size) (page_count size (length file.now))
+        (part_bits (as_part file.now used)))
         known.now out.old out.new result }
 {
     let mut words = [0u64; 1024];

@@ -4,11 +4,11 @@ ghost use Rattle.std.proofs.lemmas.List.Edits.{sets};
 ghost use Rattle.gf2.specs.Moduli.{polynomial, Proper};
 ghost use Rattle.refusals.specs.Answers.{reply};
 ghost use Rattle.acceptance.specs.Opened.{Opened};
-ghost use Rattle.files.specs.Files.{fingerprint, asPart, partLength, partBits, misused};
+ghost use Rattle.files.specs.Files.{fingerprint, as_part, part_length, part_bits, misused};
 ghost use Rattle.big_endian.specs.Numbers.{bytes_of, fields_of};
-ghost use Rattle.sheets.specs.Layout.{newest, layout_of, sheetLength, pageCount, sheetBytes};
-ghost use Rattle.sheets.specs.Sheets.{pageFingerprints, contentsOf, lengthFor, writeSheet};
-ghost use Rattle.sheets.specs.Answers.{lengthAnswer};
+ghost use Rattle.sheets.specs.Layout.{newest, layout_of, sheet_length, page_count, sheet_bytes};
+ghost use Rattle.sheets.specs.Sheets.{page_fingerprints, contents_of, length_for, write_sheet};
+ghost use Rattle.sheets.specs.Answers.{length_answer};
 
 use acceptance::Key;
 use gf2::Modulus;
@@ -19,12 +19,12 @@ use sheets::SheetLength;
 // Writes all fingerprints, of a file of n bits: the pages', and behind them the file's, which is these joined, the last with its own length.
 fn put_fingerprints(fields: &mut [u8], p: Modulus, size: u64, file: &[u8], used: u32, n: u64)
     requires { Proper p × (8 ≤ p.degree) × (16 ≤ size) × (size ≤ 4096) × (length file.now < 2 ^ 32)
-        × (8 * pageCount size (length file.now) + 8 ≤ length fields.old) × (misused (asPart file.now used) ≡ false)
-        × (n ≡ partLength (asPart file.now used)) }
+        × (8 * page_count size (length file.now) + 8 ≤ length fields.old) × (misused (as_part file.now used) ≡ false)
+        × (n ≡ part_length (as_part file.now used)) }
     ensures { fields.new ≡ sets fields.old 0
-        (fields_of 8 (pageFingerprints (layout_of newest.version) (polynomial p) (8 * size) (pageCount size (length file.now))
-        (partBits (asPart file.now used)))
-        ++ bytes_of 8 (fingerprint (polynomial p) (partBits (asPart file.now used)))) }
+        (fields_of 8 (page_fingerprints (layout_of newest.version) (polynomial p) (8 * size) (page_count size (length file.now))
+        (part_bits (as_part file.now used)))
+        ++ bytes_of 8 (fingerprint (polynomial p) (part_bits (as_part file.now used)))) }
 {
     let none = [0u8; 0];
     let count = sheet_pass::over_pages(fields, &none, p, size as usize, false, file, used);
@@ -35,10 +35,10 @@ fn put_fingerprints(fields: &mut [u8], p: Modulus, size: u64, file: &[u8], used:
 // Writes the sheet; the buffer's further bytes keep their value.
 fn put_sheet(buffer: &mut [u8], key: Key, p: Modulus, size: u64, file: &[u8], used: u32)
     requires { Opened key p × (16 ≤ size) × (size ≤ 4096) × (length file.now < 2 ^ 32)
-        × (sheetLength (layout_of newest.version) (pageCount size (length file.now)) ≤ length buffer.old)
-        × (misused (asPart file.now used) ≡ false) }
-    ensures { buffer.new ≡ sheetBytes (contentsOf newest.version key size (partBits (asPart file.now used)))
-        ++ drop (sheetLength (layout_of newest.version) (pageCount size (length file.now))) buffer.old }
+        × (sheet_length (layout_of newest.version) (page_count size (length file.now)) ≤ length buffer.old)
+        × (misused (as_part file.now used) ≡ false) }
+    ensures { buffer.new ≡ sheet_bytes (contents_of newest.version key size (part_bits (as_part file.now used)))
+        ++ drop (sheet_length (layout_of newest.version) (page_count size (length file.now))) buffer.old }
 {
     let n = files::part_length(file, used);
     sheet_heads::put_head(buffer, key, n, size);
@@ -48,7 +48,7 @@ fn put_sheet(buffer: &mut [u8], key: Key, p: Modulus, size: u64, file: &[u8], us
 
 // The bytes of the sheet of a file of n bytes, an unfinished one counted, with pages of the given size. Numbers 7, 12.
 pub fn length(n: u64, size: u64) -> SheetLength
-    ensures { lengthAnswer result ≡ lengthFor n size }
+    ensures { length_answer result ≡ length_for n size }
 {
     if !refusals::bytes_fit(n) {
         return SheetLength::Refused(Refusal::TooLong);
@@ -63,7 +63,7 @@ pub fn length(n: u64, size: u64) -> SheetLength
 // Writes the sheet of a file under an opened key. Numbers 7, 12, 13, 19.
 fn write_under(key: Key, p: Modulus, size: u64, file: &[u8], used: u32, buffer: &mut [u8]) -> Reply
     requires { Opened key p }
-    ensures { reply buffer.new result ≡ writeSheet key size (asPart file.now used) buffer.old }
+    ensures { reply buffer.new result ≡ write_sheet key size (as_part file.now used) buffer.old }
 {
     match length(file.len() as u64, size) {
         SheetLength::Refused(r) => Reply::Refused(r),
@@ -82,7 +82,7 @@ fn write_under(key: Key, p: Modulus, size: u64, file: &[u8], used: u32, buffer: 
 
 // Writes the sheet of a file. Numbers 1, 2, 7, 12, 13, 19.
 pub fn write(key: Key, size: u64, file: &[u8], used: u32, buffer: &mut [u8]) -> Reply
-    ensures { reply buffer.new result ≡ writeSheet key size (asPart file.now used) buffer.old }
+    ensures { reply buffer.new result ≡ write_sheet key size (as_part file.now used) buffer.old }
 {
     match keys::test(key) {
         Tested::Refused(r) => Reply::Refused(r),

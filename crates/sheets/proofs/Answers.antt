@@ -12,13 +12,13 @@ use Rattle.sheets.specs.declared.Checked.TheVariants as cases
 use Rattle.sheets.specs.Inner.{NoPage}
 
 -- all but a page
-pub no-page : (o : Checked) → Run.OneOf (0 ∷ 2 ∷ 3 ∷ []) (Declared.tag_of CheckedT.the_type o) → NoPage o
-no-page cases.Same h = tt
-no-page cases.OtherLength h = tt
-no-page (cases.Refused r) h = tt
-no-page (cases.Page i) (inl e) = absurd (omega arith)
-no-page (cases.Page i) (inr (inl e)) = absurd (omega arith)
-no-page (cases.Page i) (inr (inr e)) = absurd (omega arith)
+pub no_page : (o : Checked) → Run.OneOf (0 ∷ 2 ∷ 3 ∷ []) (Declared.tag_of CheckedT.the_type o) → NoPage o
+no_page cases.Same h = tt
+no_page cases.OtherLength h = tt
+no_page (cases.Refused r) h = tt
+no_page (cases.Page i) (inl e) = absurd (omega arith)
+no_page (cases.Page i) (inr (inl e)) = absurd (omega arith)
+no_page (cases.Page i) (inr (inr e)) = absurd (omega arith)
 
 -- no page, neither same nor refused
 pub other-left : (o : Checked) → NoPage o → Run.OneOf (1 ∷ 2 ∷ 3 ∷ []) (Declared.tag_of CheckedT.the_type o)

@@ -12,25 +12,25 @@ use lib.ListN.{length, take, drop, replicate, length-drop, drop_of_length-le, ta
 use lib.Seq.{drop-drop, take_all}
 use Rattle.lists.proofs.Lists.{all_take, all_drop}
 use Rattle.gf2.specs.Polynomials.{rem, degree}
-use Rattle.gf2.proofs.Congruences.{shift-cancels}
+use Rattle.gf2.proofs.Congruences.{shift_cancels}
 use Rattle.refusals.specs.Refusals.{Done, longest}
 use Rattle.refusals.proofs.Laws.{done-clear, done-eq}
-use Rattle.acceptance.specs.Keys.{accepted, polynomialOf, keyOf}
-use Rattle.acceptance.proofs.Laws.{accepted-iff, accepted-pos, whole-key}
-use Rattle.files.specs.Files.{fingerprint, mark_of, Bits, partBits}
+use Rattle.acceptance.specs.Keys.{accepted, polynomial_of, key_of}
+use Rattle.acceptance.proofs.Laws.{accepted_iff, accepted-pos, whole-key}
+use Rattle.files.specs.Files.{fingerprint, mark_of, Bits, part_bits}
 use Rattle.files.specs.Bursts.{Burst}
-use Rattle.files.proofs.Confusions.{burst-differs}
-use Rattle.files.proofs.Bursts.{part-burst}
-use Rattle.files.proofs.Parts.{part-bits-are}
-use Rattle.sheets.specs.Layout.{Layout, layout_of, pageCount, pagesFor, Contents, sheetBytes, contentsIn}
-use Rattle.sheets.specs.Sheets.{filled, page_of, pageFingerprints, contentsOf, joinedPages, Same, pagesNow, compared, checkTests, checkSheet}
-use Rattle.sheets.specs.Inner.{zerosBehind}
+use Rattle.files.proofs.Confusions.{burst_differs}
+use Rattle.files.proofs.Bursts.{part_burst}
+use Rattle.files.proofs.Parts.{part-bits_are}
+use Rattle.sheets.specs.Layout.{Layout, layout_of, page_count, pages_for, Contents, sheet_bytes, contents_in}
+use Rattle.sheets.specs.Sheets.{filled, page_of, page_fingerprints, contents_of, joined_pages, Same, pages_now, compared, check_tests, check_sheet}
+use Rattle.sheets.specs.Inner.{zeros_behind}
 use Rattle.sheets.specs.Claims.{SoundContents, First, SameFingerprint, FirstAltered, SomeAltered, BurstFound, NoBurstSame}
 use Rattle.sheets.proofs.Keys.{key-pos}
-use Rattle.sheets.proofs.Pages.{pages-count, count-le, length-pages, page-at, fingerprint-lt, with-zeros, pages-joined-print, zeros-are}
+use Rattle.sheets.proofs.Pages.{pages-count, count-le, length-pages, page-at, fingerprint-lt, with_zeros, pages-joined-print, zeros_are}
 use Rattle.sheets.proofs.Sound.{formed, holds-sound}
 use Rattle.sheets.proofs.Changes.{not_same, other-not-same}
-use Rattle.sheets.proofs.Guarantee.{contents-back, checks, other_length, page-iff, same-iff}
+use Rattle.sheets.proofs.Guarantee.{contents-back, checks, other_length, page_iff, same_iff}
 
 -- ---- a comparison that says same
 
@@ -42,50 +42,50 @@ module _ (x : Contents) (sound : SoundContents x) (file : List ℕ) (says : comp
       go (yes e) = e
       go (no n) = absurd (other-not-same (sym (other_length x file n) ∙ says))
 
-  told-pages : x.pages ≡ pagesNow x file
-  told-pages = (same-iff x sound file told-length).0 says
+  told-pages : x.pages ≡ pages_now x file
+  told-pages = (same_iff x sound file told-length).0 says
 
   abbrev v : Layout
   v = layout_of x.version
 
   abbrev size : ℕ
-  size = 8 * x.pageSize
+  size = 8 * x.page_size
 
   abbrev key : ℕ
-  key = polynomialOf x.key
+  key = polynomial_of x.key
 
   abbrev zeros : ℕ → ℕ
-  zeros n = zerosBehind v size n
+  zeros n = zeros_behind v size n
 
   -- the file's fingerprint is the sheet's, though they are not compared: with the same zeros behind them they are the pages joined
-  pub told-fingerprint : fingerprint (polynomialOf x.key) file ≡ x.fingerprint
-  unfolding contentsOf
+  pub told-fingerprint : fingerprint (polynomial_of x.key) file ≡ x.fingerprint
+  unfolding contents_of
   told-fingerprint =
-      let i = (accepted-iff key).0 sound.key in
-      shift-cancels key (fingerprint key file) x.fingerprint (zeros (length file)) i.2 (omega arith) (fingerprint-lt pos file)
+      let i = (accepted_iff key).0 sound.key in
+      shift_cancels key (fingerprint key file) x.fingerprint (zeros (length file)) i.2 (omega arith) (fingerprint-lt pos file)
       sound.fingerprint
       (sym (pages-joined-print pos v size file (omega (arith, some)))
-      ∙ ap (λ (c : ℕ). (joinedPages v key size (length file) (mark_of key []) (pageFingerprints v key size c file)).fingerprint)
-      (sym (pages-count x.pageSize (length file) some))
-      ∙ ap₂ (λ (n : ℕ) (fs : List ℕ). (joinedPages v key size n (mark_of key []) fs).fingerprint) told-length (sym told-pages)
+      ∙ ap (λ (c : ℕ). (joined_pages v key size (length file) (mark_of key []) (page_fingerprints v key size c file)).fingerprint)
+      (sym (pages-count x.page_size (length file) some))
+      ∙ ap₂ (λ (n : ℕ) (fs : List ℕ). (joined_pages v key size n (mark_of key []) fs).fingerprint) told-length (sym told-pages)
       ∙ sound.joined
       ∙ ap (λ (m : ℕ). rem key (x.fingerprint * 2 ^ m))
-      (zeros-are v key size x.length x.pages (omega (arith, some)) (sound.count ∙ pages-count x.pageSize x.length some)
+      (zeros_are v key size x.length x.pages (omega (arith, some)) (sound.count ∙ pages-count x.page_size x.length some)
       ∙ ap zeros (sym told-length)))
     where
       pos : 0 < key
       pos = key-pos x.key
 
-      some : 0 < x.pageSize
-      some = omega (arith, sound.pageSize.0)
+      some : 0 < x.page_size
+      some = omega (arith, sound.page_size.0)
 
 -- so where a check says same, the file's fingerprint is the sheet's
 pub same-fingerprint : SameFingerprint
-unfolding checkSheet
+unfolding check_sheet
 same-fingerprint sheet w file same =
-    told-fingerprint w.contents w.sound (partBits file)
-    (ap (λ (x : Contents). compared x (partBits file)) (sym (contents-back sheet w))
-    ∙ (done-clear (checkTests sheet file) tt (compared (contentsIn sheet) (partBits file)) Same same).1)
+    told-fingerprint w.contents w.sound (part_bits file)
+    (ap (λ (x : Contents). compared x (part_bits file)) (sym (contents-back sheet w))
+    ∙ (done-clear (check_tests sheet file) tt (compared (contents_in sheet) (part_bits file)) Same same).1)
 
 -- ---- the first page that differs
 
@@ -124,10 +124,10 @@ some-altered s a b pos e ne = altered-within s pos (length a) a b (le_refl (leng
 -- ---- a change inside k neighbouring bits
 
 -- pages of one length, whichever way a version takes them
-taken-cancels : (v : Layout) (key s : ℕ) (a b : List ℕ) → accepted key ≡ true → length a ≡ length b
+taken_cancels : (v : Layout) (key s : ℕ) (a b : List ℕ) → accepted key ≡ true → length a ≡ length b
     → fingerprint key (page_of v s a) ≡ fingerprint key (page_of v s b) → fingerprint key a ≡ fingerprint key b
 unfolding filled
-taken-cancels v key s a b acc e = go v.filled
+taken_cancels v key s a b acc e = go v.filled
   where
     pos : 0 < key
     pos = accepted-pos key acc
@@ -135,12 +135,12 @@ taken-cancels v key s a b acc e = go v.filled
     go : (f : Bool) → fingerprint key (cond f (filled s a) a) ≡ fingerprint key (cond f (filled s b) b) → fingerprint key a ≡ fingerprint key b
     go false h = h
     go true h =
-        let i = (accepted-iff key).0 acc in
-        shift-cancels key (fingerprint key a) (fingerprint key b) (s - length a) i.2 (omega arith) (fingerprint-lt pos a) (fingerprint-lt pos b)
-        (with-zeros pos (s - length a) a
+        let i = (accepted_iff key).0 acc in
+        shift_cancels key (fingerprint key a) (fingerprint key b) (s - length a) i.2 (omega arith) (fingerprint-lt pos a) (fingerprint-lt pos b)
+        (with_zeros pos (s - length a) a
         ∙ h
         ∙ ap (λ (n : ℕ). fingerprint key (b ++ replicate (s - n) 0)) (sym e)
-        ∙ sym (with-zeros pos (s - length a) b))
+        ∙ sym (with_zeros pos (s - length a) b))
 
 -- in pages of s bits
 module _ (v : Layout) (key s : ℕ) (a b : List ℕ) (acc : accepted key ≡ true) (some : 0 < s) (ha : Bits a) (hb : Bits b) (burst : Burst (degree key) a b)
@@ -159,7 +159,7 @@ module _ (v : Layout) (key s : ℕ) (a b : List ℕ) (acc : accepted key ≡ tru
           (f.altered
           (ap (take s) (drop_of_length-le a {i = i * s} (omega arith) ∙ sym (drop_of_length-le b {i = i * s} (omega (arith, burst.same_length))))))
 
-  below : i < pageCount s (length a)
+  below : i < page_count s (length a)
   below = count-le s (length a) (suc i) some (omega (arith, suc-mul i s, inside))
 
   page-bits : (l : List ℕ) → Bits l → Bits (page l)
@@ -167,12 +167,12 @@ module _ (v : Layout) (key s : ℕ) (a b : List ℕ) (acc : accepted key ≡ tru
 
   prints-differ : fingerprint key (page_of v s (page a)) ≢ fingerprint key (page_of v s (page b))
   prints-differ e =
-      let d = (accepted-iff key).0 acc in
-      let part = part-burst (degree key) s (i * s) a b (omega arith) burst in
-      burst-differs key (page a) (page b) d.2 (omega arith) (page-bits a ha) (page-bits b hb) f.altered part
-      (taken-cancels v key s (page a) (page b) acc part.same_length e)
+      let d = (accepted_iff key).0 acc in
+      let part = part_burst (degree key) s (i * s) a b (omega arith) burst in
+      burst_differs key (page a) (page b) d.2 (omega arith) (page-bits a ha) (page-bits b hb) f.altered part
+      (taken_cancels v key s (page a) (page b) acc part.same_length e)
 
-  pub first-differs : (c : ℕ) → c ≡ pageCount s (length a) → First (pageFingerprints v key s c a) (pageFingerprints v key s c b) i
+  pub first-differs : (c : ℕ) → c ≡ page_count s (length a) → First (page_fingerprints v key s c a) (page_fingerprints v key s c b) i
   first-differs c e =
       let inside : i < c = omega (arith, below, e) in
       record {
@@ -184,27 +184,27 @@ module _ (v : Layout) (key s : ℕ) (a b : List ℕ) (acc : accepted key ≡ tru
       }
 
 -- it is found on the first page that it alters
-pub burst-found : BurstFound
-unfolding contentsOf
-burst-found version key s a part h ha used burst i f =
-    let b = partBits part in
+pub burst_found : BurstFound
+unfolding contents_of
+burst_found version key s a part h ha used burst i f =
+    let b = part_bits part in
     let v = layout_of version in
-    let x = contentsOf version (keyOf key) s a in
+    let x = contents_of version (key_of key) s a in
     let acc = h.is-accepted in
-    let whole : polynomialOf (keyOf key) ≡ key = whole-key key (accepted-pos key acc) in
+    let whole : polynomial_of (key_of key) ≡ key = whole-key key (accepted-pos key acc) in
     let sound = holds-sound version key s a h in
     let some : 0 < s = omega (arith, h.page-size.0) in
     let fits : length b ≤ longest = omega (arith, burst.same_length, h.within) in
-    let c = pagesFor s (length a) in
-    let first = first-differs v key (8 * s) a b acc (omega arith) ha (part-bits-are part) burst i f c (pages-count s (length a) some) in
-    checks (sheetBytes x) (formed x sound) part fits used
+    let c = pages_for s (length a) in
+    let first = first-differs v key (8 * s) a b acc (omega arith) ha (part-bits_are part) burst i f c (pages-count s (length a) some) in
+    checks (sheet_bytes x) (formed x sound) part fits used
     ∙ ap Done
-    ((page-iff x sound b (sym burst.same_length) i).1
+    ((page_iff x sound b (sym burst.same_length) i).1
     (rw whole
-    (subst (λ (m : ℕ). First (pageFingerprints v key (8 * s) c a) (pageFingerprints v key (8 * s) (pagesFor s m) b) i) burst.same_length first)))
+    (subst (λ (m : ℕ). First (page_fingerprints v key (8 * s) c a) (page_fingerprints v key (8 * s) (pages_for s m) b) i) burst.same_length first)))
 
 -- so no file that differs inside k neighbouring bits is told as the same
-pub no-burst-same : NoBurstSame
-no-burst-same version key s a b h ha used burst ne same =
-    let r = some-altered (8 * s) a (partBits b) (omega (arith, h.page-size.0)) burst.same_length ne in
-    not_same (done-eq _ _ (sym (burst-found version key s a b h ha used burst r.0 r.1) ∙ same))
+pub no_burst_same : NoBurstSame
+no_burst_same version key s a b h ha used burst ne same =
+    let r = some-altered (8 * s) a (part_bits b) (omega (arith, h.page-size.0)) burst.same_length ne in
+    not_same (done-eq _ _ (sym (burst_found version key s a b h ha used burst r.0 r.1) ∙ same))

@@ -11,25 +11,25 @@ use lib.Dec.{lit<}
 use lib.ListN.{length, get_or}
 use borrow.Author.Tests.{ne_eqb}
 use Rattle.refusals.specs.Refusals.{longest}
-use Rattle.sheets.specs.Layout.{fingerprintWidth, Layout, version1, version2, version3, version4, newest, layouts, known, layoutAmong, layout_of}
-use Rattle.sheets.specs.Layout.{width, fieldWidths, pagePlace, sheetLength}
-use Rattle.sheets.proofs.Keys.{keyWidth}
+use Rattle.sheets.specs.Layout.{fingerprint_width, Layout, version1, version2, version3, version4, newest, layouts, known, layout_among, layout_of}
+use Rattle.sheets.specs.Layout.{width, field_widths, page_place, sheet_length}
+use Rattle.sheets.proofs.Keys.{key_width}
 
 -- versions 1, 2, 3, and every other number
 pub first-is : (n : ℕ) → n ≡ 1 → layout_of n ≡ version1
-unfolding layoutAmong
+unfolding layout_among
 first-is n e = rw e
 
 pub second_is : (n : ℕ) → n ≡ 2 → layout_of n ≡ version2
-unfolding layoutAmong
+unfolding layout_among
 second_is n e = rw e
 
-pub third-is : (n : ℕ) → n ≡ 3 → layout_of n ≡ version3
-unfolding layoutAmong
-third-is n e = rw e
+pub third_is : (n : ℕ) → n ≡ 3 → layout_of n ≡ version3
+unfolding layout_among
+third_is n e = rw e
 
 pub other-is : (n : ℕ) → n ≢ 1 → n ≢ 2 → n ≢ 3 → layout_of n ≡ version4
-unfolding layoutAmong
+unfolding layout_among
 other-is n e f g = go (ℕ_discrete 4 n)
   where
     go : Dec (4 ≡ n) → layout_of n ≡ version4
@@ -37,38 +37,38 @@ other-is n e f g = go (ℕ_discrete 4 n)
     go (no d) = rw (ne_eqb 1 n (λ h. e (sym h)), ne_eqb 2 n (λ h. f (sym h)), ne_eqb 3 n (λ h. g (sym h)), ne_eqb 4 n d)
 
 -- what holds of each holds of the layout of every number
-pub of-each : (P : Layout → Type 0) → P version1 → P version2 → P version3 → P version4 → (n : ℕ) → P (layout_of n)
-of-each P p₁ p₂ p₃ p₄ n = go (ℕ_discrete n 1) (ℕ_discrete n 2) (ℕ_discrete n 3)
+pub of_each : (P : Layout → Type 0) → P version1 → P version2 → P version3 → P version4 → (n : ℕ) → P (layout_of n)
+of_each P p₁ p₂ p₃ p₄ n = go (ℕ_discrete n 1) (ℕ_discrete n 2) (ℕ_discrete n 3)
   where
     go : Dec (n ≡ 1) → Dec (n ≡ 2) → Dec (n ≡ 3) → P (layout_of n)
     go (yes a) b c = rw (first-is n a) p₁
     go (no a) (yes b) c = rw (second_is n b) p₂
-    go (no a) (no b) (yes c) = rw (third-is n c) p₃
+    go (no a) (no b) (yes c) = rw (third_is n c) p₃
     go (no a) (no b) (no c) = rw (other-is n a b c) p₄
 
 -- the width of the length field
-abbrev pub lengthWidth : Layout → ℕ
-lengthWidth v = get_or v.widths 1 0
+abbrev pub length_width : Layout → ℕ
+length_width v = get_or v.widths 1 0
 
-pub widths-are : (n : ℕ) → (layout_of n).widths ≡ keyWidth (layout_of n) ∷ lengthWidth (layout_of n) ∷ 2 ∷ []
-widths-are = of-each (λ v. v.widths ≡ keyWidth v ∷ lengthWidth v ∷ 2 ∷ []) refl refl refl refl
+pub widths_are : (n : ℕ) → (layout_of n).widths ≡ key_width (layout_of n) ∷ length_width (layout_of n) ∷ 2 ∷ []
+widths_are = of_each (λ v. v.widths ≡ key_width v ∷ length_width v ∷ 2 ∷ []) refl refl refl refl
 
-pub three-wide : (n : ℕ) → length (layout_of n).widths ≡ 3
-three-wide n = ap length (widths-are n)
+pub three_wide : (n : ℕ) → length (layout_of n).widths ≡ 3
+three_wide n = ap length (widths_are n)
 
-pub unit-some : (n : ℕ) → 0 < (layout_of n).lengthUnit
-unit-some = of-each (λ v. 0 < v.lengthUnit) (lit< tt) (lit< tt) (lit< tt) (lit< tt)
+pub unit-some : (n : ℕ) → 0 < (layout_of n).length_unit
+unit-some = of_each (λ v. 0 < v.length_unit) (lit< tt) (lit< tt) (lit< tt) (lit< tt)
 
 -- every length that is not refused fits its field
-room_for : (n : ℕ) → longest < 2 ^ (8 * lengthWidth (layout_of n)) * (layout_of n).lengthUnit
-room_for = of-each (λ v. longest < 2 ^ (8 * lengthWidth v) * v.lengthUnit) (lit< tt) (lit< tt) (lit< tt) (lit< tt)
+room_for : (n : ℕ) → longest < 2 ^ (8 * length_width (layout_of n)) * (layout_of n).length_unit
+room_for = of_each (λ v. longest < 2 ^ (8 * length_width v) * v.length_unit) (lit< tt) (lit< tt) (lit< tt) (lit< tt)
 
-pub length-fits : (n m : ℕ) → m ≤ longest → m / (layout_of n).lengthUnit < 2 ^ (8 * lengthWidth (layout_of n))
+pub length-fits : (n m : ℕ) → m ≤ longest → m / (layout_of n).length_unit < 2 ^ (8 * length_width (layout_of n))
 length-fits n m h = (div-lt_iff_lt-mul (unit-some n)).1 (omega (arith, room_for n, h))
 
 -- the version that is written
 pub newest-is : layout_of newest.version ≡ newest
-unfolding layoutAmong
+unfolding layout_among
 newest-is = refl
 
 pub newest-known : known layouts newest.version ≡ true
@@ -76,19 +76,19 @@ unfolding known
 newest-known = refl
 
 -- the fingerprints begin behind the fields
-pub place-first : (v : Layout) → width (fieldWidths v) ≡ pagePlace v 0
-place-first v = sym (rw (mul-zero fingerprintWidth) (add-zero (width (fieldWidths v))))
+pub place-first : (v : Layout) → width (field_widths v) ≡ page_place v 0
+place-first v = sym (rw (mul-zero fingerprint_width) (add-zero (width (field_widths v))))
 
 -- where the fingerprint behind i others stands
-pub place-from : (n i : ℕ) → pagePlace (layout_of n) i ≡ pagePlace (layout_of n) 0 + 8 * i
-place-from n i = of-each (λ v. pagePlace v i ≡ pagePlace v 0 + 8 * i) (omega arith) (omega arith) (omega arith) (omega arith) n
+pub place-from : (n i : ℕ) → page_place (layout_of n) i ≡ page_place (layout_of n) 0 + 8 * i
+place-from n i = of_each (λ v. page_place v i ≡ page_place v 0 + 8 * i) (omega arith) (omega arith) (omega arith) (omega arith) n
 
-pub length_from : (n c : ℕ) → sheetLength (layout_of n) c ≡ pagePlace (layout_of n) 0 + 8 * c + 8
-length_from n c = of-each (λ v. sheetLength v c ≡ pagePlace v 0 + 8 * c + 8) (omega arith) (omega arith) (omega arith) (omega arith) n
+pub length_from : (n c : ℕ) → sheet_length (layout_of n) c ≡ page_place (layout_of n) 0 + 8 * c + 8
+length_from n c = of_each (λ v. sheet_length v c ≡ page_place v 0 + 8 * c + 8) (omega arith) (omega arith) (omega arith) (omega arith) n
 
 -- no sheet has fewer than 27 bytes
-pub least-needed : (n : ℕ) → 27 ≤ sheetLength (layout_of n) 0
-least-needed = of-each (λ v. 27 ≤ sheetLength v 0) (omega arith) (omega arith) (omega arith) (omega arith)
+pub least_needed : (n : ℕ) → 27 ≤ sheet_length (layout_of n) 0
+least_needed = of_each (λ v. 27 ≤ sheet_length v 0) (omega arith) (omega arith) (omega arith) (omega arith)
 
 -- the number of a version that is known fits its field
 pub known_small : (n : ℕ) → known layouts n ≡ true → n < 2 ^ 16

@@ -2,15 +2,15 @@
 use Rattle.std.specs.Prelude.{◌≡◌, Bool, cond, List, [], ◌∷◌, ℕ, suc, ◌-◌, ◌*◌, eqb, length, drop}
 use Rattle.refusals.specs.declared.Refusal.TheVariants.{TooLong, SheetMalformed, FinalByte}
 use Rattle.refusals.specs.Refusals.{Answer, Done, mapped, ◌⇒◌, first_of, passes}
-use Rattle.files.specs.Files.{Part, partLength, partBits, misused, bytesFor}
+use Rattle.files.specs.Files.{Part, part_length, part_bits, misused, bytes_for}
 use Rattle.sheets.specs.declared.Sheet.{Sheet}
 use Rattle.sheets.specs.declared.Checked.{Checked}
-use Rattle.sheets.specs.declared.Checked.TheVariants as checked-cases
+use Rattle.sheets.specs.declared.Checked.TheVariants as CheckedCases
 use Rattle.sheets.specs.declared.Changed.{Changed}
-use Rattle.sheets.specs.Layout.{Layout, newest, layout_of, pagePlace, pageCount, Contents, contentsIn}
-use Rattle.sheets.specs.Sheets.{pageSizeTest, bodyWrong, readSheet, Outcome, Page, compared}
-use Rattle.sheets.specs.Outputs.{numbersOf, rangeIn}
-use Rattle.sheets.specs.Answers.{checkAnswer, changeAnswer}
+use Rattle.sheets.specs.Layout.{Layout, newest, layout_of, page_place, page_count, Contents, contents_in}
+use Rattle.sheets.specs.Sheets.{page_size_test, body_wrong, read_sheet, Outcome, Page, compared}
+use Rattle.sheets.specs.Outputs.{numbers_of, range_in}
+use Rattle.sheets.specs.Answers.{check_answer, change_answer}
 
 -- a layout that fills up a last page, or does not: what the pages of a file depend on. All else is as in the newest.
 abbrev pub filling : Bool → Layout
@@ -19,13 +19,13 @@ filling b =
       version = newest.version;
       widths = newest.widths;
       paired = newest.paired;
-      lengthUnit = newest.lengthUnit;
+      length_unit = newest.length_unit;
       filled = b;
     }
 
 -- how many zeros the pages, of `pageBits` bits, of a file of n bits have behind it: none where they are not filled up
-abbrev pub zerosBehind : Layout → ℕ → ℕ → ℕ
-zerosBehind v pageBits n = cond v.filled (pageCount pageBits n * pageBits - n) 0
+abbrev pub zeros_behind : Layout → ℕ → ℕ → ℕ
+zeros_behind v pageBits n = cond v.filled (page_count pageBits n * pageBits - n) 0
 
 -- how many numbers, from the first on, two lists have in common
 unfoldable pub agreeing : List ℕ → List ℕ → ℕ
@@ -36,39 +36,39 @@ agreeing (f ∷ fs) (g ∷ gs) = cond (eqb f g) (suc (agreeing fs gs)) 0
 -- the rest of reading, where the head is right and the key accepted
 abbrev pub read_body : List ℕ → Answer Unit Contents
 read_body sheet =
-    let x = contentsIn sheet in
-    first_of (pageSizeTest x.pageSize ∷ bodyWrong (length sheet) x ⇒ SheetMalformed ∷ []) tt x
+    let x = contents_in sheet in
+    first_of (page_size_test x.page_size ∷ body_wrong (length sheet) x ⇒ SheetMalformed ∷ []) tt x
 
 -- the sheet was read, as the numbers x
 pub record ReadAs (sheet : List ℕ) (x : Sheet) : Type 0 where
-  pub done : readSheet sheet ≡ Done (contentsIn sheet)
-  pub numbers : x ≡ numbersOf (contentsIn sheet)
+  pub done : read_sheet sheet ≡ Done (contents_in sheet)
+  pub numbers : x ≡ numbers_of (contents_in sheet)
 
 -- the rest of a check, where the sheet is read
 abbrev pub comparison : List ℕ → Part → Answer Unit Outcome
 comparison sheet file =
-    first_of (passes (partLength file ∷ []) ⇒ TooLong ∷ misused file ⇒ FinalByte ∷ []) tt (compared (contentsIn sheet) (partBits file))
+    first_of (passes (part_length file ∷ []) ⇒ TooLong ∷ misused file ⇒ FinalByte ∷ []) tt (compared (contents_in sheet) (part_bits file))
 
--- a check's answer as that of `changedRange`
+-- a check's answer as that of `changed_range`
 abbrev pub ranged : Contents → Answer Unit Outcome → Answer Unit (List ℕ)
-ranged x a = mapped (rangeIn x) a
+ranged x a = mapped (range_in x) a
 
 -- an answer of the check that names no page; and the same answer, whatever the sheet's numbers are
 abbrev pub NoPage : Checked → Type 0
-NoPage (checked-cases.Page i) = ⊥
-NoPage checked-cases.Same = Unit {0}
-NoPage checked-cases.OtherLength = Unit {0}
-NoPage (checked-cases.Refused r) = Unit {0}
+NoPage (CheckedCases.Page i) = ⊥
+NoPage CheckedCases.Same = Unit {0}
+NoPage CheckedCases.OtherLength = Unit {0}
+NoPage (CheckedCases.Refused r) = Unit {0}
 
 abbrev pub WithoutPage : Checked → Changed → Type 0
-WithoutPage o r = (x : Contents) → changeAnswer r ≡ ranged x (checkAnswer o)
+WithoutPage o r = (x : Contents) → change_answer r ≡ ranged x (check_answer o)
 
 -- any answer in code, by the page size and the file's bytes, which are those of the sheet's length where a page is named
 abbrev pub RangeOf : ℕ → ℕ → Checked → Changed → Type 0
 RangeOf size n o r =
-    (x : Contents) → x.pageSize ≡ size → ((i : ℕ) → checkAnswer o ≡ Done (Page i) → bytesFor x.length ≡ n)
-    → changeAnswer r ≡ ranged x (checkAnswer o)
+    (x : Contents) → x.page_size ≡ size → ((i : ℕ) → check_answer o ≡ Done (Page i) → bytes_for x.length ≡ n)
+    → change_answer r ≡ ranged x (check_answer o)
 
 -- the part of a sheet that begins with the fingerprints, by its version
-abbrev pub fingerprintsPart : ℕ → List ℕ → List ℕ
-fingerprintsPart version sheet = drop (pagePlace (layout_of version) 0) sheet
+abbrev pub fingerprints_part : ℕ → List ℕ → List ℕ
+fingerprints_part version sheet = drop (page_place (layout_of version) 0) sheet

@@ -5,7 +5,7 @@ use refusals::Refusal;
 
 // The numbers of a sheet: its version, its key, the file's length in bits, the page size in bytes, the number of pages and the file's
 // fingerprint.
-#[derive(Drop)]
+#[derive(Clone, Copy)]
 pub struct Sheet {
     pub version: u64,
     pub key: Key,
@@ -16,14 +16,14 @@ pub struct Sheet {
 }
 
 // The answer to reading a sheet.
-#[derive(Drop)]
+#[derive(Clone, Copy)]
 pub enum Reading {
     Sheet(Sheet),
     Refused(Refusal),
 }
 
 // The answer to checking a file against a sheet: the first page whose fingerprint differs, counted from 0, or none.
-#[derive(Drop)]
+#[derive(Clone, Copy)]
 pub enum Checked {
     Same,
     Page(u32),
@@ -33,7 +33,7 @@ pub enum Checked {
 
 // The answer to the question which bytes were changed first: those of the first page whose fingerprint differs, from the first to before the
 // last; or that there is no such page, and why.
-#[derive(Drop)]
+#[derive(Clone, Copy)]
 pub enum Changed {
     Same,
     Bytes(u64, u64),
@@ -42,7 +42,7 @@ pub enum Changed {
 }
 
 // The answer to the question how long a sheet is, in bytes.
-#[derive(Drop)]
+#[derive(Clone, Copy)]
 pub enum SheetLength {
     Bytes(u64),
     Refused(Refusal),

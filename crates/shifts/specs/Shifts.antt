@@ -4,7 +4,7 @@ use Rattle.std.specs.Prelude.{◌≡◌, List, ℕ, ◌^◌, length}
 use Rattle.gf2.specs.Polynomials.{rem}
 use Rattle.gf2.specs.Moduli.{polynomial, Proper}
 use Rattle.gf2.specs.declared.Modulus.{Modulus}
-use Rattle.files.specs.Files.{bits, valueFrom}
+use Rattle.files.specs.Files.{bits, value_from}
 use Rattle.multiples.specs.Rows.{Rows}
 
 -- row j has the multiples of t^(e + 8j) by a byte, for each of the eight bytes of a word
@@ -16,4 +16,4 @@ pub record Shifts (key e : ℕ) (words : List ℕ) : Type 0 where
 -- it is, is left free.
 abbrev pub FedEights : List ℕ → List ℕ → ℕ → Type 0
 FedEights words part x =
-    (p : Modulus) → Proper p → Shifts (polynomial p) 64 words → rem (polynomial p) x ≡ rem (polynomial p) (valueFrom 1 (bits part))
+    (p : Modulus) → Proper p → Shifts (polynomial p) 64 words → rem (polynomial p) x ≡ rem (polynomial p) (value_from 1 (bits part))

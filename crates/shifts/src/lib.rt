@@ -42,7 +42,7 @@ pub fn join(words: &[u64], f: u64, g: u64) -> u64
 }
 
 // Two lanes: a number congruent to a residue each.
-#[derive(Drop)]
+#[derive(Clone, Copy)]
 pub struct TwoLanes {
     pub a: u64,
     pub b: u64,

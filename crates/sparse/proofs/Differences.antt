@@ -8,11 +8,11 @@ use lib.ListN.{length, take, drop, length-drop, drop_of_length-le}
 use Rattle.gf2.specs.Polynomials.{◌⊕◌, rem}
 use Rattle.gf2.specs.Moduli.{polynomial, Proper}
 use Rattle.gf2.specs.declared.Modulus.{Modulus}
-use Rattle.gf2.proofs.Sums.{⊕-zero, ⊕-assoc, ⊕-append, ⊕-lt}
+use Rattle.gf2.proofs.Sums.{⊕-zero, ⊕_assoc, ⊕-append, ⊕-lt}
 use Rattle.gf2.proofs.Residues.{rem-⊕}
 use Rattle.gf2.proofs.Monics.{monic-pos}
 use Rattle.gf2.proofs.Steps.{residue-below, residue-small}
-use Rattle.files.specs.Files.{bits, valueFrom}
+use Rattle.files.specs.Files.{bits, value_from}
 use Rattle.files.proofs.Values.{length-bits, value-starts, rem-from}
 use Rattle.big_endian.proofs.Pieces.{piece-lt, fed-piece}
 
@@ -20,8 +20,8 @@ use Rattle.big_endian.proofs.Pieces.{piece-lt, fed-piece}
 abbrev pub Apart : Modulus → ℕ → List ℕ → List ℕ → ℕ → ℕ → ℕ → Type 0
 Apart p f old new from i x =
     (x < 2 ^ p.degree)
-    × (rem (polynomial p) (valueFrom x (bits (drop i old)) ⊕ valueFrom 0 (bits (drop i new)))
-    ≡ rem (polynomial p) (valueFrom f (bits (drop from old)) ⊕ valueFrom 0 (bits (drop from new))))
+    × (rem (polynomial p) (value_from x (bits (drop i old)) ⊕ value_from 0 (bits (drop i new)))
+    ≡ rem (polynomial p) (value_from f (bits (drop from old)) ⊕ value_from 0 (bits (drop from new))))
 
 module _ (p : Modulus) (proper : Proper p) (f : ℕ) (old new : List ℕ) (same : length old ≡ length new) (from i x : ℕ) (g : Apart p f old new from i x) where
   pos : 0 < polynomial p
@@ -31,20 +31,20 @@ module _ (p : Modulus) (proper : Proper p) (f : ℕ) (old new : List ℕ) (same 
   same_bits j = omega (arith, length-bits (drop j old), length-bits (drop j new), length-drop j old, length-drop j new, same)
 
   -- c bytes of either more
-  pub apart : (c v w y : ℕ) → i + c ≤ length old → v ≡ valueFrom 0 (bits (take c (drop i old))) → w ≡ valueFrom 0 (bits (take c (drop i new)))
+  pub apart : (c v w y : ℕ) → i + c ≤ length old → v ≡ value_from 0 (bits (take c (drop i old))) → w ≡ value_from 0 (bits (take c (drop i new)))
       → y ≡ rem (polynomial p) (x * 2 ^ (8 * c) + (v ⊕ w)) → Apart p f old new from (i + c) y
   apart c v w y l ev ew ey = (
     residue-below p proper y z ey,
-    ap (λ (u : ℕ). rem key (valueFrom u xs ⊕ valueFrom 0 ys)) ey
-        ∙ rem-⊕ pos (valueFrom (rem key z) xs) (valueFrom 0 ys)
-        ∙ ap (λ (u : ℕ). u ⊕ rem key (valueFrom 0 ys)) (rem-from pos z xs)
-        ∙ sym (rem-⊕ pos (valueFrom z xs) (valueFrom 0 ys))
+    ap (λ (u : ℕ). rem key (value_from u xs ⊕ value_from 0 ys)) ey
+        ∙ rem-⊕ pos (value_from (rem key z) xs) (value_from 0 ys)
+        ∙ ap (λ (u : ℕ). u ⊕ rem key (value_from 0 ys)) (rem-from pos z xs)
+        ∙ sym (rem-⊕ pos (value_from z xs) (value_from 0 ys))
         ∙ ap (rem key) (value-starts z 0 a b xs ys (same_bits (i + c)) starts)
-        ∙ rem-⊕ pos (valueFrom a xs) (valueFrom b ys)
+        ∙ rem-⊕ pos (value_from a xs) (value_from b ys)
         ∙ ap₂ (λ (u t : ℕ). u ⊕ t)
         (sym (rem-from pos a xs) ∙ fed-piece old i c l pos x (rem key a) (ap (λ (u : ℕ). rem key (x * 2 ^ (8 * c) + u)) ev))
         (sym (rem-from pos b ys) ∙ fed-piece new i c other pos 0 (rem key b) (ap (λ (u : ℕ). rem key (0 * 2 ^ (8 * c) + u)) ew))
-        ∙ sym (rem-⊕ pos (valueFrom x (bits (drop i old))) (valueFrom 0 (bits (drop i new))))
+        ∙ sym (rem-⊕ pos (value_from x (bits (drop i old))) (value_from 0 (bits (drop i new))))
         ∙ g.1,
   )
     where
@@ -79,12 +79,12 @@ module _ (p : Modulus) (proper : Proper p) (f : ℕ) (old new : List ℕ) (same 
       starts =
           ⊕-zero z
           ∙ sym (⊕-append x (8 * c) (v ⊕ w) (⊕-lt (8 * c) v w low-old low-new))
-          ∙ sym (⊕-assoc (x * 2 ^ (8 * c)) v w)
+          ∙ sym (⊕_assoc (x * 2 ^ (8 * c)) v w)
           ∙ ap₂ (λ (u t : ℕ). u ⊕ t) (⊕-append x (8 * c) v low-old) (sym (ap (λ (u : ℕ). u + w) (zero-mul (2 ^ (8 * c))) ∙ zero-add w))
 
   -- nothing is left
-  pub apart-all : length old ≤ i → x ≡ rem (polynomial p) (valueFrom f (bits (drop from old)) ⊕ valueFrom 0 (bits (drop from new)))
-  unfolding valueFrom bits
+  pub apart-all : length old ≤ i → x ≡ rem (polynomial p) (value_from f (bits (drop from old)) ⊕ value_from 0 (bits (drop from new)))
+  unfolding value_from bits
   apart-all l =
       sym (residue-small p.degree p.low proper.2 x g.0)
       ∙ sym (ap (rem (polynomial p)) (⊕-zero x))

@@ -10,13 +10,13 @@ use lib.Pow.{high, pow_mono}
 use Rattle.gf2.specs.Polynomials.{◌⊕◌, ◌⊗◌, rem}
 use Rattle.gf2.specs.Moduli.{polynomial}
 use Rattle.gf2.specs.declared.Modulus.{Modulus}
-use Rattle.gf2.proofs.Sums.{⊕-append, ⊕-assoc}
+use Rattle.gf2.proofs.Sums.{⊕-append, ⊕_assoc}
 use Rattle.gf2.proofs.Products.{⊗-pow}
 use Rattle.gf2.proofs.Degrees.{⊗-lt}
 use Rattle.gf2.proofs.Powers.{rem-⊗-right}
 use Rattle.gf2.proofs.Monics.{monic-pos}
 use Rattle.gf2.proofs.Steps.{residue-split, residue-top, residue-small}
-use Rattle.files.specs.Files.{bits, valueFrom}
+use Rattle.files.specs.Files.{bits, value_from}
 use Rattle.lookups.proofs.Cut.{above, below, top_lt}
 use Rattle.big_endian.proofs.Pieces.{value-piece-lt, value-join}
 use Rattle.sparse.specs.Sparse.{Sparse}
@@ -33,11 +33,11 @@ one_byte p n s = (
 )
 
 -- of eight bytes as one number the first n
-pub first-bytes : (p : List ℕ) (i n v : ℕ) → n ≤ 8 → i + 8 ≤ length p → v ≡ valueFrom 0 (bits (take 8 (drop i p)))
-    → v / 2 ^ (64 - 8 * n) ≡ valueFrom 0 (bits (take n (drop i p)))
+pub first-bytes : (p : List ℕ) (i n v : ℕ) → n ≤ 8 → i + 8 ≤ length p → v ≡ value_from 0 (bits (take 8 (drop i p)))
+    → v / 2 ^ (64 - 8 * n) ≡ value_from 0 (bits (take n (drop i p)))
 first-bytes p i n v l h e =
-    ap₂ (λ (x m : ℕ). x / 2 ^ m) (e ∙ ap (λ (m : ℕ). valueFrom 0 (bits (take m (drop i p)))) all ∙ sym joined) spare
-    ∙ high (valueFrom 0 (bits (take n (drop i p)))) (8 * (8 - n)) (value-piece-lt p (i + n) (8 - n) (omega arith))
+    ap₂ (λ (x m : ℕ). x / 2 ^ m) (e ∙ ap (λ (m : ℕ). value_from 0 (bits (take m (drop i p)))) all ∙ sym joined) spare
+    ∙ high (value_from 0 (bits (take n (drop i p)))) (8 * (8 - n)) (value-piece-lt p (i + n) (8 - n) (omega arith))
   where
     all : 8 ≡ n + (8 - n)
     all = omega arith
@@ -45,10 +45,10 @@ first-bytes p i n v l h e =
     spare : 64 - 8 * n ≡ 8 * (8 - n)
     spare = omega arith
 
-    joined : valueFrom 0 (bits (take n (drop i p))) * 2 ^ (8 * (8 - n)) + valueFrom 0 (bits (take (8 - n) (drop (i + n) p)))
-        ≡ valueFrom 0 (bits (take (n + (8 - n)) (drop i p)))
+    joined : value_from 0 (bits (take n (drop i p))) * 2 ^ (8 * (8 - n)) + value_from 0 (bits (take (8 - n) (drop (i + n) p)))
+        ≡ value_from 0 (bits (take (n + (8 - n)) (drop i p)))
     joined =
-        value-join p i n (8 - n) (valueFrom 0 (bits (take n (drop i p)))) (valueFrom 0 (bits (take (8 - n) (drop (i + n) p)))) (omega arith) refl refl
+        value-join p i n (8 - n) (value_from 0 (bits (take n (drop i p)))) (value_from 0 (bits (take (8 - n) (drop (i + n) p)))) (omega arith) refl refl
 
 module _ (p : Modulus) (n : ℕ) (s : Sparse p n) (f v : ℕ) (hf : f < 2 ^ p.degree) (hv : v < 2 ^ (8 * n)) where
   abbrev k : ℕ
@@ -73,9 +73,9 @@ module _ (p : Modulus) (n : ℕ) (s : Sparse p n) (f v : ℕ) (hf : f < 2 ^ p.de
       ∙ ap (λ (x : ℕ). rem (polynomial p) (f / 2 ^ j ⊗ x)) (residue-top k p.low s.0.2)
       ∙ residue-small k p.low s.0.2 (f / 2 ^ j ⊗ p.low) product_small
 
-  pub sparse-step : f / 2 ^ (p.degree - 8 * n) ⊗ p.low ⊕ f % 2 ^ (p.degree - 8 * n) * 2 ^ (8 * n) ⊕ v ≡ rem (polynomial p) (f * 2 ^ (8 * n) + v)
-  sparse-step =
-      ⊕-assoc (f / 2 ^ j ⊗ p.low) (f % 2 ^ j * 2 ^ (8 * n)) v
+  pub sparse_step : f / 2 ^ (p.degree - 8 * n) ⊗ p.low ⊕ f % 2 ^ (p.degree - 8 * n) * 2 ^ (8 * n) ⊕ v ≡ rem (polynomial p) (f * 2 ^ (8 * n) + v)
+  sparse_step =
+      ⊕_assoc (f / 2 ^ j ⊗ p.low) (f % 2 ^ j * 2 ^ (8 * n)) v
       ∙ ap₂ (λ (x y : ℕ). x ⊕ y)
       (sym reduced ∙ ap (λ (x : ℕ). rem (polynomial p) (x * 2 ^ k)) (sym (above f v (8 * n) j hv) ∙ ap (λ (m : ℕ). (f * 2 ^ (8 * n) + v) / 2 ^ m) (sym whole)))
       (⊕-append (f % 2 ^ j) (8 * n) v hv ∙ sym (below f v (8 * n) j hv) ∙ ap (λ (m : ℕ). (f * 2 ^ (8 * n) + v) % 2 ^ m) (sym whole))

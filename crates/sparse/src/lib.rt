@@ -4,7 +4,7 @@
 ghost use Rattle.std.specs.Prelude.{◌≡◌, ◌+◌, ◌*◌, ◌^◌, ◌≤◌, ◌<◌, length, drop};
 ghost use Rattle.gf2.specs.Polynomials.{◌⊕◌, ◌⊗◌, rem};
 ghost use Rattle.gf2.specs.Moduli.{polynomial, Proper};
-ghost use Rattle.files.specs.Files.{bits, valueFrom};
+ghost use Rattle.files.specs.Files.{bits, value_from};
 ghost use Rattle.sparse.specs.Sparse.{Sparse};
 
 use gf2::Modulus;
@@ -48,7 +48,7 @@ fn behind(p: Modulus, n: u32, f: u64, v: u64) -> u64
 // The bytes from place `from` on, one at a time.
 fn feed_ones(p: Modulus, f: u64, part: &[u8], from: usize) -> u64
     requires { Sparse p 1 × (f < 2 ^ p.degree) × (from ≤ length part.now) }
-    ensures { result ≡ rem (polynomial p) (valueFrom f (bits (drop from part.now))) }
+    ensures { result ≡ rem (polynomial p) (value_from f (bits (drop from part.now))) }
 {
     let mut x = f;
     let mut i = from;
@@ -62,7 +62,7 @@ fn feed_ones(p: Modulus, f: u64, part: &[u8], from: usize) -> u64
 // A part behind a residue: n bytes at a time, of the eight that one load brings, and the last ones one at a time.
 pub fn fed(p: Modulus, n: u32, f: u64, part: &[u8]) -> u64
     requires { Sparse p n × (f < 2 ^ p.degree) }
-    ensures { result ≡ rem (polynomial p) (valueFrom f (bits part.now)) }
+    ensures { result ≡ rem (polynomial p) (value_from f (bits part.now)) }
 {
     let bytes = n as usize;
     let spare = 64 - 8 * n;
@@ -79,7 +79,7 @@ pub fn fed(p: Modulus, n: u32, f: u64, part: &[u8]) -> u64
 // The bytes of two parts of one length from place `from` on, added to each other, one at a time.
 fn difference_ones(p: Modulus, f: u64, old: &[u8], new: &[u8], from: usize) -> u64
     requires { Sparse p 1 × (f < 2 ^ p.degree) × (length old.now ≡ length new.now) × (from ≤ length old.now) }
-    ensures { result ≡ rem (polynomial p) (valueFrom f (bits (drop from old.now)) ⊕ valueFrom 0 (bits (drop from new.now))) }
+    ensures { result ≡ rem (polynomial p) (value_from f (bits (drop from old.now)) ⊕ value_from 0 (bits (drop from new.now))) }
 {
     let mut x = f;
     let mut i = from;
@@ -95,7 +95,7 @@ fn difference_ones(p: Modulus, f: u64, old: &[u8], new: &[u8], from: usize) -> u
 // The residue of the difference of two parts of one length, in one pass: n bytes of either at a time, as above.
 pub fn difference(p: Modulus, n: u32, old: &[u8], new: &[u8]) -> u64
     requires { Sparse p n × (length old.now ≡ length new.now) }
-    ensures { result ≡ rem (polynomial p) (valueFrom 0 (bits old.now) ⊕ valueFrom 0 (bits new.now)) }
+    ensures { result ≡ rem (polynomial p) (value_from 0 (bits old.now) ⊕ value_from 0 (bits new.now)) }
 {
     let width = n as usize;
     let spare = 64 - 8 * n;

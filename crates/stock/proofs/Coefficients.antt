@@ -10,12 +10,12 @@ use native.Mathlib.Omega.{arith}
 use lib.Pow.{pow_pos, pow_mono, pow-lt, pow-add, mod-pow-add}
 use Rattle.gf2.specs.Polynomials.{◌⊕◌, monic, rem, Divides}
 use Rattle.gf2.specs.Degrees.{Degree}
-use Rattle.gf2.proofs.Sums.{⊕-zero, zero-⊕, ⊕-self, ⊕-assoc, ⊕-left-comm, ⊕-dbl, ⊕-shl, ⊕-lt, ⊕-append, xor}
-use Rattle.gf2.proofs.Products.{⊗-pow, ⊗-comm, shl-suc, mod-2}
+use Rattle.gf2.proofs.Sums.{⊕-zero, zero-⊕, ⊕_self, ⊕_assoc, ⊕-left_comm, ⊕_dbl, ⊕_shl, ⊕-lt, ⊕-append, xor}
+use Rattle.gf2.proofs.Products.{⊗-pow, ⊗_comm, shl_suc, mod_2}
 use Rattle.gf2.proofs.Degrees.{degree-eq, deg-pos}
 use Rattle.gf2.proofs.Monics.{monic-⊕, monic-deg}
-use Rattle.gf2.proofs.Divisors.{dvd-by, dvd-left, dvd-zero, dvd-⊕}
-use Rattle.gf2.proofs.Residues.{rem-unique}
+use Rattle.gf2.proofs.Divisors.{dvd_by, dvd-left, dvd-zero, dvd-⊕}
+use Rattle.gf2.proofs.Residues.{rem_unique}
 
 -- `end`: every coefficient from here on is 0
 pub data Word : Type 0 where
@@ -60,9 +60,9 @@ value-plus zero a b = sym (⊕-zero 0)
 value-plus (suc k) end b = sym (zero-⊕ (value (suc k) b))
 value-plus (suc k) (O a) end = sym (⊕-zero (value k a))
 value-plus (suc k) (O a) (O b) = value-plus k a b
-value-plus (suc k) (O a) (I b) = ap (λ (x : ℕ). 2 ^ k ⊕ x) (value-plus k a b) ∙ ⊕-left-comm (2 ^ k) (value k a) (value k b)
+value-plus (suc k) (O a) (I b) = ap (λ (x : ℕ). 2 ^ k ⊕ x) (value-plus k a b) ∙ ⊕-left_comm (2 ^ k) (value k a) (value k b)
 value-plus (suc k) (I a) end = sym (⊕-zero (2 ^ k ⊕ value k a))
-value-plus (suc k) (I a) (O b) = ap (λ (x : ℕ). 2 ^ k ⊕ x) (value-plus k a b) ∙ sym (⊕-assoc (2 ^ k) (value k a) (value k b))
+value-plus (suc k) (I a) (O b) = ap (λ (x : ℕ). 2 ^ k ⊕ x) (value-plus k a b) ∙ sym (⊕_assoc (2 ^ k) (value k a) (value k b))
 value-plus (suc k) (I a) (I b) = value-plus k a b ∙ twice (2 ^ k) (value k a) (value k b)
 
 -- ---- a word that k coefficients write whole
@@ -79,12 +79,12 @@ value-suc zero (O w) h = absurd (not-suc-le-zero h)
 value-suc zero (I w) h = absurd (not-suc-le-zero h)
 value-suc (suc k) end h = refl
 value-suc (suc k) (O w) h = value-suc k w (le_of_suc-le-suc h)
-value-suc (suc k) (I w) h = rw (value-suc k w (le_of_suc-le-suc h), pow-suc 2 k) (sym (⊕-dbl (2 ^ k) (value k w)))
+value-suc (suc k) (I w) h = rw (value-suc k w (le_of_suc-le-suc h), pow-suc 2 k) (sym (⊕_dbl (2 ^ k) (value k w)))
 
-pub value-shl : (j k : ℕ) (w : Word) → size w ≤ k → value (j + k) w ≡ value k w * 2 ^ j
-value-shl zero k w h = rw (zero-add, mul-one)
-value-shl (suc j) k w h =
-    rw (suc-add, value-suc (j + k) w (le_trans h (le-add_left k j)), value-shl j k w h) (sym (shl-suc (value k w) j))
+pub value_shl : (j k : ℕ) (w : Word) → size w ≤ k → value (j + k) w ≡ value k w * 2 ^ j
+value_shl zero k w h = rw (zero-add, mul-one)
+value_shl (suc j) k w h =
+    rw (suc-add, value-suc (j + k) w (le_trans h (le-add_left k j)), value_shl j k w h) (sym (shl_suc (value k w) j))
 
 pub size-plus : (k : ℕ) (a b : Word) → size a ≤ k → size b ≤ k → size (plus a b) ≤ k
 unfolding size plus
@@ -119,20 +119,20 @@ module _ (k : ℕ) (p : Word) (fits : size p ≤ k) where
   multiple : (j : ℕ) → modulus k p * 2 ^ j ≡ 2 ^ (j + k) ⊕ value (j + k) p
   multiple j =
       ap (λ (x : ℕ). x * 2 ^ j) (monic-⊕ k (value k p) (value-lt k p))
-      ∙ ⊕-shl j (2 ^ k) (value k p)
-      ∙ ap₂ (λ (x y : ℕ). x ⊕ y) (mul_comm (2 ^ k) (2 ^ j) ∙ sym (pow-add 2 j k)) (sym (value-shl j k p fits))
+      ∙ ⊕_shl j (2 ^ k) (value k p)
+      ∙ ap₂ (λ (x y : ℕ). x ⊕ y) (mul_comm (2 ^ k) (2 ^ j) ∙ sym (pow-add 2 j k)) (sym (value_shl j k p fits))
 
   less : (t a b r : ℕ) → a ⊕ b ⊕ r ⊕ (t ⊕ a) ≡ t ⊕ b ⊕ r
   less t a b r = simp xor
 
   divide-dvd : (j : ℕ) (m : Word) → Divides (modulus k p) (value (j + k) m ⊕ value k (divide p j m))
   unfolding divide value
-  divide-dvd zero m = dvd-by (dvd-zero (modulus k p)) (rw zero-add (sym (⊕-self (value k m))))
-  divide-dvd (suc j) end = dvd-by (dvd-zero (modulus k p)) (rw (value-end (suc j + k), value-end k) (sym (⊕-self 0)))
+  divide-dvd zero m = dvd_by (dvd-zero (modulus k p)) (rw zero-add (sym (⊕_self (value k m))))
+  divide-dvd (suc j) end = dvd_by (dvd-zero (modulus k p)) (rw (value-end (suc j + k), value-end k) (sym (⊕_self 0)))
   divide-dvd (suc j) (O m) = rw suc-add (divide-dvd j m)
   divide-dvd (suc j) (I m) =
-      dvd-by (dvd-⊕ (divide-dvd j (plus p m)) (dvd-left (2 ^ j) (modulus k p)))
-      (rw (suc-add, value-plus (j + k) p m, ⊗-comm (2 ^ j) (modulus k p), ⊗-pow j (modulus k p), multiple j)
+      dvd_by (dvd-⊕ (divide-dvd j (plus p m)) (dvd-left (2 ^ j) (modulus k p)))
+      (rw (suc-add, value-plus (j + k) p m, ⊗_comm (2 ^ j) (modulus k p), ⊗-pow j (modulus k p), multiple j)
       (less (2 ^ (j + k)) (value (j + k) p) (value (j + k) m) (value k (divide p j (plus p m)))))
 
   pub divide-size : (j : ℕ) (m : Word) → size m ≤ k → size (divide p j m) ≤ k
@@ -144,7 +144,7 @@ module _ (k : ℕ) (p : Word) (fits : size p ≤ k) where
 
   pub divide-rem : (j : ℕ) (m : Word) → rem (modulus k p) (value (j + k) m) ≡ value k (divide p j m)
   divide-rem j m =
-      rem-unique (deg-pos (modulus k p) k (modulus-deg k p)) (value (j + k) m) (value k (divide p j m))
+      rem_unique (deg-pos (modulus k p) k (modulus-deg k p)) (value (j + k) m) (value k (divide p j m))
       (rw (degree-eq (modulus k p) k (modulus-deg k p)) (value-lt k (divide p j m))) (divide-dvd j m)
 
 -- ---- the word of a number's k low digits
@@ -167,7 +167,7 @@ pub value-word : (k n : ℕ) → value k (word k n) ≡ n % 2 ^ k
 unfolding word value
 value-word zero n = sym (mod-one n)
 value-word (suc k) n =
-    value-digit k (n / 2 ^ k % 2) (word k n) (mod-2 (n / 2 ^ k))
+    value-digit k (n / 2 ^ k % 2) (word k n) (mod_2 (n / 2 ^ k))
     ∙ rw (value-word k n, ⊕-append (n / 2 ^ k % 2) k (n % 2 ^ k) (mod-lt n (pow_pos k)))
     (sym (ap (λ (x : ℕ). n % 2 ^ x) (sym (one-add k)) ∙ mod-pow-add n 1 k))
 

@@ -11,8 +11,8 @@ use lib.Dec.{T}
 use lib.ListN.{length}
 use lib.Pow.{pow_pos, pow_mono, pow-lt}
 use Rattle.gf2.specs.Polynomials.{◌⊕◌}
-use Rattle.gf2.proofs.Sums.{⊕-zero, zero-⊕, ⊕-self, ⊕-assoc, ⊕-left-comm, ⊕-lt, ⊕-eq, xor}
-use Rattle.gf2.proofs.Products.{by_bit, bit-cases, mod-2}
+use Rattle.gf2.proofs.Sums.{⊕-zero, zero-⊕, ⊕_self, ⊕_assoc, ⊕-left_comm, ⊕-lt, ⊕-eq, xor}
+use Rattle.gf2.proofs.Products.{by_bit, bit-cases, mod_2}
 use Rattle.gf2.proofs.Degrees.{half_lt, deg-⊕, deg-lo}
 use Rattle.basis.specs.Rows.{sum_of, Independent}
 use Rattle.stock.proofs.Coefficients.{Word, end, O, I, value, value-lt, plus, value-plus}
@@ -95,17 +95,17 @@ Span (suc n) nil x = x ≡ 0
 Span (suc n) (none b) x = Span n b x
 Span (suc n) (some v b) x = Span n b x ⊎ Span n b (x ⊕ (2 ^ n ⊕ value n v))
 
-span-zero : (n : ℕ) (b : Basis) → Span n b 0
+span_zero : (n : ℕ) (b : Basis) → Span n b 0
 unfolding Span
-span-zero zero b = refl
-span-zero (suc n) failed = refl
-span-zero (suc n) nil = refl
-span-zero (suc n) (none b) = span-zero n b
-span-zero (suc n) (some v b) = inl (span-zero n b)
+span_zero zero b = refl
+span_zero (suc n) failed = refl
+span_zero (suc n) nil = refl
+span_zero (suc n) (none b) = span_zero n b
+span_zero (suc n) (some v b) = inl (span_zero n b)
 
 -- what a proof of a sum's membership is carried along: equations between sums
-span-by : (n : ℕ) (b : Basis) (x y : ℕ) → Span n b x → x ≡ y → Span n b y
-span-by n b x y s e = rw e at s
+span_by : (n : ℕ) (b : Basis) (x y : ℕ) → Span n b x → x ≡ y → Span n b y
+span_by n b x y s e = rw e at s
 
 past : (x z y : ℕ) → x ⊕ z ⊕ y ≡ x ⊕ y ⊕ z
 past x z y = simp xor
@@ -113,31 +113,31 @@ past x z y = simp xor
 both : (x y z : ℕ) → (x ⊕ z) ⊕ (y ⊕ z) ≡ x ⊕ y
 both x y z = simp xor
 
-span-⊕ : (n : ℕ) (b : Basis) (x y : ℕ) → Span n b x → Span n b y → Span n b (x ⊕ y)
+span_⊕ : (n : ℕ) (b : Basis) (x y : ℕ) → Span n b x → Span n b y → Span n b (x ⊕ y)
 unfolding Span
-span-⊕ zero b x y s t = rw (s, t) (⊕-zero 0)
-span-⊕ (suc n) failed x y s t = rw (s, t) (⊕-zero 0)
-span-⊕ (suc n) nil x y s t = rw (s, t) (⊕-zero 0)
-span-⊕ (suc n) (none b) x y s t = span-⊕ n b x y s t
-span-⊕ (suc n) (some v b) x y (inl s) (inl t) = inl (span-⊕ n b x y s t)
-span-⊕ (suc n) (some v b) x y (inl s) (inr t) =
-    inr (span-by n b _ _ (span-⊕ n b x (y ⊕ (2 ^ n ⊕ value n v)) s t) (sym (⊕-assoc x y (2 ^ n ⊕ value n v))))
-span-⊕ (suc n) (some v b) x y (inr s) (inl t) =
-    inr (span-by n b _ _ (span-⊕ n b (x ⊕ (2 ^ n ⊕ value n v)) y s t) (past x (2 ^ n ⊕ value n v) y))
-span-⊕ (suc n) (some v b) x y (inr s) (inr t) =
-    inl (span-by n b _ _ (span-⊕ n b (x ⊕ (2 ^ n ⊕ value n v)) (y ⊕ (2 ^ n ⊕ value n v)) s t) (both x y (2 ^ n ⊕ value n v)))
+span_⊕ zero b x y s t = rw (s, t) (⊕-zero 0)
+span_⊕ (suc n) failed x y s t = rw (s, t) (⊕-zero 0)
+span_⊕ (suc n) nil x y s t = rw (s, t) (⊕-zero 0)
+span_⊕ (suc n) (none b) x y s t = span_⊕ n b x y s t
+span_⊕ (suc n) (some v b) x y (inl s) (inl t) = inl (span_⊕ n b x y s t)
+span_⊕ (suc n) (some v b) x y (inl s) (inr t) =
+    inr (span_by n b _ _ (span_⊕ n b x (y ⊕ (2 ^ n ⊕ value n v)) s t) (sym (⊕_assoc x y (2 ^ n ⊕ value n v))))
+span_⊕ (suc n) (some v b) x y (inr s) (inl t) =
+    inr (span_by n b _ _ (span_⊕ n b (x ⊕ (2 ^ n ⊕ value n v)) y s t) (past x (2 ^ n ⊕ value n v) y))
+span_⊕ (suc n) (some v b) x y (inr s) (inr t) =
+    inl (span_by n b _ _ (span_⊕ n b (x ⊕ (2 ^ n ⊕ value n v)) (y ⊕ (2 ^ n ⊕ value n v)) s t) (both x y (2 ^ n ⊕ value n v)))
 
-lead-lt : (n : ℕ) (v : Word) → 2 ^ n ⊕ value n v < 2 ^ suc n
-lead-lt n v = ⊕-lt (suc n) (2 ^ n) (value n v) (pow-lt (le_refl (suc n))) (lt_of_lt_of_le (value-lt n v) (pow_mono (le-suc n)))
+lead_lt : (n : ℕ) (v : Word) → 2 ^ n ⊕ value n v < 2 ^ suc n
+lead_lt n v = ⊕-lt (suc n) (2 ^ n) (value n v) (pow-lt (le_refl (suc n))) (lt_of_lt_of_le (value-lt n v) (pow_mono (le-suc n)))
 
-span-lt : (n : ℕ) (b : Basis) (x : ℕ) → Span n b x → x < 2 ^ n
+span_lt : (n : ℕ) (b : Basis) (x : ℕ) → Span n b x → x < 2 ^ n
 unfolding Span
-span-lt zero b x s = rw s (le_refl 1)
-span-lt (suc n) failed x s = rw s (pow_pos (suc n))
-span-lt (suc n) nil x s = rw s (pow_pos (suc n))
-span-lt (suc n) (none b) x s = lt_of_lt_of_le (span-lt n b x s) (pow_mono (le-suc n))
-span-lt (suc n) (some v b) x (inl s) = lt_of_lt_of_le (span-lt n b x s) (pow_mono (le-suc n))
-span-lt (suc n) (some v b) x (inr s) = rw back at (⊕-lt (suc n) (x ⊕ z) z (lt_of_lt_of_le (span-lt n b (x ⊕ z) s) (pow_mono (le-suc n))) (lead-lt n v))
+span_lt zero b x s = rw s (le_refl 1)
+span_lt (suc n) failed x s = rw s (pow_pos (suc n))
+span_lt (suc n) nil x s = rw s (pow_pos (suc n))
+span_lt (suc n) (none b) x s = lt_of_lt_of_le (span_lt n b x s) (pow_mono (le-suc n))
+span_lt (suc n) (some v b) x (inl s) = lt_of_lt_of_le (span_lt n b x s) (pow_mono (le-suc n))
+span_lt (suc n) (some v b) x (inr s) = rw back at (⊕-lt (suc n) (x ⊕ z) z (lt_of_lt_of_le (span_lt n b (x ⊕ z) s) (pow_mono (le-suc n))) (lead_lt n v))
   where
     z : ℕ
     z = 2 ^ n ⊕ value n v
@@ -146,8 +146,8 @@ span-lt (suc n) (some v b) x (inr s) = rw back at (⊕-lt (suc n) (x ⊕ z) z (l
     back = simp xor
 
 -- a leading one stands in no sum of lower words
-lead-not : (n : ℕ) (b : Basis) (x : ℕ) → x < 2 ^ n → Span n b (2 ^ n ⊕ x) → ⊥
-lead-not n b x l s = not-le_of_lt (span-lt n b (2 ^ n ⊕ x) s) (deg-lo (2 ^ n ⊕ x) n (deg-⊕ (2 ^ n) x n (div_self (pow_pos n)) l))
+lead_not : (n : ℕ) (b : Basis) (x : ℕ) → x < 2 ^ n → Span n b (2 ^ n ⊕ x) → ⊥
+lead_not n b x l s = not-le_of_lt (span_lt n b (2 ^ n ⊕ x) s) (deg-lo (2 ^ n ⊕ x) n (deg-⊕ (2 ^ n) x n (div_self (pow_pos n)) l))
 
 -- ---- a word that is a sum of basis words is not put in
 
@@ -162,16 +162,16 @@ refused zero (none b) w h s t = not-suc-le-zero h
 refused zero (some v b) w h s t = not-suc-le-zero h
 refused (suc n) (none b) end h s t = t
 refused (suc n) (none b) (O w) h s t = refused n b w (le_of_suc-le-suc h) s t
-refused (suc n) (none b) (I w) h s t = lead-not n b (value n w) (value-lt n w) s
+refused (suc n) (none b) (I w) h s t = lead_not n b (value n w) (value-lt n w) s
 refused (suc n) (some v b) end h s t = t
 refused (suc n) (some v b) (O w) h (inl s) t = refused n b w (le_of_suc-le-suc h) s t
 refused (suc n) (some v b) (O w) h (inr s) t =
-    lead-not n b (value n w ⊕ value n v) (⊕-lt n (value n w) (value n v) (value-lt n w) (value-lt n v))
-    (span-by n b _ _ s (⊕-left-comm (value n w) (2 ^ n) (value n v)))
-refused (suc n) (some v b) (I w) h (inl s) t = lead-not n b (value n w) (value-lt n w) s
+    lead_not n b (value n w ⊕ value n v) (⊕-lt n (value n w) (value n v) (value-lt n w) (value-lt n v))
+    (span_by n b _ _ s (⊕-left_comm (value n w) (2 ^ n) (value n v)))
+refused (suc n) (some v b) (I w) h (inl s) t = lead_not n b (value n w) (value-lt n w) s
 refused (suc n) (some v b) (I w) h (inr s) t =
     refused n b (plus v w) (le_of_suc-le-suc h)
-    (span-by n b _ _ s (swapped (2 ^ n) (value n w) (value n v) ∙ sym (value-plus n v w))) t
+    (span_by n b _ _ s (swapped (2 ^ n) (value n w) (value n v) ∙ sym (value-plus n v w))) t
 
 -- ---- what is put in, and what was there, is in the span
 
@@ -182,11 +182,11 @@ inserted (suc n) failed w t = absurd t
 inserted (suc n) nil w t = absurd t
 inserted (suc n) (none b) end t = absurd t
 inserted (suc n) (none b) (O w) t = inserted n b w t
-inserted (suc n) (none b) (I w) t = inr (span-by n b 0 _ (span-zero n b) (sym (⊕-self (2 ^ n ⊕ value n w))))
+inserted (suc n) (none b) (I w) t = inr (span_by n b 0 _ (span_zero n b) (sym (⊕_self (2 ^ n ⊕ value n w))))
 inserted (suc n) (some v b) end t = absurd t
 inserted (suc n) (some v b) (O w) t = inl (inserted n b w t)
 inserted (suc n) (some v b) (I w) t =
-    inr (span-by n (insert (plus v w) b) _ _ (inserted n b (plus v w) t) (value-plus n v w ∙ sym (swapped (2 ^ n) (value n w) (value n v))))
+    inr (span_by n (insert (plus v w) b) _ _ (inserted n b (plus v w) t) (value-plus n v w ∙ sym (swapped (2 ^ n) (value n w) (value n v))))
 
 kept : (n : ℕ) (b : Basis) (w : Word) (x : ℕ) → T (sound (insert w b)) → Span n b x → Span n (insert w b) x
 unfolding Span insert sound
@@ -204,13 +204,13 @@ kept (suc n) (some v b) (I w) x t (inr s) = inr (kept n b (plus v w) (x ⊕ (2 ^
 
 -- ---- independence
 
-sum-in : (k : ℕ) (ws : List Word) (h : ℕ) → T (sound (basis k ws)) → Span k (basis k ws) (sum_of h (map (value k) ws))
+sum_in : (k : ℕ) (ws : List Word) (h : ℕ) → T (sound (basis k ws)) → Span k (basis k ws) (sum_of h (map (value k) ws))
 unfolding sum_of basis
-sum-in k [] h t = span-zero k (empty k)
-sum-in k (w ∷ ws) h t =
-    span-⊕ k (insert w b) (h % 2 * value k w) (sum_of (h / 2) (map (value k) ws))
-    (by_bit (λ (c : ℕ). Span k (insert w b) (c * value k w)) (rw zero-mul (span-zero k (insert w b))) (rw one-mul (inserted k b w t)) h)
-    (kept k b w (sum_of (h / 2) (map (value k) ws)) t (sum-in k ws (h / 2) (sound-before b w t)))
+sum_in k [] h t = span_zero k (empty k)
+sum_in k (w ∷ ws) h t =
+    span_⊕ k (insert w b) (h % 2 * value k w) (sum_of (h / 2) (map (value k) ws))
+    (by_bit (λ (c : ℕ). Span k (insert w b) (c * value k w)) (rw zero-mul (span_zero k (insert w b))) (rw one-mul (inserted k b w t)) h)
+    (kept k b w (sum_of (h / 2) (map (value k) ws)) t (sum_in k ws (h / 2) (sound-before b w t)))
   where
     b : Basis
     b = basis k ws
@@ -218,7 +218,7 @@ sum-in k (w ∷ ws) h t =
 pub independent : (k : ℕ) (ws : List Word) → T (sound (basis k ws)) → Independent (map (value k) ws)
 unfolding sum_of basis
 independent k [] t h l e = omega arith
-independent k (w ∷ ws) t h l e = go (independent k ws (sound-before b w t) (h / 2) (half_lt h (length rest-values) l)) (bit-cases (h % 2) (mod-2 h))
+independent k (w ∷ ws) t h l e = go (independent k ws (sound-before b w t) (h / 2) (half_lt h (length rest-values) l)) (bit-cases (h % 2) (mod_2 h))
   where
     b : Basis
     b = basis k ws
@@ -230,4 +230,4 @@ independent k (w ∷ ws) t h l e = go (independent k ws (sound-before b w t) (h 
     go rest (inl z) = omega (arith, rest (rw (z, zero-mul, zero-⊕) at e))
     go rest (inr o) =
         absurd (refused k b w (slots-basis k ws)
-        (span-by k b _ _ (sum-in k ws (h / 2) (sound-before b w t)) (sym (⊕-eq (value k w) (sum_of (h / 2) rest-values) (rw (o, one-mul) at e)))) t)
+        (span_by k b _ _ (sum_in k ws (h / 2) (sound-before b w t)) (sym (⊕-eq (value k w) (sum_of (h / 2) rest-values) (rw (o, one-mul) at e)))) t)

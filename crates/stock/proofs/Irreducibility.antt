@@ -12,19 +12,19 @@ use Rattle.gf2.specs.Polynomials.{◌⊕◌, degree, monic, rem, ◌⊗◌, Irre
 use Rattle.gf2.specs.Degrees.{Degree}
 use Rattle.lists.specs.Lists.{list_from}
 use Rattle.lists.proofs.Truth.{and_left, and_right}
-use Rattle.lists.proofs.Lists.{length-list}
-use Rattle.gf2.proofs.Sums.{⊕-self, ⊕-zero}
-use Rattle.gf2.proofs.Products.{one-⊗, ⊗-pow, by_bit, by-low, ring}
+use Rattle.lists.proofs.Lists.{length_list}
+use Rattle.gf2.proofs.Sums.{⊕_self, ⊕-zero}
+use Rattle.gf2.proofs.Products.{one-⊗, ⊗-pow, by_bit, by_low, ring}
 use Rattle.gf2.proofs.Degrees.{half_lt, degree-eq, deg-lo, deg-pos}
-use Rattle.gf2.proofs.Monics.{monic-of}
+use Rattle.gf2.proofs.Monics.{monic_of}
 use Rattle.gf2.proofs.Linear.{Additive, after, both, squared, at_zero}
 use Rattle.gf2.proofs.Residues.{rem-⊕, rem-small}
 use Rattle.gf2.proofs.Powers.{rem-⊗-left}
-use Rattle.gf2.proofs.Criterion.{rigid-irreducible}
+use Rattle.gf2.proofs.Criterion.{rigid_irreducible}
 use Rattle.basis.specs.Rows.{Independent}
 use Rattle.basis.proofs.Matrices.{sum-listed}
 use Rattle.stock.proofs.Coefficients.{Word, value, plus, value-plus, size, word, digit, value-word, size_word, divide, divide-rem}
-use Rattle.stock.proofs.Coefficients.{divide-size, value-shl, modulus, modulus-deg}
+use Rattle.stock.proofs.Coefficients.{divide-size, value_shl, modulus, modulus-deg}
 use Rattle.stock.proofs.Independence.{basis, sound, insert, empty, independent}
 
 -- ---- the test
@@ -48,21 +48,21 @@ sums (x ∷ xs) (y ∷ ys) = plus x y ∷ sums xs ys
 abbrev one : ℕ → Word
 one n = word (suc n) 1
 
-abbrev by-t : ℕ → Word → Word
-by-t n p = divide p 1 (one n)
+abbrev by_t : ℕ → Word → Word
+by_t n p = divide p 1 (one n)
 
 -- squaring kills no residue,
 unfoldable pub injective : ℕ → Word → Bool
 injective n p = sound (basis (suc n) (squares p (suc n) (one n)))
 
 -- and fixes none but 0 and 1
-unfoldable pub two-fixed : ℕ → Word → Bool
-two-fixed n p = sound (basis (suc n) (sums (powers p n (by-t n p)) (squares p n (divide p 1 (by-t n p)))))
+unfoldable pub two_fixed : ℕ → Word → Bool
+two_fixed n p = sound (basis (suc n) (sums (powers p n (by_t n p)) (squares p n (divide p 1 (by_t n p)))))
 
 -- `unfolding passes` opens all that the test computes with
 unfoldable pub passes : ℕ → Word → Bool
-unfolding injective two-fixed powers squares sums basis sound insert empty word digit plus divide
-passes n p = injective n p && two-fixed n p
+unfolding injective two_fixed powers squares sums basis sound insert empty word digit plus divide
+passes n p = injective n p && two_fixed n p
 
 -- ---- the words' values: those of linear maps at the powers of t, modulo the polynomial P
 
@@ -82,22 +82,22 @@ module _ (k : ℕ) (p : Word) (fits : size p ≤ k) where
   squaring : Additive (λ x. rem P (x ⊗ x))
   squaring = after reduction squared
 
-  times-t : (w : Word) → size w ≤ k → (x : ℕ) → value k w ≡ rem P x → value k (divide p 1 w) ≡ rem P (x ⊗ 2)
-  times-t w h x e =
-      sym (divide-rem k p fits 1 w) ∙ ap (rem P) (value-shl 1 k w h ∙ sym (⊗-pow 1 (value k w)))
+  times_t : (w : Word) → size w ≤ k → (x : ℕ) → value k w ≡ rem P x → value k (divide p 1 w) ≡ rem P (x ⊗ 2)
+  times_t w h x e =
+      sym (divide-rem k p fits 1 w) ∙ ap (rem P) (value_shl 1 k w h ∙ sym (⊗-pow 1 (value k w)))
       ∙ ap (λ (y : ℕ). rem P (y ⊗ 2)) e ∙ rem-⊗-left pos x 2
 
-  power-up : (i : ℕ) → 2 ^ i ⊗ 2 ≡ 2 ^ suc i
-  power-up i = ⊗-pow 1 (2 ^ i) ∙ sym (pow-suc 2 i)
+  power_up : (i : ℕ) → 2 ^ i ⊗ 2 ≡ 2 ^ suc i
+  power_up i = ⊗-pow 1 (2 ^ i) ∙ sym (pow-suc 2 i)
 
   next_power : (i : ℕ) (a : Word) → size a ≤ k → value k a ≡ rem P (2 ^ i) → value k (divide p 1 a) ≡ rem P (2 ^ suc i)
-  next_power i a f e = times-t a f (2 ^ i) e ∙ ap (rem P) (power-up i)
+  next_power i a f e = times_t a f (2 ^ i) e ∙ ap (rem P) (power_up i)
 
   next-square : (i : ℕ) (b : Word) → size b ≤ k → value k b ≡ rem P (2 ^ i ⊗ 2 ^ i)
       → value k (divide p 1 (divide p 1 b)) ≡ rem P (2 ^ suc i ⊗ 2 ^ suc i)
   next-square i b f e =
-      times-t (divide p 1 b) (divide-size k p fits 1 b f) (2 ^ i ⊗ 2 ^ i ⊗ 2) (times-t b f (2 ^ i ⊗ 2 ^ i) e)
-      ∙ ap (rem P) (sorted (2 ^ i) 2 ∙ ap (λ (x : ℕ). x ⊗ x) (power-up i))
+      times_t (divide p 1 b) (divide-size k p fits 1 b f) (2 ^ i ⊗ 2 ^ i ⊗ 2) (times_t b f (2 ^ i ⊗ 2 ^ i) e)
+      ∙ ap (rem P) (sorted (2 ^ i) 2 ∙ ap (λ (x : ℕ). x ⊗ x) (power_up i))
     where
       sorted : (v t : ℕ) → v ⊗ v ⊗ t ⊗ t ≡ v ⊗ t ⊗ (v ⊗ t)
       sorted v t = simp ring
@@ -143,12 +143,12 @@ module _ (n : ℕ) (p : Word) (fits : size p ≤ suc n) where
   value-square : value (suc n) (one n) ≡ R (1 ⊗ 1)
   value-square = value-one ∙ ap R (sym (one-⊗ 1))
 
-  no-nilpotent : T (injective n p) → (h : ℕ) → 0 < h → h < 2 ^ suc n → R (h ⊗ h) ≡ 0 → ⊥
+  no_nilpotent : T (injective n p) → (h : ℕ) → 0 < h → h < 2 ^ suc n → R (h ⊗ h) ≡ 0 → ⊥
   unfolding injective
-  no-nilpotent t h l s e =
+  no_nilpotent t h l s e =
       omega (
         arith,
-        rows h (rw length-list s) (sum-listed (squaring (suc n) p fits) 0 (suc n) h s ∙ ap (λ (x : ℕ). R (x ⊗ x)) (mul-one h) ∙ e),
+        rows h (rw length_list s) (sum-listed (squaring (suc n) p fits) 0 (suc n) h s ∙ ap (λ (x : ℕ). R (x ⊗ x)) (mul-one h) ∙ e),
       )
     where
       rows : Independent (list_from (λ j. R (2 ^ j ⊗ 2 ^ j)) 0 (suc n))
@@ -164,38 +164,38 @@ module _ (n : ℕ) (p : Word) (fits : size p ≤ suc n) where
   at_rest : (h : ℕ) → h < 2 ^ suc n → R (h ⊗ h) ≡ h → R (h / 2 * 2) ⊕ R (h / 2 * 2 ⊗ (h / 2 * 2)) ≡ 0
   at_rest h s e =
       sym (⊕-zero (D (h / 2 * 2))) ∙ ap (λ (x : ℕ). D (h / 2 * 2) ⊕ x) (sym (at-digit h))
-      ∙ sym (difference.sum (h / 2 * 2) (h % 2)) ∙ ap D (by-low h)
-      ∙ ap₂ (λ (x y : ℕ). x ⊕ y) (small (suc n) p fits h s) e ∙ ⊕-self h
+      ∙ sym (difference.sum (h / 2 * 2) (h % 2)) ∙ ap D (by_low h)
+      ∙ ap₂ (λ (x y : ℕ). x ⊕ y) (small (suc n) p fits h s) e ∙ ⊕_self h
     where
       D : ℕ → ℕ
       D x = R x ⊕ R (x ⊗ x)
 
       at-digit : (h : ℕ) → D (h % 2) ≡ 0
-      at-digit = by_bit (λ (c : ℕ). D c ≡ 0) (at_zero difference) (ap (λ (x : ℕ). R 1 ⊕ R x) (one-⊗ 1) ∙ ⊕-self (R 1))
+      at-digit = by_bit (λ (c : ℕ). D c ≡ 0) (at_zero difference) (ap (λ (x : ℕ). R 1 ⊕ R x) (one-⊗ 1) ∙ ⊕_self (R 1))
 
-  no-idempotent : T (two-fixed n p) → (h : ℕ) → 1 < h → h < 2 ^ suc n → R (h ⊗ h) ≡ h → ⊥
-  unfolding two-fixed
-  no-idempotent t h l s e =
+  no_idempotent : T (two_fixed n p) → (h : ℕ) → 1 < h → h < 2 ^ suc n → R (h ⊗ h) ≡ h → ⊥
+  unfolding two_fixed
+  no_idempotent t h l s e =
       omega (
         arith,
-        rows (h / 2) (rw length-list (half_lt h n s)) (sum-listed difference 1 n (h / 2) (half_lt h n s) ∙ at_rest h s e),
+        rows (h / 2) (rw length_list (half_lt h n s)) (sum-listed difference 1 n (h / 2) (half_lt h n s) ∙ at_rest h s e),
       )
     where
       rows : Independent (list_from (λ j. R (2 ^ j) ⊕ R (2 ^ j ⊗ 2 ^ j)) 1 n)
       rows =
-          rw (values-sums (suc n) p fits n 1 (by-t n p) (divide p 1 (by-t n p)) (divide-size (suc n) p fits 1 (one n) size-one)
+          rw (values-sums (suc n) p fits n 1 (by_t n p) (divide p 1 (by_t n p)) (divide-size (suc n) p fits 1 (one n) size-one)
           (twice-size (suc n) p fits (one n) size-one) (next_power (suc n) p fits 0 (one n) size-one value-one)
           (next-square (suc n) p fits 0 (one n) size-one value-square)) at
-          (independent (suc n) (sums (powers p n (by-t n p)) (squares p n (divide p 1 (by-t n p)))) t)
+          (independent (suc n) (sums (powers p n (by_t n p)) (squares p n (divide p 1 (by_t n p)))) t)
 
   pub passes-irreducible : T (passes n p) → Irreducible (modulus (suc n) p)
   unfolding passes
   passes-irreducible t =
-      rigid-irreducible (modulus (suc n) p)
+      rigid_irreducible (modulus (suc n) p)
       (record {
         proper = lt_of_lt_of_le (one-lt n) (deg-lo (modulus (suc n) p) (suc n) (modulus-deg (suc n) p));
-        no-nilpotent = λ h l s e. no-nilpotent (and_left (injective n p) (two-fixed n p) t) h l (lt_of_lt_of_le s (pow_mono (omega (arith, full)))) e;
-        no-idempotent = λ h l s e. no-idempotent (and_right (injective n p) (two-fixed n p) t) h l (rw full at s) e;
+        no_nilpotent = λ h l s e. no_nilpotent (and_left (injective n p) (two_fixed n p) t) h l (lt_of_lt_of_le s (pow_mono (omega (arith, full)))) e;
+        no_idempotent = λ h l s e. no_idempotent (and_right (injective n p) (two_fixed n p) t) h l (rw full at s) e;
       })
     where
       full : degree (modulus (suc n) p) ≡ suc n
@@ -204,10 +204,10 @@ module _ (n : ℕ) (p : Word) (fits : size p ≤ suc n) where
 -- ---- the same of polynomials that are written as numbers
 
 pub modulus-number : (k p : ℕ) → Degree p k → modulus k (word k p) ≡ p
-modulus-number k p h = ap (monic k) (value-word k p) ∙ monic-of k p h
+modulus-number k p h = ap (monic k) (value-word k p) ∙ monic_of k p h
 
-pub irreducible-by-test : (n p : ℕ) → Degree p (suc n) → T (passes n (word (suc n) p)) → Irreducible p
-irreducible-by-test n p h t =
+pub irreducible_by_test : (n p : ℕ) → Degree p (suc n) → T (passes n (word (suc n) p)) → Irreducible p
+irreducible_by_test n p h t =
     rw (modulus-number (suc n) p h) at (passes-irreducible n (word (suc n) p) (le_of_eq (size_word (suc n) p)) t)
 
 -- a table's test: each entry has the degree n + 1 and is irreducible
@@ -219,4 +219,4 @@ pub good-irreducible : (n p : ℕ) → T (good n p) → Irreducible p × Degree 
 unfolding good
 good-irreducible n p t =
     let d = eqb→eq (p / 2 ^ suc n) 1 (and_left (eqb (p / 2 ^ suc n) 1) (passes n (word (suc n) p)) t) in
-    (irreducible-by-test n p d (and_right (eqb (p / 2 ^ suc n) 1) (passes n (word (suc n) p)) t), d)
+    (irreducible_by_test n p d (and_right (eqb (p / 2 ^ suc n) 1) (passes n (word (suc n) p)) t), d)

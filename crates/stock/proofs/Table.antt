@@ -8,11 +8,11 @@ use lib.Dec.{T}
 use lib.ListN.{length, get_or}
 use Rattle.gf2.specs.Polynomials.{monic}
 use Rattle.gf2.proofs.Degrees.{degree-is}
-use Rattle.gf2.proofs.Monics.{monic-of}
+use Rattle.gf2.proofs.Monics.{monic_of}
 use Rattle.acceptance.proofs.Laws.{accepted-pos}
-use Rattle.stock.specs.Stock.{stockKey, stockWord, Smallest, StockSmallest, StockAt64}
-use Rattle.stock.proofs.Sieve.{stockedTable, left, smallest-at}
-use Rattle.stock.proofs.Searches.{stock-is}
+use Rattle.stock.specs.Stock.{stock_key, stock_word, Smallest, StockSmallest, StockAt64}
+use Rattle.stock.proofs.Sieve.{stocked_table, left, smallest-at}
+use Rattle.stock.proofs.Searches.{stock_is}
 
 -- for each degree from 8 on: divisors beside t and t + 1, of which every smaller number of that degree than the stock key has one
 unfoldable pub divisors : List (List ℕ)
@@ -81,7 +81,7 @@ divisors =
 abbrev pub words : List ℕ
 words = left 8 divisors
 
-tested : T (stockedTable 7 divisors)
+tested : T (stocked_table 7 divisors)
 unfolding divisors left
 tested = tt
 
@@ -99,31 +99,31 @@ module _ (k : ℕ) (lo : 8 ≤ k) (hi : k ≤ 64) where
       place : 8 + (k - 8) ≡ k
       place = omega arith
 
-  entry-stock : monic k word ≡ stockKey k
-  entry-stock = sym (stock-is k (monic k word) entry-smallest)
+  entry_stock : monic k word ≡ stock_key k
+  entry_stock = sym (stock_is k (monic k word) entry-smallest)
 
-  entry-is : Smallest k (stockKey k)
-  entry-is = rw entry-stock at entry-smallest
+  entry-is : Smallest k (stock_key k)
+  entry-is = rw entry_stock at entry-smallest
 
   -- the stock key is t^k and its word
-  pub stock-whole : monic k (stockWord k) ≡ stockKey k
-  unfolding stockWord
-  stock-whole =
-      monic-of k (stockKey k) (rw entry-is.of-degree at (degree-is (stockKey k) (accepted-pos (stockKey k) entry-is.is-accepted)))
+  pub stock_whole : monic k (stock_word k) ≡ stock_key k
+  unfolding stock_word
+  stock_whole =
+      monic_of k (stock_key k) (rw entry-is.of_degree at (degree-is (stock_key k) (accepted-pos (stock_key k) entry-is.is-accepted)))
 
-  pub entry-word : word ≡ stockWord k
+  pub entry-word : word ≡ stock_word k
   unfolding monic
-  entry-word = omega (arith, entry-stock, stock-whole)
+  entry-word = omega (arith, entry_stock, stock_whole)
 
 -- for each degree 8 to 64 the stock key is accepted, has that degree, and is the smallest such number
-pub stock-smallest : StockSmallest
-stock-smallest k lo hi = entry-is k lo hi
+pub stock_smallest : StockSmallest
+stock_smallest k lo hi = entry-is k lo hi
 
 -- the house key, and the key of degree 64
-pub stock-61 : stockKey 61 ≡ 0x2000000000000027
+pub stock_61 : stock_key 61 ≡ 0x2000000000000027
 unfolding divisors left
-stock-61 = sym (entry-stock 61 (omega arith) (omega arith))
+stock_61 = sym (entry_stock 61 (omega arith) (omega arith))
 
-pub stock-64 : StockAt64
+pub stock_64 : StockAt64
 unfolding divisors left
-stock-64 = sym (entry-stock 64 (omega arith) (omega arith))
+stock_64 = sym (entry_stock 64 (omega arith) (omega arith))

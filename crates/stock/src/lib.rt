@@ -2,7 +2,7 @@
 // proofs/Table.antt, and computes that each key is irreducible. That is done in a second arithmetic, on coefficients (proofs/Coefficients.antt):
 // on numbers it would take the checker several times as long.
 ghost use Rattle.std.specs.Prelude.{◌≡◌, ◌≤◌, ◌<◌};
-ghost use Rattle.stock.specs.Stock.{stockWord};
+ghost use Rattle.stock.specs.Stock.{stock_word};
 
 // The word of the smallest accepted key of each degree, 8 to 64 in rising order.
 const STOCK: [u64; 57] = [
@@ -19,14 +19,14 @@ const STOCK: [u64; 57] = [
 // The entry of a degree on the list.
 fn entry(degree: u32) -> u64
     requires { (8 ≤ degree) × (degree ≤ 64) }
-    ensures { result ≡ stockWord degree }
+    ensures { result ≡ stock_word degree }
 {
     STOCK[(degree - 8) as usize]
 }
 
 // The word of the stock key of a degree 8 to 64; 0 for every other number.
 pub fn stock_word(degree: u32) -> u64
-    ensures { result ≡ stockWord degree }
+    ensures { result ≡ stock_word degree }
 {
     if degree < 8 {
         return 0;

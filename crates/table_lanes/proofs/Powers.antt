@@ -10,12 +10,12 @@ use lib.Pow.{pow_pos, pow_mono, shr_lt, shr-shr, split}
 use Rattle.gf2.specs.Polynomials.{◌⊕◌, ◌⊗◌, rem}
 use Rattle.gf2.specs.Moduli.{polynomial, Proper}
 use Rattle.gf2.specs.declared.Modulus.{Modulus}
-use Rattle.gf2.proofs.Sums.{⊕-append, ⊕-assoc, ⊕-zero}
-use Rattle.gf2.proofs.Products.{zero-⊗, ⊗-comm, ⊗-shl, ⊕-⊗}
+use Rattle.gf2.proofs.Sums.{⊕-append, ⊕_assoc, ⊕-zero}
+use Rattle.gf2.proofs.Products.{zero-⊗, ⊗_comm, ⊗_shl, ⊕-⊗}
 use Rattle.gf2.proofs.Squares.{square-append}
 use Rattle.gf2.proofs.Degrees.{⊗-lt}
 use Rattle.gf2.proofs.Residues.{rem-⊕}
-use Rattle.gf2.proofs.Powers.{rem-shl, rem-behind}
+use Rattle.gf2.proofs.Powers.{rem_shl, rem-behind}
 use Rattle.gf2.proofs.Monics.{monic-pos}
 use Rattle.gf2.proofs.Steps.{residue-small}
 use Rattle.multiples.specs.Rows.{Rows}
@@ -64,7 +64,7 @@ pub product-byte : {p : ℕ} (pos : 0 < p) (x t i y z : ℕ) → 8 ≤ i → y �
     → rem p (y * 2 ^ 8 + 0) ⊕ z ≡ rem p (x / 2 ^ (i - 8) ⊗ t)
 product-byte {p} pos x t i y z l ey ez =
     ap₂ (λ (a b : ℕ). rem p a ⊕ b) (add-zero (y * 2 ^ 8) ∙ ap (λ (a : ℕ). a * 2 ^ 8) ey) ez
-    ∙ ap (λ (a : ℕ). a ⊕ rem p (h % 2 ^ 8 ⊗ t)) (rem-shl pos (x / 2 ^ i ⊗ t) 8 ∙ ap (rem p) shifted)
+    ∙ ap (λ (a : ℕ). a ⊕ rem p (h % 2 ^ 8 ⊗ t)) (rem_shl pos (x / 2 ^ i ⊗ t) 8 ∙ ap (rem p) shifted)
     ∙ sym (rem-⊕ pos (h / 2 ^ 8 * 2 ^ 8 ⊗ t) (h % 2 ^ 8 ⊗ t))
     ∙ ap (rem p)
     (sym (⊕-⊗ (h / 2 ^ 8 * 2 ^ 8) (h % 2 ^ 8) t)
@@ -79,17 +79,17 @@ product-byte {p} pos x t i y z l ey ez =
     shifted : x / 2 ^ i ⊗ t * 2 ^ 8 ≡ h / 2 ^ 8 * 2 ^ 8 ⊗ t
     shifted =
         ap (λ (a : ℕ). a ⊗ t * 2 ^ 8) above
-        ∙ ap (λ (a : ℕ). a * 2 ^ 8) (⊗-comm (h / 2 ^ 8) t)
-        ∙ sym (⊗-shl 8 t (h / 2 ^ 8))
-        ∙ ⊗-comm t (h / 2 ^ 8 * 2 ^ 8)
+        ∙ ap (λ (a : ℕ). a * 2 ^ 8) (⊗_comm (h / 2 ^ 8) t)
+        ∙ sym (⊗_shl 8 t (h / 2 ^ 8))
+        ∙ ⊗_comm t (h / 2 ^ 8 * 2 ^ 8)
 
 -- the words of the two halves of a byte, as the code adds them
-pub look-halves : (rows : List ℕ) (f b : ℕ) → b < 256 → f ⊕ get_or rows (b % 16) 0 ⊕ get_or rows (16 + b / 16) 0 ≡ f ⊕ looked 4 rows 2 0 b
+pub look_halves : (rows : List ℕ) (f b : ℕ) → b < 256 → f ⊕ get_or rows (b % 16) 0 ⊕ get_or rows (16 + b / 16) 0 ≡ f ⊕ looked 4 rows 2 0 b
 unfolding looked
-look-halves rows f b l =
+look_halves rows f b l =
     let e : b / 16 % 16 ≡ b / 16 = omega arith in
     let z : 0 * 16 + b % 16 ≡ b % 16 = omega arith in
-    rw (z, e, ⊕-zero) (⊕-assoc f (get_or rows (b % 16) 0) (get_or rows (16 + b / 16) 0))
+    rw (z, e, ⊕-zero) (⊕_assoc f (get_or rows (b % 16) 0) (get_or rows (16 + b / 16) 0))
 
 -- ---- lanes joined by two rows of multiples
 

@@ -4,17 +4,17 @@ use Rattle.std.specs.Prelude.{◌≡◌, List, ℕ, length, get_or, take, drop}
 use Rattle.gf2.specs.Polynomials.{◌⊕◌, ◌⊗◌, rem}
 use Rattle.gf2.specs.Moduli.{polynomial}
 use Rattle.gf2.specs.declared.Modulus.{Modulus}
-use Rattle.files.specs.Files.{bits, valueFrom}
+use Rattle.files.specs.Files.{bits, value_from}
 use Rattle.multiples.specs.Rows.{Rows}
 use Rattle.lookups.specs.Groups.{Appended}
 
 -- r is a residue with the four bytes of a part from place i on behind it, where x is one
 abbrev pub FourMore : Modulus → List ℕ → ℕ → ℕ → ℕ → Type 0
-FourMore p part i x r = Appended p x (valueFrom 0 (bits (take 4 (drop i part)))) r
+FourMore p part i x r = Appended p x (value_from 0 (bits (take 4 (drop i part)))) r
 
 -- r is the residue of the n bytes of a part from place a on, behind f
 abbrev pub FedLane : Modulus → ℕ → List ℕ → ℕ → ℕ → ℕ → Type 0
-FedLane p f part a n r = r ≡ rem (polynomial p) (valueFrom f (bits (take n (drop a part))))
+FedLane p f part a n r = r ≡ rem (polynomial p) (value_from f (bits (take n (drop a part))))
 
 -- two rows for four bits each, of the multiples of their word 1
 abbrev pub TwoRows : Modulus → List ℕ → Type 0

@@ -3,14 +3,14 @@
 ghost use Rattle.std.specs.Prelude.{◌≡◌, ◌+◌, ◌*◌, ◌%◌, ◌^◌, ◌≤◌, ◌<◌, length, get_or};
 ghost use Rattle.gf2.specs.Polynomials.{◌⊕◌, ◌⊗◌, rem};
 ghost use Rattle.gf2.specs.Moduli.{polynomial, Proper};
-ghost use Rattle.files.specs.Files.{bits, valueFrom};
+ghost use Rattle.files.specs.Files.{bits, value_from};
 ghost use Rattle.lookups.specs.Groups.{TableOf, ReducesByte};
 ghost use Rattle.table_lanes.specs.Lanes.{FourMore, FedLane, TwoRows, behind};
 
 use gf2::Modulus;
 
 // Four lanes: a residue each.
-#[derive(Drop)]
+#[derive(Clone, Copy)]
 pub struct Lanes {
     pub a: u64,
     pub b: u64,
@@ -137,7 +137,7 @@ fn join(words: &[u64], p: Modulus, t: u64, x: Lanes) -> u64
 // A long part: four lanes of n times four bytes, joined by t^(32n), and what is left behind them.
 fn feed_long(words: &[u64], p: Modulus, f: u64, part: &[u8]) -> u64
     requires { TableOf p words.now × (f < 2 ^ p.degree) × (16 ≤ length part.now) }
-    ensures { result ≡ rem (polynomial p) (valueFrom f (bits part.now)) }
+    ensures { result ≡ rem (polynomial p) (value_from f (bits part.now)) }
 {
     let n = part.len() / 16;
     let lane = 4 * n;
@@ -152,7 +152,7 @@ fn feed_long(words: &[u64], p: Modulus, f: u64, part: &[u8]) -> u64
 // 1,024 bytes, and feed a byte in two fifths of the time that one lane takes (measured under degrees 61, 31 and 16).
 pub fn fed(words: &[u64], p: Modulus, f: u64, part: &[u8]) -> u64
     requires { TableOf p words.now × (f < 2 ^ p.degree) }
-    ensures { result ≡ rem (polynomial p) (valueFrom f (bits part.now)) }
+    ensures { result ≡ rem (polynomial p) (value_from f (bits part.now)) }
 {
     if part.len() < 320 {
         return lookups::feed_lane(words, p, f, part);

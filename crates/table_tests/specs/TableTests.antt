@@ -5,9 +5,9 @@ use Rattle.refusals.specs.Refusals.{Test, ◌⇒◌}
 use Rattle.lookups.specs.Rule.{word, differs}
 
 -- number 5
-abbrev pub tableSizeTest : List ℕ → Test
-tableSizeTest words = not (eqb (length words) 1024) ⇒ TableSize
+abbrev pub table_size_test : List ℕ → Test
+table_size_test words = not (eqb (length words) 1024) ⇒ TableSize
 
 -- numbers 5 and 6
-abbrev pub tableTests : ℕ → List ℕ → List Test
-tableTests key words = tableSizeTest words ∷ differs (word 8 key) 0 words ⇒ TableWord ∷ []
+abbrev pub table_tests : ℕ → List ℕ → List Test
+table_tests key words = table_size_test words ∷ differs (word 8 key) 0 words ⇒ TableWord ∷ []

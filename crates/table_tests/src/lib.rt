@@ -3,7 +3,7 @@ ghost use Rattle.std.specs.Prelude.{◌≡◌};
 ghost use Rattle.gf2.specs.Moduli.{polynomial, Proper};
 ghost use Rattle.refusals.specs.Refusals.{judged};
 ghost use Rattle.refusals.specs.Answers.{told};
-ghost use Rattle.table_tests.specs.TableTests.{tableTests};
+ghost use Rattle.table_tests.specs.TableTests.{table_tests};
 
 use gf2::Modulus;
 use refusals::{Refusal, Reply};
@@ -11,7 +11,7 @@ use refusals::{Refusal, Reply};
 // Are the lent words the table of a modulus? Numbers 5, 6.
 pub fn judge(p: Modulus, words: &[u64]) -> Reply
     requires { Proper p }
-    ensures { told result ≡ judged (tableTests (polynomial p) words.now) }
+    ensures { told result ≡ judged (table_tests (polynomial p) words.now) }
 {
     if words.len() != 1024 {
         return Reply::Refused(Refusal::TableSize);

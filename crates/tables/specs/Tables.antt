@@ -3,13 +3,13 @@
 use Rattle.std.specs.Prelude.{List, [], ◌∷◌, ◌++◌, ℕ}
 use Rattle.refusals.specs.Refusals.{Answer, first_of, judged}
 use Rattle.acceptance.specs.declared.Key.{Key}
-use Rattle.acceptance.specs.Keys.{polynomialOf, keyTests}
+use Rattle.acceptance.specs.Keys.{polynomial_of, key_tests}
 use Rattle.lookups.specs.Rule.{table}
-use Rattle.table_tests.specs.TableTests.{tableSizeTest, tableTests}
+use Rattle.table_tests.specs.TableTests.{table_size_test, table_tests}
 
 -- what the lent words are after the call
-unfoldable pub makeTable : Key → List ℕ → Answer (List ℕ) (List ℕ)
-makeTable x words = first_of (keyTests x ++ tableSizeTest words ∷ []) words (table (polynomialOf x))
+unfoldable pub make_table : Key → List ℕ → Answer (List ℕ) (List ℕ)
+make_table x words = first_of (key_tests x ++ table_size_test words ∷ []) words (table (polynomial_of x))
 
-unfoldable pub testTable : Key → List ℕ → Answer Unit Unit
-testTable x words = judged (keyTests x ++ tableTests (polynomialOf x) words)
+unfoldable pub test_table : Key → List ℕ → Answer Unit Unit
+test_table x words = judged (key_tests x ++ table_tests (polynomial_of x) words)

@@ -4,8 +4,8 @@ ghost use Rattle.gf2.specs.Moduli.{polynomial, Proper};
 ghost use Rattle.refusals.specs.Refusals.{first_of};
 ghost use Rattle.refusals.specs.Answers.{reply, told};
 ghost use Rattle.lookups.specs.Rule.{table};
-ghost use Rattle.tables.specs.Tables.{makeTable, testTable};
-ghost use Rattle.table_tests.specs.TableTests.{tableSizeTest};
+ghost use Rattle.tables.specs.Tables.{make_table, test_table};
+ghost use Rattle.table_tests.specs.TableTests.{table_size_test};
 
 use acceptance::Key;
 use gf2::Modulus;
@@ -15,7 +15,7 @@ use refusals::{Refusal, Reply};
 // The table of a modulus into the lent words. Number 5.
 fn make_under(p: Modulus, words: &mut [u64]) -> Reply
     requires { Proper p }
-    ensures { reply words.new result ≡ first_of (tableSizeTest words.old ∷ []) words.old (table (polynomial p)) }
+    ensures { reply words.new result ≡ first_of (table_size_test words.old ∷ []) words.old (table (polynomial p)) }
 {
     if words.len() == 1024 {
         lookups::fill_table(words, p);
@@ -26,7 +26,7 @@ fn make_under(p: Modulus, words: &mut [u64]) -> Reply
 
 // The key's table into the lent words. Numbers 1, 2, 5.
 pub fn make(key: Key, words: &mut [u64]) -> Reply
-    ensures { reply words.new result ≡ makeTable key words.old }
+    ensures { reply words.new result ≡ make_table key words.old }
 {
     match keys::test(key) {
         Tested::Refused(r) => Reply::Refused(r),
@@ -36,7 +36,7 @@ pub fn make(key: Key, words: &mut [u64]) -> Reply
 
 // Are the lent words the key's table? Numbers 1, 2, 5, 6.
 pub fn test(key: Key, words: &[u64]) -> Reply
-    ensures { told result ≡ testTable key words.now }
+    ensures { told result ≡ test_table key words.now }
 {
     match keys::test(key) {
         Tested::Refused(r) => Reply::Refused(r),

@@ -2,8 +2,8 @@
 use mathlib.Core.Bool.{Bool, true, false}
 use Prim.Native.Nat.{ℕ}
 use Rattle.files.specs.declared.Mark.{Mark}
-use Rattle.files.specs.Trimming.{withoutFront, withoutBack}
+use Rattle.files.specs.Trimming.{without_front, without_back}
 
 abbrev pub trimmed : Bool → ℕ → Mark → Mark → Mark
-trimmed true key m part = withoutFront key m part
-trimmed false key m part = withoutBack key m part
+trimmed true key m part = without_front key m part
+trimmed false key m part = without_back key m part

@@ -6,10 +6,10 @@ ghost use Rattle.gf2.specs.Polynomials.{Irreducible};
 ghost use Rattle.gf2.specs.Moduli.{polynomial, Proper};
 ghost use Rattle.refusals.specs.Refusals.{first_of, judged};
 ghost use Rattle.refusals.specs.Answers.{told};
-ghost use Rattle.acceptance.specs.Keys.{polynomialOf, keyTests};
+ghost use Rattle.acceptance.specs.Keys.{polynomial_of, key_tests};
 ghost use Rattle.acceptance.specs.Opened.{Opened};
-ghost use Rattle.marks.specs.Answers.{markIn, fed, fedUnder};
-ghost use Rattle.trimming.specs.Trimming.{trimTests, trimFront, trimBack};
+ghost use Rattle.marks.specs.Answers.{mark_in, fed, fed_under};
+ghost use Rattle.trimming.specs.Trimming.{trim_tests, trim_front, trim_back};
 ghost use Rattle.trimming.specs.Ends.{trimmed};
 
 use acceptance::Key;
@@ -22,7 +22,7 @@ use refusals::{Refusal, Reply};
 // Numbers 7, 8 and 16 of the whole's mark and the part's.
 fn judge(p: Modulus, whole: Mark, part: Mark) -> Reply
     requires { Proper p }
-    ensures { told result ≡ judged (trimTests (polynomial p) whole part) }
+    ensures { told result ≡ judged (trim_tests (polynomial p) whole part) }
 {
     if !refusals::within(whole.length, part.length, 0) {
         return Reply::Refused(Refusal::TooLong);
@@ -56,8 +56,8 @@ fn rest_residue(p: Modulus, at_front: bool, whole: Mark, part: Mark) -> u64
 // A part taken off, after the test of the key. A key is copied field by field, as in `marks`.
 fn trim_under(p: Modulus, at_front: bool, m: Running, part: Mark) -> Fed
     requires { Opened m.key p }
-    ensures { fed result ≡ fedUnder m.key (first_of (trimTests (polynomialOf m.key) (markIn m) part) (markIn m)
-        (trimmed at_front (polynomialOf m.key) (markIn m) part)) }
+    ensures { fed result ≡ fed_under m.key (first_of (trim_tests (polynomial_of m.key) (mark_in m) part) (mark_in m)
+        (trimmed at_front (polynomial_of m.key) (mark_in m) part)) }
 {
     let whole = Mark {
         fingerprint: m.fingerprint,
@@ -81,8 +81,8 @@ fn trim_under(p: Modulus, at_front: bool, m: Running, part: Mark) -> Fed
 
 // A part taken off.
 fn trim(at_front: bool, m: Running, part: Mark) -> Fed
-    ensures { fed result ≡ fedUnder m.key (first_of (keyTests m.key ++ trimTests (polynomialOf m.key) (markIn m) part) (markIn m)
-        (trimmed at_front (polynomialOf m.key) (markIn m) part)) }
+    ensures { fed result ≡ fed_under m.key (first_of (key_tests m.key ++ trim_tests (polynomial_of m.key) (mark_in m) part) (mark_in m)
+        (trimmed at_front (polynomial_of m.key) (mark_in m) part)) }
 {
     let key = Key {
         degree: m.key.degree,
@@ -96,14 +96,14 @@ fn trim(at_front: bool, m: Running, part: Mark) -> Fed
 
 // What is left of the running mark's log when its front is taken off. Numbers 1, 2, 7, 8, 16.
 pub fn trim_front(m: Running, front: Mark) -> Fed
-    ensures { fed result ≡ fedUnder m.key (trimFront m.key (markIn m) front) }
+    ensures { fed result ≡ fed_under m.key (trim_front m.key (mark_in m) front) }
 {
     trim(true, m, front)
 }
 
 // What is left of the running mark's log when its back is taken off. Numbers 1, 2, 7, 8, 16.
 pub fn trim_back(m: Running, back: Mark) -> Fed
-    ensures { fed result ≡ fedUnder m.key (trimBack m.key (markIn m) back) }
+    ensures { fed result ≡ fed_under m.key (trim_back m.key (mark_in m) back) }
 {
     trim(false, m, back)
 }

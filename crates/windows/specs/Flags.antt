@@ -1,7 +1,7 @@
 -- For inner functions: a reader of the promises need not read this page. The flags of a text's windows.
 use Rattle.std.specs.Prelude.{◌≡◌, Bool, false, List, ℕ, ◌+◌, ◌≤◌, ◌<◌, eqb, length, get_or}
 use Rattle.rolling.specs.declared.Setup.{Setup}
-use Rattle.rolling.specs.Rolling.{window, residue, keyOf, ResidueAt}
+use Rattle.rolling.specs.Rolling.{window, residue, key_of, ResidueAt}
 
 -- the entries n to c - 1 of a list follow a rule
 pub record Filled {A : Type 0} (default : A) (rule : ℕ → A) (n c : ℕ) (list : List A) : Type 0 where
@@ -9,7 +9,7 @@ pub record Filled {A : Type 0} (default : A) (rule : ℕ → A) (n c : ℕ) (lis
 
 -- of the window j places behind `from`: it has the wanted residue
 unfoldable pub hit : Setup → List ℕ → ℕ → ℕ → Bool
-hit s text from j = eqb (residue (keyOf s) (window s.m text (from + j))) s.wanted
+hit s text from j = eqb (residue (key_of s) (window s.m text (from + j))) s.wanted
 
 -- the flags of `size` windows in a list of 1,024, whose other flags stay as they were before; and the residue of the next window, which is
 -- free where there is no next one

@@ -8,7 +8,7 @@ use rolling::Setup;
 use table_lanes::Lanes;
 
 // How many windows were looked at, and the residue of the next one.
-#[derive(Drop)]
+#[derive(Clone, Copy)]
 pub struct Block {
     pub size: usize,
     pub next: u64,

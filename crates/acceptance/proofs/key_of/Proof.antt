@@ -4,13 +4,13 @@ use native.Mathlib.Omega.{arith}
 use borrow.Author.Rules.{rules}
 use Rattle.gf2.specs.Polynomials.{degree, halvings}
 use Rattle.gf2.proofs.Monics.{word-degree}
-use Rattle.acceptance.specs.Keys.{keyOf}
+use Rattle.acceptance.specs.Keys.{key_of}
 use Rattle.acceptance.proofs.key_of.Statement.{statement}
 use Rattle.acceptance.proofs.key_of.Tie as tie
 
 returns : tie.Need-returns
 unfolding degree halvings
-returns c = sym (ap keyOf c.if1.true)
+returns c = sym (ap key_of c.if1.true)
 
 low-bits-requires : tie.Need-low-bits-requires
 low-bits-requires c κs =

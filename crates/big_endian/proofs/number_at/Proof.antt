@@ -5,14 +5,14 @@ use native.Mathlib.Omega.{arith}
 use native.Mathlib.Nat.{sub-zero}
 use lib.ListN.{get_or, take, drop}
 use lib.Pow.{pow_mono}
-use Rattle.files.specs.Files.{bits, valueFrom}
+use Rattle.files.specs.Files.{bits, value_from}
 use Rattle.big_endian.specs.Numbers.{number_at}
-use Rattle.big_endian.proofs.Numbers.{load-next, load-done, load_lt}
+use Rattle.big_endian.proofs.Numbers.{load_next, load_done, load_lt}
 use Rattle.big_endian.proofs.number_at.Statement.{statement}
 use Rattle.big_endian.proofs.number_at.Tie as tie
 
 abbrev invariant-loop : tie.invariant-loop
-invariant-loop bytes at w x₀ n₀ i₀ x n i = (n ≤ w) × (i ≡ at + n) × (x < 2 ^ (8 * n)) × (valueFrom x (bits (take (w - n) (drop i bytes))) ≡ number_at at w bytes)
+invariant-loop bytes at w x₀ n₀ i₀ x n i = (n ≤ w) × (i ≡ at + n) × (x < 2 ^ (8 * n)) × (value_from x (bits (take (w - n) (drop i bytes))) ≡ number_at at w bytes)
 
 abbrev decreases-loop : tie.decreases-loop
 decreases-loop bytes at w x₀ n₀ i₀ x n i = w - n
@@ -26,7 +26,7 @@ loop-holds c = (
   omega arith,
   omega arith,
   omega arith,
-  ap (λ (m : ℕ). valueFrom 0 (bits (take m (drop c.before.args.at c.before.args.bytes.now))))
+  ap (λ (m : ℕ). value_from 0 (bits (take m (drop c.before.args.at c.before.args.bytes.now))))
       (sub-zero c.before.args.w),
 )
 
@@ -54,7 +54,7 @@ loop-again c =
       omega arith,
       omega arith,
       load_lt l.n l.x c.wide-byte.result l.invariant.2 c.wide-byte.ensures.1,
-      rw (e, c.wide-byte.ensures.0) (sym (load-next a.bytes.now l.i l.x (a.w - l.n) (omega arith) (omega arith) b) ∙ l.invariant.3),
+      rw (e, c.wide-byte.ensures.0) (sym (load_next a.bytes.now l.i l.x (a.w - l.n) (omega arith) (omega arith) b) ∙ l.invariant.3),
     )
 
 returns : tie.Need-returns invariant-loop decreases-loop
@@ -62,7 +62,7 @@ returns c =
     let l = c.before.loop in
     let a = c.before.before.before.args in
     let e : l.n ≡ a.w = omega arith in
-    (sym (load-done a.bytes.now l.i l.x (a.w - l.n) (omega arith)) ∙ l.invariant.3, rw (← e) l.invariant.2)
+    (sym (load_done a.bytes.now l.i l.x (a.w - l.n) (omega arith)) ∙ l.invariant.3, rw (← e) l.invariant.2)
 
 pub number-at-spec : {M : Type 1} → statement M
 number-at-spec =

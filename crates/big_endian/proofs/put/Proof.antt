@@ -5,7 +5,7 @@ use native.Mathlib.Omega.{arith}
 use lib.ListN.{length, length-set}
 use lib.Seq.{sets}
 use Rattle.big_endian.specs.Numbers.{bytes_of}
-use Rattle.big_endian.proofs.Numbers.{store-next, store-done}
+use Rattle.big_endian.proofs.Numbers.{store_next, store_done}
 use Rattle.big_endian.proofs.put.Statement.{statement}
 use Rattle.big_endian.proofs.put.Tie as tie
 
@@ -24,13 +24,13 @@ loop-again c =
     let l = c.before.loop in
     let b = c.before.before.args.x / 2 ^ (8 * (l.left - 1)) % 256 in
     let e = length-set l.bytes l.i b in
-    (omega arith, omega arith, e ∙ l.invariant.2, sym (store-next l.bytes l.i c.before.before.args.x l.left (omega arith)) ∙ l.invariant.3)
+    (omega arith, omega arith, e ∙ l.invariant.2, sym (store_next l.bytes l.i c.before.before.args.x l.left (omega arith)) ∙ l.invariant.3)
 
 same_length : tie.Need-same-length invariant-loop decreases-loop
 same_length c = c.before.loop.invariant.2
 
 returns : tie.Need-returns invariant-loop decreases-loop
-returns c = let l = c.before.loop in sym (store-done l.bytes l.i c.before.before.args.x l.left (omega arith)) ∙ l.invariant.3
+returns c = let l = c.before.loop in sym (store_done l.bytes l.i c.before.before.args.x l.left (omega arith)) ∙ l.invariant.3
 
 pub put_spec : {M : Type 1} → statement M
 put_spec =

@@ -3,8 +3,8 @@ use mathlib.Core.Path.{sym, ap, ◌∙◌}
 use Rattle.refusals.specs.Refusals.{number_of}
 use Rattle.marks.specs.declared.Fed.{Fed}
 use Rattle.marks.specs.Answers.{fed}
-use Rattle.c_interface.specs.Interface.{markAt}
-use Rattle.c_interface.specs.Storing.{markOr}
+use Rattle.c_interface.specs.Interface.{mark_at}
+use Rattle.c_interface.specs.Storing.{mark_or}
 use borrow.Author.Rules.{rules}
 use Rattle.c_interface.proofs.store.Statement.{statement}
 use Rattle.c_interface.proofs.store.Tie as tie
@@ -19,7 +19,7 @@ returns c =
     let s = c.before.before.before.args in
     let e = sym c.before.answer.given.1 in (
       ap (λ (x : Fed). number_of (fed x)) e,
-      ap (λ (x : Fed). markOr (markAt s.fingerprint.now s.length.now) (fed x)) e,
+      ap (λ (x : Fed). mark_or (mark_at s.fingerprint.now s.length.now) (fed x)) e,
     )
 
 returns-2 : tie.Need-returns-2
@@ -27,7 +27,7 @@ returns-2 c =
     let s = (number→start c).args in
     let e = sym c.before.before.answer2.given.1 in (
       c.number.ensures ∙ ap (λ (x : Fed). number_of (fed x)) e,
-      ap (λ (x : Fed). markOr (markAt s.fingerprint.now s.length.now) (fed x)) e,
+      ap (λ (x : Fed). mark_or (mark_at s.fingerprint.now s.length.now) (fed x)) e,
     )
 
 pub store_spec : {M : Type 1} → statement M

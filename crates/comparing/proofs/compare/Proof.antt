@@ -13,8 +13,8 @@ use Rattle.refusals.specs.Refusals.{longest}
 use Rattle.rolling.specs.Rolling.{window}
 use Rattle.rolling.proofs.Windows.{window-length, window-at}
 use Rattle.comparing.proofs.Comparing.{same_step, same_differs, same_end}
-use Rattle.comparing.proofs.Numbers.{tally-begin, tally-end, tally-length}
-use Rattle.comparing.proofs.Counting.{Counted, skipped, place-next, alarm-next}
+use Rattle.comparing.proofs.Numbers.{tally_begin, tally_end, tally_length}
+use Rattle.comparing.proofs.Counting.{Counted, skipped, place-next, alarm_next}
 use Rattle.comparing.proofs.compare.Statement.{statement}
 use Rattle.comparing.proofs.compare.Tie as tie
 
@@ -90,7 +90,7 @@ windows-holds c =
       omega arith,
       omega arith,
       f.flagged,
-      skipped a.flags.now a.text.now a.pattern.now a.from a.size tally-begin
+      skipped a.flags.now a.text.now a.pattern.now a.from a.size tally_begin
           c.next-flagged.result f,
     )
 
@@ -120,7 +120,7 @@ windows-again c =
     let z = l.inv.2 ∙ same_differs (window (length q) t at) q l.j (omega arith) (omega arith) (λ e. c.if1.true (sym byte ∙ e)) in
     let n = (then1→next-flagged2 c).next-flagged2 in
     let f = n.ensures in
-    let done = alarm-next a.flags.now t q a.from a.size w.inv.4 taken (w.inv.3 taken) n.result l.alarms l.inv.0 f z in
+    let done = alarm_next a.flags.now t q a.from a.size w.inv.4 taken (w.inv.3 taken) n.result l.alarms l.inv.0 f z in
     (f.high, omega (arith, f.low), omega (arith, f.low, l.inv.0), f.flagged, done)
 
 loop-again : tie.Need-loop-preserved invariant-loop decreases-loop invariant-windows decreases-windows
@@ -171,10 +171,10 @@ windows-again-2 c =
     (f.high, omega (arith, f.low), omega (arith, f.low, l.invariant.0), f.flagged, done)
 
 same_length : tie.Need-same-length invariant-loop decreases-loop invariant-windows decreases-windows
-same_length c = tally-length c.before.windows.invariant.4
+same_length c = tally_length c.before.windows.invariant.4
 
 returns : tie.Need-returns invariant-loop decreases-loop invariant-windows decreases-windows
-returns c = tally-end c.before.windows.invariant.4 (omega arith)
+returns c = tally_end c.before.windows.invariant.4 (omega arith)
 
 -- what the arithmetic of a window and of a byte rests on
 in_window : (c : tie.In-windows invariant-loop decreases-loop invariant-windows decreases-windows) → let a = (in-windows→start c).args in let i = c.before.windows.i in

@@ -1,13 +1,13 @@
 -- `compose::join` meets its contract: the tests of the key, and then those of `join_under`.
 use mathlib.Core.Path.{sym, ap, ◌∙◌}
 use borrow.Author.Rules.{rules}
-use Rattle.acceptance.specs.Keys.{polynomialOf}
+use Rattle.acceptance.specs.Keys.{polynomial_of}
 use Rattle.acceptance.specs.Opened.{Opened}
 use Rattle.acceptance.proofs.Opened.{opened-first}
-use Rattle.files.specs.Files.{joinedFrom}
+use Rattle.files.specs.Files.{joined_from}
 use Rattle.keys.proofs.Laws.{opened, refused}
-use Rattle.marks.specs.Answers.{markIn, fedUnder}
-use Rattle.compose.specs.Composing.{marksTests}
+use Rattle.marks.specs.Answers.{mark_in, fed_under}
+use Rattle.compose.specs.Composing.{marks_tests}
 use Rattle.compose.proofs.join.Statement.{statement}
 use Rattle.compose.proofs.join.Tie as tie
 
@@ -24,8 +24,8 @@ returns c =
     let a = (known-told→start c).args in
     let key = a.m.key in
     let t = c.before.before.before.test in
-    sym (ap (fedUnder key) (refused t.result key t.ensures (marksTests (polynomialOf key) a.first a.second) (markIn a.m)
-    (joinedFrom a.start (polynomialOf key) a.first a.second) _ c.before.r.given.1))
+    sym (ap (fed_under key) (refused t.result key t.ensures (marks_tests (polynomial_of key) a.first a.second) (mark_in a.m)
+    (joined_from a.start (polynomial_of key) a.first a.second) _ c.before.r.given.1))
 
 key-opened : (c : tie.After-p) → Opened (p→start c).args.m.key c.p.given.0.0
 key-opened c =
@@ -40,8 +40,8 @@ returns-2 c =
     let a = (p→start c.before.before).args in
     let key = a.m.key in
     c.join-under.ensures
-    ∙ sym (ap (fedUnder key) (opened-first (key-opened c.before.before) (marksTests (polynomialOf key) a.first a.second) (markIn a.m)
-    (joinedFrom a.start (polynomialOf key) a.first a.second)))
+    ∙ sym (ap (fed_under key) (opened-first (key-opened c.before.before) (marks_tests (polynomial_of key) a.first a.second) (mark_in a.m)
+    (joined_from a.start (polynomial_of key) a.first a.second)))
 
 pub join-spec : {M : Type 1} → statement M
 join-spec = tie.close (tie.spec (λ c κs. search rules) (λ c. search rules) (λ c. search rules) join-under-requires returns returns-2)

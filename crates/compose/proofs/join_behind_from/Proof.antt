@@ -2,21 +2,21 @@
 use mathlib.Core.Path.{ap, ◌∙◌}
 use borrow.Author.Rules.{rules}
 use Rattle.refusals.specs.Refusals.{first_of}
-use Rattle.acceptance.specs.Keys.{polynomialOf}
+use Rattle.acceptance.specs.Keys.{polynomial_of}
 use Rattle.files.specs.declared.Mark.{Mark}
-use Rattle.files.specs.Files.{joinedFrom}
-use Rattle.marks.specs.Answers.{markIn, fedUnder}
-use Rattle.compose.specs.Composing.{joinTests, joinBehindFrom}
+use Rattle.files.specs.Files.{joined_from}
+use Rattle.marks.specs.Answers.{mark_in, fed_under}
+use Rattle.compose.specs.Composing.{join_tests, join_behind_from}
 use Rattle.compose.proofs.join_behind_from.Statement.{statement}
 use Rattle.compose.proofs.join_behind_from.Tie as tie
 
 returns : tie.Need-returns
-unfolding joinBehindFrom
+unfolding join_behind_from
 returns c =
     let a = c.before.before.args in
     let key = a.m.key in
     let start = a.start in
-    c.join.ensures ∙ ap (λ (x : Mark). fedUnder key (first_of (joinTests key x a.other) (markIn a.m) (joinedFrom start (polynomialOf key) x a.other)))
+    c.join.ensures ∙ ap (λ (x : Mark). fed_under key (first_of (join_tests key x a.other) (mark_in a.m) (joined_from start (polynomial_of key) x a.other)))
     c.before.mark.ensures
 
 pub join-behind-from-spec : {M : Type 1} → statement M

@@ -10,13 +10,13 @@ use Rattle.refusals.specs.declared.Refusal.TheVariants.{MarkNotReduced}
 use Rattle.refusals.specs.Refusals.{Done, Refused, first_of, passes}
 use Rattle.refusals.proofs.Laws.{holds, fails}
 use Rattle.refusals.proofs.Lengths.{sum-within}
-use Rattle.acceptance.specs.Keys.{polynomialOf}
+use Rattle.acceptance.specs.Keys.{polynomial_of}
 use Rattle.acceptance.proofs.Opened.{opened-proper, opened-whole, not-residue, is-residue, residue-below}
 use Rattle.files.specs.declared.Mark.{Mark}
-use Rattle.files.specs.Files.{unreduced, joinedFrom}
+use Rattle.files.specs.Files.{unreduced, joined_from}
 use Rattle.files.proofs.Marks.{mark-eq}
-use Rattle.marks.specs.Answers.{markIn, fedUnder}
-use Rattle.compose.specs.Composing.{marksTests}
+use Rattle.marks.specs.Answers.{mark_in, fed_under}
+use Rattle.compose.specs.Composing.{marks_tests}
 use Rattle.compose.proofs.Laws.{marks-long, marks-unreduced, marks-passed}
 use Rattle.compose.proofs.join_under.Statement.{statement}
 use Rattle.compose.proofs.join_under.Tie as tie
@@ -52,12 +52,12 @@ lengths s = s.args.first.length ∷ s.args.second.length ∷ (s.args.first.lengt
 short : (c : tie.Else1) → passes (lengths (else1→start c)) ≡ false
 short c = fails _ (passes (lengths (else1→start c))) c.before.fits2.ensures c.if1.false
 
-first-low : (c : tie.Else2) → let a = (else2→start c).args in unreduced (polynomialOf a.m.key) a.first ≡ false
+first-low : (c : tie.Else2) → let a = (else2→start c).args in unreduced (polynomial_of a.m.key) a.first ≡ false
 first-low c =
     let r = c.before.is-residue in
     is-residue (else2→start c).requires.0 _ r.result r.ensures c.if2.false
 
-second-low : (c : tie.Else3) → let a = (else3→start c).args in unreduced (polynomialOf a.m.key) a.second ≡ false
+second-low : (c : tie.Else3) → let a = (else3→start c).args in unreduced (polynomial_of a.m.key) a.second ≡ false
 second-low c =
     let r = c.before.is-residue2 in
     is-residue (else3→start c).requires.0 _ r.result r.ensures c.if3.false
@@ -69,22 +69,22 @@ returns c =
     let s = c.before.before in
     let a = s.args in
     let long = holds _ (passes (lengths s)) c.before.fits2.ensures c.if1.true in
-    let key = polynomialOf a.m.key in
-    sym (ap (fedUnder a.m.key) (marks-long key a.first a.second (markIn a.m) (joinedFrom a.start key a.first a.second) long))
+    let key = polynomial_of a.m.key in
+    sym (ap (fed_under a.m.key) (marks-long key a.first a.second (mark_in a.m) (joined_from a.start key a.first a.second) long))
 
 is-residue-requires : tie.Need-is-residue-requires
 is-residue-requires c κs = opened-proper (else1→start c).requires.0
 
 -- number 8 applies to one of the marks
-unreduced-refused : (c : tie.Else1) → let a = (else1→start c).args in let key = polynomialOf a.m.key in
+unreduced-refused : (c : tie.Else1) → let a = (else1→start c).args in let key = polynomial_of a.m.key in
     (unreduced key a.first || unreduced key a.second) ≡ true
-    → fedUnder a.m.key (Refused MarkNotReduced (markIn a.m)) ≡ fedUnder a.m.key
-    (first_of (marksTests key a.first a.second) (markIn a.m) (joinedFrom a.start key a.first a.second))
+    → fed_under a.m.key (Refused MarkNotReduced (mark_in a.m)) ≡ fed_under a.m.key
+    (first_of (marks_tests key a.first a.second) (mark_in a.m) (joined_from a.start key a.first a.second))
 unreduced-refused c high =
     let a = (else1→start c).args in
-    let key = polynomialOf a.m.key in
-    let value = joinedFrom a.start key a.first a.second in
-    sym (ap (fedUnder a.m.key) (marks-unreduced key a.first a.second (markIn a.m) value (short c) high))
+    let key = polynomial_of a.m.key in
+    let value = joined_from a.start key a.first a.second in
+    sym (ap (fed_under a.m.key) (marks-unreduced key a.first a.second (mark_in a.m) value (short c) high))
 
 returns-2 : tie.Need-returns-2
 returns-2 c =
@@ -117,18 +117,18 @@ add-t17 c =
     record { fits = omega (arith, sum-within a.first.length a.second.length (short (joined-residue→else1 c))) }
 
 returns-4 : tie.Need-returns-4
-unfolding joinedFrom
+unfolding joined_from
 returns-4 c =
     let s = joined-residue→start c in
     let a = s.args in
-    let key = polynomialOf a.m.key in
+    let key = polynomial_of a.m.key in
     let x = a.first in
     let y = a.second in
     let value : c.joined-residue.result ≡ rem key (x.fingerprint * 2 ^ y.length ⊕ y.fingerprint ⊕ a.start * 2 ^ y.length) =
     c.joined-residue.ensures
     ∙ ap (λ (q : ℕ). rem q (x.fingerprint * 2 ^ y.length ⊕ y.fingerprint ⊕ a.start * 2 ^ y.length)) (opened-whole s.pre.0) in
-    ap (λ (z : Mark). fedUnder a.m.key (Done z)) (mark-eq value refl)
-    ∙ sym (ap (fedUnder a.m.key) (marks-passed key x y (markIn a.m) (joinedFrom a.start key x y) (short (joined-residue→else1 c))
+    ap (λ (z : Mark). fed_under a.m.key (Done z)) (mark-eq value refl)
+    ∙ sym (ap (fed_under a.m.key) (marks-passed key x y (mark_in a.m) (joined_from a.start key x y) (short (joined-residue→else1 c))
     (first-low c.before.before.before) (second-low c.before)))
 
 pub join-under-spec : {M : Type 1} → statement M

@@ -17,13 +17,13 @@ use Rattle.gf2.proofs.Steps.{residue-lt}
 use Rattle.refusals.specs.Refusals.{Done, longest, passes}
 use Rattle.refusals.proofs.Laws.{holds, fails}
 use Rattle.refusals.proofs.Lengths.{within, counted_is}
-use Rattle.acceptance.specs.Keys.{polynomialOf}
+use Rattle.acceptance.specs.Keys.{polynomial_of}
 use Rattle.acceptance.proofs.Opened.{opened-proper, opened-whole, not-residue, is-residue, residue-below}
 use Rattle.files.specs.declared.Mark.{Mark}
-use Rattle.files.specs.Files.{fingerprintFrom, fingerprint, unreduced, Part, asPart, partLength, partBits, misused, replaced}
+use Rattle.files.specs.Files.{fingerprint_from, fingerprint, unreduced, Part, as_part, part_length, part_bits, misused, replaced}
 use Rattle.files.proofs.Marks.{mark-eq}
 use Rattle.files.proofs.Parts.{well-used, same-used}
-use Rattle.marks.specs.Answers.{markIn, fedUnder}
+use Rattle.marks.specs.Answers.{mark_in, fed_under}
 use Rattle.compose.proofs.Laws.{page-long, page-unreduced, page-lengths, page-past, page-misused, page-passed, counted-page}
 use Rattle.compose.proofs.replace.Statement.{statement}
 use Rattle.compose.proofs.replace.Tie as tie
@@ -71,17 +71,17 @@ else5→start c = is-misused2→start c.before
 
 -- the pages
 abbrev old : tie.Start → Part
-old s = asPart s.args.old.now s.args.old-used
+old s = as_part s.args.old.now s.args.old-used
 
 abbrev new : tie.Start → Part
-new s = asPart s.args.new.now s.args.new-used
+new s = as_part s.args.new.now s.args.new-used
 
 abbrev lengths : tie.Start → List ℕ
-lengths s = s.args.m.length ∷ partLength (old s) ∷ partLength (new s) ∷ []
+lengths s = s.args.m.length ∷ part_length (old s) ∷ part_length (new s) ∷ []
 
 -- the value that no test refuses
 abbrev value : tie.Start → Mark
-value s = replaced (polynomialOf s.args.m.key) (markIn s.args.m) s.args.place (old s) (new s)
+value s = replaced (polynomial_of s.args.m.key) (mark_in s.args.m) s.args.place (old s) (new s)
 
 -- ---- what the code finds by each test
 
@@ -91,35 +91,35 @@ long c =
     let l = s.args.m.length in
     c.within.ensures
     ∙ ap not
-    (ap₂ (λ (x y : ℕ). passes (l ∷ x ∷ y ∷ [])) c.before.before.part_length.ensures c.before.part-length2.ensures
-    ∙ counted-page l (partLength (old s)) (partLength (new s)))
+    (ap₂ (λ (x y : ℕ). passes (l ∷ x ∷ y ∷ [])) c.before.before.part-length.ensures c.before.part-length2.ensures
+    ∙ counted-page l (part_length (old s)) (part_length (new s)))
 
 short : (c : tie.Else1) → passes (lengths (else1→start c)) ≡ false
 short c = fails _ _ (long c.before) c.if1.false
 
 -- the lengths as they are counted
-old-is : (c : tie.Else1) → c.before.before.before.part_length.result ≡ partLength (old (else1→start c))
-old-is c = let s = else1→start c in c.before.before.before.part_length.ensures ∙ counted_is _ (within (lengths s) (short c)).1.0
+old-is : (c : tie.Else1) → c.before.before.before.part-length.result ≡ part_length (old (else1→start c))
+old-is c = let s = else1→start c in c.before.before.before.part-length.ensures ∙ counted_is _ (within (lengths s) (short c)).1.0
 
-new_is : (c : tie.Else1) → c.before.before.part-length2.result ≡ partLength (new (else1→start c))
+new_is : (c : tie.Else1) → c.before.before.part-length2.result ≡ part_length (new (else1→start c))
 new_is c = let s = else1→start c in c.before.before.part-length2.ensures ∙ counted_is _ (within (lengths s) (short c)).1.1.0
 
-low : (c : tie.Else2) → let a = (else2→start c).args in unreduced (polynomialOf a.m.key) (markIn a.m) ≡ false
+low : (c : tie.Else2) → let a = (else2→start c).args in unreduced (polynomial_of a.m.key) (mark_in a.m) ≡ false
 low c =
     let r = c.before.is-residue in
     is-residue (else2→start c).requires _ r.result r.ensures c.if2.false
 
-same : (c : tie.After-page-within) → let s = page-within→start c in partLength (old s) ≡ partLength (new s)
+same : (c : tie.After-page-within) → let s = page-within→start c in part_length (old s) ≡ part_length (new s)
 same c = let b = else2→else1 (page-within→else2 c) in sym (old-is b) ∙ c.before.if3.false ∙ new_is b
 
 past : (c : tie.After-page-within) → let s = page-within→start c in
-    c.page-within.result ≡ not (ltb s.args.m.length (8 * s.args.place + partLength (old s)))
+    c.page-within.result ≡ not (ltb s.args.m.length (8 * s.args.place + part_length (old s)))
 past c =
     let s = page-within→start c in
     c.page-within.ensures
     ∙ ap (λ (n : ℕ). not (ltb s.args.m.length (8 * s.args.place + n))) (old-is (else2→else1 (page-within→else2 c)))
 
-inside : (c : tie.Else4) → let s = else4→start c in ltb s.args.m.length (8 * s.args.place + partLength (old s)) ≡ false
+inside : (c : tie.Else4) → let s = else4→start c in ltb s.args.m.length (8 * s.args.place + part_length (old s)) ≡ false
 inside c = fails _ _ (past c.before) c.if4.false
 
 wrong : (c : tie.After-is-misused2) → let s = is-misused2→start c in
@@ -135,7 +135,7 @@ returns : tie.Need-returns
 returns c =
     let s = within→start c.before in
     let a = s.args in
-    sym (ap (fedUnder a.m.key) (page-long (polynomialOf a.m.key) (markIn a.m) a.place (old s) (new s) (markIn a.m) (value s)
+    sym (ap (fed_under a.m.key) (page-long (polynomial_of a.m.key) (mark_in a.m) a.place (old s) (new s) (mark_in a.m) (value s)
     (holds _ _ (long c.before) c.if1.true)))
 
 is-residue-requires : tie.Need-is-residue-requires
@@ -147,7 +147,7 @@ returns-2 c =
     let a = s.args in
     let r = c.before.is-residue in
     let high = not-residue s.pre _ r.result r.ensures c.if2.true in
-    sym (ap (fedUnder a.m.key) (page-unreduced (polynomialOf a.m.key) (markIn a.m) a.place (old s) (new s) (markIn a.m) (value s)
+    sym (ap (fed_under a.m.key) (page-unreduced (polynomial_of a.m.key) (mark_in a.m) a.place (old s) (new s) (mark_in a.m) (value s)
     (short c.before.before) high))
 
 returns-3 : tie.Need-returns-3
@@ -155,7 +155,7 @@ returns-3 c =
     let s = else2→start c.before in
     let a = s.args in
     let b = else2→else1 c.before in
-    sym (ap (fedUnder a.m.key) (page-lengths (polynomialOf a.m.key) (markIn a.m) a.place (old s) (new s) (markIn a.m) (value s)
+    sym (ap (fed_under a.m.key) (page-lengths (polynomial_of a.m.key) (mark_in a.m) a.place (old s) (new s) (mark_in a.m) (value s)
     (short b) (low c.before) (λ e. c.if3.true (old-is b ∙ e ∙ sym (new_is b)))))
 
 returns-4 : tie.Need-returns-4
@@ -163,7 +163,7 @@ returns-4 c =
     let s = page-within→start c.before in
     let a = s.args in
     let b = page-within→else2 c.before in
-    sym (ap (fedUnder a.m.key) (page-past (polynomialOf a.m.key) (markIn a.m) a.place (old s) (new s) (markIn a.m) (value s)
+    sym (ap (fed_under a.m.key) (page-past (polynomial_of a.m.key) (mark_in a.m) a.place (old s) (new s) (mark_in a.m) (value s)
     (short (else2→else1 b)) (low b) (same c.before) (holds _ _ (past c.before) c.if4.true)))
 
 returns-5 : tie.Need-returns-5
@@ -172,13 +172,13 @@ returns-5 c =
     let a = s.args in
     let d = is-misused2→else4 c.before in
     let b = page-within→else2 d.before in
-    sym (ap (fedUnder a.m.key) (page-misused (polynomialOf a.m.key) (markIn a.m) a.place (old s) (new s) (markIn a.m) (value s)
+    sym (ap (fed_under a.m.key) (page-misused (polynomial_of a.m.key) (mark_in a.m) a.place (old s) (new s) (mark_in a.m) (value s)
     (short (else2→else1 b)) (low b) (same d.before) (inside d) (sym (wrong c.before) ∙ c.if5.true)))
 
 -- what the arithmetic rests on
 fits : (c : tie.Else5) → let s = else5→start c in
-    ((else2→else1 (else5→else2 c)).before.before.before.part_length.result ≡ partLength (old s))
-    × (8 * s.args.place + partLength (old s) ≤ s.args.m.length)
+    ((else2→else1 (else5→else2 c)).before.before.before.part-length.result ≡ part_length (old s))
+    × (8 * s.args.place + part_length (old s) ≤ s.args.m.length)
     × (s.args.m.length ≤ longest)
 fits c =
     let b = else2→else1 (else5→else2 c) in
@@ -199,12 +199,12 @@ page-difference-requires c κs =
       opened-proper s.pre,
       (used c).0,
       h.0,
-      subst (λ (u : ℕ). misused (asPart a.new.now u) ≡ false) (sym (used c).1) h.1,
+      subst (λ (u : ℕ). misused (as_part a.new.now u) ≡ false) (sym (used c).1) h.1,
     )
 
 -- the difference of two fingerprints is a residue
 fingerprints-lt : (p : Modulus) → Proper p → (a b : List ℕ) → fingerprint (polynomial p) a ⊕ fingerprint (polynomial p) b < 2 ^ p.degree
-unfolding fingerprintFrom
+unfolding fingerprint_from
 fingerprints-lt p h a b = let lt = residue-lt p.degree p.low h.2 in ⊕-lt p.degree _ _ (lt _) (lt _)
 
 replaced-residue-requires : tie.Need-replaced-residue-requires
@@ -214,7 +214,7 @@ replaced-residue-requires c κs =
     let proper = opened-proper s.pre in (
       proper,
       residue-below s.pre s.args.m.fingerprint (low (else5→else2 e)),
-      rw c.page-difference.ensures (fingerprints-lt s.args.p proper (partBits (old s)) (partBits (asPart s.args.new.now s.args.old-used))),
+      rw c.page-difference.ensures (fingerprints-lt s.args.p proper (part_bits (old s)) (part_bits (as_part s.args.new.now s.args.old-used))),
     )
 
 -- the bits after the page, as the code counts them and as the definition does
@@ -228,20 +228,20 @@ returns-6 c =
     let s = else5→start e in
     let a = s.args in
     let x = a.m.key in
-    let key = polynomialOf x in
-    let m = markIn a.m in
+    let key = polynomial_of x in
+    let m = mark_in a.m in
     let b = else5→else2 e in
     let d = else5→else4 e in
-    let page = (else2→else1 b).before.before.before.part_length.result in
-    let change : ℕ → ℕ → ℕ = λ q u. fingerprint q (partBits (old s)) ⊕ fingerprint q (partBits (asPart a.new.now u)) in
-    let is : c.replaced-residue.result ≡ rem key (m.fingerprint ⊕ change key a.new-used * 2 ^ (m.length - (8 * a.place + partLength (old s)))) =
+    let page = (else2→else1 b).before.before.before.part-length.result in
+    let change : ℕ → ℕ → ℕ = λ q u. fingerprint q (part_bits (old s)) ⊕ fingerprint q (part_bits (as_part a.new.now u)) in
+    let is : c.replaced-residue.result ≡ rem key (m.fingerprint ⊕ change key a.new-used * 2 ^ (m.length - (8 * a.place + part_length (old s)))) =
     c.replaced-residue.ensures
     ∙ ap (λ (d : ℕ). rem (polynomial a.p) (m.fingerprint ⊕ d * 2 ^ (m.length - page - 8 * a.place))) c.before.page-difference.ensures
     ∙ ap (λ (q : ℕ). rem q (m.fingerprint ⊕ change q a.old-used * 2 ^ (m.length - page - 8 * a.place))) (opened-whole s.pre)
     ∙ ap₂ (λ (u n : ℕ). rem key (m.fingerprint ⊕ change key u * 2 ^ n)) (used e).1
-    (ap (λ (n : ℕ). m.length - n - 8 * a.place) (fits e).0 ∙ after-page m.length (partLength (old s)) a.place) in
-    ap (λ (z : Mark). fedUnder x (Done z)) (mark-eq is refl)
-    ∙ sym (ap (fedUnder x) (page-passed key m a.place (old s) (new s) m (value s) (short (else2→else1 b)) (low b) (same d.before) (inside d) (right e)))
+    (ap (λ (n : ℕ). m.length - n - 8 * a.place) (fits e).0 ∙ after-page m.length (part_length (old s)) a.place) in
+    ap (λ (z : Mark). fed_under x (Done z)) (mark-eq is refl)
+    ∙ sym (ap (fed_under x) (page-passed key m a.place (old s) (new s) m (value s) (short (else2→else1 b)) (low b) (same d.before) (inside d) (right e)))
 
 pub replace_spec : {M : Type 1} → statement M
 replace_spec =

@@ -12,13 +12,13 @@ use Rattle.gf2.specs.Polynomials.{degree, monic}
 use Rattle.gf2.specs.Moduli.{Proper}
 use Rattle.refusals.specs.Refusals.{Done}
 use Rattle.acceptance.specs.declared.Key.{Key}
-use Rattle.acceptance.specs.Keys.{keyOf}
+use Rattle.acceptance.specs.Keys.{key_of}
 use Rattle.lists.specs.Members.{among}
 use Rattle.lists.proofs.Truth.{or-neither}
 use Rattle.fields.specs.Primes.{Field}
-use Rattle.stock.specs.Stock.{stockKey, stockWord}
-use Rattle.stock.proofs.Table.{stock-whole}
-use Rattle.draw.specs.Drawing.{degrees, drawn, drawnKey, draw}
+use Rattle.stock.specs.Stock.{stock_key, stock_word}
+use Rattle.stock.proofs.Table.{stock_whole}
+use Rattle.draw.specs.Drawing.{degrees, drawn, drawn_key, draw}
 use Rattle.draw.proofs.Fairness.{range, field, key-degree}
 use Rattle.draw.proofs.draw.Statement.{statement}
 use Rattle.draw.proofs.draw.Tie as tie
@@ -35,19 +35,19 @@ abbrev stock-word→start : tie.After-stock-word → tie.Start
 stock-word→start c = else2→start c.before
 
 -- the stock key of a listed degree, from its word
-module _ (k : ℕ) (listed : among k degrees ≡ true) (w : ℕ) (is : w ≡ stockWord k) where
-  whole : monic k w ≡ stockKey k
-  whole = ap (monic k) is ∙ stock-whole k (omega (arith, (range k listed).0)) (omega (arith, (range k listed).1))
+module _ (k : ℕ) (listed : among k degrees ≡ true) (w : ℕ) (is : w ≡ stock_word k) where
+  whole : monic k w ≡ stock_key k
+  whole = ap (monic k) is ∙ stock_whole k (omega (arith, (range k listed).0)) (omega (arith, (range k listed).1))
 
   proper : Proper (record { degree = k; low = w })
-  unfolding stockWord
-  proper = (omega (arith, (range k listed).0), omega (arith, (range k listed).1), rw is (mod-lt (stockKey k) (pow_pos k)))
+  unfolding stock_word
+  proper = (omega (arith, (range k listed).0), omega (arith, (range k listed).1), rw is (mod-lt (stock_key k) (pow_pos k)))
 
   its-field : Field (monic k w) k
   its-field = rw whole (field k listed)
 
 -- a polynomial of degree k, as the key that it is handed in as
-as-key : (k p : ℕ) → degree p ≡ k → ◌≡◌ {A = Key} (record { degree = k; word = p % 2 ^ k }) (keyOf p)
+as-key : (k p : ℕ) → degree p ≡ k → ◌≡◌ {A = Key} (record { degree = k; word = p % 2 ^ k }) (key_of p)
 as-key k p e = ap {B = Key} (λ (n : ℕ). record { degree = n; word = p % 2 ^ n }) (sym e)
 
 returns : tie.Need-returns
@@ -66,13 +66,13 @@ unfolding draw
 returns-2 c = rw (listed c.before.before, sym c.before.out_of_range.ensures ∙ c.if2.true)
 
 -- number 4 does not apply
-in-range : (c : tie.Else2) → (ltb (else2→start c).args.element 2 || leb (2 ^ (else2→start c).args.degree) (else2→start c).args.element) ≡ false
-in-range c = sym c.before.out_of_range.ensures ∙ c.if2.false
+in_range : (c : tie.Else2) → (ltb (else2→start c).args.element 2 || leb (2 ^ (else2→start c).args.degree) (else2→start c).args.element) ≡ false
+in_range c = sym c.before.out_of_range.ensures ∙ c.if2.false
 
 element-in : (c : tie.Else2) → (1 < (else2→start c).args.element) × ((else2→start c).args.element < 2 ^ (else2→start c).args.degree)
 element-in c =
     let a = (else2→start c).args in
-    let r = or-neither (ltb a.element 2) (leb (2 ^ a.degree) a.element) (in-range c) in
+    let r = or-neither (ltb a.element 2) (leb (2 ^ a.degree) a.element) (in_range c) in
     (ltb-false a.element 2 r.0, leb-false (2 ^ a.degree) a.element r.1)
 
 minimal-polynomial-requires : tie.Need-minimal-polynomial-requires
@@ -96,9 +96,9 @@ returns-3 c =
     let e = element-in s.before in
     let w = s.stock-word in
     let drew = c.before.minimal-polynomial.ensures ∙ ap (λ (f : ℕ). drawn f k a.element) (whole k l w.result w.ensures) in
-    rw (l, in-range s.before)
+    rw (l, in_range s.before)
     (ap Done (ap {B = Key} (λ (v : ℕ). record { degree = k; word = v }) (c.low-bits.ensures ∙ ap (λ (p : ℕ). p % 2 ^ k) drew)
-    ∙ as-key k (drawnKey k a.element) (key-degree k l a.element e.0 e.1)))
+    ∙ as-key k (drawn_key k a.element) (key-degree k l a.element e.0 e.1)))
 
 pub draw-spec : {M : Type 1} → statement M
 draw-spec =

@@ -8,8 +8,8 @@ use Rattle.gf2.specs.Polynomials.{◌⊗◌, rem}
 use Rattle.gf2.specs.Moduli.{polynomial}
 use Rattle.gf2.proofs.Products.{one-⊗}
 use Rattle.gf2.proofs.Steps.{residue-lt, residue-small}
-use Rattle.basis.proofs.Matrices.{Filling, filling-next, filling-matrix}
-use Rattle.draw.proofs.Evaluation.{positive, times-additive, times-next}
+use Rattle.basis.proofs.Matrices.{Filling, filling-next, filling_matrix}
+use Rattle.draw.proofs.Evaluation.{positive, times_additive, times_next}
 use Rattle.draw.proofs.multiples.Statement.{statement}
 use Rattle.draw.proofs.multiples.Tie as tie
 
@@ -41,18 +41,18 @@ loop-again c =
     let s = c.before.before.before in
     let pos = positive s.args.p s.requires.0 in
     let l = c.before.before.loop in
-    let next = times-next pos s.args.a l.j l.x l.invariant.2.0 in (
+    let next = times_next pos s.args.a l.j l.x l.invariant.2.0 in (
       omega arith,
       length-set l.rows l.j l.x ∙ l.invariant.1,
-      filling-next (times-additive pos s.args.a) l.rows l.x l.j (omega arith) l.invariant.2 _ (c.step.ensures ∙ next),
+      filling-next (times_additive pos s.args.a) l.rows l.x l.j (omega arith) l.invariant.2 _ (c.step.ensures ∙ next),
     )
 
 returns : tie.Need-returns invariant-loop decreases-loop
 returns c =
     let s = c.before.before in
     let l = c.before.loop in
-    let add = times-additive (positive s.args.p s.requires.0) s.args.a in
-    filling-matrix add l.rows l.x l.j l.invariant.1 (omega arith) l.invariant.2
+    let add = times_additive (positive s.args.p s.requires.0) s.args.a in
+    filling_matrix add l.rows l.x l.j l.invariant.1 (omega arith) l.invariant.2
 
 pub multiples-spec : {M : Type 1} → statement M
 multiples-spec =

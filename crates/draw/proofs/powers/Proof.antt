@@ -8,7 +8,7 @@ use lib.ListN.{length, length-set}
 use Rattle.gf2.specs.Moduli.{polynomial}
 use Rattle.gf2.specs.declared.Modulus.{Modulus}
 use Rattle.fields.specs.Fields.{at}
-use Rattle.basis.proofs.Matrices.{Filling, filling-next, filling-matrix}
+use Rattle.basis.proofs.Matrices.{Filling, filling-next, filling_matrix}
 use Rattle.draw.proofs.Evaluation.{Times, value-additive, first-power, next_power, value-word}
 use Rattle.draw.proofs.powers.Statement.{statement}
 use Rattle.draw.proofs.powers.Tie as tie
@@ -64,7 +64,7 @@ returns c =
     let s = at-loop→start c.before in
     let p = s.args.p in
     let l = c.before.loop in
-    filling-matrix (value-additive p s.pre.0 s.args.e) l.rows l.power l.i l.invariant.1 (omega arith)
+    filling_matrix (value-additive p s.pre.0 s.args.e) l.rows l.power l.i l.invariant.1 (omega arith)
     (l.invariant.2 p (s.pre.0, s.pre.1, (at-loop→multiples c.before).multiples.ensures))
 
 pub powers-spec : {M : Type 1} → statement M

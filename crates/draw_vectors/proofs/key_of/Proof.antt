@@ -1,7 +1,7 @@
 -- `key_of` meets its contract: by the answer's two cases.
 use mathlib.Core.Path.{◌≡◌, sym, ap, ◌∙◌}
 use borrow.Author.Rules.{rules}
-use Rattle.refusals.specs.Refusals.{valueOr}
+use Rattle.refusals.specs.Refusals.{value_or}
 use Rattle.draw.specs.declared.Drawn.{Drawn}
 use Rattle.draw.specs.Drawing.{draw}
 use Rattle.draw.specs.Answers.{answer}
@@ -13,8 +13,8 @@ abbrev none : Key
 none = record { degree = 0; word = 0 }
 
 -- the key of what the call answers
-answered : (c : tie.After-draw) {x : Drawn} → c.draw.result ≡ x → valueOr none (answer x) ≡ valueOr none (draw 11 c.before.args.element)
-answered c e = ap (λ (d : Drawn). valueOr none (answer d)) (sym e) ∙ ap (valueOr none) c.draw.ensures
+answered : (c : tie.After-draw) {x : Drawn} → c.draw.result ≡ x → value_or none (answer x) ≡ value_or none (draw 11 c.before.args.element)
+answered c e = ap (λ (d : Drawn). value_or none (answer d)) (sym e) ∙ ap (value_or none) c.draw.ensures
 
 returns : tie.Need-returns
 returns c = answered c.before.before.before c.before.key.given.1

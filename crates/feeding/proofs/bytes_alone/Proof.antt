@@ -3,7 +3,7 @@ use mathlib.Core.Path.{sym, ap, subst, ◌∙◌}
 use Prim.Native.Nat.{ℕ, ◌^◌, ◌<◌}
 use native.Mathlib.Omega.{arith}
 use Rattle.gf2.specs.Polynomials.{rem}
-use Rattle.files.specs.Files.{bits, valueFrom}
+use Rattle.files.specs.Files.{bits, value_from}
 use borrow.Author.Rules.{rules}
 use Rattle.feeding.proofs.bytes_alone.Statement.{statement}
 use Rattle.feeding.proofs.bytes_alone.Tie as tie
@@ -25,7 +25,7 @@ returns : tie.Need-returns
 returns c =
     let a = (then1→start c.before).args in
     let e = (c.before.before.is-house.ensures c.before.if1.true).2 in
-    c.fed-house.ensures ∙ ap (λ (p : ℕ). rem p (valueFrom a.f (bits a.part.now))) (sym e)
+    c.fed-house.ensures ∙ ap (λ (p : ℕ). rem p (value_from a.f (bits a.part.now))) (sym e)
 
 fed-requires : tie.Need-fed-requires
 fed-requires c κs = (c.before.bytes-at-once.ensures (omega arith), (at-once→start c.before).requires.1)

@@ -4,7 +4,7 @@ use Prim.Native.Nat.{ℕ}
 use lib.Pow.{pow-lt}
 use native.Mathlib.Omega.{arith}
 use Rattle.gf2.specs.Polynomials.{rem}
-use Rattle.files.specs.Files.{bits, valueFrom}
+use Rattle.files.specs.Files.{bits, value_from}
 use borrow.Author.Rules.{rules}
 use Rattle.feeding.proofs.page_by_table.Statement.{statement}
 use Rattle.feeding.proofs.page_by_table.Tie as tie
@@ -20,7 +20,7 @@ else1→start c = c.before.before.before.before
 returns : tie.Need-returns
 returns c =
     let page = (then1→start c.before).args.page.now in
-    c.fed-page.ensures ∙ ap (λ (p : ℕ). rem p (valueFrom 1 (bits page))) (sym (c.before.before.is-house.ensures c.before.if1.true).2)
+    c.fed-page.ensures ∙ ap (λ (p : ℕ). rem p (value_from 1 (bits page))) (sym (c.before.before.is-house.ensures c.before.if1.true).2)
 
 -- the leading 1 is a residue
 fed-requires : tie.Need-fed-requires

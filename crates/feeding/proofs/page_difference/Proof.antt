@@ -7,7 +7,7 @@ use lib.Seq.{length-take-le}
 use borrow.Author.Rules.{rules}
 use Rattle.gf2.specs.Polynomials.{◌⊕◌, rem}
 use Rattle.gf2.specs.Moduli.{polynomial}
-use Rattle.files.specs.Files.{bits, valueFrom}
+use Rattle.files.specs.Files.{bits, value_from}
 use Rattle.feeding.proofs.page_difference.Statement.{statement}
 use Rattle.feeding.proofs.page_difference.Tie as tie
 
@@ -38,7 +38,7 @@ difference-end-requires c κs =
       s.pre.2,
       s.pre.3,
       c.bytes-difference.ensures
-          ∙ ap (λ (n : ℕ). rem (polynomial a.p) (valueFrom 0 (bits (take n a.old.now)) ⊕ valueFrom 0 (bits (take n a.new.now))))
+          ∙ ap (λ (n : ℕ). rem (polynomial a.p) (value_from 0 (bits (take n a.old.now)) ⊕ value_from 0 (bits (take n a.new.now))))
           c.before.before.before.whole-bytes.ensures.0,
     )
 

@@ -5,7 +5,7 @@ use lib.Seq.{length-take-le}
 use Rattle.gf2.specs.Moduli.{polynomial}
 use Rattle.gf2.proofs.Monics.{monic-pos}
 use Rattle.gf2.proofs.Steps.{residue-lt}
-use Rattle.files.specs.Files.{asPart}
+use Rattle.files.specs.Files.{as_part}
 use Rattle.files.proofs.Computing.{whole-behind, part-behind}
 use Rattle.feeding.proofs.part_by_table.Statement.{statement}
 use Rattle.feeding.proofs.part_by_table.Tie as tie
@@ -43,7 +43,7 @@ returns-2 c =
     let a = s.args in
     let whole = d.before.before.whole-bytes.ensures.0 in
     c.feed-end.ensures
-    ∙ part-behind (monic-pos a.p.degree a.p.low s.pre.0.0.2) a.f (asPart a.part.now a.used) _ _ whole d.bytes-by-table2.ensures
+    ∙ part-behind (monic-pos a.p.degree a.p.low s.pre.0.0.2) a.f (as_part a.part.now a.used) _ _ whole d.bytes-by-table2.ensures
 
 pub part-by-table-spec : {M : Type 1} → statement M
 part-by-table-spec =

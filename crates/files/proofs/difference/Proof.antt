@@ -9,7 +9,7 @@ use Rattle.gf2.specs.Moduli.{polynomial}
 use Rattle.gf2.proofs.Sums.{⊕-zero}
 use Rattle.gf2.proofs.Monics.{monic-pos}
 use Rattle.gf2.proofs.Steps.{residue-lt, residue-small}
-use Rattle.files.specs.Files.{bits, valueFrom}
+use Rattle.files.specs.Files.{bits, value_from}
 use Rattle.files.proofs.Computing.{pages-next}
 use Rattle.files.proofs.difference.Statement.{statement}
 use Rattle.files.proofs.difference.Tie as tie
@@ -17,8 +17,8 @@ use Rattle.files.proofs.difference.Tie as tie
 abbrev invariant-loop : tie.invariant-loop
 invariant-loop p old new x₀ i₀ x i =
     (i ≤ length old) × (x < 2 ^ p.degree)
-    × (rem (polynomial p) (valueFrom x (bits (drop i old)) ⊕ valueFrom 0 (bits (drop i new)))
-    ≡ rem (polynomial p) (valueFrom 0 (bits old) ⊕ valueFrom 0 (bits new)))
+    × (rem (polynomial p) (value_from x (bits (drop i old)) ⊕ value_from 0 (bits (drop i new)))
+    ≡ rem (polynomial p) (value_from 0 (bits old) ⊕ value_from 0 (bits new)))
 
 abbrev decreases-loop : tie.decreases-loop
 decreases-loop p old new x₀ i₀ x i = length old - i
@@ -58,7 +58,7 @@ loop-again c =
     )
 
 returns : tie.Need-returns invariant-loop decreases-loop
-unfolding valueFrom bits
+unfolding value_from bits
 returns c =
     let s = at-loop→start c.before in
     let a = s.args in

@@ -7,8 +7,8 @@ use Rattle.gf2.specs.Polynomials.{◌⊕◌, rem}
 use Rattle.gf2.specs.Moduli.{polynomial}
 use Rattle.gf2.proofs.Monics.{monic-pos}
 use Rattle.gf2.proofs.Steps.{residue-below}
-use Rattle.files.specs.Files.{low_bits, valueFrom, asPart, Part}
-use Rattle.files.specs.Ends.{wholeBytes}
+use Rattle.files.specs.Files.{low_bits, value_from, as_part, Part}
+use Rattle.files.specs.Ends.{whole_bytes}
 use Rattle.files.proofs.Parts.{WellUsed, well-used, some_bytes, whole-front}
 use Rattle.files.proofs.Computing.{pages-whole, pages-rest}
 use Rattle.files.proofs.difference_end.Statement.{statement}
@@ -17,10 +17,10 @@ use Rattle.files.proofs.difference_end.Tie as tie
 -- ---- the two pages, at the start
 
 abbrev oldAt : tie.Start → Part
-oldAt s = asPart s.args.old.now s.args.used
+oldAt s = as_part s.args.old.now s.args.used
 
 abbrev newAt : tie.Start → Part
-newAt s = asPart s.args.new.now s.args.used
+newAt s = as_part s.args.new.now s.args.used
 
 old-used : (s : tie.Start) → WellUsed (oldAt s)
 old-used s = well-used (oldAt s) s.requires.2
@@ -86,11 +86,11 @@ returns-2 c =
     let s = whole→start d in
     let a = s.args in
     let pos = monic-pos a.p.degree a.p.low s.pre.0.2 in
-    let f = wholeBytes (oldAt s) in
+    let f = whole_bytes (oldAt s) in
     let byte-old : get_or a.old.now f 0 < 256 = omega (arith, k.before.shared-slice-known3.given f) in
     let byte-new : get_or a.new.now f 0 < 256 = omega (arith, k.shared-slice-known4.given f) in
     c.feed-low.ensures
-    ∙ ap₂ (λ (x n : ℕ). rem (polynomial a.p) (valueFrom x (low_bits a.used ((get_or a.old.now n 0 ⊕ get_or a.new.now n 0) / 2 ^ (8 - a.used)))))
+    ∙ ap₂ (λ (x n : ℕ). rem (polynomial a.p) (value_from x (low_bits a.used ((get_or a.old.now n 0 ⊕ get_or a.new.now n 0) / 2 ^ (8 - a.used)))))
     s.pre.4 d.whole-bytes.ensures.0
     ∙ pages-rest pos a.old.now a.new.now a.used s.pre.1 (old-used s) (new-used s) d.before.if1.left byte-old byte-new
 

@@ -7,14 +7,14 @@ use Rattle.gf2.specs.Polynomials.{rem}
 use Rattle.gf2.specs.Moduli.{polynomial}
 use Rattle.gf2.proofs.Monics.{monic-pos}
 use Rattle.gf2.proofs.Steps.{residue-lt, residue-small}
-use Rattle.files.specs.Files.{bits, valueFrom}
+use Rattle.files.specs.Files.{bits, value_from}
 use Rattle.files.proofs.Computing.{next-byte}
 use Rattle.files.proofs.feed_bytes.Statement.{statement}
 use Rattle.files.proofs.feed_bytes.Tie as tie
 
 abbrev invariant-loop : tie.invariant-loop
 invariant-loop p f part x₀ i₀ x i =
-    (i ≤ length part) × (x < 2 ^ p.degree) × (rem (polynomial p) (valueFrom x (bits (drop i part))) ≡ rem (polynomial p) (valueFrom f (bits part)))
+    (i ≤ length part) × (x < 2 ^ p.degree) × (rem (polynomial p) (value_from x (bits (drop i part))) ≡ rem (polynomial p) (value_from f (bits part)))
 
 abbrev decreases-loop : tie.decreases-loop
 decreases-loop p f part x₀ i₀ x i = length part - i
@@ -51,7 +51,7 @@ loop-again c =
     )
 
 returns : tie.Need-returns invariant-loop decreases-loop
-unfolding valueFrom bits
+unfolding value_from bits
 returns c =
     let a = (loop→start c).args in
     let m = (loop→start c).requires.0 in

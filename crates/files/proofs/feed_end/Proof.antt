@@ -4,7 +4,7 @@ use native.Mathlib.Omega.{arith}
 use Rattle.gf2.specs.Polynomials.{rem}
 use Rattle.gf2.specs.Moduli.{polynomial}
 use Rattle.gf2.proofs.Steps.{residue-small}
-use Rattle.files.specs.Files.{valueFrom, asPart, Part}
+use Rattle.files.specs.Files.{value_from, as_part, Part}
 use Rattle.files.proofs.Parts.{WellUsed, well-used, some_bytes, end_none, end_low}
 use Rattle.files.proofs.feed_end.Statement.{statement}
 use Rattle.files.proofs.feed_end.Tie as tie
@@ -12,18 +12,18 @@ use Rattle.files.proofs.feed_end.Tie as tie
 -- ---- the part, at the start and behind the first test
 
 abbrev part_at : tie.Start → Part
-part_at s = asPart s.args.part.now s.args.used
+part_at s = as_part s.args.part.now s.args.used
 
 well : (s : tie.Start) → WellUsed (part_at s)
 well s = well-used (part_at s) s.requires.2
 
 returns : tie.Need-returns
-unfolding valueFrom
+unfolding value_from
 returns c =
     let s = c.before.before in
     let a = s.args in
     sym (residue-small a.p.degree a.p.low s.requires.0.2 a.f s.requires.1)
-    ∙ sym (ap (λ l. rem (polynomial a.p) (valueFrom a.f l)) (end_none (part_at s) c.if1.true))
+    ∙ sym (ap (λ l. rem (polynomial a.p) (value_from a.f l)) (end_none (part_at s) c.if1.true))
 
 sub-last : tie.Need-overflow-sub-last
 sub-last c = let s = c.before.before in some_bytes (part_at s) (well s) c.if1.false
@@ -47,7 +47,7 @@ returns-2 : tie.Need-returns-2
 returns-2 c =
     let s = c.before.before.before.before in
     let a = s.args in
-    c.feed-low.ensures ∙ sym (ap (λ l. rem (polynomial a.p) (valueFrom a.f l)) (end_low (part_at s) (well s) c.before.before.if1.false))
+    c.feed-low.ensures ∙ sym (ap (λ l. rem (polynomial a.p) (value_from a.f l)) (end_low (part_at s) (well s) c.before.before.if1.false))
 
 pub feed-end-spec : {M : Type 1} → statement M
 feed-end-spec =

@@ -6,14 +6,14 @@ use Rattle.gf2.specs.Polynomials.{rem}
 use Rattle.gf2.specs.Moduli.{polynomial}
 use Rattle.gf2.proofs.Monics.{monic-pos}
 use Rattle.gf2.proofs.Steps.{residue-lt, residue-small}
-use Rattle.files.specs.Files.{low_bits, valueFrom}
+use Rattle.files.specs.Files.{low_bits, value_from}
 use Rattle.files.proofs.Computing.{next_bit}
 use Rattle.files.proofs.feed_low.Statement.{statement}
 use Rattle.files.proofs.feed_low.Tie as tie
 
 abbrev invariant-loop : tie.invariant-loop
 invariant-loop p f b n x₀ left₀ x left =
-    (left ≤ 8) × (x < 2 ^ p.degree) × (rem (polynomial p) (valueFrom x (low_bits left b)) ≡ rem (polynomial p) (valueFrom f (low_bits n b)))
+    (left ≤ 8) × (x < 2 ^ p.degree) × (rem (polynomial p) (value_from x (low_bits left b)) ≡ rem (polynomial p) (value_from f (low_bits n b)))
 
 abbrev decreases-loop : tie.decreases-loop
 decreases-loop p f b n x₀ left₀ x left = left
@@ -41,14 +41,14 @@ loop-again c =
     )
 
 returns : tie.Need-returns invariant-loop decreases-loop
-unfolding valueFrom low_bits
+unfolding value_from low_bits
 returns c =
     let a = c.before.before.args in
     let m = c.before.before.requires.0 in
     let l = c.before.loop in
     let z : l.left ≡ 0 = omega arith in
     sym (residue-small a.p.degree a.p.low m.2 l.x l.invariant.1)
-    ∙ sym (ap (λ (n : ℕ). rem (polynomial a.p) (valueFrom l.x (low_bits n a.b))) z)
+    ∙ sym (ap (λ (n : ℕ). rem (polynomial a.p) (value_from l.x (low_bits n a.b))) z)
     ∙ l.invariant.2
 
 pub feed-low-spec : {M : Type 1} → statement M

@@ -24,7 +24,7 @@ unfolding ◌⊕◌
 returns c =
     let s = c.before in
     let a = s.args in
-    rw c.with-zeros.ensures (sym (joined_is a.p.degree a.p.low s.requires.0.2 a.start a.f a.g a.b s.requires.3))
+    rw c.with_zeros.ensures (sym (joined_is a.p.degree a.p.low s.requires.0.2 a.start a.f a.g a.b s.requires.3))
 
 pub joined-residue-spec : {M : Type 1} → statement M
 joined-residue-spec = tie.close (tie.spec with-zeros-requires returns)

@@ -4,21 +4,21 @@ use Prim.Native.Nat.{ℕ, ◌+◌, ◌-◌, ◌*◌}
 use native.Mathlib.Omega.{arith}
 use borrow.Author.Rules.{rules}
 use lib.ListN.{length}
-use Rattle.files.specs.Files.{asPart}
+use Rattle.files.specs.Files.{as_part}
 use Rattle.files.proofs.Parts.{counted_none, counted-many, counted-some}
 use Rattle.files.proofs.part_length.Statement.{statement}
 use Rattle.files.proofs.part_length.Tie as tie
 
 returns : tie.Need-returns
-returns c = let a = c.before.before.args in counted_none (asPart a.part.now a.used) (omega arith)
+returns c = let a = c.before.before.args in counted_none (as_part a.part.now a.used) (omega arith)
 
 returns-2 : tie.Need-returns-2
-returns-2 c = let a = c.before.before.before.args in counted-many (asPart a.part.now a.used) (omega arith)
+returns-2 c = let a = c.before.before.before.args in counted-many (as_part a.part.now a.used) (omega arith)
 
 returns-3 : tie.Need-returns-3
 returns-3 c =
     let a = c.before.before.before.before.args in
-    let part = asPart a.part.now a.used in
+    let part = as_part a.part.now a.used in
     ap (λ (n : ℕ). 8 * (length a.part.now - 1) + n) c.used-bits.ensures.0
     ∙ counted-some part (omega (arith, c.before.before.if1.false)) (omega (arith, c.before.if2.false))
 

@@ -7,9 +7,9 @@ use native.Mathlib.Omega.{arith}
 use lib.ListN.{length, get_or, set, take, length-set}
 use lib.Seq.{take-length}
 use Rattle.gf2.specs.Polynomials.{◌⊕◌}
-use Rattle.gf2.proofs.Sums.{⊕-assoc, ⊕-zero}
-use Rattle.files.specs.Files.{bits, valueFrom}
-use Rattle.fold_blocks.specs.Folds.{exponents, lowExponents, folded, added}
+use Rattle.gf2.proofs.Sums.{⊕_assoc, ⊕-zero}
+use Rattle.files.specs.Files.{bits, value_from}
+use Rattle.fold_blocks.specs.Folds.{exponents, low_exponents, folded, added}
 use Rattle.fold_blocks.proofs.Folding.{Bytes, folding}
 use Rattle.fold_blocks.proofs.House.{low-exponents}
 use borrow.Author.Rules.{rules}
@@ -18,7 +18,7 @@ use Rattle.fold_blocks.proofs.divide.Tie as tie
 
 abbrev invariant-loop : tie.invariant-loop
 invariant-loop q₀ s src two five all i₀ q i =
-    (i ≤ length src) × (length q ≡ length q₀) × (folded exponents s q i ≡ valueFrom (folded exponents s q₀ 0) (bits (take i src)))
+    (i ≤ length src) × (length q ≡ length q₀) × (folded exponents s q i ≡ value_from (folded exponents s q₀ 0) (bits (take i src)))
 
 abbrev decreases-loop : tie.decreases-loop
 decreases-loop q₀ s src two five all i₀ q i = length src - i
@@ -32,20 +32,20 @@ abbrev known4→loop : tie.After-slice-known4 invariant-loop decreases-loop → 
 known4→loop c = (known4→source c).before.before
 
 -- the sum as the code has it
-sum : (s : ℕ) (q : List ℕ) (i b : ℕ) → b ⊕ get_or q (i + 5 * s) 0 ⊕ get_or q (i + 2 * s) 0 ⊕ get_or q (i + s) 0 ⊕ get_or q i 0 ≡ b ⊕ added lowExponents s q i
+sum : (s : ℕ) (q : List ℕ) (i b : ℕ) → b ⊕ get_or q (i + 5 * s) 0 ⊕ get_or q (i + 2 * s) 0 ⊕ get_or q (i + s) 0 ⊕ get_or q i 0 ≡ b ⊕ added low_exponents s q i
 unfolding added
-sum s q i b = rw (one-mul s, zero-mul s, add-zero i, ⊕-zero) (simp ⊕-assoc)
+sum s q i b = rw (one-mul s, zero-mul s, add-zero i, ⊕-zero) (simp ⊕_assoc)
 
 next : (s : ℕ) → 0 < s → (q src : List ℕ) (i start : ℕ) → Bytes q → i + 61 * s < length q → i < length src → get_or src i 0 < 256
-    → folded exponents s q i ≡ valueFrom start (bits (take i src))
+    → folded exponents s q i ≡ value_from start (bits (take i src))
     → folded exponents s (set q (i + 61 * s) (get_or src i 0 ⊕ get_or q (i + 5 * s) 0 ⊕ get_or q (i + 2 * s) 0 ⊕ get_or q (i + s) 0 ⊕ get_or q i 0)) (i + 1)
-    ≡ valueFrom start (bits (take (i + 1) src))
+    ≡ value_from start (bits (take (i + 1) src))
 next s pos q src i start b h l byte inv =
     ap (λ (x : ℕ). folded exponents s (set q (i + 61 * s) x) (i + 1)) (sum s q i (get_or src i 0))
-    ∙ folding 61 s pos q src i start b h l byte lowExponents low-exponents inv
+    ∙ folding 61 s pos q src i start b h l byte low_exponents low-exponents inv
 
 loop-holds : tie.Need-loop-init invariant-loop decreases-loop
-unfolding bits valueFrom
+unfolding bits value_from
 loop-holds c = (omega arith, refl, refl)
 
 loop-again : tie.Need-loop-preserved invariant-loop decreases-loop

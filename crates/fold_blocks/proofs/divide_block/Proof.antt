@@ -8,8 +8,8 @@ use lib.Seq.{drop-drop, length-take-le}
 use borrow.Rule.Slice.PartMut.{put_mid, same_len_mid}
 use Rattle.lists.proofs.Sublists.{put_last}
 use Rattle.gf2.specs.Polynomials.{rem}
-use Rattle.files.specs.Files.{bits, valueFrom}
-use Rattle.house.specs.House.{houseKey}
+use Rattle.files.specs.Files.{bits, value_from}
+use Rattle.house.specs.House.{house_key}
 use Rattle.fold_blocks.specs.Folds.{exponents, folded, Word}
 use Rattle.fold_blocks.proofs.Folding.{block-fed, nothing_left, rest_all}
 use Rattle.fold_blocks.proofs.House.{house-pos, house-last}
@@ -20,7 +20,7 @@ use Rattle.fold_blocks.proofs.divide_block.Tie as tie
 abbrev invariant-loop : tie.invariant-loop
 invariant-loop q₀ s src i₀ q i =
     (i ≤ length src) × (length q ≡ length q₀)
-    × (rem houseKey (valueFrom (folded exponents s (drop i q) 0) (bits (drop i src))) ≡ rem houseKey (valueFrom (folded exponents s q₀ 0) (bits src)))
+    × (rem house_key (value_from (folded exponents s (drop i q) 0) (bits (drop i src))) ≡ rem house_key (value_from (folded exponents s q₀ 0) (bits src)))
 
 abbrev decreases-loop : tie.decreases-loop
 decreases-loop q₀ s src i₀ q i = length src - i
@@ -43,17 +43,17 @@ loop-holds c = (omega arith, refl, refl)
 piece : (s : ℕ) → Word s → (q src r : List ℕ) (i b : ℕ) → i ≤ b → b ≤ length src → length src + 61 * s ≤ length q
     → length r ≡ length (take (length q - i) (drop i q))
     → folded exponents s r (length (take (b - i) (drop i src)))
-    ≡ valueFrom (folded exponents s (take (length q - i) (drop i q)) 0) (bits (take (b - i) (drop i src)))
-    → rem houseKey (valueFrom (folded exponents s (drop b (put_mid i (length q - i) q r)) 0) (bits (drop b src)))
-    ≡ rem houseKey (valueFrom (folded exponents s (drop i q) 0) (bits (drop i src)))
+    ≡ value_from (folded exponents s (take (length q - i) (drop i q)) 0) (bits (take (b - i) (drop i src)))
+    → rem house_key (value_from (folded exponents s (drop b (put_mid i (length q - i) q r)) 0) (bits (drop b src)))
+    ≡ rem house_key (value_from (folded exponents s (drop i q) 0) (bits (drop i src)))
 piece s w q src r i b l m h len e =
     block-fed house-pos src i b (folded exponents s (drop i q) 0) (folded exponents s (drop b (put_mid i (length q - i) q r)) 0) l
-    (ap (λ (x : List ℕ). rem houseKey (folded exponents s x 0)) behind
+    (ap (λ (x : List ℕ). rem house_key (folded exponents s x 0)) behind
     ∙ sym (house-last s w r (b - i) (omega (arith, len, ap length (rest_all q i), length-drop i q)))
-    ∙ ap (rem houseKey)
+    ∙ ap (rem house_key)
     (ap (folded exponents s r) (sym size)
     ∙ e
-    ∙ ap (λ (x : List ℕ). valueFrom (folded exponents s x 0) (bits (take (b - i) (drop i src)))) (rest_all q i)))
+    ∙ ap (λ (x : List ℕ). value_from (folded exponents s x 0) (bits (take (b - i) (drop i src)))) (rest_all q i)))
   where
     size : length (take (b - i) (drop i src)) ≡ b - i
     size = length-take-le (b - i) (drop i src) (rw length-drop (omega arith))
@@ -106,7 +106,7 @@ returns c =
     let l = at.loop in
     let d = c.before.before.divide-piece2 in
     let n = length a.src.now in
-    sym (nothing_left houseKey (folded exponents a.s (drop n (put_mid l.i (length l.q - l.i) l.q d.new.0)) 0) a.src.now n (omega arith))
+    sym (nothing_left house_key (folded exponents a.s (drop n (put_mid l.i (length l.q - l.i) l.q d.new.0)) 0) a.src.now n (omega arith))
     ∙ piece a.s s.pre.0 l.q a.src.now d.new.0 l.i n (omega arith) (omega arith) (omega (arith, l.inv.1, s.pre.1)) d.auto.0
     d.ensures
     ∙ l.inv.2

@@ -4,7 +4,7 @@ use mathlib.Core.List.{List}
 use Prim.Native.Nat.{ℕ}
 use native.Mathlib.Omega.{arith}
 use lib.ListN.{length}
-use Rattle.files.specs.Files.{bits, valueFrom}
+use Rattle.files.specs.Files.{bits, value_from}
 use Rattle.fold_blocks.specs.Folds.{exponents, folded}
 use Rattle.fold_blocks.proofs.House.{not_wide}
 use borrow.Author.Rules.{rules}
@@ -26,8 +26,8 @@ abbrev divide2→else1 : tie.After-divide2 → tie.Else1
 divide2→else1 c = c.before.before
 
 -- by the size of the word as a constant
-by_size : (s t : ℕ) (q r src : List ℕ) → s ≡ t → folded exponents t r (length src) ≡ valueFrom (folded exponents t q 0) (bits src)
-    → folded exponents s r (length src) ≡ valueFrom (folded exponents s q 0) (bits src)
+by_size : (s t : ℕ) (q r src : List ℕ) → s ≡ t → folded exponents t r (length src) ≡ value_from (folded exponents t q 0) (bits src)
+    → folded exponents s r (length src) ≡ value_from (folded exponents s q 0) (bits src)
 by_size s t q r src e h = rw e h
 
 divide-requires : tie.Need-divide-requires

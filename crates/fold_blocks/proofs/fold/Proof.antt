@@ -4,8 +4,8 @@ use Prim.Native.Nat.{◌-◌, ◌≤◌}
 use native.Mathlib.Omega.{arith}
 use lib.ListN.{length, drop}
 use Rattle.gf2.specs.Polynomials.{rem}
-use Rattle.files.specs.Files.{bits, valueFrom}
-use Rattle.house.specs.House.{houseKey}
+use Rattle.files.specs.Files.{bits, value_from}
+use Rattle.house.specs.House.{house_key}
 use Rattle.fold_blocks.specs.Folds.{exponents, folded}
 use Rattle.fold_blocks.proofs.Folding.{block-fed, nothing_left}
 use Rattle.fold_blocks.proofs.House.{house-pos}
@@ -16,7 +16,7 @@ use Rattle.fold_blocks.proofs.fold.Tie as tie
 abbrev invariant-loop : tie.invariant-loop
 invariant-loop q₀ s size part at₀ q at =
     (at ≤ length part) × (length q ≡ length q₀)
-    × (rem houseKey (valueFrom (folded exponents s q 0) (bits (drop at part))) ≡ rem houseKey (valueFrom (folded exponents s q₀ 0) (bits part)))
+    × (rem house_key (value_from (folded exponents s q 0) (bits (drop at part))) ≡ rem house_key (value_from (folded exponents s q₀ 0) (bits part)))
 
 abbrev decreases-loop : tie.decreases-loop
 decreases-loop q₀ s size part at₀ q at = length part - at
@@ -53,7 +53,7 @@ returns : tie.Need-returns invariant-loop decreases-loop
 returns c =
     let a = (loop→start c.before).args in
     let l = c.before.loop in
-    sym (nothing_left houseKey (folded exponents a.s l.q 0) a.part.now l.at (omega arith)) ∙ l.invariant.2
+    sym (nothing_left house_key (folded exponents a.s l.q 0) a.part.now l.at (omega arith)) ∙ l.invariant.2
 
 pub fold-spec : {M : Type 1} → statement M
 fold-spec =

@@ -2,7 +2,7 @@
 use mathlib.Core.Path.{ap, ◌∙◌}
 use lib.ListN.{length, drop}
 use Rattle.gf2.specs.Polynomials.{rem}
-use Rattle.house.specs.House.{houseKey}
+use Rattle.house.specs.House.{house_key}
 use Rattle.fold_blocks.specs.Folds.{exponents}
 use Rattle.fold_blocks.proofs.House.{all-exponents}
 use Rattle.fold_blocks.proofs.Folding.{folded-same}
@@ -24,7 +24,7 @@ returns c =
     let a = (block→start block).args in
     let d = block.divide-block in
     let k = c.before.before.keep-last in
-    ap (rem houseKey) (folded-same 61 a.s k.new.0 (drop (length a.src.now) d.last.0) k.ensures exponents all-exponents)
+    ap (rem house_key) (folded-same 61 a.s k.new.0 (drop (length a.src.now) d.last.0) k.ensures exponents all-exponents)
     ∙ d.ensures
 
 pub turn_spec : {M : Type 1} → statement M

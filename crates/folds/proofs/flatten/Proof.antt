@@ -6,7 +6,7 @@ use native.Mathlib.Nat.{zero-add, zero-mul, one-mul}
 use native.Mathlib.Omega.{arith}
 use lib.ListN.{take}
 use Rattle.gf2.specs.Polynomials.{◌⊕◌}
-use Rattle.gf2.proofs.Sums.{⊕-assoc, ⊕-zero}
+use Rattle.gf2.proofs.Sums.{⊕_assoc, ⊕-zero}
 use Rattle.fold_blocks.specs.Folds.{exponents, front, folded}
 use Rattle.fold_blocks.proofs.Folding.{front-zero, front_same}
 use borrow.Author.Rules.{rules}
@@ -29,7 +29,7 @@ all-added : (s : ℕ) (q : List ℕ) → front q (61 * s) ⊕ front q (5 * s) �
 unfolding folded
 all-added s q =
     rw (zero-add (61 * s), zero-add (5 * s), zero-add (2 * s), zero-add (1 * s), zero-add (0 * s), one-mul s, zero-mul s, front-zero q)
-    (simp (⊕-assoc, ⊕-zero))
+    (simp (⊕_assoc, ⊕-zero))
 
 -- q becomes q₁, q₂ and q₃
 module _ (s : ℕ) (q q₁ q₂ q₃ : List ℕ)

@@ -11,7 +11,7 @@ use Rattle.gf2.specs.Moduli.{polynomial}
 use Rattle.gf2.proofs.Products.{⊗-pow}
 use Rattle.gf2.proofs.Powers.{pow-t}
 use Rattle.gf2.proofs.Monics.{monic-pos}
-use Rattle.gf2.proofs.Steps.{residue-lt, residue-small, square-next, times-next}
+use Rattle.gf2.proofs.Steps.{residue-lt, residue-small, square-next, times_next}
 use Rattle.gf2.proofs.power_of_t.Statement.{statement}
 use Rattle.gf2.proofs.power_of_t.Tie as tie
 
@@ -78,7 +78,7 @@ loop-again c =
     let pos = monic-pos a.p.degree a.p.low s.pre.2 in
     let twice = c.step.ensures ∙ ap (rem (polynomial a.p)) (double y.result) in (
       omega arith,
-      times-next pos 2 a.n l.i l.x y.result (omega arith) l.inv.1 y.ensures _ twice c.before.if1.true,
+      times_next pos 2 a.n l.i l.x y.result (omega arith) l.inv.1 y.ensures _ twice c.before.if1.true,
     )
 
 loop-again-2 : tie.Need-loop-preserved-2 invariant-loop decreases-loop

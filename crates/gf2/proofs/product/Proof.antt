@@ -8,7 +8,7 @@ use native.Mathlib.Omega.{arith}
 use borrow.Author.Rules.{rules}
 use Rattle.gf2.specs.Polynomials.{◌⊕◌, ◌⊗◌, rem}
 use Rattle.gf2.specs.Moduli.{polynomial}
-use Rattle.gf2.proofs.Products.{⊗-zero, mod-2}
+use Rattle.gf2.proofs.Products.{⊗-zero, mod_2}
 use Rattle.gf2.proofs.Residues.{rem-zero}
 use Rattle.gf2.proofs.Monics.{monic-pos}
 use Rattle.gf2.proofs.Steps.{residue-lt, residue-word, residue-small, bit-mul-le, sum-next, shift-next}
@@ -36,7 +36,7 @@ mul-sum c =
     let s = c.before.before in
     let l = c.before.loop in
     let h = rw (← l.invariant.1) at (residue-word s.args.p.degree s.args.p.low s.requires.0.2 s.requires.0.1 (s.args.a * 2 ^ l.i)) in
-    record { fits = lt_of_le_of_lt (bit-mul-le _ _ (mod-2 _)) h }
+    record { fits = lt_of_le_of_lt (bit-mul-le _ _ (mod_2 _)) h }
 
 step-requires : tie.Need-step-requires invariant-loop decreases-loop
 step-requires c κs =

@@ -6,7 +6,7 @@ use lib.Pow.{pow_mono}
 use borrow.Author.Rules.{rules}
 use native.Mathlib.Omega.{arith}
 use Rattle.gf2.specs.Polynomials.{◌⊕◌, monic, rem}
-use Rattle.gf2.proofs.Products.{mod-2}
+use Rattle.gf2.proofs.Products.{mod_2}
 use Rattle.gf2.proofs.Steps.{step_is, top_bit, append-lt, bit-mul-le}
 use Rattle.gf2.proofs.step.Statement.{statement}
 use Rattle.gf2.proofs.step.Tie as tie
@@ -26,7 +26,7 @@ mul-lower : tie.Need-overflow-mul-lower
 mul-lower c =
     let a = (struct-known2→start c).args in
     let p = (struct-known2→start c).requires in
-    let fallen = bit-mul-le a.p.low (a.f / 2 ^ (a.p.degree - 1) % 2) (mod-2 (a.f / 2 ^ (a.p.degree - 1))) in
+    let fallen = bit-mul-le a.p.low (a.f / 2 ^ (a.p.degree - 1) % 2) (mod_2 (a.f / 2 ^ (a.p.degree - 1))) in
     record { fits = omega (arith, fallen, bit-mul-le a.p.low a.bit p.2) }
 
 -- the residue with the bit behind it, less the coefficient that falls out, is below 2 ^ p.degree

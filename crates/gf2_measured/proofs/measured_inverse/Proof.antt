@@ -5,18 +5,18 @@ use native.Mathlib.Omega.{arith}
 use borrow.Author.Rules.{rules}
 use borrow.Author.Tests.{eq-eqb, ne_eqb}
 use Rattle.gf2.specs.Polynomials.{monic, Irreducible}
-use Rattle.acceptance.proofs.Laws.{accepted-iff}
-use Rattle.house.specs.House.{houseKey}
+use Rattle.acceptance.proofs.Laws.{accepted_iff}
+use Rattle.house.specs.House.{house_key}
 use Rattle.house.proofs.House.{house-accepted}
 use Rattle.gf2_measured.proofs.measured_inverse.Statement.{statement}
 use Rattle.gf2_measured.proofs.measured_inverse.Tie as tie
 
-house-is : monic 61 39 ≡ houseKey
+house-is : monic 61 39 ≡ house_key
 unfolding monic
 house-is = refl
 
 irreducible : Irreducible (monic 61 39)
-irreducible = rw house-is ((accepted-iff houseKey).0 house-accepted).2
+irreducible = rw house-is ((accepted_iff house_key).0 house-accepted).2
 
 low : (c : tie.After-low-bits) → c.low-bits.result ≡ c.before.args.a % 2 ^ 61
 low c = c.low-bits.ensures

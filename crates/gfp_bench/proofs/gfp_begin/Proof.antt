@@ -1,7 +1,7 @@
 -- The answer, stored: on refusal nothing is written.
 use borrow.Author.Rules.{rules}
 use Rattle.marks.specs.Feeding.{begin}
-use Rattle.c_interface.specs.Interface.{key_at, markAt}
+use Rattle.c_interface.specs.Interface.{key_at, mark_at}
 use Rattle.c_interface.proofs.Answers.{stored-begun}
 use Rattle.gfp_bench.proofs.gfp_begin.Statement.{statement}
 use Rattle.gfp_bench.proofs.gfp_begin.Tie as tie
@@ -15,7 +15,7 @@ returns : tie.Need-returns
 returns c =
     let s = (begin→start c.before.before.before).args in
     let x = key_at s.degree s.word in
-    let held = markAt s.fingerprint.now s.bits.now in
+    let held = mark_at s.fingerprint.now s.bits.now in
     stored-begun x held (begin x) _ _ _ c.before.before.before.begin.ensures c.store-begun.ensures
 
 pub gfp-begin-spec : {M : Type 1} → statement M

@@ -1,7 +1,7 @@
 -- The answer, stored: on refusal nothing is written.
 use borrow.Author.Rules.{rules}
-use Rattle.marks.specs.PlainMarks.{beginPlain}
-use Rattle.c_interface.specs.Interface.{key_at, markAt}
+use Rattle.marks.specs.PlainMarks.{begin_plain}
+use Rattle.c_interface.specs.Interface.{key_at, mark_at}
 use Rattle.c_interface.proofs.Answers.{stored-begun}
 use Rattle.gfp_bench.proofs.gfp_begin_plain.Statement.{statement}
 use Rattle.gfp_bench.proofs.gfp_begin_plain.Tie as tie
@@ -15,8 +15,8 @@ returns : tie.Need-returns
 returns c =
     let s = (begin-plain→start c.before.before.before).args in
     let x = key_at s.degree s.word in
-    let held = markAt s.fingerprint.now s.bits.now in
-    stored-begun x held (beginPlain x) _ _ _ c.before.before.before.begin-plain.ensures c.store-begun.ensures
+    let held = mark_at s.fingerprint.now s.bits.now in
+    stored-begun x held (begin_plain x) _ _ _ c.before.before.before.begin-plain.ensures c.store-begun.ensures
 
 pub gfp-begin-plain-spec : {M : Type 1} → statement M
 gfp-begin-plain-spec = tie.close (tie.spec (λ c κs. search rules) (λ c κs. search rules) returns)

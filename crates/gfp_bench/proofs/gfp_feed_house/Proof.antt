@@ -2,17 +2,17 @@
 use mathlib.Core.Path.{◌≡◌}
 use mathlib.Core.List.{◌++◌}
 use borrow.Author.Rules.{rules}
-use Rattle.refusals.specs.Refusals.{state_of, valueOr}
+use Rattle.refusals.specs.Refusals.{state_of, value_or}
 use Rattle.refusals.proofs.Replies.{first-keeps}
 use Rattle.acceptance.specs.declared.Key.{Key}
-use Rattle.acceptance.specs.Keys.{polynomialOf, keyTests}
+use Rattle.acceptance.specs.Keys.{polynomial_of, key_tests}
 use Rattle.files.specs.declared.Mark.{Mark}
-use Rattle.files.specs.Files.{Part, asPart, fedMark}
-use Rattle.table_tests.specs.TableTests.{tableTests}
-use Rattle.house.specs.House.{houseWords}
-use Rattle.mark_tests.specs.MarkTests.{feedTests}
-use Rattle.marks.specs.Feeding.{feedTable, feedHouse}
-use Rattle.c_interface.specs.Interface.{key_at, markAt}
+use Rattle.files.specs.Files.{Part, as_part, fed_mark}
+use Rattle.table_tests.specs.TableTests.{table_tests}
+use Rattle.house.specs.House.{house_words}
+use Rattle.mark_tests.specs.MarkTests.{feed_tests}
+use Rattle.marks.specs.Feeding.{feed_table, feed_house}
+use Rattle.c_interface.specs.Interface.{key_at, mark_at}
 use Rattle.c_interface.proofs.Answers.{stored}
 use Rattle.gfp_bench.proofs.gfp_feed_house.Statement.{statement}
 use Rattle.gfp_bench.proofs.gfp_feed_house.Tie as tie
@@ -23,17 +23,17 @@ abbrev feed-house→start : tie.After-feed-house → tie.Start
 feed-house→start c = c.before.before.before.before
 
 -- on refusal the state is the mark that was handed in
-keeps : (x : Key) (m : Mark) (part : Part) → valueOr m (feedHouse x m part) ≡ state_of (feedHouse x m part)
-unfolding feedHouse feedTable
-keeps x m part = first-keeps (keyTests x ++ tableTests (polynomialOf x) houseWords ++ feedTests (polynomialOf x) m part) m (fedMark (polynomialOf x) m part)
+keeps : (x : Key) (m : Mark) (part : Part) → value_or m (feed_house x m part) ≡ state_of (feed_house x m part)
+unfolding feed_house feed_table
+keeps x m part = first-keeps (key_tests x ++ table_tests (polynomial_of x) house_words ++ feed_tests (polynomial_of x) m part) m (fed_mark (polynomial_of x) m part)
 
 returns : tie.Need-returns
 returns c =
     let s = (feed-house→start c.before.before.before).args in
     let x = key_at s.degree s.word in
-    let m = markAt s.fingerprint.now s.bits.now in
-    let part = asPart s.part.now s.used in
-    stored x m (feedHouse x m part) _ _ _ (keeps x m part) c.before.before.before.feed-house.ensures
+    let m = mark_at s.fingerprint.now s.bits.now in
+    let part = as_part s.part.now s.used in
+    stored x m (feed_house x m part) _ _ _ (keeps x m part) c.before.before.before.feed-house.ensures
     c.store.ensures
 
 pub gfp-feed-house-spec : {M : Type 1} → statement M

@@ -2,14 +2,14 @@
 use mathlib.Core.Path.{◌≡◌}
 use mathlib.Core.List.{◌++◌}
 use borrow.Author.Rules.{rules}
-use Rattle.refusals.specs.Refusals.{state_of, valueOr}
+use Rattle.refusals.specs.Refusals.{state_of, value_or}
 use Rattle.refusals.proofs.Replies.{first-keeps}
 use Rattle.acceptance.specs.declared.Key.{Key}
-use Rattle.acceptance.specs.Keys.{polynomialOf, keyTests}
+use Rattle.acceptance.specs.Keys.{polynomial_of, key_tests}
 use Rattle.files.specs.declared.Mark.{Mark}
 use Rattle.files.specs.PlainMarks.{turned}
-use Rattle.marks.specs.PlainMarks.{turnTests, turn}
-use Rattle.c_interface.specs.Interface.{key_at, markAt}
+use Rattle.marks.specs.PlainMarks.{turn_tests, turn}
+use Rattle.c_interface.specs.Interface.{key_at, mark_at}
 use Rattle.c_interface.proofs.Answers.{stored}
 use Rattle.gfp_bench.proofs.gfp_turn.Statement.{statement}
 use Rattle.gfp_bench.proofs.gfp_turn.Tie as tie
@@ -20,15 +20,15 @@ abbrev turn→start : tie.After-turn → tie.Start
 turn→start c = c.before.before.before
 
 -- on refusal the state is the mark that was handed in
-keeps : (x : Key) (m : Mark) → valueOr m (turn x m) ≡ state_of (turn x m)
+keeps : (x : Key) (m : Mark) → value_or m (turn x m) ≡ state_of (turn x m)
 unfolding turn
-keeps x m = first-keeps (keyTests x ++ turnTests (polynomialOf x) m) m (turned (polynomialOf x) m)
+keeps x m = first-keeps (key_tests x ++ turn_tests (polynomial_of x) m) m (turned (polynomial_of x) m)
 
 returns : tie.Need-returns
 returns c =
     let s = (turn→start c.before.before.before).args in
     let x = key_at s.degree s.word in
-    let m = markAt s.fingerprint.now s.bits.now in
+    let m = mark_at s.fingerprint.now s.bits.now in
     stored x m (turn x m) _ _ _ (keeps x m) c.before.before.before.turn.ensures c.store.ensures
 
 pub gfp-turn-spec : {M : Type 1} → statement M

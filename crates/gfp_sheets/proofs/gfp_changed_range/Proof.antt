@@ -2,15 +2,15 @@
 use mathlib.Core.Path.{◌≡◌, sym, ap, ◌∙◌}
 use mathlib.Core.List.{List, [], ◌∷◌}
 use Prim.Native.Nat.{ℕ}
-use Rattle.refusals.specs.Refusals.{number_of, valueOr, mapped}
+use Rattle.refusals.specs.Refusals.{number_of, value_or, mapped}
 use Rattle.refusals.proofs.Replies.{mapped-number}
-use Rattle.files.specs.Files.{asPart}
+use Rattle.files.specs.Files.{as_part}
 use Rattle.sheets.specs.declared.Changed.{Changed}
-use Rattle.sheets.specs.Layout.{contentsIn}
-use Rattle.sheets.specs.Sheets.{checkSheet}
-use Rattle.sheets.specs.Outputs.{rangeIn}
-use Rattle.sheets.specs.Answers.{changeAnswer}
-use Rattle.sheet_checking.proofs.Laws.{changed-by-check}
+use Rattle.sheets.specs.Layout.{contents_in}
+use Rattle.sheets.specs.Sheets.{check_sheet}
+use Rattle.sheets.specs.Outputs.{range_in}
+use Rattle.sheets.specs.Answers.{change_answer}
+use Rattle.sheet_checking.proofs.Laws.{changed_by_check}
 use borrow.Author.Rules.{rules}
 use Rattle.gfp_sheets.proofs.gfp_changed_range.Statement.{statement}
 use Rattle.gfp_sheets.proofs.gfp_changed_range.Tie as tie
@@ -24,13 +24,13 @@ before c = let a = (start c).args in a.outcome.now ∷ a.from.now ∷ a.to.now �
 -- what is told of the answer that the code has
 told : (c : tie.After-first-changed-range) (o : Changed) → c.first-changed-range.result ≡ o
     → let sheet = (start c).args.sheet.now in
-    let checked = checkSheet sheet (asPart (start c).args.file.now (start c).args.used) in
-    (number_of (changeAnswer o) ≡ number_of checked) × (valueOr (before c) (changeAnswer o) ≡ valueOr (before c) (mapped (rangeIn (contentsIn sheet)) checked))
+    let checked = check_sheet sheet (as_part (start c).args.file.now (start c).args.used) in
+    (number_of (change_answer o) ≡ number_of checked) × (value_or (before c) (change_answer o) ≡ value_or (before c) (mapped (range_in (contents_in sheet)) checked))
 told c o e =
     let sheet = (start c).args.sheet.now in
-    let file = asPart (start c).args.file.now (start c).args.used in
-    let h = ap changeAnswer (sym e) ∙ c.first-changed-range.ensures ∙ changed-by-check sheet file in
-    (ap number_of h ∙ mapped-number (rangeIn (contentsIn sheet)) (checkSheet sheet file), ap (valueOr (before c)) h)
+    let file = as_part (start c).args.file.now (start c).args.used in
+    let h = ap change_answer (sym e) ∙ c.first-changed-range.ensures ∙ changed_by_check sheet file in
+    (ap number_of h ∙ mapped-number (range_in (contents_in sheet)) (check_sheet sheet file), ap (value_or (before c)) h)
 
 returns : tie.Need-returns
 returns c = told c.before.before _ c.enum_told.given.1

@@ -2,13 +2,13 @@
 use mathlib.Core.Path.{◌≡◌, sym, ap, ◌∙◌}
 use mathlib.Core.List.{List, [], ◌∷◌}
 use Prim.Native.Nat.{ℕ}
-use Rattle.refusals.specs.Refusals.{Answer, number_of, valueOr, mapped}
-use Rattle.files.specs.Files.{asPart}
+use Rattle.refusals.specs.Refusals.{Answer, number_of, value_or, mapped}
+use Rattle.files.specs.Files.{as_part}
 use Rattle.sheets.specs.declared.Checked.{Checked}
-use Rattle.sheets.specs.Sheets.{Outcome, checkSheet}
-use Rattle.sheets.specs.Outputs.{outcomeIn}
-use Rattle.sheets.specs.Answers.{checkAnswer}
-use Rattle.sheets.proofs.Answers.{no-page, other-left}
+use Rattle.sheets.specs.Sheets.{Outcome, check_sheet}
+use Rattle.sheets.specs.Outputs.{outcome_in}
+use Rattle.sheets.specs.Answers.{check_answer}
+use Rattle.sheets.proofs.Answers.{no_page, other-left}
 use borrow.Author.Rules.{rules}
 use Rattle.gfp_sheets.proofs.gfp_check_file.Statement.{statement}
 use Rattle.gfp_sheets.proofs.gfp_check_file.Tie as tie
@@ -33,15 +33,15 @@ before c = let a = (check→start c).args in a.outcome.now ∷ a.page.now ∷ []
 
 -- the check, as it is defined
 abbrev checked : tie.After-check → Answer Unit Outcome
-checked c = let a = (check→start c).args in checkSheet a.sheet.now (asPart a.file.now a.used)
+checked c = let a = (check→start c).args in check_sheet a.sheet.now (as_part a.file.now a.used)
 
 -- what is told of the answer that the code has
 told : (c : tie.After-check) (o : Checked) → c.check.result ≡ o
-    → (number_of (checkAnswer o) ≡ number_of (checked c))
-    × (valueOr (before c) (mapped outcomeIn (checkAnswer o)) ≡ valueOr (before c) (mapped outcomeIn (checked c)))
+    → (number_of (check_answer o) ≡ number_of (checked c))
+    × (value_or (before c) (mapped outcome_in (check_answer o)) ≡ value_or (before c) (mapped outcome_in (checked c)))
 told c o e =
-    let h = ap checkAnswer (sym e) ∙ c.check.ensures in
-    (ap number_of h, ap (λ (a : Answer Unit Outcome). valueOr (before c) (mapped outcomeIn a)) h)
+    let h = ap check_answer (sym e) ∙ c.check.ensures in
+    (ap number_of h, ap (λ (a : Answer Unit Outcome). value_or (before c) (mapped outcome_in a)) h)
 
 -- refused
 returns : tie.Need-returns
@@ -60,7 +60,7 @@ returns-3 c =
     let n = c.before in
     let k = read→check n in
     let o = k.check.result in
-    told k _ (other-left o (no-page o n.before.match.keys2) c.match3.keys2 n.match2.keys2)
+    told k _ (other-left o (no_page o n.before.match.keys2) c.match3.keys2 n.match2.keys2)
 
 -- a page
 returns-4 : tie.Need-returns-4

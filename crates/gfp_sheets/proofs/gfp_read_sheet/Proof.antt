@@ -1,14 +1,14 @@
 -- The numbers of the sheet are stored; on refusal nothing is.
 use mathlib.Core.Path.{◌≡◌, sym, ap, ◌∙◌}
 use native.Mathlib.Omega.{arith}
-use Rattle.refusals.specs.Refusals.{number_of, valueOr, mapped}
+use Rattle.refusals.specs.Refusals.{number_of, value_or, mapped}
 use Rattle.refusals.proofs.Replies.{mapped-number}
 use Rattle.sheets.specs.declared.Reading.{Reading}
 use Rattle.sheets.specs.Answers.{reading}
 use Rattle.sheets.specs.declared.Sheet.{Sheet}
-use Rattle.sheets.specs.Layout.{contentsIn}
-use Rattle.sheets.specs.Sheets.{readSheet}
-use Rattle.sheets.specs.Outputs.{numbersOf}
+use Rattle.sheets.specs.Layout.{contents_in}
+use Rattle.sheets.specs.Sheets.{read_sheet}
+use Rattle.sheets.specs.Outputs.{numbers_of}
 use Rattle.sheets.proofs.Versions.{known_small}
 use Rattle.sheets.proofs.Known.{read_as, sound, version-read}
 use Rattle.c_interface.specs.Interface.{key_at}
@@ -41,21 +41,21 @@ before c =
 
 -- what is told of the answer that the code has
 told : (c : tie.After-read) (o : Reading) → c.read.result ≡ o
-    → (number_of (reading o) ≡ number_of (readSheet (read→start c).args.sheet.now))
-    × (valueOr (before c) (reading o) ≡ valueOr (before c) (mapped numbersOf (readSheet (read→start c).args.sheet.now)))
+    → (number_of (reading o) ≡ number_of (read_sheet (read→start c).args.sheet.now))
+    × (value_or (before c) (reading o) ≡ value_or (before c) (mapped numbers_of (read_sheet (read→start c).args.sheet.now)))
 told c o e =
     let h = ap reading (sym e) ∙ c.read.ensures in
-    (ap number_of h ∙ mapped-number numbersOf (readSheet (read→start c).args.sheet.now), ap (valueOr (before c)) h)
+    (ap number_of h ∙ mapped-number numbers_of (read_sheet (read→start c).args.sheet.now), ap (value_or (before c)) h)
 
 -- the version of a sheet that was read is a small number
 cast-version : tie.Need-overflow-cast-version
-unfolding contentsIn
+unfolding contents_in
 cast-version c =
     let k = c.before.before.before in
     let r = x→read k in
     let sheet = (read→start r).args.sheet.now in
     let was = read_as sheet k.x.given.0.0 (ap reading (sym k.x.given.1) ∙ r.read.ensures) in
-    omega (arith, known_small (contentsIn sheet).version (sound sheet was).version, version-read sheet was)
+    omega (arith, known_small (contents_in sheet).version (sound sheet was).version, version-read sheet was)
 
 returns : tie.Need-returns
 returns c = let k = c.before.before.before in told (x→read k) _ k.x.given.1

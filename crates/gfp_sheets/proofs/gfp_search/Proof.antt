@@ -1,6 +1,6 @@
 -- The two numbers of the search are stored; on refusal nothing is.
 use mathlib.Core.Path.{sym, ap, ◌∙◌}
-use Rattle.refusals.specs.Refusals.{number_of, valueOr}
+use Rattle.refusals.specs.Refusals.{number_of, value_or}
 use Rattle.search.specs.declared.Counts.{Counts}
 use Rattle.search.specs.declared.Searched.{Searched}
 use Rattle.search.specs.Answers.{searched}
@@ -41,7 +41,7 @@ returns c =
     let e = sym c.before.c.given.1 in (
       ap (λ (x : Searched). number_of (searched x)) e ∙ ap number_of m.ensures.0,
       m.ensures.1,
-      ap (λ (x : Searched). valueOr (before s) (searched x)) e ∙ ap (valueOr (before s)) m.ensures.0,
+      ap (λ (x : Searched). value_or (before s) (searched x)) e ∙ ap (value_or (before s)) m.ensures.0,
     )
 
 returns-2 : tie.Need-returns-2
@@ -51,7 +51,7 @@ returns-2 c =
     let e = sym c.before.before.r.given.1 in (
       c.number.ensures ∙ ap (λ (x : Searched). number_of (searched x)) e ∙ ap number_of m.ensures.0,
       m.ensures.1,
-      ap (λ (x : Searched). valueOr (before s) (searched x)) e ∙ ap (valueOr (before s)) m.ensures.0,
+      ap (λ (x : Searched). value_or (before s) (searched x)) e ∙ ap (value_or (before s)) m.ensures.0,
     )
 
 pub gfp-search-spec : {M : Type 1} → statement M

@@ -1,8 +1,8 @@
 -- The answer, stored: on refusal nothing is written, and the state is the mark that was handed in.
 use borrow.Author.Rules.{rules}
-use Rattle.compose.specs.PlainMarks.{joinPlainInFront}
+use Rattle.compose.specs.PlainMarks.{join_plain_in_front}
 use Rattle.compose.proofs.Laws.{front-keeps}
-use Rattle.c_interface.specs.Interface.{key_at, markAt}
+use Rattle.c_interface.specs.Interface.{key_at, mark_at}
 use Rattle.c_interface.proofs.Answers.{stored}
 use Rattle.gfp_site.proofs.gfp_join_plain_in_front.Statement.{statement}
 use Rattle.gfp_site.proofs.gfp_join_plain_in_front.Tie as tie
@@ -16,9 +16,9 @@ returns : tie.Need-returns
 returns c =
     let s = (join-plain-in-front→start c.before.before.before).args in
     let x = key_at s.degree s.word in
-    let m = markAt s.fingerprint.now s.bits.now in
-    let other = markAt s.other-fingerprint s.other-bits in
-    stored x m (joinPlainInFront x m other) _ _ _ (front-keeps 0 x m other) c.before.before.before.join-plain-in-front.ensures c.store.ensures
+    let m = mark_at s.fingerprint.now s.bits.now in
+    let other = mark_at s.other-fingerprint s.other-bits in
+    stored x m (join_plain_in_front x m other) _ _ _ (front-keeps 0 x m other) c.before.before.before.join-plain-in-front.ensures c.store.ensures
 
 pub gfp-join-plain-in-front-spec : {M : Type 1} → statement M
 gfp-join-plain-in-front-spec = tie.close (tie.spec (λ c κs. search rules) (λ c κs. search rules) returns)

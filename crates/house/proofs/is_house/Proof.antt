@@ -5,14 +5,14 @@ use Prim.Native.Nat.{ℕ}
 use native.Mathlib.Omega.{arith}
 use borrow.Author.Tests.{eqb-true}
 use Rattle.gf2.specs.Polynomials.{monic}
-use Rattle.house.specs.House.{houseKey}
+use Rattle.house.specs.House.{house_key}
 use Rattle.house.proofs.is_house.Statement.{statement}
 use Rattle.house.proofs.is_house.Tie as tie
 
 returns : tie.Need-returns
 returns c e = absurd (false≢true e)
 
-whole : (degree low : ℕ) → degree ≡ 61 → low ≡ 0x27 → monic degree low ≡ houseKey
+whole : (degree low : ℕ) → degree ≡ 61 → low ≡ 0x27 → monic degree low ≡ house_key
 unfolding monic
 whole degree low d l = rw (d, l)
 

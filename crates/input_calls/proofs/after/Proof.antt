@@ -3,14 +3,14 @@ use mathlib.Core.Path.{refl, ◌∙◌}
 use native.Mathlib.Omega.{arith}
 use borrow.Author.Rules.{rules}
 use Rattle.input_calls.specs.declared.Got.TheVariants.{Bytes, End, Interrupted, Failed}
-use Rattle.input_calls.proofs.Answers.{after_small, after-large, after_none}
+use Rattle.input_calls.proofs.Answers.{after_small, after_large, after_none}
 use Rattle.input_calls.proofs.after.Statement.{statement}
 use Rattle.input_calls.proofs.after.Tie as tie
 
 returns : tie.Need-returns
 returns c =
     let g = c.before.before in
-    after-large g.before.before.args.input _ (Bytes _) g.got.given.1 (omega arith)
+    after_large g.before.before.args.input _ (Bytes _) g.got.given.1 (omega arith)
 
 returns-2 : tie.Need-returns-2
 returns-2 c =

@@ -13,7 +13,7 @@ use Rattle.input_calls.specs.declared.Input.{Input}
 use Rattle.input_calls.specs.Reading.{InFront}
 use Rattle.input_reading.proofs.Given.{read-front, closes}
 use Rattle.input_feeding.specs.Turns.{Turned}
-use Rattle.input_feeding.proofs.Feeds.{SoFar, Closed, still-more, at_first, Turn, turn-of, at-end}
+use Rattle.input_feeding.proofs.Feeds.{SoFar, Closed, still_more, at_first, Turn, turn_of, at-end}
 use Rattle.input_feeding.proofs.feed_rest.Statement.{statement}
 use Rattle.input_feeding.proofs.feed_rest.Tie as tie
 
@@ -79,7 +79,7 @@ facts c =
     let s = loop→start (loop-of c) in
     let l = loop-of c in
     let r = (last→read (turn→last c)).read_Some.ensures in
-    turn-of s.args.start s.args.words.now s.args.input l.loop.m l.loop.at l.loop.inv.1.0 (next c) (filled c) r.0
+    turn_of s.args.start s.args.words.now s.args.input l.loop.m l.loop.at l.loop.inv.1.0 (next c) (filled c) r.0
     c.turn.result (turned c) r.1
 
 more_of : (c : tie.After-turn invariant-loop decreases-loop) → (loop-of c).loop.more ≡ true
@@ -94,7 +94,7 @@ loop-again : tie.Need-loop-preserved invariant-loop decreases-loop
 loop-again c =
     let a = answer2→answer c.before in
     let t = answer→turn a in
-    (search rules, (((facts t).goes_on _ a.answer.given.1 _ c.before.answer2.given.1).0, still-more _ (next t) (more_of t)))
+    (search rules, (((facts t).goes_on _ a.answer.given.1 _ c.before.answer2.given.1).0, still_more _ (next t) (more_of t)))
 
 returns : tie.Need-returns invariant-loop decreases-loop
 returns c = let a = answer3→answer c.before in (facts (answer→turn a)).stops _ a.answer.given.1 _ _ c.before.answer3.given.1

@@ -6,10 +6,10 @@ use Rattle.refusals.specs.declared.Refusal.{Refusal}
 use Rattle.refusals.specs.Refusals.{Done}
 use Rattle.refusals.specs.Answers.{reply}
 use Rattle.marks.specs.Feeding.{begin}
-use Rattle.marks.specs.Answers.{begun, begunUnder, fed}
+use Rattle.marks.specs.Answers.{begun, begun_under, fed}
 use Rattle.input_feeding.specs.declared.Marking.{Marking}
 use Rattle.input_feeding.specs.Marking.{MarkedInParts, refused}
-use Rattle.input_feeding.proofs.Feeds.{begun-refused, made-always, first-refused, rest-marked}
+use Rattle.input_feeding.proofs.Feeds.{begun-refused, made_always, first-refused, rest_marked}
 use Rattle.input_feeding.proofs.mark_file.Statement.{statement}
 use Rattle.input_feeding.proofs.mark_file.Tie as tie
 
@@ -24,7 +24,7 @@ told→make c = c.before.before.before
 abbrev make→m : tie.After-make → tie.After-m
 make→m c = c.before.before.before
 
-begun-is : (c : tie.After-m) → Done c.m.given.0.0 ≡ begunUnder (m→begin c).before.before.args.key (begin (m→begin c).before.before.args.key)
+begun-is : (c : tie.After-m) → Done c.m.given.0.0 ≡ begun_under (m→begin c).before.before.args.key (begin (m→begin c).before.before.args.key)
 begun-is c = ap begun (sym c.m.given.1) ∙ (m→begin c).begin.ensures
 
 -- the answer, as the code makes it
@@ -44,7 +44,7 @@ returns-2 : tie.Need-returns-2
 returns-2 c =
     let k = c.before.before.before.before.before in
     let made = ap (reply k.make.new.1.0) (sym c.before.before.r2.given.1) ∙ k.make.ensures in
-    absurd (made-always _ [] _ (begun-is (make→m k)) _ _ _ made (search rules))
+    absurd (made_always _ [] _ (begun-is (make→m k)) _ _ _ made (search rules))
 
 returns-3 : tie.Need-returns-3
 returns-3 c =
@@ -66,7 +66,7 @@ returns-4 c =
     let k = told→make d in
     let made = ap (reply k.make.last.1.0) (sym d.enum_told.given.1) ∙ k.make.ensures in
     let s = (m→begin (make→m k)).before.before in
-    rest-marked _ s.args.first.now _ (begun-is (make→m k)) _ _ made (search rules) s.args.input _ c.feed-rest.result
+    rest_marked _ s.args.first.now _ (begun-is (make→m k)) _ _ made (search rules) s.args.input _ c.feed-rest.result
     (ap fed (sym n.next.given.1) ∙ t.feed-table.ensures) c.feed-rest.ensures
 
 pub mark-file-spec : {M : Type 1} → statement M

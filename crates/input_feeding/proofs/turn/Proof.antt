@@ -8,7 +8,7 @@ use Rattle.io.specs.Counts.{IsPrefixLen}
 use Rattle.input_calls.specs.declared.Got.{Got}
 use Rattle.input_calls.proofs.Answers.{bytes-front}
 use Rattle.input_feeding.specs.declared.Step.{Step}
-use Rattle.input_feeding.specs.declared.Step.TheVariants as step-cases
+use Rattle.input_feeding.specs.declared.Step.TheVariants as StepCases
 use Rattle.input_feeding.specs.Turns.{Turned}
 use Rattle.input_feeding.proofs.turn.Statement.{statement}
 use Rattle.input_feeding.proofs.turn.Tie as tie

@@ -8,7 +8,7 @@ use borrow.Author.Rules.{rules}
 use Rattle.input_calls.specs.declared.Input.{Input}
 use Rattle.input_calls.specs.Reading.{Read}
 use Rattle.input_calls.specs.contracts.Got.{the_type}
-use Rattle.input_reading.proofs.Given.{Waiting, read-on, wait-on, interrupted-last, given-up, not-two, not-failed}
+use Rattle.input_reading.proofs.Given.{Waiting, read_on, wait_on, interrupted-last, given_up, not-two, not-failed}
 use Rattle.input_reading.proofs.read_some.Statement.{statement}
 use Rattle.input_reading.proofs.read_some.Tie as tie
 
@@ -37,7 +37,7 @@ loop-again c =
     let l = told→last c in
     let r = last→read l in (
       search rules,
-      wait-on _ _ _ (read→loop r).loop.inv.1 r.read-once.result r.read-once.last.1.0 _ r.read-once.ensures
+      wait_on _ _ _ (read→loop r).loop.inv.1 r.read-once.result r.read-once.last.1.0 _ r.read-once.ensures
           (sym l.last.ensures ∙ c.enum_told.given.1),
     )
 
@@ -45,7 +45,7 @@ returns : tie.Need-returns invariant-loop decreases-loop
 returns c =
     let l = c.before in
     let r = last→read l in (
-      read-on _ _ _ (read→loop r).loop.inv.1 r.read-once.result _ r.read-once.ensures,
+      read_on _ _ _ (read→loop r).loop.inv.1 r.read-once.result _ r.read-once.ensures,
       λ e. not-two _ c.match.keys2 (ap (tag_of the_type) (l.last.ensures ∙ e)),
     )
 
@@ -56,7 +56,7 @@ returns-2 : tie.Need-returns-2 invariant-loop decreases-loop
 returns-2 c =
     let l = c.before.before in (
       subst (λ (x : Input). Read l.before.before.args.input x l.loop.buffer) (sym c.abandon.ensures)
-          (given-up _ _ _ l.loop.invariant.1 _ (omega arith)),
+          (given_up _ _ _ l.loop.invariant.1 _ (omega arith)),
       λ e. not-failed (ap (λ (x : Input). x.last) (sym c.abandon.ensures) ∙ e),
     )
 

@@ -7,7 +7,7 @@ use Rattle.gf2.specs.Polynomials.{degree}
 use Rattle.gf2.specs.Moduli.{polynomial}
 use Rattle.gf2.proofs.Monics.{monic-degree}
 use Rattle.inverses.specs.Euclid.{next, Related}
-use Rattle.inverses.proofs.Euclid.{odd-modulus, next-keeps, next-less, last-inverse, first-related, no-divisor}
+use Rattle.inverses.proofs.Euclid.{odd-modulus, next-keeps, next-less, last-inverse, first-related, no_divisor}
 use Rattle.inverses.proofs.inverse.Statement.{statement}
 use Rattle.inverses.proofs.inverse.Tie as tie
 
@@ -77,7 +77,7 @@ returns c =
     let f = l.before in
     let s = first→start f in
     last-inverse (modulus f) s.pre.2 (two f) s.args.a f.inverse-of-t.result f.inverse-of-t.ensures l.loop.x (related l)
-    (no-divisor (modulus f) s.pre.2 (two f) s.args.a f.inverse-of-t.result f.inverse-of-t.ensures s.pre.3 (small f)) (omega arith)
+    (no_divisor (modulus f) s.pre.2 (two f) s.args.a f.inverse-of-t.result f.inverse-of-t.ensures s.pre.3 (small f)) (omega arith)
 
 pub inverse-spec : {M : Type 1} → statement M
 inverse-spec =

@@ -7,9 +7,9 @@ use native.Mathlib.Omega.{arith}
 use borrow.Author.Rules.{rules}
 use borrow.Author.Tests.{ne_eqb, lt-ltb, le-ltb}
 use Rattle.gf2.specs.Polynomials.{◌⊕◌}
-use Rattle.gf2.proofs.Products.{mod-2}
+use Rattle.gf2.proofs.Products.{mod_2}
 use Rattle.gf2.proofs.Steps.{bit-mul-le}
-use Rattle.inverses.specs.Euclid.{overT}
+use Rattle.inverses.specs.Euclid.{over_t}
 use Rattle.inverses.proofs.Euclid.{next-is}
 use Rattle.inverses.proofs.next.Statement.{statement}
 use Rattle.inverses.proofs.next.Tie as tie
@@ -28,14 +28,14 @@ over-t→start c = v→start c.before.before
 mul-r : tie.Need-overflow-mul-r
 mul-r c =
     let x = (s→start c).args.x in
-    record { fits = lt_of_le_of_lt (bit-mul-le x.s (x.r % 2) (mod-2 x.r)) c.struct-known3.given.1.1.0.fits }
+    record { fits = lt_of_le_of_lt (bit-mul-le x.s (x.r % 2) (mod_2 x.r)) c.struct-known3.given.1.1.0.fits }
 
 mul-over-t : tie.Need-overflow-mul-over-t
 mul-over-t c =
     let x = (v→start c).args.x in
-    record { fits = lt_of_le_of_lt (bit-mul-le x.v (x.r % 2) (mod-2 x.r)) c.struct-known4.given.1.1.1.0.fits }
+    record { fits = lt_of_le_of_lt (bit-mul-le x.v (x.r % 2) (mod_2 x.r)) c.struct-known4.given.1.1.1.0.fits }
 
-u-is : (c : tie.After-over-t) → let a = (over-t→start c).args in c.over-t.result ≡ overT a.h (a.x.u ⊕ a.x.v * (a.x.r % 2))
+u-is : (c : tie.After-over-t) → let a = (over-t→start c).args in c.over-t.result ≡ over_t a.h (a.x.u ⊕ a.x.v * (a.x.r % 2))
 unfolding ◌⊕◌
 u-is c = c.over-t.ensures
 

@@ -8,7 +8,7 @@ use borrow.Author.Rules.{rules}
 use Rattle.gf2.specs.Polynomials.{◌⊗◌, degree, rem, Divides}
 use Rattle.gf2.specs.Moduli.{polynomial}
 use Rattle.gf2.specs.Inverses.{inverse}
-use Rattle.gf2.proofs.Residues.{dvd-of-rem-zero}
+use Rattle.gf2.proofs.Residues.{dvd_of_rem-zero}
 use Rattle.gf2.proofs.Monics.{monic-pos, monic-degree}
 use Rattle.gf2.proofs.Steps.{residue-lt}
 use Rattle.gf2.proofs.Inverses.{inverse-residue, inverse-lt, power-not}
@@ -24,12 +24,12 @@ pos s = monic-pos s.args.p.degree s.args.p.low s.requires.0.2
 same-degree : (s : tie.Start) → degree (modulus s) ≡ s.args.p.degree
 same-degree s = monic-degree s.args.p.degree s.args.p.low s.requires.0.2
 
-no-divisor : (s : tie.Start) → Divides (modulus s) (2 ^ s.args.n) → ⊥
-no-divisor s = power-not (modulus s) s.requires.2 (rw (same-degree s) s.requires.1) s.args.n
+no_divisor : (s : tie.Start) → Divides (modulus s) (2 ^ s.args.n) → ⊥
+no_divisor s = power-not (modulus s) s.requires.2 (rw (same-degree s) s.requires.1) s.args.n
 
 power_pos : (s : tie.Start) → 0 < rem (modulus s) (2 ^ s.args.n)
 power_pos s =
-    ⊎_elim (λ e. absurd (no-divisor s (dvd-of-rem-zero (pos s) (2 ^ s.args.n) e))) (λ l. l) (eq-zero-or-pos (rem (modulus s) (2 ^ s.args.n)))
+    ⊎_elim (λ e. absurd (no_divisor s (dvd_of_rem-zero (pos s) (2 ^ s.args.n) e))) (λ l. l) (eq-zero-or-pos (rem (modulus s) (2 ^ s.args.n)))
 
 inverse-requires : tie.Need-inverse-requires
 inverse-requires c κs =
@@ -42,10 +42,10 @@ inverted-is c =
     let s = c.before.before in
     c.inverse.ensures
     ∙ ap (inverse (modulus s)) c.before.power-of-t.ensures
-    ∙ inverse-residue (modulus s) s.requires.2 (2 ^ s.args.n) (no-divisor s)
+    ∙ inverse-residue (modulus s) s.requires.2 (2 ^ s.args.n) (no_divisor s)
 
 below : (s : tie.Start) → inverse (modulus s) (2 ^ s.args.n) < 2 ^ s.args.p.degree
-below s = lt_of_lt_of_le (inverse-lt (modulus s) s.requires.2 (2 ^ s.args.n) (no-divisor s)) (pow_mono (le_of_eq (same-degree s)))
+below s = lt_of_lt_of_le (inverse-lt (modulus s) s.requires.2 (2 ^ s.args.n) (no_divisor s)) (pow_mono (le_of_eq (same-degree s)))
 
 inverted-lt : (c : tie.After-inverse) → c.inverse.result < 2 ^ c.before.before.args.p.degree
 inverted-lt c = rw (inverted-is c) (below c.before.before)

@@ -7,13 +7,13 @@ use native.Mathlib.Nat.{zero-add}
 use native.Mathlib.Omega.{arith}
 use lib.ListN.{length, drop, get_or}
 use Rattle.lists.specs.Lists.{list_from}
-use Rattle.irreducibility.specs.Squares.{oddPart}
+use Rattle.irreducibility.specs.Squares.{odd_part}
 use Rattle.irreducibility.proofs.Filling.{length-filled, filled_at, fill, fill-whole, same-independent}
 use Rattle.irreducibility.proofs.independent_squares.Statement.{statement}
 use Rattle.irreducibility.proofs.independent_squares.Tie as tie
 
 abbrev invariant-loop : tie.invariant-loop
-invariant-loop rows₀ i₀ i-end rows i = (i ≤ length rows₀) × (rows ≡ list_from (λ j. oddPart (get_or rows₀ j 0)) 0 i ++ drop i rows₀)
+invariant-loop rows₀ i₀ i-end rows i = (i ≤ length rows₀) × (rows ≡ list_from (λ j. odd_part (get_or rows₀ j 0)) 0 i ++ drop i rows₀)
 
 abbrev decreases-loop : tie.decreases-loop
 decreases-loop rows₀ i₀ i-end rows i = length rows₀ - i
@@ -43,7 +43,7 @@ loop-holds c = (omega arith, refl)
 same : (c : tie.At-loop invariant-loop decreases-loop) → length c.loop.rows ≡ length c.before.before.args.rows.now
 same c =
     let rows₀ = c.before.before.args.rows.now in
-    ap length c.loop.invariant.1 ∙ length-filled (λ j. oddPart (get_or rows₀ j 0)) 0 c.loop.i rows₀ c.loop.invariant.0
+    ap length c.loop.invariant.1 ∙ length-filled (λ j. odd_part (get_or rows₀ j 0)) 0 c.loop.i rows₀ c.loop.invariant.0
 
 slice-read-odd-part : tie.Need-slice-read-odd-part invariant-loop decreases-loop
 slice-read-odd-part c = omega (arith, same c.before.before)
@@ -55,8 +55,8 @@ loop-again : tie.Need-loop-preserved invariant-loop decreases-loop
 loop-again c =
     let rows₀ = (at-loop→start c.before.before.before).args.rows.now in
     let l = (odd-part→at-loop c).loop in
-    let f : ℕ → ℕ = λ j. oddPart (get_or rows₀ j 0) in
-    let e = ap (λ (x : List ℕ). oddPart (get_or x l.i 0)) l.inv.1 ∙ ap oddPart (filled_at f 0 l.i rows₀ (omega arith)) in
+    let f : ℕ → ℕ = λ j. odd_part (get_or rows₀ j 0) in
+    let e = ap (λ (x : List ℕ). odd_part (get_or x l.i 0)) l.inv.1 ∙ ap odd_part (filled_at f 0 l.i rows₀ (omega arith)) in
     (omega arith, rw l.inv.1 (fill f 0 l.i rows₀ c.odd_part.result (omega arith) (c.odd_part.ensures ∙ e ∙ ap f (sym (zero-add l.i)))))
 
 same_length : tie.Need-same-length invariant-loop decreases-loop
@@ -66,7 +66,7 @@ returns : tie.Need-returns invariant-loop decreases-loop
 returns c =
     let rows₀ = (independent→start c.before.before).args.rows.now in
     let l = (slice-known3→at-loop c).loop in
-    let f : ℕ → ℕ = λ j. oddPart (get_or rows₀ j 0) in
+    let f : ℕ → ℕ = λ j. odd_part (get_or rows₀ j 0) in
     let e : l.rows ≡ list_from f 0 (length rows₀) = l.inv.1 ∙ fill-whole f 0 l.i rows₀ (omega arith) in
     (same-independent e c.before.before.independent.ensures.0, same_length c)
 

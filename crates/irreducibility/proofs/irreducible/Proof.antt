@@ -12,11 +12,11 @@ use lib.Seq.{length-take-le, length_front}
 use Rattle.gf2.specs.Polynomials.{◌⊕◌, degree}
 use Rattle.gf2.specs.Moduli.{polynomial}
 use Rattle.lists.specs.Lists.{list_from}
-use Rattle.gf2.proofs.Monics.{monic-degree, of-degree-one}
+use Rattle.gf2.proofs.Monics.{monic-degree, of_degree-one}
 use Rattle.acceptance.specs.Keys.{reducible}
 use Rattle.basis.specs.Rows.{Independent}
-use Rattle.irreducibility.specs.Squares.{square, oddPart, folded, squareRows, differenceRows}
-use Rattle.irreducibility.proofs.Decision.{irreducible-squares, irreducible-differences, both-irreducible, squares-made, differences-made, by-test}
+use Rattle.irreducibility.specs.Squares.{square, odd_part, folded, square_rows, difference_rows}
+use Rattle.irreducibility.proofs.Decision.{irreducible-squares, irreducible_differences, both-irreducible, squares-made, differences_made, by_test}
 use Rattle.irreducibility.proofs.Filling.{front-values}
 use borrow.Author.Rules.{rules}
 use Rattle.irreducibility.proofs.irreducible.Statement.{statement}
@@ -60,13 +60,13 @@ known s =
     let p = s.args.p in
     let m = s.requires in
     let is = monic-degree p.degree p.low m.2 in
-    record { proper = of-degree-one p.degree p.low m.0 m.2; is = sym is; low = m.0; high = m.1 }
+    record { proper = of_degree-one p.degree p.low m.0 m.2; is = sym is; low = m.0; high = m.1 }
 
 abbrev zeros : List ℕ
 zeros = replicate 32 0
 
-part_length : {key k : ℕ} → Known key k → length (take (k / 2) zeros) ≡ k / 2
-part_length {key} {k} d = length-take-le (k / 2) zeros (omega (arith, d.high))
+part-length : {key k : ℕ} → Known key k → length (take (k / 2) zeros) ≡ k / 2
+part-length {key} {k} d = length-take-le (k / 2) zeros (omega (arith, d.high))
 
 sub-thirds : tie.Need-overflow-sub-thirds
 sub-thirds c = omega (arith, (known c.before).low)
@@ -75,10 +75,10 @@ array-borrow-prefix-squares : tie.Need-array-borrow-prefix-squares
 array-borrow-prefix-squares c = omega (arith, (known c.before).high)
 
 slice-aggregate-square-rows : tie.Need-slice-aggregate-square-rows
-slice-aggregate-square-rows c = sym (part_length (known c.before.before))
+slice-aggregate-square-rows c = sym (part-length (known c.before.before))
 
 square-rows-requires : tie.Need-square-rows-requires
-square-rows-requires c κs = let s = c.before.before in (s.requires, part_length (known s))
+square-rows-requires c κs = let s = c.before.before in (s.requires, part-length (known s))
 
 -- the array with the squares in front
 module _ (c : tie.After-square-rows) where
@@ -109,14 +109,14 @@ module _ (c : tie.After-square-rows) where
       ∙ front-values (square key) (k - k / 2) m (k / 2) (drop (k / 2) zeros) h
 
   -- what the two tests decide
-  first : {r : Bool} → ((r ≡ true) ↔ Independent (list_from (λ i. oddPart (get_or (take thirds made) i 0)) 0 (length (take thirds made))))
-      → (r ≡ true) ↔ Independent (squareRows key (k - k / 2) thirds)
+  first : {r : Bool} → ((r ≡ true) ↔ Independent (list_from (λ i. odd_part (get_or (take thirds made) i 0)) 0 (length (take thirds made))))
+      → (r ≡ true) ↔ Independent (square_rows key (k - k / 2) thirds)
   first i = rw (squares-made key (k - k / 2) thirds (take thirds made) (squares-are thirds thirds-within)) at i
 
   second : {r : Bool} → ((r ≡ true) ↔ Independent (list_from (λ i. folded 6 (get_or (take (k / 2) made) i 0 ⊕ 2 ^ (k - k / 2 + i))) 0
       (length (take (k / 2) made))))
-      → (r ≡ true) ↔ Independent (differenceRows key (k - k / 2) (k / 2))
-  second i = rw (differences-made key (k - k / 2) (k / 2) (take (k / 2) made) (squares-are (k / 2) (le_refl (k / 2)))) at i
+      → (r ≡ true) ↔ Independent (difference_rows key (k - k / 2) (k / 2))
+  second i = rw (differences_made key (k - k / 2) (k / 2) (take (k / 2) made) (squares-are (k / 2) (le_refl (k / 2)))) at i
 
 array-borrow-prefix-rows : tie.Need-array-borrow-prefix-rows
 array-borrow-prefix-rows c = let m = c.before in omega (arith, within m, thirds-within m)
@@ -131,7 +131,7 @@ returns c =
     let m = rows→square-rows c.before.before.before in
     let d = known (square-rows→start m) in
     let no = not-true c.before.before.independent-squares.result c.if1.true in
-    by-test (reducible (key m)) false (λ f. absurd (false≢true f))
+    by_test (reducible (key m)) false (λ f. absurd (false≢true f))
     (λ e. sym no ∙ (first m c.before.before.independent-squares.ensures.0).1 (irreducible-squares (key m) (k m) d.proper d.is d.low d.high e))
 
 array-borrow-prefix-squares-2 : tie.Need-array-borrow-prefix-squares-2
@@ -152,9 +152,9 @@ returns-2 c =
     let yes = not-false (squares4→independent-squares c).independent-squares.result c.before.before.before.if1.false in
     let one = (first m (squares4→independent-squares c).independent-squares.ensures.0).0 yes in
     let two = second m c.before.independent-differences.ensures.0 in
-    by-test (reducible (key m)) c.before.independent-differences.result
+    by_test (reducible (key m)) c.before.independent-differences.result
     (λ t. both-irreducible (key m) (k m) d.proper d.is d.low d.high one (two.0 t))
-    (λ e. two.1 (irreducible-differences (key m) (k m) d.proper d.is d.low d.high e))
+    (λ e. two.1 (irreducible_differences (key m) (k m) d.proper d.is d.low d.high e))
 
 pub irreducible-spec : {M : Type 1} → statement M
 irreducible-spec =

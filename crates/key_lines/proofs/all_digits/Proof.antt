@@ -5,13 +5,13 @@ use Prim.Native.Nat.{ℕ, ◌-◌, ◌≤◌}
 use native.Mathlib.Omega.{arith}
 use borrow.Author.Tests.{lt-ltb, le-ltb}
 use lib.ListN.{length, drop, drop_of_length-le}
-use Rattle.key_lines.specs.KeyLines.{allDigits}
+use Rattle.key_lines.specs.KeyLines.{all_digits}
 use Rattle.key_lines.proofs.Laws.{digits-next}
 use Rattle.key_lines.proofs.all_digits.Statement.{statement}
 use Rattle.key_lines.proofs.all_digits.Tie as tie
 
 abbrev invariant-loop : tie.invariant-loop
-invariant-loop line i₀ i = (i ≤ length line) × (allDigits (drop i line) ≡ allDigits line)
+invariant-loop line i₀ i = (i ≤ length line) × (all_digits (drop i line) ≡ all_digits line)
 
 abbrev decreases-loop : tie.decreases-loop
 decreases-loop line i₀ i = length line - i
@@ -42,7 +42,7 @@ loop-again c =
     (omega arith, sym (rw small at (digits-next (line_at l) l.loop.i (omega arith))) ∙ l.loop.inv.1)
 
 returns-2 : tie.Need-returns-2 invariant-loop decreases-loop
-unfolding allDigits
+unfolding all_digits
 returns-2 c = rw (drop_of_length-le (line_at c.before) c.loop-test.false) at c.before.loop.invariant.1
 
 pub all-digits-spec : {M : Type 1} → statement M

@@ -7,14 +7,14 @@ use native.Mathlib.Nat.{lt_of_lt_of_le}
 use native.Mathlib.Omega.{arith}
 use lib.ListN.{length, get_or, drop, drop_of_length-le}
 use lib.Pow.{pow_mono}
-use Rattle.key_lines.specs.KeyLines.{digit, allDigits, hexFrom}
-use Rattle.key_lines.proofs.Laws.{digit-here, hex-next, hex-lt}
+use Rattle.key_lines.specs.KeyLines.{digit, all_digits, hex_from}
+use Rattle.key_lines.proofs.Laws.{digit-here, hex_next, hex_lt}
 use Rattle.key_lines.proofs.hex_value.Statement.{statement}
 use Rattle.key_lines.proofs.hex_value.Tie as tie
 
 abbrev invariant-loop : tie.invariant-loop
 invariant-loop line value₀ i₀ value i =
-    (i ≤ length line) × (value < 2 ^ (4 * i)) × (allDigits (drop i line) ≡ true) × (hexFrom value (drop i line) ≡ hexFrom 0 line)
+    (i ≤ length line) × (value < 2 ^ (4 * i)) × (all_digits (drop i line) ≡ true) × (hex_from value (drop i line) ≡ hex_from 0 line)
 
 abbrev decreases-loop : tie.decreases-loop
 decreases-loop line value₀ i₀ value i = length line - i
@@ -36,7 +36,7 @@ small l = let v = l.before.loop in room v.value v.i (omega arith) v.invariant.1
 
 -- the digit that is read, and what is left behind it
 digit-read : (c : tie.After-digit invariant-loop decreases-loop)
-    → (digit (get_or (line_at (turn c)) (turn c).loop.i 0) < 16) × (allDigits (drop ((turn c).loop.i + 1) (line_at (turn c))) ≡ true)
+    → (digit (get_or (line_at (turn c)) (turn c).loop.i 0) < 16) × (all_digits (drop ((turn c).loop.i + 1) (line_at (turn c))) ≡ true)
 digit-read c = digit-here (line_at (turn c)) (turn c).loop.i (omega arith) (turn c).loop.invariant.2
 
 loop-holds : tie.Need-loop-init invariant-loop decreases-loop
@@ -55,13 +55,13 @@ loop-again : tie.Need-loop-preserved invariant-loop decreases-loop
 loop-again c =
     let l = (turn c).loop in (
       omega arith,
-      rw c.digit.ensures (hex-lt l.value _ l.i l.inv.1 (digit-read c).0),
+      rw c.digit.ensures (hex_lt l.value _ l.i l.inv.1 (digit-read c).0),
       (digit-read c).1,
-      rw c.digit.ensures (sym (hex-next (line_at (turn c)) l.i (omega arith) l.value) ∙ l.inv.3),
+      rw c.digit.ensures (sym (hex_next (line_at (turn c)) l.i (omega arith) l.value) ∙ l.inv.3),
     )
 
 returns : tie.Need-returns invariant-loop decreases-loop
-unfolding hexFrom
+unfolding hex_from
 returns c = rw (drop_of_length-le (line_at c.before) c.loop-test.false) at c.before.loop.invariant.3
 
 pub hex-value-spec : {M : Type 1} → statement M

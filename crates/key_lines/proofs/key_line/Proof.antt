@@ -8,8 +8,8 @@ use borrow.Author.Rules.{rules}
 use borrow.Author.Tests.{not-true, not-false}
 use lib.ListN.{length, take}
 use lib.Seq.{length-take-le}
-use Rattle.key_lines.specs.KeyLines.{allDigits, keyBefore, keyLine}
-use Rattle.key_lines.proofs.Laws.{line_at, no-newline, empty-line, long-line, other-bytes, key-digits}
+use Rattle.key_lines.specs.KeyLines.{all_digits, key_before, key_line}
+use Rattle.key_lines.proofs.Laws.{line_at, no_newline, empty-line, long-line, other-bytes, key-digits}
 use Rattle.key_lines.proofs.key_line.Statement.{statement}
 use Rattle.key_lines.proofs.key_line.Tie as tie
 
@@ -24,7 +24,7 @@ abbrev found-line : tie.After-all-digits → tie.After-find
 found-line c = found c.before.before
 
 -- what was found decides the line
-decided : (c : tie.After-find) → keyLine (input-at c) ≡ keyBefore c.find.result (input-at c)
+decided : (c : tie.After-find) → key_line (input-at c) ≡ key_before c.find.result (input-at c)
 decided c = line_at (input-at c) c.find.result c.find.ensures.0
 
 -- the line is as long as the place says
@@ -32,11 +32,11 @@ cut : (c : tie.After-find) → length (take c.find.result (input-at c)) ≡ c.fi
 cut c = length-take-le c.find.result (input-at c) c.find.ensures.1
 
 -- the line has digits alone
-all-digits-left : (c : tie.Else4) → allDigits (take (found-line c.before).find.result (input-at (found-line c.before))) ≡ true
+all-digits-left : (c : tie.Else4) → all_digits (take (found-line c.before).find.result (input-at (found-line c.before))) ≡ true
 all-digits-left c = sym c.before.all_digits.ensures ∙ not-false _ c.if4.false
 
 returns : tie.Need-returns
-returns c = sym (decided c.before ∙ no-newline _ _ (omega arith))
+returns c = sym (decided c.before ∙ no_newline _ _ (omega arith))
 
 returns-2 : tie.Need-returns-2
 returns-2 c = sym (decided c.before.before ∙ empty-line _ _ (omega arith))

@@ -8,8 +8,8 @@ use borrow.Author.Rules.{rules}
 use lib.ListN.{length, take, drop, length-drop}
 use lib.Seq.{take_all}
 use Rattle.key_lines.specs.declared.KeyLine.TheVariants.{Key}
-use Rattle.key_lines.specs.KeyLines.{hexFrom}
-use Rattle.key_lines.proofs.Laws.{digit-here, hex-top, top-large, line_small, line-large, top_key}
+use Rattle.key_lines.specs.KeyLines.{hex_from}
+use Rattle.key_lines.proofs.Laws.{digit-here, hex_top, top_large, line_small, line_large, top_key}
 use Rattle.key_lines.proofs.line_of.Statement.{statement}
 use Rattle.key_lines.proofs.line_of.Tie as tie
 
@@ -39,10 +39,10 @@ below : (c : tie.After-digit) → take (length (line_at (digit→start c)) - 1) 
 below c = let l = line_at (digit→start c) in take_all (length l - 1) (drop 1 l) (omega (arith, length-drop 1 l))
 
 -- what the line writes, by the top digit and the word
-written : (c : tie.After-hex-value2) (d : ℕ) → (word→digit c).digit.result ≡ d → hexFrom 0 (line_at (word→start c)) ≡ d * 2 ^ 64 + c.hex-value2.result
+written : (c : tie.After-hex-value2) (d : ℕ) → (word→digit c).digit.result ≡ d → hex_from 0 (line_at (word→start c)) ≡ d * 2 ^ 64 + c.hex-value2.result
 written c d e =
-    hex-top (line_at (word→start c)) (seventeen (word→digit c))
-    ∙ ap₂ (λ (x w : ℕ). x * 2 ^ 64 + w) (sym (word→digit c).digit.ensures ∙ e) (sym (c.hex-value2.ensures ∙ ap (hexFrom 0) (below (word→digit c))))
+    hex_top (line_at (word→start c)) (seventeen (word→digit c))
+    ∙ ap₂ (λ (x w : ℕ). x * 2 ^ 64 + w) (sym (word→digit c).digit.ensures ∙ e) (sym (c.hex-value2.ensures ∙ ap (hex_from 0) (below (word→digit c))))
 
 hex-value-requires : tie.Need-hex-value-requires
 hex-value-requires c κs = (omega arith, c.before.before.requires.1)
@@ -75,7 +75,7 @@ returns-4 : tie.Need-returns-4
 returns-4 c =
     let w = c.before.before in
     let top = (word→digit w).digit.result in
-    rw (written w top refl) (sym (line-large _ _ (top-large top w.hex-value2.result (omega (arith, c.before.if2.false, c.if3.false)))))
+    rw (written w top refl) (sym (line_large _ _ (top_large top w.hex-value2.result (omega (arith, c.before.if2.false, c.if3.false)))))
 
 pub line-of-spec : {M : Type 1} → statement M
 line-of-spec =

@@ -3,7 +3,7 @@ use mathlib.Core.Path.{◌≡◌, sym, ap, ◌∙◌}
 use borrow.Author.Rules.{rules}
 use Rattle.refusals.specs.Refusals.{number_of}
 use Rattle.keys.specs.declared.Tested.{Tested}
-use Rattle.keys.specs.Testing.{testKey}
+use Rattle.keys.specs.Testing.{test_key}
 use Rattle.keys.specs.Answers.{tested}
 use Rattle.keys_vectors.proofs.number_of.Statement.{statement}
 use Rattle.keys_vectors.proofs.number_of.Tie as tie
@@ -12,7 +12,7 @@ abbrev refused-at : tie.After-number → tie.After-r
 refused-at c = c.before.before
 
 -- the number of what the test answers
-answered : (c : tie.After-test) {x : Tested} → c.test.result ≡ x → number_of (tested x) ≡ number_of (testKey c.before.args.key)
+answered : (c : tie.After-test) {x : Tested} → c.test.result ≡ x → number_of (tested x) ≡ number_of (test_key c.before.args.key)
 answered c e = ap (λ (t : Tested). number_of (tested t)) (sym e) ∙ ap number_of c.test.ensures
 
 returns : tie.Need-returns

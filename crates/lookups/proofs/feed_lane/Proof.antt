@@ -5,7 +5,7 @@ use native.Mathlib.Omega.{arith}
 use lib.ListN.{length, drop}
 use Rattle.gf2.specs.Polynomials.{rem}
 use Rattle.gf2.specs.Moduli.{polynomial}
-use Rattle.files.specs.Files.{bits, valueFrom}
+use Rattle.files.specs.Files.{bits, value_from}
 use Rattle.big_endian.proofs.Pieces.{Going, going-first, going-four}
 use Rattle.lookups.proofs.feed_lane.Statement.{statement}
 use Rattle.lookups.proofs.feed_lane.Tie as tie
@@ -56,7 +56,7 @@ returns c =
     let s = loop→start c.before.before in
     let l = c.before.before.before.loop in
     c.feed-tail.ensures
-    ∙ ap (λ (x : ℕ). rem (polynomial s.args.p) (valueFrom x (bits (drop l.i s.args.part.now)))) c.before.below.ensures
+    ∙ ap (λ (x : ℕ). rem (polynomial s.args.p) (value_from x (bits (drop l.i s.args.part.now)))) c.before.below.ensures
     ∙ l.invariant.1.1
 
 pub feed-lane-spec : {M : Type 1} → statement M

@@ -7,13 +7,13 @@ use lib.ListN.{length, drop}
 use borrow.Author.Rules.{rules}
 use Rattle.refusals.specs.Refusals.{Done, Refused}
 use Rattle.key_lines.specs.declared.KeyLine.TheVariants.{Key}
-use Rattle.key_lines.specs.KeyLines.{keyLine}
+use Rattle.key_lines.specs.KeyLines.{key_line}
 use Rattle.key_lines.proofs.Laws.{key-within}
 use Rattle.input_feeding.specs.Marking.{MarkedInParts}
 use Rattle.input_calls.specs.declared.Input.{Input}
 use Rattle.mark.specs.declared.Text.{Text}
 use Rattle.mark.specs.Heads.{Answered}
-use Rattle.mark.proofs.Texts.{from, none-printed, large-printed, done-printed, refused-printed, unread-printed, marked-range}
+use Rattle.mark.proofs.Texts.{from, none-printed, large_printed, done-printed, refused-printed, unread-printed, marked_range}
 use Rattle.mark.proofs.answer.Statement.{statement}
 use Rattle.mark.proofs.answer.Tie as tie
 
@@ -38,7 +38,7 @@ abbrev head_at : tie.After-key → List ℕ
 head_at c = (key-line→start (key→key-line c)).args.head.now
 
 -- the key's line
-line : (c : tie.After-key) → keyLine (head_at c) ≡ Key c.key.given.0.0 c.key.given.0.1.0
+line : (c : tie.After-key) → key_line (head_at c) ≡ Key c.key.given.0.0 c.key.given.0.1.0
 line c = sym (key→key-line c).key-line.ensures ∙ c.key.given.1
 
 -- the place behind it
@@ -70,7 +70,7 @@ report-requires c κs =
     let m = c.before.before in
     let f = m→mark-file m in
     let k = mark-file→key f in
-    marked-range _ (drop k.key.given.0.1.0 (head_at k)) (key-line→start (key→key-line k)).args.input f.mark-file.result _ (file f)
+    marked_range _ (drop k.key.given.0.1.0 (head_at k)) (key-line→start (key→key-line k)).args.input f.mark-file.result _ (file f)
     m.marked.given.1
 
 returns : tie.Need-returns
@@ -80,7 +80,7 @@ returns c =
     let s = key-line→start k in
     answered s _ _ _ c.told.ensures
     (none-printed s.args.head.now s.args.out.now _ _ s.args.input s.pre (sym k.key-line.ensures ∙ t.enum_told.given.1)
-    c.before.no_key.ensures)
+    c.before.no_key_lem.ensures)
 
 returns-2 : tie.Need-returns-2
 returns-2 c =
@@ -118,7 +118,7 @@ returns-5 c =
     let k = t.before.before in
     let s = key-line→start k in
     answered s _ _ _ c.told5.ensures
-    (large-printed s.args.head.now s.args.out.now _ _ s.args.input s.pre (sym k.key-line.ensures ∙ t.enum-told3.given.1)
+    (large_printed s.args.head.now s.args.out.now _ _ s.args.input s.pre (sym k.key-line.ensures ∙ t.enum-told3.given.1)
     c.before.refusal2.ensures)
 
 pub answer-spec : {M : Type 1} → statement M

@@ -15,7 +15,7 @@ use Rattle.input_calls.specs.declared.Got.TheVariants.{Bytes}
 use Rattle.input_calls.specs.declared.Input.{Input}
 use Rattle.input_calls.specs.contracts.Got.{the_type}
 use Rattle.input_reading.proofs.Given.{closes}
-use Rattle.mark.proofs.Heads.{Stands, Going, room, none-stands, bytes_fit, bytes-stand, goes, none_more, over-now, read-so, fuller}
+use Rattle.mark.proofs.Heads.{Stands, Going, room, none-stands, bytes_fit, bytes_stand, goes, none_more, over_now, read_so, fuller}
 use Rattle.mark.proofs.read_head.Statement.{statement}
 use Rattle.mark.proofs.read_head.Tie as tie
 
@@ -100,7 +100,7 @@ loop-again c =
       (
         (fits n).1,
         (
-          bytes-stand (loop→start (l n)).args.input (l n).loop.at (l n).loop.done (l n).loop.head (l n).loop.invariant.1.1.0 (next (r n)) (head (r n))
+          bytes_stand (loop→start (l n)).args.input (l n).loop.at (l n).loop.done (l n).loop.head (l n).loop.invariant.1.1.0 (next (r n)) (head (r n))
               (within (r n)) (r n).read_behind.ensures.1.1 (r n).read_behind.ensures.0 _ (gave n),
           goes (loop→start (l n)).args.input (l n).loop.at (l n).loop.done (l n).loop.head (l n).loop.invariant.1.1.0 (next (r n)) (head (r n))
               (within (r n)) (r n).read_behind.ensures.1.1 (r n).read_behind.ensures.0 _ (gave n) c.undecided.result c.undecided.ensures,
@@ -119,7 +119,7 @@ loop-again-2 c =
     let r = last→read a in
     let l = read→loop r in
     let keys = subst (λ (g : Got). OneOf (1 ∷ 2 ∷ 3 ∷ []) (tag_of the_type g)) a.last.ensures c.match.keys2 in
-    let o = over-now (next r).last keys r.read_behind.ensures.1.0 in (
+    let o = over_now (next r).last keys r.read_behind.ensures.1.0 in (
       full r,
       (
         within r,
@@ -134,7 +134,7 @@ loop-again-2 c =
 returns : tie.Need-returns invariant-loop decreases-loop
 returns c =
     let l = c.before in
-    read-so (loop→start l).args.input l.loop.at l.loop.done l.loop.head l.loop.invariant.1.0 l.loop.invariant.1.1.0
+    read_so (loop→start l).args.input l.loop.at l.loop.done l.loop.head l.loop.invariant.1.0 l.loop.invariant.1.1.0
     (subst (λ (b : Bool). Going b l.loop.at l.loop.done l.loop.head) c.loop-test.false l.loop.invariant.1.1.1)
 
 pub read-head-spec : {M : Type 1} → statement M

@@ -9,7 +9,7 @@ use Rattle.gf2.specs.Moduli.{polynomial}
 use Rattle.refusals.specs.Refusals.{Done, longest, passes}
 use Rattle.refusals.proofs.Laws.{holds, fails}
 use Rattle.refusals.proofs.Lengths.{counted_is, counted-sum, sum-within}
-use Rattle.files.specs.Files.{unreduced, Part, asPart, partLength}
+use Rattle.files.specs.Files.{unreduced, Part, as_part, part_length}
 use Rattle.mark_tests.proofs.Laws.{feed-long, feed-unreduced, feed-misused, feed-passed, not-residue, is-residue}
 use Rattle.mark_tests.proofs.judge.Statement.{statement}
 use Rattle.mark_tests.proofs.judge.Tie as tie
@@ -29,7 +29,7 @@ abbrev else1→start : tie.Else1 → tie.Start
 else1→start c = length→start (else1→length c)
 
 abbrev part_at : tie.Start → Part
-part_at s = asPart s.args.part.now s.args.used
+part_at s = as_part s.args.part.now s.args.used
 
 -- two lengths and their sum
 abbrev lengths : ℕ → ℕ → List ℕ
@@ -37,21 +37,21 @@ lengths a n = a ∷ n ∷ (a + n) ∷ []
 
 -- number 7 of the length as it was counted
 abbrev long : tie.After-part-length → Bool
-long c = passes (lengths (length→start c).args.m.length c.part_length.result)
+long c = passes (lengths (length→start c).args.m.length c.part-length.result)
 
-counted : (c : tie.After-part-length) → let s = length→start c in long c ≡ passes (lengths s.args.m.length (partLength (part_at s)))
+counted : (c : tie.After-part-length) → let s = length→start c in long c ≡ passes (lengths s.args.m.length (part_length (part_at s)))
 counted c =
     let s = length→start c in
-    ap (λ (n : ℕ). passes (lengths s.args.m.length n)) c.part_length.ensures ∙ counted-sum s.args.m.length (partLength (part_at s))
+    ap (λ (n : ℕ). passes (lengths s.args.m.length n)) c.part-length.ensures ∙ counted-sum s.args.m.length (part_length (part_at s))
 
-short : (c : tie.Else1) → let s = else1→start c in passes (lengths s.args.m.length (partLength (part_at s))) ≡ false
+short : (c : tie.Else1) → let s = else1→start c in passes (lengths s.args.m.length (part_length (part_at s))) ≡ false
 short c = sym (counted (else1→length c)) ∙ fails _ (long (else1→length c)) c.before.fits2.ensures c.if1.false
 
-within : (c : tie.Else1) → let s = else1→start c in s.args.m.length + partLength (part_at s) ≤ longest
-within c = let s = else1→start c in sum-within s.args.m.length (partLength (part_at s)) (short c)
+within : (c : tie.Else1) → let s = else1→start c in s.args.m.length + part_length (part_at s) ≤ longest
+within c = let s = else1→start c in sum-within s.args.m.length (part_length (part_at s)) (short c)
 
-in-full : (c : tie.Else1) → (else1→length c).part_length.result ≡ partLength (part_at (else1→start c))
-in-full c = (else1→length c).part_length.ensures ∙ counted_is (partLength (part_at (else1→start c))) (omega (arith, within c))
+in-full : (c : tie.Else1) → (else1→length c).part-length.result ≡ part_length (part_at (else1→start c))
+in-full c = (else1→length c).part-length.ensures ∙ counted_is (part_length (part_at (else1→start c))) (omega (arith, within c))
 
 returns : tie.Need-returns
 returns c =

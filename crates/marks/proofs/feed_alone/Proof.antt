@@ -2,8 +2,8 @@
 use mathlib.Core.Path.{sym, ap}
 use borrow.Author.Rules.{rules}
 use Rattle.acceptance.proofs.Opened.{opened-proper}
-use Rattle.files.specs.Files.{Part, asPart}
-use Rattle.marks.specs.Answers.{markIn, fedUnder}
+use Rattle.files.specs.Files.{Part, as_part}
+use Rattle.marks.specs.Answers.{mark_in, fed_under}
 use Rattle.marks.proofs.Laws.{feed-refused, clear-below, clear-used, fed-next}
 use Rattle.marks.proofs.feed_alone.Statement.{statement}
 use Rattle.marks.proofs.feed_alone.Tie as tie
@@ -17,7 +17,7 @@ abbrev total→start : tie.After-total → tie.Start
 total→start c = judge→start c.before.before
 
 abbrev part_at : tie.Start → Part
-part_at s = asPart s.args.part.now s.args.used
+part_at s = as_part s.args.part.now s.args.used
 
 judge-requires : tie.Need-judge-requires
 judge-requires c κs = opened-proper c.before.requires
@@ -26,14 +26,14 @@ returns : tie.Need-returns
 returns c =
     let s = judge→start c.before.before.before in
     let j = c.before.before.before.judge in
-    sym (ap (fedUnder s.args.m.key) (feed-refused s.pre (markIn s.args.m) (part_at s) j.result j.ensures _ c.before.r.given.1))
+    sym (ap (fed_under s.args.m.key) (feed-refused s.pre (mark_in s.args.m) (part_at s) j.result j.ensures _ c.before.r.given.1))
 
 part-alone-requires : tie.Need-part-alone-requires
 part-alone-requires c κs =
     let t = c.before in
     let s = total→start t in
     let j = t.before.before.judge in
-    let m = markIn s.args.m in (
+    let m = mark_in s.args.m in (
       opened-proper s.pre,
       clear-below s.pre m (part_at s) j.result j.ensures _ t.total.given.1,
       clear-used s.pre m (part_at s) j.result j.ensures _ t.total.given.1,
@@ -44,7 +44,7 @@ returns-2 c =
     let t = c.before.before in
     let s = total→start t in
     let j = t.before.before.judge in
-    fed-next s.pre (markIn s.args.m) (part_at s) j.result j.ensures _ t.total.given.1 _ c.part-alone.ensures
+    fed-next s.pre (mark_in s.args.m) (part_at s) j.result j.ensures _ t.total.given.1 _ c.part-alone.ensures
 
 pub feed-alone-spec : {M : Type 1} → statement M
 feed-alone-spec =

@@ -3,9 +3,9 @@ use mathlib.Core.Path.{ap, ◌∙◌}
 use mathlib.Core.List.{List}
 use Prim.Native.Nat.{ℕ}
 use borrow.Author.Rules.{rules}
-use Rattle.files.specs.Files.{asPart}
-use Rattle.marks.specs.Feeding.{feedTable, feedHouse}
-use Rattle.marks.specs.Answers.{markIn, fedUnder}
+use Rattle.files.specs.Files.{as_part}
+use Rattle.marks.specs.Feeding.{feed_table, feed_house}
+use Rattle.marks.specs.Answers.{mark_in, fed_under}
 use Rattle.marks.proofs.feed_constant.Statement.{statement}
 use Rattle.marks.proofs.feed_constant.Tie as tie
 
@@ -15,11 +15,11 @@ abbrev words→start : tie.After-words → tie.Start
 words→start c = c.before.before
 
 returns : tie.Need-returns
-unfolding feedHouse
+unfolding feed_house
 returns c =
     let a = (words→start c.before.before).args in
     c.feed-table.ensures
-    ∙ ap (λ (ws : List ℕ). fedUnder a.m.key (feedTable a.m.key (markIn a.m) ws (asPart a.part.now a.used)))
+    ∙ ap (λ (ws : List ℕ). fed_under a.m.key (feed_table a.m.key (mark_in a.m) ws (as_part a.part.now a.used)))
     c.before.before.words.ensures
 
 pub feed-constant-spec : {M : Type 1} → statement M

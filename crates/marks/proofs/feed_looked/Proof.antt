@@ -3,9 +3,9 @@ use mathlib.Core.Path.{sym, ap}
 use borrow.Author.Rules.{rules}
 use Rattle.gf2.specs.Moduli.{polynomial}
 use Rattle.acceptance.proofs.Opened.{opened-whole, opened-proper, opened-eight}
-use Rattle.files.specs.Files.{Part, asPart}
+use Rattle.files.specs.Files.{Part, as_part}
 use Rattle.lookups.specs.Groups.{Table}
-use Rattle.marks.specs.Answers.{markIn, fedUnder}
+use Rattle.marks.specs.Answers.{mark_in, fed_under}
 use Rattle.marks.proofs.Laws.{feed-refused, clear-below, clear-used, fed-next}
 use Rattle.marks.proofs.feed_looked.Statement.{statement}
 use Rattle.marks.proofs.feed_looked.Tie as tie
@@ -19,7 +19,7 @@ abbrev total→start : tie.After-total → tie.Start
 total→start c = judge→start c.before.before
 
 abbrev part_at : tie.Start → Part
-part_at s = asPart s.args.part.now s.args.used
+part_at s = as_part s.args.part.now s.args.used
 
 judge-requires : tie.Need-judge-requires
 judge-requires c κs = opened-proper c.before.before.requires.0
@@ -28,7 +28,7 @@ returns : tie.Need-returns
 returns c =
     let s = judge→start c.before.before.before in
     let j = c.before.before.before.judge in
-    sym (ap (fedUnder s.args.m.key) (feed-refused s.pre.0 (markIn s.args.m) (part_at s) j.result j.ensures _ c.before.r.given.1))
+    sym (ap (fed_under s.args.m.key) (feed-refused s.pre.0 (mark_in s.args.m) (part_at s) j.result j.ensures _ c.before.r.given.1))
 
 part-by-table-requires : tie.Need-part-by-table-requires
 part-by-table-requires c κs =
@@ -36,7 +36,7 @@ part-by-table-requires c κs =
     let s = total→start t in
     let h = s.pre.0 in
     let j = t.before.before.judge in
-    let m = markIn s.args.m in
+    let m = mark_in s.args.m in
     let table : Table (polynomial s.args.p) s.args.words.now = rw (opened-whole h) s.pre.1 in (
       (opened-proper h, opened-eight h, table),
       clear-below h m (part_at s) j.result j.ensures _ t.total.given.1,
@@ -48,7 +48,7 @@ returns-2 c =
     let t = c.before.before in
     let s = total→start t in
     let j = t.before.before.judge in
-    fed-next s.pre.0 (markIn s.args.m) (part_at s) j.result j.ensures _ t.total.given.1 _ c.part-by-table.ensures
+    fed-next s.pre.0 (mark_in s.args.m) (part_at s) j.result j.ensures _ t.total.given.1 _ c.part-by-table.ensures
 
 pub feed-looked-spec : {M : Type 1} → statement M
 feed-looked-spec =

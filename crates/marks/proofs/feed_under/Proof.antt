@@ -7,14 +7,14 @@ use Rattle.refusals.specs.Refusals.{Test, judged}
 use Rattle.refusals.specs.Answers.{told}
 use Rattle.refusals.proofs.Laws.{Clear, more-clear}
 use Rattle.refusals.proofs.Replies.{judged-refused, judged-clear}
-use Rattle.acceptance.specs.Keys.{polynomialOf}
+use Rattle.acceptance.specs.Keys.{polynomial_of}
 use Rattle.acceptance.proofs.Opened.{opened-whole, opened-proper}
 use Rattle.files.specs.declared.Mark.{Mark}
-use Rattle.files.specs.Files.{asPart, fedMark}
-use Rattle.table_tests.specs.TableTests.{tableTests}
+use Rattle.files.specs.Files.{as_part, fed_mark}
+use Rattle.table_tests.specs.TableTests.{table_tests}
 use Rattle.table_tests.proofs.Laws.{table-clear}
-use Rattle.mark_tests.specs.MarkTests.{feedTests}
-use Rattle.marks.specs.Answers.{markIn, fedUnder}
+use Rattle.mark_tests.specs.MarkTests.{feed_tests}
+use Rattle.marks.specs.Answers.{mark_in, fed_under}
 use Rattle.marks.proofs.feed_under.Statement.{statement}
 use Rattle.marks.proofs.feed_under.Tie as tie
 
@@ -28,45 +28,45 @@ enum-told→start c = judge→start c.before.before
 
 -- the tests behind those of the words, and the value
 abbrev tests : tie.Start → List Test
-tests s = feedTests (polynomialOf s.args.m.key) (markIn s.args.m) (asPart s.args.part.now s.args.used)
+tests s = feed_tests (polynomial_of s.args.m.key) (mark_in s.args.m) (as_part s.args.part.now s.args.used)
 
 abbrev value : tie.Start → Mark
-value s = fedMark (polynomialOf s.args.m.key) (markIn s.args.m) (asPart s.args.part.now s.args.used)
+value s = fed_mark (polynomial_of s.args.m.key) (mark_in s.args.m) (as_part s.args.part.now s.args.used)
 
 judge-requires : tie.Need-judge-requires
 judge-requires c κs = opened-proper c.before.before.requires
 
 -- what `judge` found, under the key itself
-found : (c : tie.After-judge) → let a = (judge→start c).args in told c.judge.result ≡ judged (tableTests (polynomialOf a.m.key) a.words.now)
+found : (c : tie.After-judge) → let a = (judge→start c).args in told c.judge.result ≡ judged (table_tests (polynomial_of a.m.key) a.words.now)
 found c =
     let s = judge→start c in
-    c.judge.ensures ∙ ap (λ (q : ℕ). judged (tableTests q s.args.words.now)) (opened-whole s.pre)
+    c.judge.ensures ∙ ap (λ (q : ℕ). judged (table_tests q s.args.words.now)) (opened-whole s.pre)
 
 returns : tie.Need-returns
 returns c =
     let s = judge→start c.before.before.before in
     let a = s.args in
     let j = c.before.before.before in
-    let refused = judged-refused (tableTests (polynomialOf a.m.key) a.words.now) j.judge.result (found j) (tests s) (markIn a.m) (value s) _
+    let refused = judged-refused (table_tests (polynomial_of a.m.key) a.words.now) j.judge.result (found j) (tests s) (mark_in a.m) (value s) _
     c.before.r.given.1 in
-    sym (ap (fedUnder a.m.key) refused)
+    sym (ap (fed_under a.m.key) refused)
 
-clear : (c : tie.After-enum-told) → let a = (enum-told→start c).args in Clear (tableTests (polynomialOf a.m.key) a.words.now)
+clear : (c : tie.After-enum-told) → let a = (enum-told→start c).args in Clear (table_tests (polynomial_of a.m.key) a.words.now)
 clear c =
     let a = (enum-told→start c).args in
     let j = c.before.before in
-    judged-clear (tableTests (polynomialOf a.m.key) a.words.now) j.judge.result (found j) c.enum_told.given.1
+    judged-clear (table_tests (polynomial_of a.m.key) a.words.now) j.judge.result (found j) c.enum_told.given.1
 
 feed-looked-requires : tie.Need-feed-looked-requires
-feed-looked-requires c κs = let s = enum-told→start c in (s.pre, table-clear s.args.words.now (polynomialOf s.args.m.key) (clear c))
+feed-looked-requires c κs = let s = enum-told→start c in (s.pre, table-clear s.args.words.now (polynomial_of s.args.m.key) (clear c))
 
 returns-2 : tie.Need-returns-2
 returns-2 c =
     let s = enum-told→start c.before in
     let a = s.args in
-    let key = polynomialOf a.m.key in
+    let key = polynomial_of a.m.key in
     c.feed-looked.ensures
-    ∙ sym (ap (fedUnder a.m.key) (more-clear (tableTests key a.words.now) (tests s) (markIn a.m) (value s) (clear c.before)))
+    ∙ sym (ap (fed_under a.m.key) (more-clear (table_tests key a.words.now) (tests s) (mark_in a.m) (value s) (clear c.before)))
 
 pub feed-under-spec : {M : Type 1} → statement M
 feed-under-spec = tie.close (tie.spec judge-requires (λ c. search rules) (λ c. search rules) feed-looked-requires returns returns-2)

@@ -8,7 +8,7 @@ use Rattle.gf2.specs.Polynomials.{rem}
 use Rattle.gf2.specs.Moduli.{polynomial}
 use Rattle.gf2.proofs.Steps.{residue-below}
 use Rattle.multiples.specs.Rows.{Rows, SameFrom}
-use Rattle.multiples.proofs.Following.{Row, row-le, middle-in, start_first, rows_more, middle-lt, start-next}
+use Rattle.multiples.proofs.Following.{Row, row-le, middle_in, start_first, rows_more, middle-lt, start-next}
 use Rattle.multiples.proofs.fill_rows.Statement.{statement}
 use Rattle.multiples.proofs.fill_rows.Tie as tie
 
@@ -64,7 +64,7 @@ middle-within c =
     let s = (fill-row→start c).args in
     let l = (fill-row→at-loop c).loop in
     let n = (fill-row→row-size c).row-size in
-    let m = middle-in s.width l.j s.rows n.result (length l.words) n.ensures c.before.before.loop-test.true
+    let m = middle_in s.width l.j s.rows n.result (length l.words) n.ensures c.before.before.loop-test.true
     (within c.before.before) in
     omega (arith, m, c.fill-row.auto.0)
 

@@ -5,7 +5,7 @@ use native.Mathlib.Omega.{arith}
 use borrow.Author.Rules.{rules}
 use Rattle.gf2.specs.Polynomials.{monic}
 use Rattle.gf2.proofs.Steps.{shifted_one}
-use Rattle.acceptance.proofs.Laws.{in-range}
+use Rattle.acceptance.proofs.Laws.{in_range}
 use Rattle.numerals.proofs.Buffers.{put-number}
 use Rattle.numerals.proofs.Numerals.{word_fits}
 use Rattle.numerals.proofs.put_polynomial.Statement.{statement}
@@ -20,7 +20,7 @@ abbrev else1→start : tie.Else1 → tie.Start
 else1→start c = c.before.before.before
 
 below_64 : (c : tie.Else1) → (else1→start c).args.x.degree < 64
-below_64 c = let s = else1→start c in omega (arith, (in-range s.args.x s.pre.1).1, c.if1.false)
+below_64 c = let s = else1→start c in omega (arith, (in_range s.args.x s.pre.1).1, c.if1.false)
 
 returns : tie.Need-returns
 returns c =

@@ -4,7 +4,7 @@ use Prim.Native.Nat.{◌+◌, ◌≤◌}
 use native.Mathlib.Omega.{arith}
 use lib.ListN.{length, length-append}
 use borrow.Author.Rules.{rules}
-use Rattle.numerals.proofs.Buffers.{Holds, all-sixteen, seventeen-put}
+use Rattle.numerals.proofs.Buffers.{Holds, all_sixteen, seventeen-put}
 use Rattle.numerals.proofs.put_seventeen.Statement.{statement}
 use Rattle.numerals.proofs.put_seventeen.Tie as tie
 
@@ -31,7 +31,7 @@ put-requires : tie.Need-put-requires
 put-requires c κs =
     let b = arg→both c.before in
     let h = both→hex b in
-    omega (arith, room b, all-sixteen (hex→start h).args.word (omega arith) h.hex.ensures.1.0, h.hex.ensures.0.1)
+    omega (arith, room b, all_sixteen (hex→start h).args.word (omega arith) h.hex.ensures.1.0, h.hex.ensures.0.1)
 
 returns : tie.Need-returns
 returns c =

@@ -8,7 +8,7 @@ use lib.ListN.{length, set, take, drop, length-set}
 use lib.Seq.{get_or-set_other}
 use Rattle.gf2.specs.Polynomials.{rem}
 use Rattle.gf2.specs.Moduli.{polynomial}
-use Rattle.files.specs.Files.{bits, valueFrom}
+use Rattle.files.specs.Files.{bits, value_from}
 use Rattle.multiples.specs.Rows.{SameFrom}
 use Rattle.table_lanes.proofs.Joining.{lane-length}
 use Rattle.page_marks.specs.Marks.{BegunBy}
@@ -81,9 +81,9 @@ part-feed-eights-end-2 : tie.Need-slice-bounds-feed-eights-end-2 invariant-loop 
 part-feed-eights-end-2 c = omega (arith, (start (loop c.before)).pre.3, second_fits c.before)
 
 -- the part of a page that ends inside the block
-part_length : (s : tie.Start invariant-loop decreases-loop) (i : ℕ) → i * s.args.size + s.args.size ≤ length s.args.pages.now
+part-length : (s : tie.Start invariant-loop decreases-loop) (i : ℕ) → i * s.args.size + s.args.size ≤ length s.args.pages.now
     → length (take (i * s.args.size + s.args.whole - i * s.args.size) (drop (i * s.args.size) s.args.pages.now)) ≡ s.args.whole
-part_length s i l =
+part-length s i l =
     let a = s.args in
     lane-length a.pages.now (i * a.size) (i * a.size + a.whole) a.whole refl (omega (arith, s.requires.3, l))
 
@@ -91,8 +91,8 @@ feed-eights-requires : tie.Need-feed-eights-requires invariant-loop decreases-lo
 feed-eights-requires c κs =
     let b = c.before.before in
     let s = start (loop b) in
-    let p = part_length s (loop b).loop.i (first_fits b) in
-    let q = part_length s b.beside.result (second_fits b) in
+    let p = part-length s (loop b).loop.i (first_fits b) in
+    let q = part-length s b.beside.result (second_fits b) in
     (s.pre.0, rw p s.pre.1, rw p s.pre.2, rw (p, q))
 
 slice-write-marks-2 : tie.Need-slice-write-marks-2 invariant-loop decreases-loop
@@ -106,9 +106,9 @@ loop-again c =
     let a = s.args in
     let j = b.beside in
     let x = c.feed-eights in
-    let front : (key i : ℕ) → rem key (valueFrom 1 (bits (take (i * a.size + a.whole - i * a.size) (drop (i * a.size) a.pages.now))))
-    ≡ rem key (valueFrom 1 (bits (take a.whole (drop (i * a.size) a.pages.now)))) =
-    λ key i. ap (λ (q : List ℕ). rem key (valueFrom 1 (bits q))) (front_cut (i * a.size) a.whole a.pages.now) in (
+    let front : (key i : ℕ) → rem key (value_from 1 (bits (take (i * a.size + a.whole - i * a.size) (drop (i * a.size) a.pages.now))))
+    ≡ rem key (value_from 1 (bits (take a.whole (drop (i * a.size) a.pages.now)))) =
+    λ key i. ap (λ (q : List ℕ). rem key (value_from 1 (bits q))) (front_cut (i * a.size) a.whole a.pages.now) in (
       omega arith,
       simp length-set l.inv.1,
       λ p h sh. begun-two (polynomial p) a.size a.whole a.pages.now l.marks l.i j.result x.result.a x.result.b

@@ -7,7 +7,7 @@ use lib.ListN.{get_or}
 use lib.Pow.{pow_mono, pow_pos}
 use Rattle.gf2.specs.Polynomials.{◌⊕◌, rem}
 use Rattle.gf2.specs.Moduli.{polynomial}
-use Rattle.gf2.proofs.Sums.{⊕-comm}
+use Rattle.gf2.proofs.Sums.{⊕_comm}
 use Rattle.gf2.proofs.Monics.{monic-pos}
 use Rattle.gf2.proofs.Steps.{residue-split}
 use Rattle.lookups.proofs.Rule.{table-long, table-rows}
@@ -47,7 +47,7 @@ returns c =
     ∙ look_one ws (a.x % 2 ^ k) h (top s)
     ∙ ap (λ (y : ℕ). a.x % 2 ^ k ⊕ y)
     (looked-shift 8 (monic-pos k a.p.low m) k 4 ws (table-rows a.p ws s.pre.0) 1 h (omega arith) (omega (arith, top s)))
-    ∙ ⊕-comm (a.x % 2 ^ k) (rem (polynomial a.p) (h * 2 ^ k))
+    ∙ ⊕_comm (a.x % 2 ^ k) (rem (polynomial a.p) (h * 2 ^ k))
     ∙ sym (residue-split k a.p.low m a.x)
 
 pub cut_spec : {M : Type 1} → statement M

@@ -1,6 +1,6 @@
 -- `finish` meets its contract, by either way.
 use Rattle.gf2.specs.Moduli.{polynomial}
-use Rattle.page_marks.proofs.Marks.{cut-finished}
+use Rattle.page_marks.proofs.Marks.{cut_finished}
 use borrow.Author.Rules.{rules}
 use Rattle.page_marks.proofs.finish.Statement.{statement}
 use Rattle.page_marks.proofs.finish.Tie as tie
@@ -25,7 +25,7 @@ returns c =
     let a = s.args in
     let x = m.cut-marks.ensures in
     let e = (i.is_cut.ensures t.if1.true).0 in
-    (cut-finished (polynomial a.p) a.size a.whole a.n a.pages.now a.marks.now m.cut-marks.new.0 e s.pre.4 x.0, x.1)
+    (cut_finished (polynomial a.p) a.size a.whole a.n a.pages.now a.marks.now m.cut-marks.new.0 e s.pre.4 x.0, x.1)
 
 pub finish_spec : {M : Type 1} → statement M
 finish_spec =

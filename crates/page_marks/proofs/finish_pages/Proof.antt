@@ -9,7 +9,7 @@ use Rattle.gf2.specs.Moduli.{polynomial}
 use Rattle.gf2.proofs.Monics.{monic-pos}
 use Rattle.multiples.specs.Rows.{SameFrom}
 use Rattle.page_marks.specs.Marks.{Finished}
-use Rattle.page_marks.proofs.Marks.{finished-more, place-fits, page-finished}
+use Rattle.page_marks.proofs.Marks.{finished_more, place-fits, page_finished}
 use Rattle.page_marks.proofs.finish_pages.Statement.{statement}
 use Rattle.page_marks.proofs.finish_pages.Tie as tie
 
@@ -73,8 +73,8 @@ loop-again c =
     let begun = ap (rem (key s)) (l.inv.3 l.i (omega arith)) ∙ s.pre.4 l.i (omega arith) in (
       omega arith,
       simp length-set l.inv.1,
-      finished-more (key s) a.size a.whole a.pages.now l.marks l.i x.result (omega arith) l.inv.2
-          (page-finished (monic-pos a.p.degree a.p.low s.pre.0.0.2) a.size a.whole l.i a.pages.now _ x.result s.pre.1 begun
+      finished_more (key s) a.size a.whole a.pages.now l.marks l.i x.result (omega arith) l.inv.2
+          (page_finished (monic-pos a.p.degree a.p.low s.pre.0.0.2) a.size a.whole l.i a.pages.now _ x.result s.pre.1 begun
           x.ensures),
       λ j b. get_or-set_other l.marks l.i j x.result 0 (λ e. omega (arith, e, b)) ∙ l.inv.3 j (omega (arith, b)),
     )

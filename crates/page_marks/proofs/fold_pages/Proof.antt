@@ -6,16 +6,16 @@ use native.Mathlib.Omega.{arith}
 use lib.ListN.{length, take, drop, length-set}
 use lib.Seq.{get_or-set_other}
 use Rattle.gf2.specs.Polynomials.{rem}
-use Rattle.files.specs.Files.{bits, valueFrom, fingerprint, fingerprintFrom}
+use Rattle.files.specs.Files.{bits, value_from, fingerprint, fingerprint_from}
 use Rattle.multiples.specs.Rows.{SameFrom}
-use Rattle.house.specs.House.{houseKey}
-use Rattle.page_marks.specs.Marks.{pageFront, Finished}
-use Rattle.page_marks.proofs.Marks.{finished-more, place-fits, front_cut}
+use Rattle.house.specs.House.{house_key}
+use Rattle.page_marks.specs.Marks.{page_front, Finished}
+use Rattle.page_marks.proofs.Marks.{finished_more, place-fits, front_cut}
 use Rattle.page_marks.proofs.fold_pages.Statement.{statement}
 use Rattle.page_marks.proofs.fold_pages.Tie as tie
 
 abbrev invariant-loop : tie.invariant-loop
-invariant-loop marks₀ size n pages i₀ marks i = (i ≤ n) × (length marks ≡ length marks₀) × Finished houseKey size i pages marks × SameFrom n marks₀ marks
+invariant-loop marks₀ size n pages i₀ marks i = (i ≤ n) × (length marks ≡ length marks₀) × Finished house_key size i pages marks × SameFrom n marks₀ marks
 
 abbrev decreases-loop : tie.decreases-loop
 decreases-loop marks₀ size n pages i₀ marks i = n - i
@@ -37,10 +37,10 @@ fits c =
     place-fits s.args.size s.args.n c.before.loop.i (length s.args.pages.now) c.loop-test.true s.pre.0
 
 -- its residue behind the leading 1 is its fingerprint
-page-is : (key s i r : ℕ) (pages : List ℕ) → r ≡ rem key (valueFrom 1 (bits (take (i * s + s - i * s) (drop (i * s) pages))))
-    → r ≡ fingerprint key (bits (pageFront s s pages i))
-unfolding fingerprintFrom
-page-is key s i r pages e = e ∙ ap (λ (q : List ℕ). rem key (valueFrom 1 (bits q))) (front_cut (i * s) s pages)
+page-is : (key s i r : ℕ) (pages : List ℕ) → r ≡ rem key (value_from 1 (bits (take (i * s + s - i * s) (drop (i * s) pages))))
+    → r ≡ fingerprint key (bits (page_front s s pages i))
+unfolding fingerprint_from
+page-is key s i r pages e = e ∙ ap (λ (q : List ℕ). rem key (value_from 1 (bits q))) (front_cut (i * s) s pages)
 
 loop-again : tie.Need-loop-preserved invariant-loop decreases-loop
 loop-again c =
@@ -50,8 +50,8 @@ loop-again c =
     let x = c.fed-page in (
       omega arith,
       simp length-set l.inv.1,
-      finished-more houseKey a.size 0 a.pages.now l.marks l.i x.result (omega (arith, (start t).pre.1, l.inv.1, t.loop-test.taken))
-          l.inv.2 (page-is houseKey a.size l.i x.result a.pages.now x.ensures),
+      finished_more house_key a.size 0 a.pages.now l.marks l.i x.result (omega (arith, (start t).pre.1, l.inv.1, t.loop-test.taken))
+          l.inv.2 (page-is house_key a.size l.i x.result a.pages.now x.ensures),
       λ j b. get_or-set_other l.marks l.i j x.result 0 (λ e. omega (arith, e, b, t.loop-test.taken)) ∙ l.inv.3 j b,
     )
 

@@ -4,7 +4,7 @@ use mathlib.Core.List.{List, ◌++◌}
 use Prim.Native.Nat.{ℕ, ◌/◌}
 use native.Mathlib.Omega.{arith}
 use borrow.Author.Rules.{rules}
-use Rattle.acceptance.specs.Keys.{polynomialOf}
+use Rattle.acceptance.specs.Keys.{polynomial_of}
 use Rattle.marks.specs.declared.Running.{Running}
 use Rattle.numerals.specs.Numerals.{numeral}
 use Rattle.printing.specs.Printing.{ascii, report}
@@ -43,7 +43,7 @@ abbrev text-degree : Running → List ℕ
 text-degree m = ascii "key " ++ numeral 10 m.key.degree
 
 abbrev text-key : Running → List ℕ
-text-key m = text-degree m ++ (ascii " " ++ numeral 16 (polynomialOf m.key))
+text-key m = text-degree m ++ (ascii " " ++ numeral 16 (polynomial_of m.key))
 
 abbrev text-bytes : Running → List ℕ
 text-bytes m = text-key m ++ (ascii "\nbytes " ++ numeral 10 (m.length / 8))
@@ -61,7 +61,7 @@ unfolding ascii
 to-key c =
     let x = (given (degree-at c)).key in
     let p = c.put-polynomial in
-    put_next (omega arith) (to-degree (degree-at c)) (ascii " " ++ numeral 16 (polynomialOf x)) p.ensures.0 p.ensures.1.1
+    put_next (omega arith) (to-degree (degree-at c)) (ascii " " ++ numeral 16 (polynomial_of x)) p.ensures.0 p.ensures.1.1
 
 to-bytes : (c : tie.After-put-decimal2)
     → Holds (buffer (degree-at (key-at c))) 0 c.put-decimal2.result c.put-decimal2.new.0 (text-bytes (given (degree-at (key-at c))))

@@ -3,7 +3,7 @@ use Rattle.std.proofs.Common.{◌≡◌, ℕ, ◌-◌, ◌≤◌, length, get_or
 use lib.Bits.{bit_xor}
 use Rattle.gf2.specs.Polynomials.{◌⊕◌}
 use Rattle.basis.specs.Rows.{clear}
-use Rattle.relations.specs.Adding.{addWhere}
+use Rattle.relations.specs.Adding.{add_where}
 use Rattle.basis.proofs.Mapping.{Mapped, mapped-length, mapped_at, mapped_next, mapped-whole}
 use Rattle.relations.proofs.Relations.{Added, added-length, added_next, added-whole}
 use Rattle.relations.proofs.clear_with_sums.Statement.{statement}
@@ -17,7 +17,7 @@ abbrev decreases-loop : tie.decreases-loop
 decreases-loop rows₀ sums₀ v w c j₀ j-end rows sums j = length rows₀ - j
 
 loop-holds : tie.Need-loop-init invariant-loop decreases-loop
-unfolding addWhere
+unfolding add_where
 loop-holds c = (omega arith, refl, refl)
 
 -- the call's start, and the turn that a place belongs to

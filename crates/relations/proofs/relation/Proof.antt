@@ -2,7 +2,7 @@
 use Rattle.std.proofs.Common.{◌≡◌, ◌-◌, ◌*◌, ◌%◌, ◌^◌, ◌<◌, arith, length-drop, length-take, rules}
 use Rattle.gf2.specs.Polynomials.{◌⊕◌}
 use Rattle.gf2.proofs.Steps.{shifted_one}
-use Rattle.relations.proofs.Relations.{Kept, kept-start, pivot, kept-turn, relation-found}
+use Rattle.relations.proofs.Relations.{Kept, kept-start, pivot, kept-turn, relation_found}
 use Rattle.relations.proofs.relation.Statement.{statement}
 use Rattle.relations.proofs.relation.Tie as tie
 
@@ -34,7 +34,7 @@ lowest-one-requires c κs =
 clear-with-sums-requires : tie.Need-clear-with-sums-requires invariant-loop decreases-loop
 clear-with-sums-requires c κs =
     let l = (turn (one_at c)).loop in
-    ((one_at c).lowest-one.ensures.0, simp (length-take, length-drop, l.inv.work-length, l.inv.sums-length))
+    ((one_at c).lowest-one.ensures.0, simp (length-take, length-drop, l.inv.work_length, l.inv.sums-length))
 
 loop-again : tie.Need-loop-preserved invariant-loop decreases-loop
 unfolding ◌⊕◌
@@ -56,7 +56,7 @@ returns c =
     let reached = l.invariant.reached in
     let left = c.loop-test.false in
     let e : l.i ≡ s.args.k = omega arith in
-    relation-found s.args.rows s.args.k s.requires.0 l.work l.sums (rw e at l.invariant) (1 * 2 ^ s.args.k % 2 ^ 64)
+    relation_found s.args.rows s.args.k s.requires.0 l.work l.sums (rw e at l.invariant) (1 * 2 ^ s.args.k % 2 ^ 64)
     (shifted_one s.args.k s.requires.0)
 
 -- what the arithmetic of a turn rests on

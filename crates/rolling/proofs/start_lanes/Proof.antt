@@ -5,15 +5,15 @@ use native.Mathlib.Omega.{arith}
 use lib.ListN.{get_or}
 use Rattle.gf2.specs.Polynomials.{rem}
 use Rattle.lookups.specs.Groups.{ReducesByte}
-use Rattle.rolling.specs.Rolling.{window, residue, keyOf}
+use Rattle.rolling.specs.Rolling.{window, residue, key_of}
 use Rattle.rolling.proofs.Residues.{read_none, read_below, read_more, read_all, same_place}
 use Rattle.rolling.proofs.start_lanes.Statement.{statement}
 use Rattle.rolling.proofs.start_lanes.Tie as tie
 
 abbrev invariant-loop : tie.invariant-loop
 invariant-loop s reduce text from g b₀ c₀ d₀ j₀ b c d j =
-    (j ≤ s.m) × (b ≡ residue (keyOf s) (window j text (from + 256))) × (c ≡ residue (keyOf s) (window j text (from + 512)))
-    × (d ≡ residue (keyOf s) (window j text (from + 768)))
+    (j ≤ s.m) × (b ≡ residue (key_of s) (window j text (from + 256))) × (c ≡ residue (key_of s) (window j text (from + 512)))
+    × (d ≡ residue (key_of s) (window j text (from + 768)))
 
 abbrev decreases-loop : tie.decreases-loop
 decreases-loop s reduce text from g b₀ c₀ d₀ j₀ b c d j = s.m - j
@@ -51,7 +51,7 @@ feed-one3→feed-one c = c.before.before.before.before
 
 -- x is the residue of j bytes
 abbrev Lane : tie.Start invariant-loop decreases-loop → ℕ → ℕ → ℕ → Type 0
-Lane s n j x = x ≡ residue (keyOf s.args.s) (window j s.args.text.now (s.args.from + n))
+Lane s n j x = x ≡ residue (key_of s.args.s) (window j s.args.text.now (s.args.from + n))
 
 -- a byte can be fed
 feeds : (s : tie.Start invariant-loop decreases-loop) (n j x : ℕ) → Lane s n j x → ReducesByte s.args.s.modulus s.args.reduce.now
@@ -61,7 +61,7 @@ feeds s n j x e = (s.requires.0, read_below s.args.s.modulus s.requires.0.0 s.ar
 -- and is the next one
 fed : (s : tie.Start invariant-loop decreases-loop) (j : ℕ) → j < s.args.s.m → (n x r : ℕ) → n ≤ 768 → get_or s.args.text.now (s.args.from + j + n) 0 < 256
     → Lane s n j x
-    → r ≡ rem (keyOf s.args.s) (x * 256 + get_or s.args.text.now (s.args.from + j + n) 0) → Lane s n (j + 1) r
+    → r ≡ rem (key_of s.args.s) (x * 256 + get_or s.args.text.now (s.args.from + j + n) 0) → Lane s n (j + 1) r
 fed s j h n x r l = read_more s.args.s.modulus s.requires.0.0 s.args.text.now (s.args.from + n) j (s.args.from + j + n) x r (omega arith)
     (omega (arith, s.requires.1))
 

@@ -5,7 +5,7 @@ use native.Mathlib.Omega.{arith}
 use mathlib.Core.Logic.{◌↔◌}
 use Rattle.gf2.specs.Polynomials.{◌⊕◌}
 use Rattle.multiples.specs.Rows.{Shifted}
-use Rattle.multiples.proofs.Doubling.{or-iff, iff-trans, difference-iff, shifted-iff}
+use Rattle.multiples.proofs.Doubling.{or_iff, iff_trans, difference_iff, shifted_iff}
 use lib.ListN.{get_or}
 use Rattle.row_differences.proofs.differences.Statement.{statement}
 use Rattle.row_differences.proofs.differences.Tie as tie
@@ -33,7 +33,7 @@ loop-again c =
     let u = get_or ws (a.at + a.n + l.i) 0 in
     let v = get_or ws (a.at + l.i) 0 in (
       omega arith,
-      iff-trans (or-iff l.sum (u ⊕ v ⊕ a.y) l.invariant.1 (difference-iff u v a.y)) (shifted-iff a.at (a.at + a.n) l.i a.y ws),
+      iff_trans (or_iff l.sum (u ⊕ v ⊕ a.y) l.invariant.1 (difference_iff u v a.y)) (shifted_iff a.at (a.at + a.n) l.i a.y ws),
     )
 
 returns : tie.Need-returns invariant-loop decreases-loop

@@ -4,7 +4,7 @@ use Prim.Native.Nat.{◌-◌, ◌≤◌}
 use native.Mathlib.Omega.{arith}
 use mathlib.Core.Logic.{◌↔◌}
 use Rattle.gf2.specs.Polynomials.{◌⊕◌}
-use Rattle.multiples.proofs.Doubling.{iff-trans, Parts, parts-iff, parts_none, parts_whole}
+use Rattle.multiples.proofs.Doubling.{iff_trans, Parts, parts_iff, parts_none, parts_whole}
 use Rattle.row_differences.proofs.differences_of_eight.Statement.{statement}
 use Rattle.row_differences.proofs.differences_of_eight.Tie as tie
 
@@ -31,14 +31,14 @@ unfolding ◌⊕◌
 loop-again c =
     let a = (words8→at-loop c).before.args in
     let l = (words8→at-loop c).loop in
-    (omega arith, parts-iff _ _ _ _ _ _ _ _ a.y a.z a.v a.words.now l.i l.sum l.inv.1)
+    (omega arith, parts_iff _ _ _ _ _ _ _ _ a.y a.z a.v a.words.now l.i l.sum l.inv.1)
 
 returns : tie.Need-returns invariant-loop decreases-loop
 returns c =
     let a = c.before.before.args in
     let l = c.before.loop in
     let e : l.i ≡ a.n = omega arith in
-    iff-trans (rw e at l.invariant.1) (parts_whole a.at a.n a.y a.z a.v a.words.now)
+    iff_trans (rw e at l.invariant.1) (parts_whole a.at a.n a.y a.z a.v a.words.now)
 
 pub differences-of-eight-spec : {M : Type 1} → statement M
 differences-of-eight-spec =

@@ -11,7 +11,7 @@ use Rattle.gf2.specs.Polynomials.{◌⊗◌, rem}
 use Rattle.gf2.specs.Moduli.{polynomial}
 use Rattle.gf2.proofs.Monics.{monic-pos, monic-degree}
 use Rattle.multiples.specs.Rows.{Multiples, Shifted}
-use Rattle.multiples.proofs.Doubling.{or-iff, iff-trans, row-iff-one, row-iff, double-le, multiple-one, multiple-next}
+use Rattle.multiples.proofs.Doubling.{or_iff, iff_trans, row_iff_one, row_iff, double-le, multiple-one, multiple-next}
 use Rattle.gf2.proofs.Steps.{residue-below}
 use Rattle.row_tests.proofs.first_holds.Statement.{statement}
 use Rattle.row_tests.proofs.first_holds.Tie as tie
@@ -48,7 +48,7 @@ loop-holds c =
       omega arith,
       refl,
       multiple-one pos a.x (rw (monic-degree a.p.degree a.p.low p.0.2) p.1),
-      row-iff-one pos a.x a.at a.words.now,
+      row_iff_one pos a.x a.at a.words.now,
     )
 
 differences-requires : tie.Need-differences-requires invariant-loop decreases-loop
@@ -80,8 +80,8 @@ loop-again c =
       omega arith,
       rw (add-one, pow-suc, v.1),
       c.step.ensures ∙ ap (λ (y : ℕ). rem (polynomial a.p) (y * 2 + 0)) v.2 ∙ multiple-next pos a.x l.n,
-      iff-trans (or-iff l.sum d.result {Q = Shifted a.at (a.at + l.n) l.n l.y a.words.now a.words.now} v.3 d.ensures)
-          (row-iff pos a.x a.at a.words.now l.b l.n l.y v.1 v.2),
+      iff_trans (or_iff l.sum d.result {Q = Shifted a.at (a.at + l.n) l.n l.y a.words.now a.words.now} v.3 d.ensures)
+          (row_iff pos a.x a.at a.words.now l.b l.n l.y v.1 v.2),
     )
 
 returns : tie.Need-returns invariant-loop decreases-loop

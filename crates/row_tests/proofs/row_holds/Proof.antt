@@ -12,7 +12,7 @@ use Rattle.gf2.specs.Moduli.{polynomial}
 use Rattle.gf2.proofs.Monics.{monic-pos}
 use Rattle.gf2.proofs.Steps.{residue-below}
 use Rattle.multiples.specs.Rows.{Multiples}
-use Rattle.multiples.proofs.Doubling.{row-iff-eight, eight-fold, power-half, multiple-step}
+use Rattle.multiples.proofs.Doubling.{row_iff_eight, eight-fold, power-half, multiple-step}
 use Rattle.row_tests.proofs.row_holds.Statement.{statement}
 use Rattle.row_tests.proofs.row_holds.Tie as tie
 
@@ -136,7 +136,7 @@ returns-3 c =
     let d = c.differences-of-eight in
     let low = s.args.width - 3 in
     let e = r.row-size.ensures in
-    let all = row-iff-eight (pos s) s.args.x s.args.at s.args.words.now low (n r) t.before.before.step.result
+    let all = row_iff_eight (pos s) s.args.x s.args.at s.args.words.now low (n r) t.before.before.step.result
     t.before.step2.result t.step3.result e (once_is t.before.before) (twice-is t.before) (thrice-is t) in
     let first : Multiples (key r) s.args.x s.args.at (n r) s.args.words.now = λ i l. held r.before i (omega (arith, e)) in (
       λ z i l. all.0 (first, d.ensures.0 (eqb-true d.result 0 z)) i (rw (eight r) l),

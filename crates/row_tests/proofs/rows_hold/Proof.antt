@@ -9,7 +9,7 @@ use Rattle.gf2.specs.Polynomials.{rem}
 use Rattle.gf2.specs.Moduli.{polynomial}
 use Rattle.gf2.proofs.Steps.{residue-below}
 use Rattle.multiples.specs.Rows.{Rows}
-use Rattle.multiples.proofs.Following.{Row, row-le, middle-in, start_first, rows-refused, rows_more, middle-lt, start-next}
+use Rattle.multiples.proofs.Following.{Row, row-le, middle_in, start_first, rows-refused, rows_more, middle-lt, start-next}
 use Rattle.row_tests.proofs.rows_hold.Statement.{statement}
 use Rattle.row_tests.proofs.rows_hold.Tie as tie
 
@@ -50,7 +50,7 @@ middle-within : (c : tie.In-loop invariant-loop decreases-loop)
 middle-within c =
     let s = in-loop→start c in
     let n = c.before.before.row-size in
-    middle-in s.args.width c.before.loop.j s.args.rows n.result (length s.args.words.now) n.ensures c.loop-test.true s.pre.4
+    middle_in s.args.width c.before.loop.j s.args.rows n.result (length s.args.words.now) n.ensures c.loop-test.true s.pre.4
 
 -- row j is right
 row : (c : tie.Else1 invariant-loop decreases-loop) → let a = (else1→start c).args in let l = (else1→at-loop c).loop in

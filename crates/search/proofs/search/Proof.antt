@@ -4,11 +4,11 @@ use Prim.Native.Nat.{ℕ}
 use borrow.Author.Rules.{rules}
 use Rattle.lists.specs.Lists.{overlay}
 use Rattle.refusals.specs.Refusals.{state_of, first_of}
-use Rattle.acceptance.specs.Keys.{polynomialOf}
+use Rattle.acceptance.specs.Keys.{polynomial_of}
 use Rattle.acceptance.specs.Opened.{Opened}
 use Rattle.acceptance.proofs.Opened.{opened-first, opened-whole, opened-proper, opened-eight}
 use Rattle.keys.proofs.Laws.{opened, refused}
-use Rattle.search.specs.Searching.{places, counts, textTests, search as answer, placesAfter}
+use Rattle.search.specs.Searching.{places, counts, text_tests, search as answer, places_after}
 use Rattle.search.proofs.search.Statement.{statement}
 use Rattle.search.proofs.search.Tie as tie
 
@@ -27,14 +27,14 @@ abbrev search-under-arg→p : tie.After-search-under-arg → tie.After-p
 search-under-arg→p c = c.before.before
 
 returns : tie.Need-returns
-unfolding answer placesAfter
+unfolding answer places_after
 returns c =
     let a = (test→start c.before.before.before).args in
     let t = c.before.before.before.test in
     let e = c.before.r.given.1 in
-    let tests = textTests a.text.now a.pattern.now in
+    let tests = text_tests a.text.now a.pattern.now in
     let after = overlay (places a.text.now a.pattern.now) a.places.now in (
-      sym (refused t.result a.key t.ensures tests tt (counts (polynomialOf a.key) a.text.now a.pattern.now) _ e),
+      sym (refused t.result a.key t.ensures tests tt (counts (polynomial_of a.key) a.text.now a.pattern.now) _ e),
       sym (ap state_of (refused t.result a.key t.ensures tests a.places.now after _ e)),
     )
 
@@ -48,16 +48,16 @@ search-under-requires : tie.Need-search-under-requires
 search-under-requires c κs = let h = key-opened c.before.before in (opened-proper h, opened-eight h)
 
 returns-2 : tie.Need-returns-2
-unfolding answer placesAfter
+unfolding answer places_after
 returns-2 c =
     let a = (search-under-arg→start c.before.before.before).args in
     let h = key-opened (search-under-arg→p c.before.before.before) in
     let e = c.before.before.search-under.ensures in
-    let tests = textTests a.text.now a.pattern.now in
+    let tests = text_tests a.text.now a.pattern.now in
     let after = overlay (places a.text.now a.pattern.now) a.places.now in (
       e.0
           ∙ ap (λ (q : ℕ). first_of tests tt (counts q a.text.now a.pattern.now)) (opened-whole h)
-          ∙ sym (opened-first h tests tt (counts (polynomialOf a.key) a.text.now a.pattern.now)),
+          ∙ sym (opened-first h tests tt (counts (polynomial_of a.key) a.text.now a.pattern.now)),
       e.1 ∙ sym (ap state_of (opened-first h tests a.places.now after)),
     )
 

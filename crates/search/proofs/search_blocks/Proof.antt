@@ -7,9 +7,9 @@ use native.Mathlib.Omega.{arith}
 use lib.ListN.{length}
 use lib.Seq.{sets}
 use Rattle.gf2.proofs.Monics.{monic-pos}
-use Rattle.search.specs.Searching.{windows, isPlace, isAlarm}
-use Rattle.rolling.specs.Rolling.{keyOf, ResidueAt}
-use Rattle.comparing.proofs.Numbers.{Tally, tally-begin, tally-block, tally-end, tally-length, passing-length}
+use Rattle.search.specs.Searching.{windows, is_place, is_alarm}
+use Rattle.rolling.specs.Rolling.{key_of, ResidueAt}
+use Rattle.comparing.proofs.Numbers.{Tally, tally_begin, tally_block, tally_end, tally_length, passing-length}
 use Rattle.search.proofs.Blocks.{flagged-places, flagged-alarms, all_found}
 use Rattle.search.proofs.search_blocks.Statement.{statement}
 use Rattle.search.proofs.search_blocks.Tie as tie
@@ -21,7 +21,7 @@ invariant-loop s reduce outgoing text pattern first places₀ flags₀ n found�
     × (found.places ≤ from)
     × (found.alarms ≤ from)
     × (from < n → ResidueAt s text from g)
-    × Tally (isPlace text pattern) (isAlarm (keyOf s) text pattern) 0 n places₀ 0 0 places found.places found.alarms from
+    × Tally (is_place text pattern) (is_alarm (key_of s) text pattern) 0 n places₀ 0 0 places found.places found.alarms from
 
 abbrev decreases-loop : tie.decreases-loop
 decreases-loop s reduce outgoing text pattern first places₀ flags₀ n found₀ g₀ from₀ places flags found g from = n - from
@@ -60,7 +60,7 @@ loop-holds c =
       omega arith,
       omega arith,
       (λ h. s.pre.3),
-      tally-begin,
+      tally_begin,
     )
 
 flag-block-requires : tie.Need-flag-block-requires invariant-loop decreases-loop
@@ -100,14 +100,14 @@ loop-again c =
     let na = found.1 ∙ ap (λ x. l.found.alarms + length x) fs in (
       omega (arith, fits),
       b.5,
-      omega (arith, np, passing-length (isPlace t q) (0 + l.from) size, l.inv.2),
-      omega (arith, na, passing-length (isAlarm (keyOf a.s) t q) (0 + l.from) size, l.inv.3),
+      omega (arith, np, passing-length (is_place t q) (0 + l.from) size, l.inv.2),
+      omega (arith, na, passing-length (is_alarm (key_of a.s) t q) (0 + l.from) size, l.inv.3),
       (λ h. b.4.next (omega (arith, h, e))),
-      tally-block l.inv.5 _ size _ _ (omega (arith, fits)) (found.2 ∙ ap (sets l.places l.found.places) ps) np na,
+      tally_block l.inv.5 _ size _ _ (omega (arith, fits)) (found.2 ∙ ap (sets l.places l.found.places) ps) np na,
     )
 
 same_length : tie.Need-same-length invariant-loop decreases-loop
-same_length c = tally-length c.before.loop.invariant.5
+same_length c = tally_length c.before.loop.invariant.5
 
 -- the number of windows as the code counts them
 windows-is : (t q : List ℕ) → length q ≤ length t → length t - length q + 1 ≡ windows t q
@@ -122,8 +122,8 @@ returns c =
     let q = a.pattern.now in
     let l = c.before.loop in
     let n = length t - length q + 1 in
-    all_found (keyOf a.s) t q a.places.now l.places l.found n (windows-is t q s.pre.4)
-    (tally-end l.invariant.5 (omega (arith, l.invariant.0, c.loop-test.false)))
+    all_found (key_of a.s) t q a.places.now l.places l.found n (windows-is t q s.pre.4)
+    (tally_end l.invariant.5 (omega (arith, l.invariant.0, c.loop-test.false)))
 
 pub search-blocks-spec : {M : Type 1} → statement M
 search-blocks-spec =

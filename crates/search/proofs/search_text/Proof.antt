@@ -5,7 +5,7 @@ use native.Mathlib.Omega.{arith}
 use borrow.Author.Rules.{rules}
 use lib.ListN.{length}
 use Rattle.gf2.proofs.Steps.{residue-below}
-use Rattle.rolling.proofs.Residues.{multiples-of, one-row}
+use Rattle.rolling.proofs.Residues.{multiples_of, one-row}
 use Rattle.search.proofs.search_text.Statement.{statement}
 use Rattle.search.proofs.search_text.Tie as tie
 
@@ -61,7 +61,7 @@ search-blocks-requires c κs =
       record {
         some = s.pre.2;
         reduce = (s.pre.0, s.pre.1, omega arith, one-row a.p s.pre.0 row.last.0 row.ensures.0);
-        outgoing = multiples-of a.p s.pre.0 (2 ^ (8 * length a.pattern.now)) begin.result.shift out.last.0 begin.ensures.2
+        outgoing = multiples_of a.p s.pre.0 (2 ^ (8 * length a.pattern.now)) begin.result.shift out.last.0 begin.ensures.2
             out.ensures.0;
       },
       refl,

@@ -10,7 +10,7 @@ use Rattle.gf2.specs.Moduli.{polynomial}
 use Rattle.refusals.specs.Refusals.{Done, passes}
 use Rattle.refusals.proofs.Laws.{holds, fails}
 use Rattle.refusals.proofs.Lengths.{within}
-use Rattle.search.proofs.Calls.{both-fit, call_long, call-empty, call_none, call-done}
+use Rattle.search.proofs.Calls.{both-fit, call_long, call_empty, call_none, call_done}
 use Rattle.search.proofs.search_under.Statement.{statement}
 use Rattle.search.proofs.search_under.Tie as tie
 
@@ -53,7 +53,7 @@ returns c =
 returns-2 : tie.Need-returns-2
 returns-2 c =
     let a = (else1→start c.before).args in
-    call-empty (polynomial a.p) a.text.now a.pattern.now a.places.now (short c.before) c.if2.true
+    call_empty (polynomial a.p) a.text.now a.pattern.now a.places.now (short c.before) c.if2.true
 
 returns-3 : tie.Need-returns-3
 returns-3 c =
@@ -70,7 +70,7 @@ search-text-requires c κs =
 returns-4 : tie.Need-returns-4
 returns-4 c =
     let a = (search-text-arg→start c.before.before.before).args in
-    let d = call-done (polynomial a.p) a.text.now a.pattern.now a.places.now (short (search-text-arg→else1 c.before.before.before))
+    let d = call_done (polynomial a.p) a.text.now a.pattern.now a.places.now (short (search-text-arg→else1 c.before.before.before))
     (search-text-arg→else2 c.before.before.before).if2.false in
     let f = c.before.before.search-text.ensures in
     (ap Done f.0 ∙ d.0, f.1 ∙ d.1)

@@ -1,10 +1,10 @@
 -- `check` meets its contract.
 use mathlib.Core.Path.{sym, ap, subst, ◌∙◌}
-use Rattle.files.specs.Files.{asPart}
+use Rattle.files.specs.Files.{as_part}
 use Rattle.sheets.specs.Inner.{ReadAs}
 use Rattle.sheets.proofs.Known.{read_as}
 use Rattle.sheet_opening.specs.Opening.{opening, Kept}
-use Rattle.sheet_checking.proofs.Laws.{check-refused, check_done}
+use Rattle.sheet_checking.proofs.Laws.{check_refused, check_done}
 use borrow.Author.Rules.{rules}
 use Rattle.sheet_checking.proofs.check.Statement.{statement}
 use Rattle.sheet_checking.proofs.check.Tie as tie
@@ -25,14 +25,14 @@ returns : tie.Need-returns
 returns c =
     let r = c.before.before.before in
     let a = (start r).args in
-    let file = asPart a.file.now a.used in
-    sym (check-refused a.sheet.now c.before.r.given.0.0 file (ap opening (sym c.before.r.given.1) ∙ r.open-sheet.ensures.0))
+    let file = as_part a.file.now a.used in
+    sym (check_refused a.sheet.now c.before.r.given.0.0 file (ap opening (sym c.before.r.given.1) ∙ r.open-sheet.ensures.0))
 
 returns-2 : tie.Need-returns-2
 returns-2 c =
     let x = c.before.before in
     let a = (start (opened x)).args in
-    c.compare.ensures ∙ sym (check_done a.sheet.now (known x) (asPart a.file.now a.used))
+    c.compare.ensures ∙ sym (check_done a.sheet.now (known x) (as_part a.file.now a.used))
 
 pub check-spec : {M : Type 1} → statement M
 check-spec =

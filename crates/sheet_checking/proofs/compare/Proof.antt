@@ -7,21 +7,21 @@ use native.Mathlib.Omega.{arith}
 use lib.ListN.{length, drop, length-drop}
 use Rattle.refusals.specs.Refusals.{Done, longest}
 use Rattle.gf2.specs.Moduli.{polynomial}
-use Rattle.acceptance.specs.Keys.{polynomialOf}
+use Rattle.acceptance.specs.Keys.{polynomial_of}
 use Rattle.acceptance.proofs.Opened.{opened-proper, opened-eight, opened-whole}
-use Rattle.files.specs.Files.{Part, asPart, partLength, partBits, misused}
-use Rattle.big_endian.specs.Numbers.{numbersAt}
-use Rattle.sheets.specs.Layout.{Layout, layout_of, pagePlace, sheetLength, pageCount, contentsIn}
-use Rattle.sheets.specs.Sheets.{pageFingerprints, firstChange}
+use Rattle.files.specs.Files.{Part, as_part, part_length, part_bits, misused}
+use Rattle.big_endian.specs.Numbers.{numbers_at}
+use Rattle.sheets.specs.Layout.{Layout, layout_of, page_place, sheet_length, page_count, contents_in}
+use Rattle.sheets.specs.Sheets.{page_fingerprints, first_change}
 use Rattle.sheets.specs.Claims.{SoundContents}
-use Rattle.sheets.specs.Inner.{filling, comparison, fingerprintsPart}
+use Rattle.sheets.specs.Inner.{filling, comparison, fingerprints_part}
 use Rattle.sheets.proofs.Known.{sound}
 use Rattle.sheets.proofs.Versions.{length_from}
 use Rattle.sheets.proofs.Pages.{length-pages, count-few}
 use Rattle.sheets.proofs.Parts.{part-fits, part-long, counted-part}
 use Rattle.sheet_layout.proofs.Filling.{prints-filling}
-use Rattle.sheet_pass.proofs.Passes.{pass-few, pass-changed, pass_same}
-use Rattle.sheet_checking.proofs.Laws.{compare-long, compare-misused, compare-other, compare-pages}
+use Rattle.sheet_pass.proofs.Passes.{pass_few, pass_changed, pass_same}
+use Rattle.sheet_checking.proofs.Laws.{compare_long, compare_misused, compare_other, compare_pages}
 use Rattle.sheet_checking.proofs.Laws.{version-is, size_is, key-is, length-is, pages-many, pages-there}
 use borrow.Author.Rules.{rules}
 use Rattle.sheet_checking.proofs.compare.Statement.{statement}
@@ -60,10 +60,10 @@ abbrev bytes : tie.Start → List ℕ
 bytes s = s.args.file.now
 
 abbrev file : tie.Start → Part
-file s = asPart (bytes s) s.args.used
+file s = as_part (bytes s) s.args.used
 
 abbrev count : tie.Start → ℕ
-count s = pageCount s.args.x.numbers.size (length (bytes s))
+count s = page_count s.args.x.numbers.size (length (bytes s))
 
 abbrev layout : tie.Start → Layout
 layout s = layout_of s.args.x.numbers.version
@@ -75,37 +75,37 @@ well : (c : tie.Else2) → misused (file (else1→start (else2→else1 c))) ≡ 
 well c = sym c.before.is-misused.ensures ∙ c.if2.false
 
 -- the file's length in bits
-measured : (c : tie.After-part-length) → c.part_length.result ≡ partLength (file (else1→start (else2→else1 c.before)))
-measured c = let e = else2→else1 c.before in c.part_length.ensures ∙ counted-part (file (else1→start e)) (fits e)
+measured : (c : tie.After-part-length) → c.part-length.result ≡ part_length (file (else1→start (else2→else1 c.before)))
+measured c = let e = else2→else1 c.before in c.part-length.ensures ∙ counted-part (file (else1→start e)) (fits e)
 
-as_long : (c : tie.Else3) → partLength (file (start c)) ≡ (start c).args.x.numbers.length
+as_long : (c : tie.Else3) → part_length (file (start c)) ≡ (start c).args.x.numbers.length
 as_long c = sym (measured c.before.before) ∙ c.if3.false
 
-within : (c : tie.Else3) → partLength (file (start c)) ≤ longest
+within : (c : tie.Else3) → part_length (file (start c)) ≤ longest
 within c = part-fits (file (start c)) (fits (else2→else1 (else3→else2 c)))
 
-fields : (s : tie.Start) → SoundContents (contentsIn (sheet s))
+fields : (s : tie.Start) → SoundContents (contents_in (sheet s))
 fields s = sound (sheet s) s.requires.0
 
 size : (s : tie.Start) → (16 ≤ s.args.x.numbers.size) × (s.args.x.numbers.size ≤ 4096)
-size s = rw (size_is (sheet s) s.requires.0) (fields s).pageSize
+size s = rw (size_is (sheet s) s.requires.0) (fields s).page_size
 
 -- all fingerprints stand in the sheet
-total : (c : tie.Else3) → sheetLength (layout (start c)) (count (start c)) ≡ length (sheet (start c))
+total : (c : tie.Else3) → sheet_length (layout (start c)) (count (start c)) ≡ length (sheet (start c))
 total c = let s = start c in pages-there (sheet s) s.pre.0 (file s) (as_long c)
 
 -- the fingerprints begin where the version says
-place_is : (s : tie.Start) → s.args.x.place ≡ pagePlace (layout s) 0
+place_is : (s : tie.Start) → s.args.x.place ≡ page_place (layout s) 0
 place_is s = s.requires.1.place
 
 returns : tie.Need-returns
-returns c = let s = c.before.before.before.before in sym (compare-long (sheet s) (file s) (part-long (file s) (omega (arith, c.if1.true))))
+returns c = let s = c.before.before.before.before in sym (compare_long (sheet s) (file s) (part-long (file s) (omega (arith, c.if1.true))))
 
 returns-2 : tie.Need-returns-2
 returns-2 c =
     let e = c.before.before in
     let s = else1→start e in
-    sym (compare-misused (sheet s) (file s) (part-fits (file s) (fits e)) (sym c.before.is-misused.ensures ∙ c.if2.true))
+    sym (compare_misused (sheet s) (file s) (part-fits (file s) (fits e)) (sym c.before.is-misused.ensures ∙ c.if2.true))
 
 returns-3 : tie.Need-returns-3
 returns-3 c =
@@ -114,7 +114,7 @@ returns-3 c =
     let e = else2→else1 u in
     let s = else1→start e in
     sym
-    (compare-other (sheet s) (file s) (part-fits (file s) (fits e)) (well u)
+    (compare_other (sheet s) (file s) (part-fits (file s) (fits e)) (well u)
     (λ h. c.if3.true (measured l ∙ h ∙ sym (length-is (sheet s) s.pre.0))))
 
 page-fields-requires : tie.Need-page-fields-requires
@@ -123,7 +123,7 @@ page-fields-requires c κs =
     omega (arith, place_is s, total c, length_from s.args.x.numbers.version (count s))
 
 -- the part that begins with them
-fields-are : (c : tie.After-page-fields) → c.page-fields.result.now ≡ fingerprintsPart (start (equal c)).args.x.numbers.version (sheet (start (equal c)))
+fields-are : (c : tie.After-page-fields) → c.page-fields.result.now ≡ fingerprints_part (start (equal c)).args.x.numbers.version (sheet (start (equal c)))
 fields-are c = let s = start (equal c) in c.page-fields.ensures ∙ ap (λ (n : ℕ). drop n (sheet s)) (place_is s)
 
 -- the fields of all pages are in the part of the sheet that begins with them
@@ -131,7 +131,7 @@ part : (c : tie.After-page-fields) → 8 * count (start (equal c)) ≤ length c.
 part c =
     let e = equal c in
     let s = start e in
-    let long = ap length (fields-are c) ∙ length-drop (pagePlace (layout s) 0) (sheet s) in
+    let long = ap length (fields-are c) ∙ length-drop (page_place (layout s) 0) (sheet s) in
     omega (arith, long, total e, length_from s.args.x.numbers.version (count s))
 
 over-pages-requires : tie.Need-over-pages-requires
@@ -155,22 +155,22 @@ over-pages-requires c κs =
 abbrev prints : tie.After-over-pages → List ℕ
 prints c =
     let s = start (begin c) in
-    pageFingerprints (filling s.args.x.filled) (polynomial s.args.x.p) (8 * s.args.x.numbers.size) (count s) (partBits (file s))
+    page_fingerprints (filling s.args.x.filled) (polynomial s.args.x.p) (8 * s.args.x.numbers.size) (count s) (part_bits (file s))
 
 -- by the version and the key of the sheet
 prints-are : (c : tie.After-over-pages) → let s = start (begin c) in
-    pageFingerprints (layout s) (polynomialOf s.args.x.numbers.key) (8 * s.args.x.numbers.size) (count s) (partBits (file s)) ≡ prints c
+    page_fingerprints (layout s) (polynomial_of s.args.x.numbers.key) (8 * s.args.x.numbers.size) (count s) (part_bits (file s)) ≡ prints c
 prints-are c =
     let s = start (begin c) in
     let x = s.args.x in
     let size = 8 * x.numbers.size in
-    prints-filling (layout s) x.filled (sym s.pre.1.filled) (polynomialOf x.numbers.key) size (count s) (partBits (file s))
-    ∙ ap (λ (m : ℕ). pageFingerprints (filling x.filled) m size (count s) (partBits (file s))) (sym (opened-whole s.pre.1.key))
+    prints-filling (layout s) x.filled (sym s.pre.1.filled) (polynomial_of x.numbers.key) size (count s) (part_bits (file s))
+    ∙ ap (λ (m : ℕ). page_fingerprints (filling x.filled) m size (count s) (part_bits (file s))) (sym (opened-whole s.pre.1.key))
 
 long : (c : tie.After-over-pages) → length (prints c) ≡ count (start (begin c))
 long c =
     let s = start (begin c) in
-    length-pages (filling s.args.x.filled) (polynomial s.args.x.p) (count s) (8 * s.args.x.numbers.size) (partBits (file s))
+    length-pages (filling s.args.x.filled) (polynomial s.args.x.p) (count s) (8 * s.args.x.numbers.size) (part_bits (file s))
 
 -- as many pages as the sheet has
 many : (c : tie.After-over-pages) → (start (begin c)).args.x.numbers.pages ≡ count (start (begin c))
@@ -178,22 +178,22 @@ many c = let s = start (begin c) in pages-many (sheet s) s.pre.0 (file s) (as_lo
 
 few : (c : tie.After-over-pages) → c.over-pages.result ≤ count (start (begin c))
 few c =
-    pass-few (prints c) (fields_read c).page-fields.result.now _ _ c.over-pages.result (count (start (begin c))) c.over-pages.ensures (long c)
+    pass_few (prints c) (fields_read c).page-fields.result.now _ _ c.over-pages.result (count (start (begin c))) c.over-pages.ensures (long c)
     (part (fields_read c))
 
 -- what the comparison answers, where the lengths are equal
 answer : (c : tie.After-over-pages)
     → comparison (sheet (start (begin c))) (file (start (begin c)))
-    ≡ Done (firstChange 0 (numbersAt 0 8 (count (start (begin c))) (fields_read c).page-fields.result.now) (prints c))
+    ≡ Done (first_change 0 (numbers_at 0 8 (count (start (begin c))) (fields_read c).page-fields.result.now) (prints c))
 answer c =
     let e = begin c in
     let s = start e in
     let x = s.args.x.numbers in
     let fields = (fields_read c).page-fields in
-    compare-pages (sheet s) (file s) (within e) (well (else3→else2 e)) x.version x.key x.size (version-is (sheet s) s.pre.0)
+    compare_pages (sheet s) (file s) (within e) (well (else3→else2 e)) x.version x.key x.size (version-is (sheet s) s.pre.0)
     (key-is (sheet s) s.pre.0) (size_is (sheet s) s.pre.0) (as_long e ∙ length-is (sheet s) s.pre.0) fields.result.now
     (fields-are (fields_read c))
-    ∙ ap (λ (fs : List ℕ). Done (firstChange 0 (numbersAt 0 8 (count s) fields.result.now) fs)) (prints-are c)
+    ∙ ap (λ (fs : List ℕ). Done (first_change 0 (numbers_at 0 8 (count s) fields.result.now) fs)) (prints-are c)
 
 cast-page : tie.Need-overflow-cast-t19
 cast-page c =
@@ -205,7 +205,7 @@ cast-page c =
 returns-4 : tie.Need-returns-4
 returns-4 c =
     let p = passed c.before in
-    sym (answer p ∙ ap Done (pass-changed (prints p) (fields_read p).page-fields.result.now _ _ p.over-pages.result (count (start (begin p)))
+    sym (answer p ∙ ap Done (pass_changed (prints p) (fields_read p).page-fields.result.now _ _ p.over-pages.result (count (start (begin p)))
     p.over-pages.ensures (long p) (part (fields_read p)) (omega (arith, c.if4.true, many p))))
 
 returns-5 : tie.Need-returns-5

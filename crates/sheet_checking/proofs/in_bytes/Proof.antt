@@ -5,16 +5,16 @@ use Prim.Native.Nat.{ℕ, ◌+◌, ◌*◌, ◌^◌, ◌<◌, min}
 use native.Mathlib.Omega.{arith}
 use Rattle.refusals.specs.Refusals.{Done}
 use Rattle.sheets.specs.declared.Checked.{Checked}
-use Rattle.sheets.specs.Answers.{checkAnswer}
+use Rattle.sheets.specs.Answers.{check_answer}
 use Rattle.sheets.specs.Inner.{ranged}
-use Rattle.sheets.proofs.Answers.{no-page}
+use Rattle.sheets.proofs.Answers.{no_page}
 use Rattle.sheet_checking.proofs.Laws.{range-fits}
 use borrow.Author.Rules.{rules}
 use Rattle.sheet_checking.proofs.in_bytes.Statement.{statement}
 use Rattle.sheet_checking.proofs.in_bytes.Tie as tie
 
 without-page-requires : tie.Need-without-page-requires
-without-page-requires c κs = no-page c.before.args.answer c.match.keys2
+without-page-requires c κs = no_page c.before.args.answer c.match.keys2
 
 returns : tie.Need-returns
 returns c x ex h = c.without-page.ensures x
@@ -34,8 +34,8 @@ returns-2 c x ex h =
     let i = g.0.0 in
     let from = ap (λ (s : ℕ). i * s) (sym ex) in
     ap₂ (λ (a b : ℕ). Done (1 ∷ a ∷ b ∷ [])) from
-    (c.least.ensures ∙ ap₂ (λ (a b : ℕ). min a b) (ap₂ (λ (a b : ℕ). a + b) from (sym ex)) (sym (h i (ap checkAnswer g.1))))
-    ∙ ap (λ (o : Checked). ranged x (checkAnswer o)) (sym g.1)
+    (c.least.ensures ∙ ap₂ (λ (a b : ℕ). min a b) (ap₂ (λ (a b : ℕ). a + b) from (sym ex)) (sym (h i (ap check_answer g.1))))
+    ∙ ap (λ (o : Checked). ranged x (check_answer o)) (sym g.1)
 
 pub in-bytes-spec : {M : Type 1} → statement M
 in-bytes-spec = tie.close (tie.spec (λ c. search rules) without-page-requires returns (λ c. search rules) mul-from add-end (λ c κs. search rules) returns-2)

@@ -2,7 +2,7 @@
 use mathlib.Core.Path.{◌≡◌, sym, ap}
 use Rattle.sheets.specs.declared.Checked.{Checked}
 use Rattle.sheets.specs.Layout.{Contents}
-use Rattle.sheets.specs.Answers.{checkAnswer}
+use Rattle.sheets.specs.Answers.{check_answer}
 use Rattle.sheets.specs.Inner.{ranged}
 use Rattle.sheets.proofs.Answers.{other-left}
 use borrow.Author.Rules.{rules}
@@ -10,8 +10,8 @@ use Rattle.sheet_checking.proofs.without_page.Statement.{statement}
 use Rattle.sheet_checking.proofs.without_page.Tie as tie
 
 -- what an answer is told as
-as-told : {o p : Checked} → o ≡ p → (x : Contents) → ranged x (checkAnswer p) ≡ ranged x (checkAnswer o)
-as-told e x = ap (λ (o : Checked). ranged x (checkAnswer o)) (sym e)
+as-told : {o p : Checked} → o ≡ p → (x : Contents) → ranged x (check_answer p) ≡ ranged x (check_answer o)
+as-told e x = ap (λ (o : Checked). ranged x (check_answer o)) (sym e)
 
 returns : tie.Need-returns
 returns c = as-told c.enum_told.given.1

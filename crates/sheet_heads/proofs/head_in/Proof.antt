@@ -10,10 +10,10 @@ use lib.ListN.{length}
 use lib.Pow.{pow_mono}
 use borrow.Author.Tests.{lt-ltb, le-ltb}
 use Rattle.refusals.specs.Refusals.{longest}
-use Rattle.sheets.specs.Layout.{Layout, layout_of, pagePlace, sheetLength, sizeIn, keyIn, lengthIn}
+use Rattle.sheets.specs.Layout.{Layout, layout_of, page_place, sheet_length, size_in, key_in, length_in}
 use Rattle.sheets.proofs.Versions.{length_from}
 use Rattle.sheet_layout.specs.declared.Fields.{Fields}
-use Rattle.sheet_layout.proofs.Laid.{place-laid, key-held, length-laid, size-laid}
+use Rattle.sheet_layout.proofs.Laid.{place_laid, key-held, length_laid, size_laid}
 use borrow.Author.Rules.{rules}
 use Rattle.sheet_heads.proofs.head_in.Statement.{statement}
 use Rattle.sheet_heads.proofs.head_in.Tie as tie
@@ -45,21 +45,21 @@ abbrev v : tie.After-fields-of → Fields
 v c = c.fields-of.result
 
 -- the bytes that a sheet of the version has at least
-least : (c : tie.After-fields-of) → sheetLength (layout c) 0 ≡ 5 + (v c).key + (v c).length + (v c).size + 8
-least c = omega (arith, length_from (start c).args.version 0, place-laid c.fields-of.ensures)
+least : (c : tie.After-fields-of) → sheet_length (layout c) 0 ≡ 5 + (v c).key + (v c).length + (v c).size + 8
+least c = omega (arith, length_from (start c).args.version 0, place_laid c.fields-of.ensures)
 
 -- it has them
 long : (c : tie.Else1) → let f = else1→fields c in 5 + (v f).key + (v f).length + (v f).size + 8 ≤ length (sheet f)
 long c = omega (arith, c.if1.false)
 
-enough : (c : tie.Else1) → let f = else1→fields c in ltb (length (sheet f)) (sheetLength (layout f) 0) ≡ false
-enough c = let f = else1→fields c in le-ltb (length (sheet f)) (sheetLength (layout f) 0) (omega (arith, least f, long c))
+enough : (c : tie.Else1) → let f = else1→fields c in ltb (length (sheet f)) (sheet_length (layout f) 0) ≡ false
+enough c = let f = else1→fields c in le-ltb (length (sheet f)) (sheet_length (layout f) 0) (omega (arith, least f, long c))
 
 -- the length in bits
-bits : (c : tie.After-number-at) → let f = length→fields c in (v f).unit * c.number-at.result ≡ lengthIn (layout f) (sheet f)
+bits : (c : tie.After-number-at) → let f = length→fields c in (v f).unit * c.number-at.result ≡ length_in (layout f) (sheet f)
 bits c =
     let f = length→fields c in
-    ap (λ (n : ℕ). (v f).unit * n) c.number-at.ensures.0 ∙ sym (length-laid f.fields-of.ensures (sheet f))
+    ap (λ (n : ℕ). (v f).unit * n) c.number-at.ensures.0 ∙ sym (length_laid f.fields-of.ensures (sheet f))
 
 below : {x w n : ℕ} → x < 2 ^ (8 * w) → w ≤ n → x < 2 ^ (8 * n)
 below {x} {w} {n} l h = lt_of_lt_of_le l (pow_mono {i = 8 * w} {j = 8 * n} (omega arith))
@@ -67,7 +67,7 @@ below {x} {w} {n} l h = lt_of_lt_of_le l (pow_mono {i = 8 * w} {j = 8 * n} (omeg
 returns : tie.Need-returns
 returns c =
     let f = placed→fields c.before in
-    rw (lt-ltb (length (sheet f)) (sheetLength (layout f) 0) (omega (arith, least f, c.if1.true)))
+    rw (lt-ltb (length (sheet f)) (sheet_length (layout f) 0) (omega (arith, least f, c.if1.true)))
 
 number-at-requires : tie.Need-number-at-requires
 number-at-requires c κs = ((else1→fields c).fields-of.ensures.length-fits, omega (arith, long c))
@@ -81,7 +81,7 @@ returns-2 : tie.Need-returns-2
 returns-2 c =
     let n = c.before in
     let f = length→fields n in
-    rw (enough n.before, lt-ltb longest (lengthIn (layout f) (sheet f)) (rw (bits n) at c.if2.true))
+    rw (enough n.before, lt-ltb longest (length_in (layout f) (sheet f)) (rw (bits n) at c.if2.true))
 
 key-in-requires : tie.Need-key-in-requires
 key-in-requires c κs = let f = else2→fields c in omega (arith, long c.before.before, f.fields-of.ensures.key-width)
@@ -100,15 +100,15 @@ returns-3 c =
     let h = f.fields-of.ensures in
     let l = sheet f in
     let own = (start f).pre in
-    let within : lengthIn (layout f) l ≤ longest = omega (arith, bits n, e.if2.false) in
-    rw (enough n.before, le-ltb longest (lengthIn (layout f) l) within) (
+    let within : length_in (layout f) l ≤ longest = omega (arith, bits n, e.if2.false) in
+    rw (enough n.before, le-ltb longest (length_in (layout f) l) within) (
       refl,
       record {
         version = own;
-        key = k.key_in.ensures ∙ key-held h l ∙ ap (λ (m : ℕ). keyIn (layout_of m) l) own;
-        length = bits n ∙ ap (λ (m : ℕ). lengthIn (layout_of m) l) own;
-        size = c.number-at2.ensures.0 ∙ sym (size-laid h l) ∙ ap (λ (m : ℕ). sizeIn (layout_of m) l) own;
-        place = sym (place-laid h) ∙ ap (λ (m : ℕ). pagePlace (layout_of m) 0) own;
+        key = k.key_in.ensures ∙ key-held h l ∙ ap (λ (m : ℕ). key_in (layout_of m) l) own;
+        length = bits n ∙ ap (λ (m : ℕ). length_in (layout_of m) l) own;
+        size = c.number-at2.ensures.0 ∙ sym (size_laid h l) ∙ ap (λ (m : ℕ). size_in (layout_of m) l) own;
+        place = sym (place_laid h) ∙ ap (λ (m : ℕ). page_place (layout_of m) 0) own;
         filled = sym h.filled ∙ ap (λ (m : ℕ). (layout_of m).filled) own;
         length-fits = omega (arith, bits n, within);
         size_fits = below c.number-at2.ensures.1 h.size_fits;

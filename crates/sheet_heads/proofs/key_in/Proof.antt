@@ -5,9 +5,9 @@ use Prim.Native.Nat.{ℕ, ◌≤◌}
 use native.Mathlib.Omega.{arith}
 use lib.ListN.{length}
 use Rattle.acceptance.specs.declared.Key.{Key}
-use Rattle.acceptance.specs.Keys.{keyOf}
+use Rattle.acceptance.specs.Keys.{key_of}
 use Rattle.big_endian.specs.Numbers.{number_at}
-use Rattle.sheets.specs.Layout.{keyFrom}
+use Rattle.sheets.specs.Layout.{key_from}
 use Rattle.sheets.proofs.Keys.{pair_read, number_read}
 use borrow.Author.Rules.{rules}
 use Rattle.sheet_heads.proofs.key_in.Statement.{statement}
@@ -35,16 +35,16 @@ returns c =
     let a = t.before.before.args in
     ap₂ {C = Key} (λ (k w : ℕ). record { degree = k; word = w }) c.before.number-at.ensures.0 c.number-at2.ensures.0
     ∙ pair_read a.paired 5 a.sheet.now t.if1.true (paired t)
-    ∙ ap (λ (b : Bool). keyFrom a.paired (number_at 5 (cond b 9 8) a.sheet.now)) (sym t.if1.true)
+    ∙ ap (λ (b : Bool). key_from a.paired (number_at 5 (cond b 9 8) a.sheet.now)) (sym t.if1.true)
 
 returns-2 : tie.Need-returns-2
 returns-2 c =
     let e = c.before.before in
     let a = e.before.before.args in
     c.key_of.ensures
-    ∙ ap (λ (n : ℕ). keyOf n) c.before.number-at3.ensures.0
+    ∙ ap (λ (n : ℕ). key_of n) c.before.number-at3.ensures.0
     ∙ number_read a.paired (number_at 5 8 a.sheet.now) e.if1.false
-    ∙ ap (λ (b : Bool). keyFrom a.paired (number_at 5 (cond b 9 8) a.sheet.now)) (sym e.if1.false)
+    ∙ ap (λ (b : Bool). key_from a.paired (number_at 5 (cond b 9 8) a.sheet.now)) (sym e.if1.false)
 
 pub key-in-spec : {M : Type 1} → statement M
 key-in-spec =

@@ -8,7 +8,7 @@ use lib.Dec.{ltb, eqb}
 use lib.ListN.{length}
 use borrow.Author.Tests.{lt-ltb, le-ltb, eq-eqb, ne_eqb, not-true, not-false}
 use Rattle.big_endian.specs.Numbers.{number_at}
-use Rattle.sheets.specs.Layout.{letters, lettersWidth, versionIn, layouts, known}
+use Rattle.sheets.specs.Layout.{letters, letters_width, version_in, layouts, known}
 use borrow.Author.Rules.{rules}
 use Rattle.sheet_heads.proofs.open_head.Statement.{statement}
 use Rattle.sheet_heads.proofs.open_head.Tie as tie
@@ -30,13 +30,13 @@ known→else2 c = c.before.before
 long : (c : tie.Else2) → ltb (length (sheet c)) 27 ≡ false
 long c = le-ltb (length (sheet c)) 27 (omega (arith, c.before.before.if1.false))
 
-letters-right : (c : tie.Else2) → eqb (number_at 0 lettersWidth (sheet c)) letters ≡ true
-letters-right c = eq-eqb (number_at 0 lettersWidth (sheet c)) letters (sym c.before.number-at.ensures.0 ∙ c.if2.false)
+letters-right : (c : tie.Else2) → eqb (number_at 0 letters_width (sheet c)) letters ≡ true
+letters-right c = eq-eqb (number_at 0 letters_width (sheet c)) letters (sym c.before.number-at.ensures.0 ∙ c.if2.false)
 
-version-is : (c : tie.After-is-known) → c.before.number-at2.result ≡ versionIn (sheet (known→else2 c))
+version-is : (c : tie.After-is-known) → c.before.number-at2.result ≡ version_in (sheet (known→else2 c))
 version-is c = c.before.number-at2.ensures.0
 
-known_is : (c : tie.After-is-known) → c.is_known.result ≡ known layouts (versionIn (sheet (known→else2 c)))
+known_is : (c : tie.After-is-known) → c.is_known.result ≡ known layouts (version_in (sheet (known→else2 c)))
 known_is c = c.is_known.ensures ∙ ap (known layouts) (version-is c)
 
 returns-2 : tie.Need-returns-2
@@ -44,7 +44,7 @@ returns-2 c =
     let l = c.before.before.before.before.args.sheet.now in
     rw (
       le-ltb (length l) 27 (omega (arith, c.before.before.if1.false)),
-      ne_eqb (number_at 0 lettersWidth l) letters (λ e. c.if2.true (c.before.number-at.ensures.0 ∙ e)),
+      ne_eqb (number_at 0 letters_width l) letters (λ e. c.if2.true (c.before.number-at.ensures.0 ∙ e)),
     )
 
 returns-3 : tie.Need-returns-3

@@ -4,11 +4,11 @@ use mathlib.Core.Bool.{true}
 use Prim.Native.Nat.{◌+◌, ◌^◌, ◌≤◌, ◌<◌}
 use native.Mathlib.Omega.{arith}
 use lib.ListN.{length}
-use Rattle.big_endian.proofs.Numbers.{store-field, store-none}
+use Rattle.big_endian.proofs.Numbers.{store_field, store_none}
 use Rattle.sheets.specs.Layout.{Layout, newest, layout_of}
 use Rattle.sheets.proofs.Keys.{store_pair}
 use Rattle.sheets.proofs.Versions.{newest-is}
-use Rattle.sheet_layout.proofs.Laid.{place-laid, key-wide}
+use Rattle.sheet_layout.proofs.Laid.{place_laid, key-wide}
 use borrow.Author.Rules.{rules}
 use Rattle.sheet_heads.proofs.put_head.Statement.{statement}
 use Rattle.sheet_heads.proofs.put_head.Tie as tie
@@ -48,7 +48,7 @@ wide c = let h = c.fields-of.ensures in key-wide h true (sym h.paired ∙ paired
 -- all fields are inside the buffer
 room : (c : tie.After-fields-of)
     → 5 + c.fields-of.result.key + c.fields-of.result.length + c.fields-of.result.size ≤ length (start c).args.buffer.now
-room c = omega (arith, place-laid c.fields-of.ensures, (start c).requires)
+room c = omega (arith, place_laid c.fields-of.ensures, (start c).requires)
 
 put-requires-3 : tie.Need-put-requires-3
 put-requires-3 c κs =
@@ -97,10 +97,10 @@ returns c =
     let small : key.word < 2 ^ 64 = omega (arith, c₃.before.struct-known4.given) in
     let pair = store_pair (layout_of newest.version).paired key _ 5 _ _ _ paired (wide f) small c₃.put3.ensures c₄.put4.ensures in
     rw (f.fields-of.ensures.widths, f.fields-of.ensures.unit)
-    (store-field _ _ _ _ _ _ _ _ c₁.put.ensures
-    (store-field _ _ _ _ _ _ _ _ c₂.put2.ensures
-    (store-field _ _ _ _ _ _ _ _ pair
-    (store-field _ _ _ _ _ _ _ _ c₅.put5.ensures (store-field _ _ _ _ _ _ _ _ c₆.put6.ensures (store-none _ _ _))))))
+    (store_field _ _ _ _ _ _ _ _ c₁.put.ensures
+    (store_field _ _ _ _ _ _ _ _ c₂.put2.ensures
+    (store_field _ _ _ _ _ _ _ _ pair
+    (store_field _ _ _ _ _ _ _ _ c₅.put5.ensures (store_field _ _ _ _ _ _ _ _ c₆.put6.ensures (store_none _ _ _))))))
 
 pub put-head-spec : {M : Type 1} → statement M
 put-head-spec =

@@ -4,8 +4,8 @@ use mathlib.Core.List.{◌∷◌}
 use Prim.Native.Nat.{ℕ, ◌+◌, ◌-◌, ◌*◌, ◌≤◌}
 use native.Mathlib.Omega.{arith}
 use lib.ListN.{length}
-use Rattle.big_endian.specs.Numbers.{number_at, numbersAt}
-use Rattle.sheets.specs.Sheets.{someUnreduced}
+use Rattle.big_endian.specs.Numbers.{number_at, numbers_at}
+use Rattle.sheets.specs.Sheets.{some_unreduced}
 use Rattle.big_endian.proofs.Numbers.{numbers-done}
 use Rattle.sheet_joining.specs.Joining.{looping}
 use Rattle.sheet_joining.proofs.Joining.{looping-next, looping-done, bits-next, bits-done}
@@ -14,8 +14,8 @@ use Rattle.sheet_joining.proofs.join_lane.Tie as tie
 
 abbrev invariant-loop : tie.invariant-loop
 invariant-loop shift l from n f before x₀ bits₀ place₀ left₀ x bits place left =
-    (place + 8 * left ≤ length l) × (looping shift x (numbersAt place 8 left l) ≡ looping shift f (numbersAt from 8 n l))
-    × ((k : ℕ) → someUnreduced k (bits ∷ numbersAt place 8 left l) ≡ someUnreduced k (before ∷ numbersAt from 8 n l))
+    (place + 8 * left ≤ length l) × (looping shift x (numbers_at place 8 left l) ≡ looping shift f (numbers_at from 8 n l))
+    × ((k : ℕ) → some_unreduced k (bits ∷ numbers_at place 8 left l) ≡ some_unreduced k (before ∷ numbers_at from 8 n l))
 
 abbrev decreases-loop : tie.decreases-loop
 decreases-loop shift l from n f before x₀ bits₀ place₀ left₀ x bits place left = left
@@ -52,7 +52,7 @@ returns c =
     let a = (start c.before).args in
     let bytes = a.fields.now in (
       sym (looping-done a.shift.now l.x l.place l.left bytes (omega arith)) ∙ l.invariant.1,
-      λ k. bits-done k l.bits (numbersAt l.place 8 l.left bytes) (numbers-done l.place 8 l.left bytes (omega arith)) ∙ l.invariant.2 k,
+      λ k. bits-done k l.bits (numbers_at l.place 8 l.left bytes) (numbers-done l.place 8 l.left bytes (omega arith)) ∙ l.invariant.2 k,
     )
 
 pub join-lane-spec : {M : Type 1} → statement M

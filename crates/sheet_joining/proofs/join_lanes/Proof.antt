@@ -6,21 +6,21 @@ use native.Mathlib.Omega.{arith}
 use lib.ListN.{length, get_or}
 use Rattle.gf2.specs.Polynomials.{◌⊕◌}
 use Rattle.lookups.specs.Groups.{looked}
-use Rattle.big_endian.specs.Numbers.{number_at, numbersAt}
-use Rattle.sheets.specs.Sheets.{someUnreduced}
+use Rattle.big_endian.specs.Numbers.{number_at, numbers_at}
+use Rattle.sheets.specs.Sheets.{some_unreduced}
 use Rattle.sheet_joining.specs.Joining.{looping}
-use Rattle.sheet_joining.proofs.Joining.{looping-next, looping-done, fourLanes, bits-four, bits-four-done}
+use Rattle.sheet_joining.proofs.Joining.{looping-next, looping-done, four_lanes, bits-four, bits-four-done}
 use Rattle.sheet_joining.proofs.join_lanes.Statement.{statement}
 use Rattle.sheet_joining.proofs.join_lanes.Tie as tie
 
 abbrev invariant-loop : tie.invariant-loop
 invariant-loop shift l q lane a₀ b₀ c₀ d₀ bits₀ place₀ left₀ a b c d bits place left =
     (lane ≡ 8 * q) × (place + lane + lane + lane + 8 * left ≤ length l)
-    × (looping shift a (numbersAt place 8 left l) ≡ looping shift 1 (numbersAt 0 8 q l))
-    × (looping shift b (numbersAt (place + lane) 8 left l) ≡ looping shift 0 (numbersAt (0 + 8 * q) 8 q l))
-    × (looping shift c (numbersAt (place + lane + lane) 8 left l) ≡ looping shift 0 (numbersAt (0 + 8 * q + 8 * q) 8 q l))
-    × (looping shift d (numbersAt (place + lane + lane + lane) 8 left l) ≡ looping shift 0 (numbersAt (0 + 8 * q + 8 * q + 8 * q) 8 q l))
-    × ((k : ℕ) → someUnreduced k (bits ∷ fourLanes place lane left l) ≡ someUnreduced k (0 ∷ fourLanes 0 (8 * q) q l))
+    × (looping shift a (numbers_at place 8 left l) ≡ looping shift 1 (numbers_at 0 8 q l))
+    × (looping shift b (numbers_at (place + lane) 8 left l) ≡ looping shift 0 (numbers_at (0 + 8 * q) 8 q l))
+    × (looping shift c (numbers_at (place + lane + lane) 8 left l) ≡ looping shift 0 (numbers_at (0 + 8 * q + 8 * q) 8 q l))
+    × (looping shift d (numbers_at (place + lane + lane + lane) 8 left l) ≡ looping shift 0 (numbers_at (0 + 8 * q + 8 * q + 8 * q) 8 q l))
+    × ((k : ℕ) → some_unreduced k (bits ∷ four_lanes place lane left l) ≡ some_unreduced k (0 ∷ four_lanes 0 (8 * q) q l))
 
 abbrev decreases-loop : tie.decreases-loop
 decreases-loop shift l q lane a₀ b₀ c₀ d₀ bits₀ place₀ left₀ a b c d bits place left = left
@@ -68,7 +68,7 @@ loop-again c =
     let i = l.place in
     let more : 0 < l.left = omega arith in
     let next : (x place g y : ℕ) → g ≡ number_at place 8 bytes → y ≡ looked 8 shift 8 0 x ⊕ g ⊕ get_or shift 1 0
-    → looping shift y (numbersAt (place + 8) 8 (l.left - 1) bytes) ≡ looping shift x (numbersAt place 8 l.left bytes) =
+    → looping shift y (numbers_at (place + 8) 8 (l.left - 1) bytes) ≡ looping shift x (numbers_at place 8 l.left bytes) =
     λ x place g y eg ey. sym (looping-next shift x place l.left g y bytes more eg ey) in
     let e1 : i + 8 + lane ≡ i + lane + 8 = omega arith in
     let e2 : i + 8 + lane + lane ≡ i + lane + lane + 8 = omega arith in
@@ -89,7 +89,7 @@ returns c =
     let lane = 8 * a.q in
     let bytes = a.fields.now in
     let none : l.left ≡ 0 = omega arith in
-    let done : (x place : ℕ) → x ≡ looping a.shift.now x (numbersAt place 8 l.left bytes) =
+    let done : (x place : ℕ) → x ≡ looping a.shift.now x (numbers_at place 8 l.left bytes) =
     λ x place. sym (looping-done a.shift.now x place l.left bytes none) in
     record {
       a = done l.a l.place ∙ l.invariant.2;

@@ -4,7 +4,7 @@ use Prim.Native.Nat.{◌*◌, ◌/◌, ◌^◌, ◌<◌}
 use native.Mathlib.Nat.{mul-le-mul_right}
 use native.Mathlib.Omega.{arith}
 use Rattle.gf2.proofs.Steps.{residue-below}
-use Rattle.sheet_joining.proofs.Joining.{low-lt, bits_none, bits-all, few-joined, times-low, all-joined}
+use Rattle.sheet_joining.proofs.Joining.{low-lt, bits_none, bits-all, few-joined, times_low, all-joined}
 use borrow.Author.Rules.{rules}
 use Rattle.sheet_joining.proofs.join_run.Statement.{statement}
 use Rattle.sheet_joining.proofs.join_run.Tie as tie
@@ -83,9 +83,9 @@ returns-2 c =
           x.result x.ensures
           p.power-of-t.result p.power-of-t.ensures b₂.before.times-plus.result b₃.before.times-plus2.result c₃.times-plus3.result
           c.join-lane2.result.mark
-          (times-low a.p _ _ _ _ _ b₁.low_part.ensures b₂.before.times-plus.ensures)
-          (times-low a.p _ _ _ _ _ b₂.low-part2.ensures b₃.before.times-plus2.ensures)
-          (times-low a.p _ _ _ _ _ b₃.low-part3.ensures c₃.times-plus3.ensures)
+          (times_low a.p _ _ _ _ _ b₁.low_part.ensures b₂.before.times-plus.ensures)
+          (times_low a.p _ _ _ _ _ b₂.low-part2.ensures b₃.before.times-plus2.ensures)
+          (times_low a.p _ _ _ _ _ b₃.low-part3.ensures c₃.times-plus3.ensures)
           c.join-lane2.ensures.0;
       bits = bits-all t.last.0 a.fields.now 0 a.n q (32 * q) x.result c.join-lane2.result.bits (omega arith) (omega arith) x.ensures
           c.join-lane2.ensures.1;

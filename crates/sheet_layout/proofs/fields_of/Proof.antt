@@ -8,14 +8,14 @@ use borrow.Author.Rules.{rules}
 use Rattle.sheets.specs.Layout.{Layout}
 use Rattle.sheet_layout.specs.Laid.{LaidOut}
 use Rattle.sheet_layout.specs.declared.Fields.{Fields}
-use Rattle.sheets.proofs.Versions.{first-is, second_is, third-is, other-is}
+use Rattle.sheets.proofs.Versions.{first-is, second_is, third_is, other-is}
 use Rattle.sheet_layout.proofs.fields_of.Statement.{statement}
 use Rattle.sheet_layout.proofs.fields_of.Tie as tie
 
 -- a version and its fields, by what the versions differ in: how the key is held, the width and the unit of the length, and whether pages are filled
 module _ (paired : Bool) (w unit : ℕ) (filled : Bool) where
   abbrev layout : ℕ → Layout
-  layout n = record { version = n; widths = cond paired 9 8 ∷ w ∷ 2 ∷ []; paired = paired; lengthUnit = unit; filled = filled }
+  layout n = record { version = n; widths = cond paired 9 8 ∷ w ∷ 2 ∷ []; paired = paired; length_unit = unit; filled = filled }
 
   abbrev fields : Fields
   fields = record { key = cond paired 9 8; paired = paired; length = w; size = 2; unit = unit; filled = filled }
@@ -47,7 +47,7 @@ returns-2 c =
 
 returns-3 : tie.Need-returns-3
 returns-3 c =
-    rw (third-is c.before.before.before.before.args.version c.before.if3.true, c.numbered3.ensures)
+    rw (third_is c.before.before.before.before.args.version c.before.if3.true, c.numbered3.ensures)
     (laid_out false 8 1 false 3 (omega arith) (omega arith) (omega arith) (omega arith))
 
 returns-4 : tie.Need-returns-4

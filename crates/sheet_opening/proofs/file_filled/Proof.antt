@@ -13,7 +13,7 @@ use Rattle.sheet_opening.proofs.file_filled.Tie as tie
 returns : tie.Need-returns
 returns c =
     let a = c.before.before.args in
-    c.with-zeros.ensures
+    c.with_zeros.ensures
     ∙ ap (λ (b : Bool). rem (polynomial a.p) (a.f * 2 ^ cond b (a.all - a.n) 0)) (sym c.before.if1.true)
 
 returns-2 : tie.Need-returns-2

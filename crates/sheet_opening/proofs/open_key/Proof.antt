@@ -3,9 +3,9 @@ use mathlib.Core.Path.{sym, ap, ◌∙◌}
 use mathlib.Core.List.{List}
 use Prim.Native.Nat.{ℕ}
 use Rattle.acceptance.specs.Opened.{Opened}
-use Rattle.keys.specs.Testing.{testKey}
+use Rattle.keys.specs.Testing.{test_key}
 use Rattle.keys.proofs.Laws.{opened}
-use Rattle.sheets.specs.Answers.{sheetRead}
+use Rattle.sheets.specs.Answers.{sheet_read}
 use Rattle.sheet_opening.proofs.Answers.{read-refused, read_opened}
 use borrow.Author.Rules.{rules}
 use Rattle.sheet_opening.proofs.open_key.Statement.{statement}
@@ -34,7 +34,7 @@ returns c =
     let t = c.before.before.before in
     let s = start t in
     let r = c.before.r in (
-      sym (ap sheetRead (read-refused (sheet t) s.pre.0 t.test.result r.given.0.0 (t.test.ensures ∙ ap testKey s.pre.1.key) r.given.1)),
+      sym (ap sheet_read (read-refused (sheet t) s.pre.0 t.test.result r.given.0.0 (t.test.ensures ∙ ap test_key s.pre.1.key) r.given.1)),
       tt,
     )
 
@@ -44,7 +44,7 @@ returns-2 c =
     let t = accepted p in
     let s = start t in (
       c.open-under.ensures.0
-          ∙ sym (ap sheetRead (read_opened (sheet t) s.pre.0 p.p.given.0.0 (rw (← s.pre.1.key) (key-opened p)))),
+          ∙ sym (ap sheet_read (read_opened (sheet t) s.pre.0 p.p.given.0.0 (rw (← s.pre.1.key) (key-opened p)))),
       c.open-under.ensures.1,
     )
 

@@ -3,8 +3,8 @@ use mathlib.Core.Path.{◌≡◌, sym, ap, subst}
 use mathlib.Core.List.{List}
 use Prim.Native.Nat.{ℕ}
 use Rattle.sheets.specs.Layout.{layouts}
-use Rattle.sheets.specs.Sheets.{headWrong}
-use Rattle.sheets.specs.Answers.{sheetRead}
+use Rattle.sheets.specs.Sheets.{head_wrong}
+use Rattle.sheets.specs.Answers.{sheet_read}
 use Rattle.sheet_heads.specs.declared.Header.{Header}
 use Rattle.sheet_heads.specs.Heads.{HeaderOf}
 use Rattle.sheet_opening.proofs.Answers.{read_head}
@@ -19,13 +19,13 @@ abbrev sheet : tie.After-open-head → List ℕ
 sheet c = (start c).args.sheet.now
 
 -- what is known of the head, by the arm
-told : (c : tie.After-open-head) (h : Header) → c.open-head.result ≡ h → HeaderOf (sheet c) (headWrong layouts (sheet c)) h
-told c h e = subst (HeaderOf (sheet c) (headWrong layouts (sheet c))) e c.open-head.ensures
+told : (c : tie.After-open-head) (h : Header) → c.open-head.result ≡ h → HeaderOf (sheet c) (head_wrong layouts (sheet c)) h
+told c h e = subst (HeaderOf (sheet c) (head_wrong layouts (sheet c))) e c.open-head.ensures
 
 returns : tie.Need-returns
 returns c =
     let o = c.before.before in
-    (sym (ap sheetRead (read_head (sheet o) (told o _ c.enum_told.given.1))), tt)
+    (sym (ap sheet_read (read_head (sheet o) (told o _ c.enum_told.given.1))), tt)
 
 open-key-requires : tie.Need-open-key-requires
 open-key-requires c κs = told c.before.before.before _ c.before.head.given.1

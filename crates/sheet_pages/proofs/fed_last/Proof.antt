@@ -5,7 +5,7 @@ use lib.Seq.{length-take-le}
 use Rattle.gf2.specs.Moduli.{polynomial}
 use Rattle.gf2.proofs.Monics.{monic-pos}
 use Rattle.gf2.proofs.Steps.{residue-below}
-use Rattle.files.specs.Files.{Part, asPart, fingerprintFrom}
+use Rattle.files.specs.Files.{Part, as_part, fingerprint_from}
 use Rattle.files.proofs.Computing.{part-behind}
 use borrow.Author.Rules.{rules}
 use Rattle.sheet_pages.proofs.fed_last.Statement.{statement}
@@ -18,7 +18,7 @@ abbrev key : tie.Start → ℕ
 key s = polynomial s.args.p
 
 abbrev page : tie.Start → Part
-page s = asPart s.args.page.now s.args.used
+page s = as_part s.args.page.now s.args.used
 
 slice-aggregate-begun-last : tie.Need-slice-aggregate-begun-last
 slice-aggregate-begun-last c = sym (length-take-le _ _ c.before.whole-bytes.ensures.1)
@@ -29,7 +29,7 @@ feed-end-requires c κs =
     (s.pre.0.proper, residue-below s.args.p s.pre.0.proper _ _ c.begun-last.ensures, s.pre.1)
 
 returns : tie.Need-returns
-unfolding fingerprintFrom
+unfolding fingerprint_from
 returns c =
     let f = c.before in
     let s = start f in

@@ -8,10 +8,10 @@ use Rattle.gf2.specs.Polynomials.{rem}
 use Rattle.gf2.specs.Moduli.{polynomial}
 use Rattle.gf2.proofs.Monics.{monic-pos}
 use Rattle.gf2.proofs.Steps.{residue-below}
-use Rattle.files.specs.Files.{value, fingerprint, Part, asPart, partLength, partBits, fingerprintFrom}
-use Rattle.files.proofs.Parts.{part_length, part-range}
+use Rattle.files.specs.Files.{value, fingerprint, Part, as_part, part_length, part_bits, fingerprint_from}
+use Rattle.files.proofs.Parts.{part-length, part-range}
 use Rattle.sheets.specs.Sheets.{filled}
-use Rattle.sheets.proofs.Pages.{with-zeros}
+use Rattle.sheets.proofs.Pages.{with_zeros}
 use borrow.Author.Rules.{rules}
 use Rattle.sheet_pages.proofs.last_page.Statement.{statement}
 use Rattle.sheet_pages.proofs.last_page.Tie as tie
@@ -26,17 +26,17 @@ abbrev key : tie.Start → ℕ
 key s = polynomial s.args.x.p
 
 abbrev page : tie.Start → Part
-page s = asPart s.args.page.now s.args.x.used
+page s = as_part s.args.page.now s.args.x.used
 
 -- the page's length is counted in full
-counted : (c : tie.After-part-length) → c.part_length.result ≡ partLength (page (start (fed c)))
+counted : (c : tie.After-part-length) → c.part-length.result ≡ part_length (page (start (fed c)))
 counted c =
     let s = start (fed c) in
-    c.part_length.ensures ∙ omega (arith, (part-range (page s)).0, s.pre.1, s.pre.2)
+    c.part-length.ensures ∙ omega (arith, (part-range (page s)).0, s.pre.1, s.pre.2)
 
 residue : (c : tie.After-fed-last) → let s = start c in c.fed-last.result < 2 ^ s.args.x.p.degree
-unfolding fingerprintFrom
-residue c = let s = start c in residue-below s.args.x.p s.pre.0.proper _ (value (partBits (page s))) c.fed-last.ensures
+unfolding fingerprint_from
+residue c = let s = start c in residue-below s.args.x.p s.pre.0.proper _ (value (part_bits (page s))) c.fed-last.ensures
 
 sub-with-zeros : tie.Need-overflow-sub-with-zeros
 sub-with-zeros c = let s = start (fed c) in omega (arith, counted c, (part-range (page s)).0, s.pre.1)
@@ -55,12 +55,12 @@ returns c =
     let f = fed l in
     let s = start f in
     let p = s.args.x.p in
-    let bits = partBits (page s) in
+    let bits = part_bits (page s) in
     let zeros = 8 * s.args.x.size - length bits in
-    c.with-zeros.ensures
-    ∙ ap (λ (n : ℕ). rem (key s) (f.fed-last.result * 2 ^ (8 * s.args.x.size - n))) (counted l ∙ sym (part_length (page s)))
+    c.with_zeros.ensures
+    ∙ ap (λ (n : ℕ). rem (key s) (f.fed-last.result * 2 ^ (8 * s.args.x.size - n))) (counted l ∙ sym (part-length (page s)))
     ∙ ap (λ (g : ℕ). rem (key s) (g * 2 ^ zeros)) f.fed-last.ensures
-    ∙ with-zeros (monic-pos p.degree p.low s.pre.0.proper.2) zeros bits
+    ∙ with_zeros (monic-pos p.degree p.low s.pre.0.proper.2) zeros bits
     ∙ ap (λ (b : Bool). fingerprint (key s) (cond b (filled (8 * s.args.x.size) bits) bits)) (sym t.if1.true)
 
 returns-2 : tie.Need-returns-2
@@ -68,7 +68,7 @@ returns-2 c =
     let f = c.before in
     let s = start f in
     f.fed-last.ensures
-    ∙ ap (λ (b : Bool). fingerprint (key s) (cond b (filled (8 * s.args.x.size) (partBits (page s))) (partBits (page s)))) (sym c.if1.false)
+    ∙ ap (λ (b : Bool). fingerprint (key s) (cond b (filled (8 * s.args.x.size) (part_bits (page s))) (part_bits (page s)))) (sym c.if1.false)
 
 pub last-page-spec : {M : Type 1} → statement M
 last-page-spec =

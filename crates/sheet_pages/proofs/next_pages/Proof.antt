@@ -7,11 +7,11 @@ use native.Mathlib.Omega.{arith}
 use lib.ListN.{length, take, drop, length-drop}
 use lib.Seq.{get_or-set_other}
 use Rattle.gf2.specs.Moduli.{polynomial}
-use Rattle.files.specs.Files.{fingerprint, Part, asPart, partLength, partBits, misused}
-use Rattle.files.specs.Ends.{wholeBytes}
-use Rattle.files.proofs.Parts.{part_length, part-range, rest-bits, rest-misused, whole-range}
-use Rattle.sheets.specs.Layout.{Layout, pageCount}
-use Rattle.sheets.specs.Sheets.{page_of, pageFingerprints}
+use Rattle.files.specs.Files.{fingerprint, Part, as_part, part_length, part_bits, misused}
+use Rattle.files.specs.Ends.{whole_bytes}
+use Rattle.files.proofs.Parts.{part-length, part-range, rest-bits, rest-misused, whole-range}
+use Rattle.sheets.specs.Layout.{Layout, page_count}
+use Rattle.sheets.specs.Sheets.{page_of, page_fingerprints}
 use Rattle.sheets.specs.Inner.{filling}
 use Rattle.sheets.proofs.Pages.{count-le, count-reached, count_next, part-pages, whole-fits, last-short, all_left}
 use Rattle.sheet_pages.proofs.Blocks.{block-is, block_last}
@@ -35,10 +35,10 @@ abbrev size : tie.Start → ℕ
 size s = s.args.x.size
 
 abbrev rest : tie.Start → Part
-rest s = asPart s.args.rest.now s.args.x.used
+rest s = as_part s.args.rest.now s.args.x.used
 
 -- the whole pages of the block are in the whole bytes,
-inside : (c : tie.After-block) → c.block.result * size (start c) ≤ wholeBytes (rest (start c))
+inside : (c : tie.After-block) → c.block.result * size (start c) ≤ whole_bytes (rest (start c))
 inside c =
     let s = start c in
     let w = c.before.whole-bytes in
@@ -49,10 +49,10 @@ fits : (c : tie.After-block) → c.block.result * size (start c) ≤ length (res
 fits c = omega (arith, inside c, (whole-range (rest (start c))).0)
 
 -- so many pages begin in the file
-begin : (c : tie.After-block) → c.block.result ≤ pageCount (size (start c)) (length (rest (start c)).bytes)
+begin : (c : tie.After-block) → c.block.result ≤ page_count (size (start c)) (length (rest (start c)).bytes)
 begin c = let s = start c in count-le (size s) (length (rest s).bytes) c.block.result (omega arith) (omega (arith, fits c, s.pre.1))
 
-pages : (s : tie.Start) → pageCount (size s) (length (rest s).bytes) ≡ pageCount (8 * size s) (partLength (rest s))
+pages : (s : tie.Start) → page_count (size s) (length (rest s).bytes) ≡ page_count (8 * size s) (part_length (rest s))
 pages s = part-pages (size s) (rest s) (omega (arith, s.requires.1))
 
 block-requires : tie.Need-block-requires
@@ -67,7 +67,7 @@ whole-marks-requires c κs =
 -- the fingerprints of the whole pages, as a layout takes them
 prints : (c : tie.After-slice-known2) (v : Layout)
     → take (block c).block.result (whole-marks c).whole-marks.new.0
-    ≡ pageFingerprints v (polynomial (start (block c)).args.x.p) (8 * size (start (block c))) (block c).block.result (partBits (rest (start (block c))))
+    ≡ page_fingerprints v (polynomial (start (block c)).args.x.p) (8 * size (start (block c))) (block c).block.result (part_bits (rest (start (block c))))
 prints c v =
     let b = block c in
     let s = start b in
@@ -128,7 +128,7 @@ last-page-requires c κs =
       record { proper = s.pre.0.proper; table = λ l. (s.pre.0.tables l).table; house = s.pre.0.house },
       omega (arith, ap length same ∙ length-drop from (rest s).bytes, short e),
       s.pre.2,
-      ap (λ (q : List ℕ). misused (asPart q (rest s).used)) same
+      ap (λ (q : List ℕ). misused (as_part q (rest s).used)) same
           ∙ rest-misused (rest s).bytes (rest s).used from (omega (arith, e.if2.left))
           ∙ s.pre.4,
     )
@@ -136,7 +136,7 @@ last-page-requires c κs =
 -- its bits are those that are left
 page : (c : tie.After-last-page) → let s = start (block (last c)) in let n = (block (last c)).block.result in
     let key = polynomial s.args.x.p in
-    c.last-page.result ≡ fingerprint key (page_of (filling s.args.x.filled) (8 * size s) (drop (n * (8 * size s)) (partBits (rest s))))
+    c.last-page.result ≡ fingerprint key (page_of (filling s.args.x.filled) (8 * size s) (drop (n * (8 * size s)) (part_bits (rest s))))
 page c =
     let e = left c.before in
     let b = block (last c) in
@@ -144,9 +144,9 @@ page c =
     let n = b.block.result in
     c.last-page.ensures
     ∙ ap (λ (q : List ℕ). fingerprint (polynomial s.args.x.p) (page_of (filling s.args.x.filled) (8 * size s) q))
-    (ap (λ (q : List ℕ). partBits (asPart q (rest s).used)) (all_left (rest s).bytes (n * size s))
+    (ap (λ (q : List ℕ). part_bits (as_part q (rest s).used)) (all_left (rest s).bytes (n * size s))
     ∙ rest-bits (rest s).bytes (rest s).used (n * size s) (omega (arith, e.if2.left))
-    ∙ ap (λ (m : ℕ). drop m (partBits (rest s))) (sym (mul_left_comm n 8 (size s))))
+    ∙ ap (λ (m : ℕ). drop m (part_bits (rest s))) (sym (mul_left_comm n 8 (size s))))
 
 returns-3 : tie.Need-returns-3
 returns-3 c =
@@ -158,11 +158,11 @@ returns-3 c =
     let n = b.block.result in
     let few = b.block.ensures in
     let more = count_next (size s) (length (rest s).bytes) n (omega (arith, s.pre.1)) (omega (arith, e.if2.left)) (short e) in
-    let bits = part_length (rest s) in
+    let bits = part-length (rest s) in
     record {
       count = omega (arith, more, pages s, few, e.before.if1.left);
       prints =
-          block_last _ (polynomial s.args.x.p) (8 * size s) n c.last-page.result (partBits (rest s)) _
+          block_last _ (polynomial s.args.x.p) (8 * size s) n c.last-page.result (part_bits (rest s)) _
           (omega (arith, bits, (part-range (rest s)).0, short e, mul_left_comm n 8 (size s)))
           (omega (arith, s.pre.3, w.kept.0, e.before.if1.left, few)) (page c)
           (prints d _);

@@ -5,9 +5,9 @@ use Prim.Native.Nat.{ℕ, ◌+◌, ◌-◌, ◌*◌, ◌≤◌}
 use native.Mathlib.Nat.{zero-add, sub-zero}
 use native.Mathlib.Omega.{arith}
 use lib.ListN.{length, drop}
-use Rattle.big_endian.specs.Numbers.{number_at, numbersAt}
+use Rattle.big_endian.specs.Numbers.{number_at, numbers_at}
 use Rattle.sheets.specs.Inner.{agreeing}
-use Rattle.sheets.proofs.Changes.{agree-all, agree_on, agree-off, agree-end}
+use Rattle.sheets.proofs.Changes.{agree-all, agree_on, agree_off, agree-end}
 use Rattle.sheet_pass.specs.Passes.{expected}
 use Rattle.sheet_pass.proofs.Passes.{expected-known, expected-none}
 use Rattle.sheet_pass.proofs.agreeing.Statement.{statement}
@@ -16,7 +16,7 @@ use Rattle.sheet_pass.proofs.agreeing.Tie as tie
 abbrev invariant-loop : tie.invariant-loop
 invariant-loop known from marks place₀ i₀ place i =
     (i ≤ length marks) × (place ≡ from + 8 * i)
-    × (i + agreeing (numbersAt place 8 (length marks - i) known) (drop i marks) ≡ agreeing (expected known from marks) marks)
+    × (i + agreeing (numbers_at place 8 (length marks - i) known) (drop i marks) ≡ agreeing (expected known from marks) marks)
 
 abbrev decreases-loop : tie.decreases-loop
 decreases-loop known from marks place₀ i₀ place i = length marks - i
@@ -54,7 +54,7 @@ returns-2 c =
     let e = c.before.before in
     let l = (loop e).loop in
     let a = (begun (loop e)).args in
-    omega (arith, l.inv.2, agree-off l.place a.known.now a.marks.now l.i (omega arith) (λ d. c.if2.true (e.eight-at.ensures ∙ d)))
+    omega (arith, l.inv.2, agree_off l.place a.known.now a.marks.now l.i (omega arith) (λ d. c.if2.true (e.eight-at.ensures ∙ d)))
 
 add-place : tie.Need-overflow-add-place invariant-loop decreases-loop
 add-place c = let l = loop c.before.before in omega (arith, room l, l.loop.inv.1)
@@ -72,7 +72,7 @@ returns-3 : tie.Need-returns-3 invariant-loop decreases-loop
 returns-3 c =
     let l = c.before.loop in
     let a = (begun c.before).args in
-    omega (arith, l.invariant.2, agree-end a.marks.now (numbersAt l.place 8 (length a.marks.now - l.i) a.known.now) l.i (omega arith))
+    omega (arith, l.invariant.2, agree-end a.marks.now (numbers_at l.place 8 (length a.marks.now - l.i) a.known.now) l.i (omega arith))
 
 pub agreeing-spec : {M : Type 1} → statement M
 agreeing-spec =

@@ -7,29 +7,29 @@ use native.Mathlib.Omega.{arith}
 use lib.ListN.{length, take, drop, drop_of_length-le}
 use lib.Seq.{sets, length-take-le}
 use Rattle.gf2.specs.Moduli.{polynomial}
-use Rattle.files.specs.Files.{Part, asPart, partBits, misused}
+use Rattle.files.specs.Files.{Part, as_part, part_bits, misused}
 use Rattle.files.proofs.Parts.{rest-misused}
 use Rattle.big_endian.specs.Numbers.{fields_of}
-use Rattle.sheets.specs.Layout.{Layout, pageCount}
-use Rattle.sheets.specs.Sheets.{pageFingerprints}
+use Rattle.sheets.specs.Layout.{Layout, page_count}
+use Rattle.sheets.specs.Sheets.{page_fingerprints}
 use Rattle.sheets.specs.Inner.{filling, agreeing}
 use Rattle.sheets.proofs.Pages.{length-pages, page-begins, count-few, count-reached, all_left}
 use Rattle.sheets.proofs.Changes.{agree-le}
 use Rattle.sheet_pass.specs.Passes.{expected}
-use Rattle.sheet_pass.proofs.Passes.{block-long, block-few, block-ends, block-agrees, block_written}
+use Rattle.sheet_pass.proofs.Passes.{block-long, block-few, block-ends, block_agrees, block_written}
 use Rattle.sheet_pass.proofs.Turns.{turn-within, turn-some, turn-marks}
 use Rattle.sheet_pass.proofs.over_blocks.Statement.{statement}
 use Rattle.sheet_pass.proofs.over_blocks.Tie as tie
 
 abbrev invariant-loop : tie.invariant-loop
 invariant-loop out₀ known words eights x file size marks₀ page₀ out marks page =
-    let count = pageCount x.size (length file) in
-    let fs = pageFingerprints (filling x.filled) (polynomial x.p) (8 * x.size) count (partBits (asPart file x.used)) in
+    let count = page_count x.size (length file) in
+    let fs = page_fingerprints (filling x.filled) (polynomial x.p) (8 * x.size) count (part_bits (as_part file x.used)) in
     (page ≤ count) × (length marks ≡ 64) × (length out ≡ length out₀) × (out ≡ sets out₀ 0 (fields_of 8 (take page fs)))
     × (page + agreeing (expected known (8 * page) (drop page fs)) (drop page fs) ≡ agreeing (expected known 0 fs) fs)
 
 abbrev decreases-loop : tie.decreases-loop
-decreases-loop out₀ known words eights x file size marks₀ page₀ out marks page = pageCount x.size (length file) - page
+decreases-loop out₀ known words eights x file size marks₀ page₀ out marks page = page_count x.size (length file) - page
 
 -- the start, the loop, the next pages, those that agree and their fields
 abbrev slices→start : tie.After-shared-slice-known4 invariant-loop decreases-loop → tie.Start invariant-loop decreases-loop
@@ -60,13 +60,13 @@ abbrev layout : tie.Start invariant-loop decreases-loop → Layout
 layout s = filling s.args.x.filled
 
 abbrev file : tie.Start invariant-loop decreases-loop → Part
-file s = asPart s.args.file.now s.args.x.used
+file s = as_part s.args.file.now s.args.x.used
 
 abbrev count : tie.Start invariant-loop decreases-loop → ℕ
-count s = pageCount s.args.x.size (length (file s).bytes)
+count s = page_count s.args.x.size (length (file s).bytes)
 
 abbrev prints : tie.Start invariant-loop decreases-loop → List ℕ
-prints s = pageFingerprints (layout s) (key s) (8 * s.args.x.size) (count s) (partBits (file s))
+prints s = page_fingerprints (layout s) (key s) (8 * s.args.x.size) (count s) (part_bits (file s))
 
 positive : (s : tie.Start invariant-loop decreases-loop) → 0 < s.args.x.size
 positive s = omega (arith, s.requires.1)
@@ -75,7 +75,7 @@ small : (s : tie.Start invariant-loop decreases-loop) → count s < 2 ^ 29
 small s = count-few s.args.x.size (length (file s).bytes) s.requires.1 s.requires.2 s.requires.3
 
 many : (s : tie.Start invariant-loop decreases-loop) → length (prints s) ≡ count s
-many s = length-pages (layout s) (key s) (count s) (8 * s.args.x.size) (partBits (file s))
+many s = length-pages (layout s) (key s) (count s) (8 * s.args.x.size) (part_bits (file s))
 
 more : (c : tie.After-marks invariant-loop decreases-loop) → (loop c).loop.page * (start (loop c)).args.x.size < length (file (start (loop c))).bytes
 more c = c.before.loop-test.true
@@ -157,7 +157,7 @@ next-pages-requires c κs =
       omega (arith, s.pre.1),
       s.pre.2,
       omega (arith, l.loop.inv.1),
-      ap (λ (q : List ℕ). misused (asPart q (file s).used)) (all_left (file s).bytes from)
+      ap (λ (q : List ℕ). misused (as_part q (file s).used)) (all_left (file s).bytes from)
           ∙ rest-misused (file s).bytes (file s).used from (more c.before)
           ∙ s.pre.6,
     )
@@ -220,7 +220,7 @@ loop-again c =
     let l = (begun n).loop in
     let s = start (begun n) in
     let agrees =
-    block-agrees s.args.known.now (prints s) (block n) l.page n.next-pages.result (marks n) (fits n) a.agreeing.result a.agreeing.ensures
+    block_agrees s.args.known.now (prints s) (block n) l.page n.next-pages.result (marks n) (fits n) a.agreeing.result a.agreeing.ensures
     c.if1.false in (
       omega (arith, few a, within n),
       n.next-pages.kept.0 ∙ l.inv.1,

@@ -8,7 +8,7 @@ use lib.Seq.{sets}
 use Rattle.lists.proofs.Lists.{drop-next}
 use Rattle.big_endian.specs.Numbers.{fields_of}
 use Rattle.big_endian.proofs.Numbers.{fields-behind}
-use Rattle.sheet_pass.proofs.Passes.{sets-none}
+use Rattle.sheet_pass.proofs.Passes.{sets_none}
 use Rattle.sheet_pass.proofs.put_fields.Statement.{statement}
 use Rattle.sheet_pass.proofs.put_fields.Tie as tie
 
@@ -34,7 +34,7 @@ room : (c : tie.At-loop invariant-loop decreases-loop) → (start c).args.from +
 room c = (start c).requires (omega (arith, c.before.if1.false))
 
 returns : tie.Need-returns invariant-loop decreases-loop
-returns c = let a = c.before.before.before.args in sets-none (fields_of 8 a.marks.now) a.out.now a.from c.if1.true
+returns c = let a = c.before.before.before.args in sets_none (fields_of 8 a.marks.now) a.out.now a.from c.if1.true
 
 loop-holds : tie.Need-loop-init invariant-loop decreases-loop
 loop-holds c = (omega arith, omega arith, refl, refl)

@@ -4,14 +4,14 @@ use mathlib.Core.List.{◌++◌}
 use Prim.Native.Nat.{ℕ, ◌+◌, ◌-◌, ◌*◌, ◌≤◌}
 use native.Mathlib.Omega.{arith}
 use lib.ListN.{length, drop, length-set}
-use Rattle.big_endian.specs.Numbers.{number_at, numbersAt}
+use Rattle.big_endian.specs.Numbers.{number_at, numbers_at}
 use Rattle.sheet_reading.proofs.Lent.{lent-next}
 use Rattle.sheet_reading.proofs.copy_fields.Statement.{statement}
 use Rattle.sheet_reading.proofs.copy_fields.Tie as tie
 
 abbrev invariant-loop : tie.invariant-loop
 invariant-loop lent₀ fields n place₀ i₀ lent place i =
-    (i ≤ n) × (place ≡ 8 * i) × (length lent ≡ length lent₀) × (lent ≡ numbersAt 0 8 i fields ++ drop i lent₀)
+    (i ≤ n) × (place ≡ 8 * i) × (length lent ≡ length lent₀) × (lent ≡ numbers_at 0 8 i fields ++ drop i lent₀)
 
 abbrev decreases-loop : tie.decreases-loop
 decreases-loop lent₀ fields n place₀ i₀ lent place i = n - i
@@ -23,7 +23,7 @@ abbrev loop : tie.After-eight-at invariant-loop decreases-loop → tie.At-loop i
 loop c = c.before.before
 
 loop-holds : tie.Need-loop-init invariant-loop decreases-loop
-unfolding numbersAt
+unfolding numbers_at
 loop-holds c = (omega arith, omega arith, refl, refl)
 
 eight-at-requires : tie.Need-eight-at-requires invariant-loop decreases-loop
@@ -54,7 +54,7 @@ returns c =
     let l = c.before.loop in
     let a = (start c.before).args in
     let e : l.i ≡ a.n = omega arith in
-    l.invariant.3 ∙ ap (λ (m : ℕ). numbersAt 0 8 m a.fields.now ++ drop m a.lent.now) e
+    l.invariant.3 ∙ ap (λ (m : ℕ). numbers_at 0 8 m a.fields.now ++ drop m a.lent.now) e
 
 pub copy-fields-spec : {M : Type 1} → statement M
 copy-fields-spec =

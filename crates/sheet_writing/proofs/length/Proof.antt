@@ -8,9 +8,9 @@ use lib.Dec.{ltb}
 use Rattle.refusals.specs.Refusals.{Done, passes}
 use Rattle.refusals.proofs.Lengths.{within}
 use Rattle.refusals.proofs.Laws.{holds, fails}
-use Rattle.sheets.specs.Layout.{Layout, newest, layout_of, sheetLength, pageCount}
+use Rattle.sheets.specs.Layout.{Layout, newest, layout_of, sheet_length, page_count}
 use Rattle.sheets.proofs.Versions.{newest-is, length_from}
-use Rattle.sheets.proofs.Sound.{size-bounds}
+use Rattle.sheets.proofs.Sound.{size_bounds}
 use Rattle.sheets.proofs.Pages.{count-few}
 use Rattle.sheet_writing.proofs.Answers.{length-long, length-size, length-done}
 use borrow.Author.Rules.{rules}
@@ -33,7 +33,7 @@ right : (c : tie.Else2) → (ltb (start c.before).args.size 16 || ltb 4096 (star
 right c = fails _ _ c.before.size-right.ensures c.if2.false
 
 size : (c : tie.Else2) → (16 ≤ (start c.before).args.size) × ((start c.before).args.size ≤ 4096)
-size c = size-bounds (start c.before).args.size (right c)
+size c = size_bounds (start c.before).args.size (right c)
 
 returns : tie.Need-returns
 returns c = let a = c.before.before.args in sym (length-long a.n a.size (holds _ _ c.before.bytes_fit.ensures c.if1.true))
@@ -61,9 +61,9 @@ returns-3 c =
     let e = p.before in
     let a = (start e.before).args in
     let v = layout_of newest.version in
-    let total : c.sheet-length.result ≡ sheetLength v (pageCount a.size a.n) =
-    omega (arith, c.sheet-length.ensures, q.pages-place.ensures.0, p.page-count.ensures, length_from newest.version (pageCount a.size a.n)) in
-    ap Done (total ∙ ap (λ (w : Layout). sheetLength w (pageCount a.size a.n)) newest-is)
+    let total : c.sheet-length.result ≡ sheet_length v (page_count a.size a.n) =
+    omega (arith, c.sheet-length.ensures, q.pages-place.ensures.0, p.page-count.ensures, length_from newest.version (page_count a.size a.n)) in
+    ap Done (total ∙ ap (λ (w : Layout). sheet_length w (page_count a.size a.n)) newest-is)
     ∙ sym (length-done a.n a.size (fit e.before.before) (right e))
 
 pub length_spec : {M : Type 1} → statement M

@@ -10,19 +10,19 @@ use lib.Seq.{sets}
 use Rattle.gf2.specs.Moduli.{polynomial}
 use Rattle.gf2.proofs.Monics.{monic-pos, monic-degree}
 use Rattle.files.specs.declared.Mark.{Mark}
-use Rattle.files.specs.Files.{fingerprint, markFrom, mark_of, Part, asPart, partBits}
-use Rattle.files.proofs.Parts.{part_length, part_bytes}
-use Rattle.big_endian.specs.Numbers.{bytes_of, fields_of, numbersAt}
-use Rattle.sheets.specs.Layout.{Layout, newest, layout_of, pageCount, pagesFor}
-use Rattle.sheets.specs.Sheets.{pageFingerprints, joinedPages, someUnreduced}
+use Rattle.files.specs.Files.{fingerprint, mark_from, mark_of, Part, as_part, part_bits}
+use Rattle.files.proofs.Parts.{part-length, part_bytes}
+use Rattle.big_endian.specs.Numbers.{bytes_of, fields_of, numbers_at}
+use Rattle.sheets.specs.Layout.{Layout, newest, layout_of, page_count, pages_for}
+use Rattle.sheets.specs.Sheets.{page_fingerprints, joined_pages, some_unreduced}
 use Rattle.sheets.specs.Inner.{filling}
-use Rattle.big_endian.proofs.Numbers.{length-fieldsOf, sets_behind}
+use Rattle.big_endian.proofs.Numbers.{length-fields_of, sets_behind}
 use Rattle.sheets.proofs.Versions.{newest-is}
 use Rattle.sheets.proofs.Pages.{length-pages, pages-count, fingerprints-lt, own-joined}
 use Rattle.sheets.proofs.Parts.{part-fits, pages-held}
-use Rattle.sheets.proofs.Sound.{list-reduced}
+use Rattle.sheets.proofs.Sound.{list_reduced}
 use Rattle.sheet_layout.proofs.Filling.{prints-filling}
-use Rattle.sheet_pass.proofs.Passes.{pass-count, pass_all}
+use Rattle.sheet_pass.proofs.Passes.{pass_count, pass_all}
 use Rattle.sheet_writing.proofs.Stores.{pages-stored}
 use borrow.Author.Rules.{rules}
 use Rattle.sheet_writing.proofs.put_fingerprints.Statement.{statement}
@@ -48,37 +48,37 @@ abbrev key : tie.Start → ℕ
 key s = polynomial s.args.p
 
 abbrev part : tie.Start → Part
-part s = asPart s.args.file.now s.args.used
+part s = as_part s.args.file.now s.args.used
 
 abbrev file : tie.Start → List ℕ
-file s = partBits (part s)
+file s = part_bits (part s)
 
 abbrev size : tie.Start → ℕ
 size s = 8 * s.args.size
 
 abbrev count : tie.Start → ℕ
-count s = pageCount s.args.size (length s.args.file.now)
+count s = page_count s.args.size (length s.args.file.now)
 
 abbrev fingerprints : tie.Start → List ℕ
-fingerprints s = pageFingerprints v (key s) (size s) (count s) (file s)
+fingerprints s = page_fingerprints v (key s) (size s) (count s) (file s)
 
 -- as many as were passed
 passed : (c : tie.After-over-pages) → c.over-pages.result ≡ count (begin c)
 passed c =
     let s = begin c in
-    pass-count (fingerprints s) s.args.fields.now _ c.over-pages.result c.over-pages.ensures ∙ length-pages v (key s) (count s) (size s) (file s)
+    pass_count (fingerprints s) s.args.fields.now _ c.over-pages.result c.over-pages.ensures ∙ length-pages v (key s) (count s) (size s) (file s)
 
-pages-counted : (s : tie.Start) → count s ≡ pagesFor s.args.size s.args.n
-pages-counted s = sym (ap (pagesFor s.args.size) s.requires.7 ∙ ap (pageCount s.args.size) (part_bytes (part s)))
+pages-counted : (s : tie.Start) → count s ≡ pages_for s.args.size s.args.n
+pages-counted s = sym (ap (pages_for s.args.size) s.requires.7 ∙ ap (page_count s.args.size) (part_bytes (part s)))
 
 -- the fields after all pages' fingerprints, and what they read as
 prints : (c : tie.After-over-pages) → c.over-pages.new.0 ≡ sets (begin c).args.fields.now 0 (fields_of 8 (fingerprints (begin c)))
 prints c = let s = begin c in pass_all (fingerprints s) s.args.fields.now _ c.over-pages.result c.over-pages.ensures
 
-read_back : (c : tie.After-over-pages) → numbersAt 0 8 c.over-pages.result c.over-pages.new.0 ≡ fingerprints (begin c)
+read_back : (c : tie.After-over-pages) → numbers_at 0 8 c.over-pages.result c.over-pages.new.0 ≡ fingerprints (begin c)
 read_back c =
     let s = begin c in
-    ap₂ (λ (m : ℕ) (b : List ℕ). numbersAt 0 8 m b) (passed c) (prints c)
+    ap₂ (λ (m : ℕ) (b : List ℕ). numbers_at 0 8 m b) (passed c) (prints c)
     ∙ pages-stored s.args.p s.pre.0 v (size s) (count s) (file s) s.args.fields.now (omega (arith, s.pre.5))
 
 over-pages-requires : tie.Need-over-pages-requires
@@ -100,18 +100,18 @@ pages-joined-requires c κs =
 
 -- the pages joined have the file's fingerprint
 joined : (c : tie.After-pages-joined) → c.pages-joined.result.mark ≡ fingerprint (key (begin (pages c))) (file (begin (pages c)))
-unfolding markFrom
+unfolding mark_from
 joined c =
     let p = pages c in
     let s = begin p in
     let a = s.args in
     let pos = monic-pos a.p.degree a.p.low s.pre.0.2 in
     let small = rw (monic-degree a.p.degree a.p.low s.pre.0.2) at (fingerprints-lt pos v (count s) (size s) (file s)) in
-    let all : count s ≡ pageCount (size s) (length (file s)) =
+    let all : count s ≡ page_count (size s) (length (file s)) =
     sym (pages-held a.size (part s)) ∙ pages-count a.size (length (file s)) (omega (arith, s.pre.2)) in
-    c.pages-joined.ensures.mark (ap (someUnreduced a.p.degree) (read_back p) ∙ list-reduced a.p.degree (fingerprints s) small)
-    ∙ ap₂ (λ (n : ℕ) (fs : List ℕ). (joinedPages v (key s) (size s) n (mark_of (key s) []) fs).fingerprint) (s.pre.7 ∙ sym (part_length (part s))) (read_back p)
-    ∙ ap (λ (m : ℕ). (joinedPages v (key s) (size s) (length (file s)) (mark_of (key s) []) (pageFingerprints v (key s) (size s) m (file s))).fingerprint) all
+    c.pages-joined.ensures.mark (ap (some_unreduced a.p.degree) (read_back p) ∙ list_reduced a.p.degree (fingerprints s) small)
+    ∙ ap₂ (λ (n : ℕ) (fs : List ℕ). (joined_pages v (key s) (size s) n (mark_of (key s) []) fs).fingerprint) (s.pre.7 ∙ sym (part-length (part s))) (read_back p)
+    ∙ ap (λ (m : ℕ). (joined_pages v (key s) (size s) (length (file s)) (mark_of (key s) []) (page_fingerprints v (key s) (size s) m (file s))).fingerprint) all
     ∙ ap (λ (m : Mark). m.fingerprint) (own-joined pos v refl (size s) (file s) (omega (arith, s.pre.2)))
 
 mul-put : tie.Need-overflow-mul-put
@@ -132,7 +132,7 @@ returns c =
     let fields = fields_of 8 (fingerprints s) in
     let last = bytes_of 8 (fingerprint (key s) (file s)) in
     let long : 8 * count s ≡ 0 + length fields =
-    sym (zero-add (length fields) ∙ length-fieldsOf 8 (fingerprints s) ∙ ap (λ (n : ℕ). 8 * n) (length-pages v (key s) (count s) (size s) (file s))) in
+    sym (zero-add (length fields) ∙ length-fields_of 8 (fingerprints s) ∙ ap (λ (n : ℕ). 8 * n) (length-pages v (key s) (count s) (size s) (file s))) in
     let own = ap (λ (w : Layout). w.filled) newest-is in
     q.put.ensures
     ∙ ap₂ (λ (n f : ℕ). sets p.over-pages.last.0 (8 * n) (bytes_of 8 f)) (passed p) (joined j)

@@ -2,8 +2,8 @@
 use mathlib.Core.Path.{sym}
 use Rattle.acceptance.specs.Opened.{Opened}
 use Rattle.keys.proofs.Laws.{opened}
-use Rattle.files.specs.Files.{asPart}
-use Rattle.sheet_writing.proofs.Answers.{write-refused}
+use Rattle.files.specs.Files.{as_part}
+use Rattle.sheet_writing.proofs.Answers.{write_refused}
 use borrow.Author.Rules.{rules}
 use Rattle.sheet_writing.proofs.write.Statement.{statement}
 use Rattle.sheet_writing.proofs.write.Tie as tie
@@ -28,8 +28,8 @@ returns c =
     let t = c.before.before.before in
     let a = (start t).args in
     let r = c.before.r in
-    let file = asPart a.file.now a.used in
-    sym (write-refused a.key a.size file a.buffer.now t.test.result r.given.0.0 t.test.ensures r.given.1)
+    let file = as_part a.file.now a.used in
+    sym (write_refused a.key a.size file a.buffer.now t.test.result r.given.0.0 t.test.ensures r.given.1)
 
 returns-2 : tie.Need-returns-2
 returns-2 c = c.before.before.write_under.ensures

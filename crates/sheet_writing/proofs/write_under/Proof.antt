@@ -4,11 +4,11 @@ use mathlib.Core.Bool.{false}
 use native.Mathlib.Omega.{arith}
 use lib.ListN.{length}
 use Rattle.refusals.specs.Refusals.{Done}
-use Rattle.files.specs.Files.{Part, asPart, misused}
-use Rattle.sheets.specs.Layout.{Layout, sheetLength, pageCount}
-use Rattle.sheets.specs.Answers.{lengthAnswer}
+use Rattle.files.specs.Files.{Part, as_part, misused}
+use Rattle.sheets.specs.Layout.{Layout, sheet_length, page_count}
+use Rattle.sheets.specs.Answers.{length_answer}
 use Rattle.sheets.proofs.Versions.{newest-is}
-use Rattle.sheet_writing.proofs.Answers.{Measured, measured, write-length, write-short, write-misused, write_done}
+use Rattle.sheet_writing.proofs.Answers.{Measured, measured, write_length, write_short, write_misused, write_done}
 use borrow.Author.Rules.{rules}
 use Rattle.sheet_writing.proofs.write_under.Statement.{statement}
 use Rattle.sheet_writing.proofs.write_under.Tie as tie
@@ -21,12 +21,12 @@ abbrev given : tie.After-needed → tie.After-length
 given c = c.before.before
 
 abbrev part : tie.Start → Part
-part s = asPart s.args.file.now s.args.used
+part s = as_part s.args.file.now s.args.used
 
 known : (c : tie.After-needed) → Measured (length (start (given c)).args.file.now) (start (given c)).args.size c.needed.given.0.0
 known c =
     let a = (start (given c)).args in
-    measured (length a.file.now) a.size c.needed.given.0.0 (ap lengthAnswer (sym c.needed.given.1) ∙ (given c).length.ensures)
+    measured (length a.file.now) a.size c.needed.given.0.0 (ap length_answer (sym c.needed.given.1) ∙ (given c).length.ensures)
 
 -- there is room
 abbrev room→needed : tie.Else1 → tie.After-needed
@@ -43,7 +43,7 @@ returns c =
     let n = c.before.before in
     let s = start (given n) in
     let a = s.args in
-    sym (write-short a.key a.size (part s) a.buffer.now s.pre n.needed.given.0.0 (known n) (omega (arith, c.if1.true)))
+    sym (write_short a.key a.size (part s) a.buffer.now s.pre n.needed.given.0.0 (known n) (omega (arith, c.if1.true)))
 
 returns-2 : tie.Need-returns-2
 returns-2 c =
@@ -51,7 +51,7 @@ returns-2 c =
     let n = room→needed e in
     let s = start (given n) in
     let a = s.args in
-    sym (write-misused a.key a.size (part s) a.buffer.now s.pre n.needed.given.0.0 (known n) (omega (arith, e.if1.false))
+    sym (write_misused a.key a.size (part s) a.buffer.now s.pre n.needed.given.0.0 (known n) (omega (arith, e.if1.false))
     (sym c.before.is-misused.ensures ∙ c.if2.true))
 
 put-sheet-requires : tie.Need-put-sheet-requires
@@ -61,7 +61,7 @@ put-sheet-requires c κs =
     let n = room→needed e in
     let m = known n in
     let a = (start (given n)).args in
-    let own = ap (λ (v : Layout). sheetLength v (pageCount a.size (length a.file.now))) newest-is in
+    let own = ap (λ (v : Layout). sheet_length v (page_count a.size (length a.file.now))) newest-is in
     ((start (given n)).requires, m.size.0, m.size.1, omega (arith, m.fits), omega (arith, m.total, own, e.if1.left), well u)
 
 returns-3 : tie.Need-returns-3
@@ -69,8 +69,8 @@ returns-3 c =
     let l = c.before.before.before in
     let s = start l in
     let a = s.args in
-    sym (write-length a.key a.size (part s) a.buffer.now s.pre c.before.r.given.0.0
-    (ap lengthAnswer (sym c.before.r.given.1) ∙ l.length.ensures))
+    sym (write_length a.key a.size (part s) a.buffer.now s.pre c.before.r.given.0.0
+    (ap length_answer (sym c.before.r.given.1) ∙ l.length.ensures))
 
 returns-4 : tie.Need-returns-4
 returns-4 c =

@@ -4,7 +4,7 @@ use Prim.Native.Nat.{◌+◌, ◌-◌, ◌%◌, ◌≤◌}
 use native.Mathlib.Omega.{arith}
 use lib.ListN.{length}
 use Rattle.gf2.specs.Polynomials.{◌⊕◌}
-use Rattle.shifts.proofs.Eights.{Stands, first-eight, next-eight, all-eights}
+use Rattle.shifts.proofs.Eights.{Stands, first-eight, next-eight, all_eights}
 use Rattle.shifts.proofs.feed_eights.Statement.{statement}
 use Rattle.shifts.proofs.feed_eights.Tie as tie
 
@@ -103,7 +103,7 @@ returns c =
     let s = eight-at2→start c.before.before in
     let a = s.args in
     let l = c.before.loop in
-    let all = all-eights a.words.now in
+    let all = all_eights a.words.now in
     (all a.q.now l.i l.a l.invariant.2 (omega arith), all a.r.now l.i l.b l.invariant.3 (omega (arith, s.pre.3)))
 
 pub feed-eights-spec : {M : Type 1} → statement M

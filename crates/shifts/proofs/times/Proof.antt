@@ -5,7 +5,7 @@ use native.Mathlib.Omega.{arith}
 use Rattle.gf2.specs.Polynomials.{◌⊕◌}
 use Rattle.gf2.proofs.Sums.{zero-⊕}
 use Rattle.lookups.specs.Groups.{looked}
-use Rattle.shifts.proofs.Products.{look-next, look-done}
+use Rattle.shifts.proofs.Products.{look_next, look_done}
 use Rattle.shifts.proofs.times.Statement.{statement}
 use Rattle.shifts.proofs.times.Tie as tie
 
@@ -24,12 +24,12 @@ loop-again c =
     let a = c.before.before.before.args in
     let l = c.before.before.loop in
     let e : 8 - (l.j + 1) ≡ 8 - l.j - 1 = omega arith in
-    (omega arith, rw e (sym (look-next a.words.now l.sum l.rest (8 - l.j) l.j (omega arith)) ∙ l.invariant.1))
+    (omega arith, rw e (sym (look_next a.words.now l.sum l.rest (8 - l.j) l.j (omega arith)) ∙ l.invariant.1))
 
 returns : tie.Need-returns invariant-loop decreases-loop
 returns c =
     let l = c.before.loop in
-    sym (look-done c.before.before.args.words.now l.sum l.rest (8 - l.j) l.j (omega arith)) ∙ l.invariant.1
+    sym (look_done c.before.before.args.words.now l.sum l.rest (8 - l.j) l.j (omega arith)) ∙ l.invariant.1
 
 pub times-spec : {M : Type 1} → statement M
 times-spec =

@@ -8,7 +8,7 @@ use Rattle.gf2.specs.Polynomials.{◌⊕◌, ◌⊗◌, rem}
 use Rattle.gf2.specs.Moduli.{polynomial}
 use Rattle.gf2.specs.declared.Modulus.{Modulus}
 use Rattle.sparse.specs.Sparse.{Sparse}
-use Rattle.sparse.proofs.Steps.{top_small, sparse-step}
+use Rattle.sparse.proofs.Steps.{top_small, sparse_step}
 use borrow.Author.Rules.{rules}
 use Rattle.sparse.proofs.behind.Statement.{statement}
 use Rattle.sparse.proofs.behind.Tie as tie
@@ -28,7 +28,7 @@ summed : (p : Modulus) (n : ℕ) (s : Sparse p n) (f v x rest : ℕ) → f < 2 ^
     → x ⊕ rest * 2 ^ (8 * n) % 2 ^ 64 ⊕ v ≡ rem (polynomial p) (f * 2 ^ (8 * n) + v)
 summed p n s f v x rest hf hv ex er =
     ap₂ (λ (y z : ℕ). y ⊕ z ⊕ v) ex (ap (λ (y : ℕ). y * 2 ^ (8 * n) % 2 ^ 64) er ∙ shifted p n s f)
-    ∙ sparse-step p n s f v hf hv
+    ∙ sparse_step p n s f v hf hv
 
 returns : tie.Need-returns
 unfolding ◌⊕◌

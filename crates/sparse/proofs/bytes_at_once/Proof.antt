@@ -6,7 +6,7 @@ use lib.Pow.{pow_mono}
 use Rattle.gf2.specs.Polynomials.{degree}
 use Rattle.gf2.specs.Moduli.{Proper}
 use Rattle.gf2.specs.declared.Modulus.{Modulus}
-use Rattle.gf2.proofs.Degrees.{degree-is, deg-hi, deg-le}
+use Rattle.gf2.proofs.Degrees.{degree-is, deg_hi, deg-le}
 use Rattle.sparse.specs.Sparse.{Sparse}
 use borrow.Author.Rules.{rules}
 use Rattle.sparse.proofs.bytes_at_once.Statement.{statement}
@@ -24,7 +24,7 @@ module _ (p : Modulus) (proper : Proper p) (some : 0 < p.low) where
     few,
     low,
     omega arith,
-    lt_of_lt_of_le (deg-hi p.low (degree p.low) (degree-is p.low some))
+    lt_of_lt_of_le (deg_hi p.low (degree p.low) (degree-is p.low some))
         (pow_mono {i = suc (degree p.low)} {j = p.degree - 8 * n + 1} (omega arith)),
   )
 

@@ -6,8 +6,8 @@ use lib.ListN.{length, take, drop}
 use lib.Pow.{pow_pos}
 use Rattle.gf2.specs.Polynomials.{◌⊕◌, rem}
 use Rattle.gf2.specs.Moduli.{polynomial}
-use Rattle.gf2.proofs.Sums.{⊕-lt, ⊕-shr}
-use Rattle.files.specs.Files.{bits, valueFrom}
+use Rattle.gf2.proofs.Sums.{⊕-lt, ⊕_shr}
+use Rattle.files.specs.Files.{bits, value_from}
 use Rattle.big_endian.proofs.Pieces.{piece-lt}
 use Rattle.sparse.proofs.Steps.{first-bytes, one_byte}
 use Rattle.sparse.proofs.Differences.{Apart, apart}
@@ -33,14 +33,14 @@ loop-holds c = (omega arith, (pow_pos c.before.before.args.p.degree, refl))
 
 -- the bytes that come in, of either part
 old-in : (c : tie.After-eight-at2 invariant-loop decreases-loop) → let a = (loop→start (eights→loop c)).args in
-    c.before.eight-at.result / 2 ^ (64 - 8 * a.n) ≡ valueFrom 0 (bits (take a.n (drop (eights→loop c).loop.i a.old.now)))
+    c.before.eight-at.result / 2 ^ (64 - 8 * a.n) ≡ value_from 0 (bits (take a.n (drop (eights→loop c).loop.i a.old.now)))
 old-in c =
     let s = loop→start (eights→loop c) in
     first-bytes s.args.old.now (eights→loop c).loop.i s.args.n c.before.eight-at.result (omega (arith, s.pre.0.2)) (omega arith)
     c.before.eight-at.ensures
 
 new_in : (c : tie.After-eight-at2 invariant-loop decreases-loop) → let a = (loop→start (eights→loop c)).args in
-    c.eight-at2.result / 2 ^ (64 - 8 * a.n) ≡ valueFrom 0 (bits (take a.n (drop (eights→loop c).loop.i a.new.now)))
+    c.eight-at2.result / 2 ^ (64 - 8 * a.n) ≡ value_from 0 (bits (take a.n (drop (eights→loop c).loop.i a.new.now)))
 new_in c =
     let s = loop→start (eights→loop c) in
     first-bytes s.args.new.now (eights→loop c).loop.i s.args.n c.eight-at2.result (omega (arith, s.pre.0.2)) (omega (arith, s.pre.1))
@@ -57,7 +57,7 @@ behind-requires c κs =
     let v = c.eight-at2.result in (
       s.pre.0,
       l.inv.1.0,
-      below (⊕-shr k u v)
+      below (⊕_shr k u v)
           (⊕-lt (8 * a.n) (u / 2 ^ k) (v / 2 ^ k) (piece-lt a.old.now l.i a.n _ (omega (arith, s.pre.0.2)) (old-in c))
           (piece-lt a.new.now l.i a.n _ (omega (arith, s.pre.0.2, s.pre.1)) (new_in c))),
     )
@@ -78,7 +78,7 @@ loop-again c =
       omega arith,
       apart a.p s.pre.0.0 0 a.old.now a.new.now s.pre.1 0 l.i l.x l.inv.1 a.n (u / 2 ^ k) (v / 2 ^ k) c.behind.result
           (omega arith) (old-in d) (new_in d)
-          (c.behind.ensures ∙ ap (λ (z : ℕ). rem (polynomial a.p) (l.x * 2 ^ (8 * a.n) + z)) (⊕-shr k u v)),
+          (c.behind.ensures ∙ ap (λ (z : ℕ). rem (polynomial a.p) (l.x * 2 ^ (8 * a.n) + z)) (⊕_shr k u v)),
     )
 
 difference-ones-requires : tie.Need-difference-ones-requires invariant-loop decreases-loop

@@ -3,7 +3,7 @@ use mathlib.Core.Path.{◌≡◌, refl, ◌∙◌}
 use Prim.Native.Nat.{◌-◌, ◌*◌, ◌/◌, ◌^◌, ◌≤◌}
 use native.Mathlib.Omega.{arith}
 use lib.ListN.{length, take, drop}
-use Rattle.files.specs.Files.{bits, valueFrom}
+use Rattle.files.specs.Files.{bits, value_from}
 use Rattle.big_endian.proofs.Pieces.{piece-lt, Going, going}
 use Rattle.sparse.proofs.Steps.{first-bytes, one_byte}
 use Rattle.sparse.proofs.fed.Statement.{statement}
@@ -28,7 +28,7 @@ loop-holds c = (omega arith, (c.before.requires.1, refl))
 
 -- the bytes that come in
 value_in : (c : tie.After-eight-at invariant-loop decreases-loop) → let a = (eight→start c).args in
-    c.eight-at.result / 2 ^ (64 - 8 * a.n) ≡ valueFrom 0 (bits (take a.n (drop (eight→loop c).loop.i a.part.now)))
+    c.eight-at.result / 2 ^ (64 - 8 * a.n) ≡ value_from 0 (bits (take a.n (drop (eight→loop c).loop.i a.part.now)))
 value_in c =
     let s = eight→start c in
     first-bytes s.args.part.now (eight→loop c).loop.i s.args.n c.eight-at.result (omega (arith, s.pre.0.2)) (omega arith)

@@ -6,7 +6,7 @@ use native.Mathlib.Numerals.{add-one}
 use native.Mathlib.Omega.{arith}
 use lib.Pow.{pow_pos, shl_exact}
 use Rattle.gf2.specs.Polynomials.{◌⊕◌, ◌⊗◌}
-use Rattle.gf2.proofs.Products.{⊗-zero, mod-2}
+use Rattle.gf2.proofs.Products.{⊗-zero, mod_2}
 use Rattle.gf2.proofs.Steps.{bit-mul-le, ⊗-next}
 use Rattle.sparse.proofs.times_bits.Statement.{statement}
 use Rattle.sparse.proofs.times_bits.Tie as tie
@@ -21,7 +21,7 @@ loop-holds : tie.Need-loop-init invariant-loop decreases-loop
 loop-holds c = (omega arith, sym (ap (λ (x : ℕ). c.args.h ⊗ x) (mod-one c.args.low) ∙ ⊗-zero c.args.h))
 
 mul-sum : tie.Need-overflow-mul-sum invariant-loop decreases-loop
-mul-sum c = record { fits = lt_of_le_of_lt (bit-mul-le _ _ (mod-2 _)) (mod-lt (c.before.before.args.h * 2 ^ c.before.loop.i) (pow_pos 64)) }
+mul-sum c = record { fits = lt_of_le_of_lt (bit-mul-le _ _ (mod_2 _)) (mod-lt (c.before.before.args.h * 2 ^ c.before.loop.i) (pow_pos 64)) }
 
 sum-next : (h low sum i : ℕ) → h < 2 ^ 56 → i < 8 → sum ≡ h ⊗ (low % 2 ^ i)
     → sum ⊕ h * 2 ^ i % 2 ^ 64 * (low / 2 ^ i % 2) ≡ h ⊗ (low % 2 ^ (i + 1))

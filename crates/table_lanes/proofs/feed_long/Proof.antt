@@ -8,7 +8,7 @@ use Rattle.gf2.specs.Polynomials.{rem}
 use Rattle.gf2.specs.Moduli.{polynomial}
 use Rattle.gf2.proofs.Monics.{monic-pos}
 use Rattle.gf2.proofs.Steps.{residue-below}
-use Rattle.files.specs.Files.{bits, valueFrom}
+use Rattle.files.specs.Files.{bits, value_from}
 use Rattle.table_lanes.specs.Lanes.{behind}
 use Rattle.lookups.proofs.Rule.{first-row}
 use Rattle.table_lanes.proofs.Joining.{lane-joined, lane-rest}
@@ -46,9 +46,9 @@ power-is c =
     c.power.ensures ∙ ap (λ (n : ℕ). rem (polynomial a.p) (2 ^ n)) e
 
 -- the four lanes are joined one after the other
-four_lanes : (c : tie.After-join) → let a = (join→start c).args in
-    c.join.result ≡ rem (polynomial a.p) (valueFrom a.f (bits (take (4 * lane a.part.now) a.part.now)))
-four_lanes c =
+four_lanes_lem : (c : tie.After-join) → let a = (join→start c).args in
+    c.join.result ≡ rem (polynomial a.p) (value_from a.f (bits (take (4 * lane a.part.now) a.part.now)))
+four_lanes_lem c =
     let s = join→start c in
     let a = s.args in
     let n = lane a.part.now in
@@ -79,14 +79,14 @@ join-requires c κs =
 feed-lane-requires : tie.Need-feed-lane-requires
 feed-lane-requires c κs =
     let s = feed-lane-arg→start c in
-    (s.pre.0, residue-below s.args.p s.pre.0.0 c.before.join.result _ (four_lanes c.before))
+    (s.pre.0, residue-below s.args.p s.pre.0.0 c.before.join.result _ (four_lanes_lem c.before))
 
 returns : tie.Need-returns
 returns c =
     let s = feed-lane-arg→start c.before in
     let a = s.args in
     lane-rest (pos s) a.f a.part.now (4 * lane a.part.now) c.before.before.join.result c.feed-lane.result
-    (four_lanes c.before.before)
+    (four_lanes_lem c.before.before)
     c.feed-lane.ensures
 
 pub feed-long-spec : {M : Type 1} → statement M

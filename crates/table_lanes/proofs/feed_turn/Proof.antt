@@ -7,7 +7,7 @@ use lib.ListN.{take, drop}
 use Rattle.gf2.specs.Polynomials.{rem}
 use Rattle.gf2.specs.Moduli.{polynomial}
 use Rattle.gf2.specs.declared.Modulus.{Modulus}
-use Rattle.files.specs.Files.{bits, valueFrom}
+use Rattle.files.specs.Files.{bits, value_from}
 use Rattle.lookups.specs.Groups.{Appended}
 use Rattle.table_lanes.specs.Lanes.{FourMore}
 use Rattle.table_lanes.proofs.feed_turn.Statement.{statement}
@@ -28,7 +28,7 @@ abbrev append-high4→four-at4 : tie.After-append-high4 → tie.After-four-at4
 append-high4→four-at4 c = let first = c.before.before.before in first.before.before.before
 
 -- the steps are by the bytes that are read
-by_bytes : (p : Modulus) (part : List ℕ) (i x v y : ℕ) → v ≡ valueFrom 0 (bits (take 4 (drop i part))) → Appended p x v y → FourMore p part i x y
+by_bytes : (p : Modulus) (part : List ℕ) (i x v y : ℕ) → v ≡ value_from 0 (bits (take 4 (drop i part))) → Appended p x v y → FourMore p part i x y
 by_bytes p part i x v y e h = h ∙ ap (λ (z : ℕ). rem (polynomial p) (x % 2 ^ p.degree * 2 ^ 32 + z)) e
 
 all-by-bytes : (c : tie.After-four-at4) (y₁ y₂ y₃ y₄ : ℕ) → let a = (four-at4→start c).args in

@@ -11,7 +11,7 @@ use Rattle.gf2.proofs.Products.{⊗-pow}
 use Rattle.gf2.proofs.Powers.{pow-word}
 use Rattle.gf2.proofs.Degrees.{degree-is, deg-le}
 use Rattle.gf2.proofs.Monics.{monic-pos}
-use Rattle.gf2.proofs.Steps.{residue-below, square-next, times-next}
+use Rattle.gf2.proofs.Steps.{residue-below, square-next, times_next}
 use Rattle.table_lanes.proofs.power.Statement.{statement}
 use Rattle.table_lanes.proofs.power.Tie as tie
 
@@ -74,7 +74,7 @@ loop-again c =
     let s = square→start y in
     let l = y.before.before.loop in
     let four = c.feed-four2.ensures ∙ ap (rem (polynomial s.args.p)) (four-zeros y.square.result) in
-    let is = times-next (pos s) (2 ^ 32) s.args.n l.i l.x y.square.result (omega arith) l.invariant.1 y.square.ensures in
+    let is = times_next (pos s) (2 ^ 32) s.args.n l.i l.x y.square.result (omega arith) l.invariant.1 y.square.ensures in
     (omega arith, is _ four c.before.if1.true)
 
 loop-again-2 : tie.Need-loop-preserved-2 invariant-loop decreases-loop

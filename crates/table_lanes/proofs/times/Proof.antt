@@ -12,7 +12,7 @@ use Rattle.gf2.proofs.Monics.{monic-pos}
 use Rattle.gf2.proofs.Steps.{residue-below}
 use Rattle.lookups.specs.Groups.{looked}
 use Rattle.lookups.proofs.Cut.{looked-all}
-use Rattle.table_lanes.proofs.Powers.{product-byte, look-halves}
+use Rattle.table_lanes.proofs.Powers.{product-byte, look_halves}
 use Rattle.table_lanes.proofs.times.Statement.{statement}
 use Rattle.table_lanes.proofs.times.Tie as tie
 
@@ -64,7 +64,7 @@ loop-again c =
     let byte : b < 256 = mod-lt (a.x / 2 ^ (l.i - 8)) (omega arith) in (
       omega arith,
       omega arith,
-      look-halves rows f.result b byte
+      look_halves rows f.result b byte
           ∙ ap (λ (y : ℕ). y ⊕ looked 4 rows 2 0 b) f.ensures
           ∙ product-byte (pos s) a.x t l.i l.sum (looked 4 rows 2 0 b) (omega arith) l.inv.2
           (looked-all 4 (pos s) t 2 rows s.pre.1.1 2 b (omega arith) byte),

@@ -3,12 +3,12 @@ use mathlib.Core.Path.{sym, ap, ◌∙◌}
 use Prim.Native.Nat.{ℕ}
 use borrow.Author.Rules.{rules}
 use Rattle.refusals.specs.Refusals.{judged}
-use Rattle.acceptance.specs.Keys.{polynomialOf}
+use Rattle.acceptance.specs.Keys.{polynomial_of}
 use Rattle.acceptance.specs.Opened.{Opened}
 use Rattle.acceptance.proofs.Opened.{opened-whole, opened-proper, opened-first}
 use Rattle.keys.proofs.Laws.{opened, refused}
-use Rattle.tables.specs.Tables.{testTable}
-use Rattle.table_tests.specs.TableTests.{tableTests}
+use Rattle.tables.specs.Tables.{test_table}
+use Rattle.table_tests.specs.TableTests.{table_tests}
 use Rattle.tables.proofs.test.Statement.{statement}
 use Rattle.tables.proofs.test.Tie as tie
 
@@ -27,19 +27,19 @@ judge-requires : tie.Need-judge-requires
 judge-requires c κs = opened-proper (key-opened c.before)
 
 returns : tie.Need-returns
-unfolding testTable
+unfolding test_table
 returns c =
     let a = (test→start c.before.before.before).args in
     let t = c.before.before.before.test in
-    sym (refused t.result a.key t.ensures (tableTests (polynomialOf a.key) a.words.now) tt tt _ c.before.r.given.1)
+    sym (refused t.result a.key t.ensures (table_tests (polynomial_of a.key) a.words.now) tt tt _ c.before.r.given.1)
 
 returns-2 : tie.Need-returns-2
-unfolding testTable
+unfolding test_table
 returns-2 c =
     let a = (p→start c.before.before).args in
     let words = a.words.now in
     let h = key-opened c.before.before in
-    c.judge.ensures ∙ ap (λ (q : ℕ). judged (tableTests q words)) (opened-whole h) ∙ sym (opened-first h (tableTests (polynomialOf a.key) words) tt tt)
+    c.judge.ensures ∙ ap (λ (q : ℕ). judged (table_tests q words)) (opened-whole h) ∙ sym (opened-first h (table_tests (polynomial_of a.key) words) tt tt)
 
 pub test-spec : {M : Type 1} → statement M
 test-spec = tie.close (tie.spec (λ c κs. search rules) (λ c. search rules) (λ c. search rules) judge-requires returns returns-2)

@@ -14,25 +14,25 @@ use Rattle.refusals.proofs.Laws.{holds, fails}
 use Rattle.files.specs.declared.Mark.{Mark}
 use Rattle.files.specs.Files.{unreduced}
 use Rattle.mark_tests.proofs.Laws.{not-residue, is-residue}
-use Rattle.trimming.specs.Trimming.{trimTests}
+use Rattle.trimming.specs.Trimming.{trim_tests}
 use Rattle.trimming.proofs.judge.Statement.{statement}
 use Rattle.trimming.proofs.judge.Tie as tie
 
 -- ---- the tests in turn
 
 module _ (key : ℕ) (m part : Mark) where
-  long : passes (m.length ∷ part.length ∷ []) ≡ true → judged (trimTests key m part) ≡ Refused TooLong tt
+  long : passes (m.length ∷ part.length ∷ []) ≡ true → judged (trim_tests key m part) ≡ Refused TooLong tt
   long e = rw e
 
   module _ (short : passes (m.length ∷ part.length ∷ []) ≡ false) where
-    high : (unreduced key m || unreduced key part) ≡ true → judged (trimTests key m part) ≡ Refused MarkNotReduced tt
+    high : (unreduced key m || unreduced key part) ≡ true → judged (trim_tests key m part) ≡ Refused MarkNotReduced tt
     high e = rw (short, e)
 
     module _ (first : unreduced key m ≡ false) (second : unreduced key part ≡ false) where
-      longer : ltb m.length part.length ≡ true → judged (trimTests key m part) ≡ Refused PartLonger tt
+      longer : ltb m.length part.length ≡ true → judged (trim_tests key m part) ≡ Refused PartLonger tt
       longer e = rw (short, first, second, e)
 
-      passed : ltb m.length part.length ≡ false → judged (trimTests key m part) ≡ Done tt
+      passed : ltb m.length part.length ≡ false → judged (trim_tests key m part) ≡ Done tt
       passed e = rw (short, first, second, e)
 
 -- ---- the places: from each one to an earlier one

@@ -9,7 +9,7 @@ use Rattle.gf2.specs.Moduli.{polynomial}
 use Rattle.gf2.proofs.Sums.{⊕-lt}
 use Rattle.gf2.proofs.Monics.{monic-degree}
 use Rattle.files.specs.declared.Mark.{Mark}
-use Rattle.files.specs.Trimming.{withoutFront}
+use Rattle.files.specs.Trimming.{without_front}
 use Rattle.files.proofs.Trimming.{back_is}
 use Rattle.trimming.specs.Ends.{trimmed}
 use Rattle.trimming.proofs.rest_residue.Statement.{statement}
@@ -32,7 +32,7 @@ sub-replaced-residue : tie.Need-overflow-sub-replaced-residue
 sub-replaced-residue c = c.before.before.before.requires.5
 
 returns : tie.Need-returns
-unfolding withoutFront ◌⊕◌
+unfolding without_front ◌⊕◌
 returns c =
     let t = c.before.before.before in
     let a = t.before.args in

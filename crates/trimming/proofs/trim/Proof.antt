@@ -3,13 +3,13 @@ use mathlib.Core.Path.{sym, ap, ◌∙◌}
 use mathlib.Core.List.{List}
 use borrow.Author.Rules.{rules}
 use Rattle.refusals.specs.Refusals.{Test}
-use Rattle.acceptance.specs.Keys.{polynomialOf}
+use Rattle.acceptance.specs.Keys.{polynomial_of}
 use Rattle.acceptance.specs.Opened.{Opened}
 use Rattle.acceptance.proofs.Opened.{opened-first}
 use Rattle.files.specs.declared.Mark.{Mark}
 use Rattle.keys.proofs.Laws.{opened, refused}
-use Rattle.marks.specs.Answers.{markIn, fedUnder}
-use Rattle.trimming.specs.Trimming.{trimTests}
+use Rattle.marks.specs.Answers.{mark_in, fed_under}
+use Rattle.trimming.specs.Trimming.{trim_tests}
 use Rattle.trimming.specs.Ends.{trimmed}
 use Rattle.trimming.proofs.trim.Statement.{statement}
 use Rattle.trimming.proofs.trim.Tie as tie
@@ -24,17 +24,17 @@ p→start c = test→start c.before.before
 
 -- the tests behind those of the key, and the value
 abbrev tests : tie.Start → List Test
-tests s = trimTests (polynomialOf s.args.m.key) (markIn s.args.m) s.args.part
+tests s = trim_tests (polynomial_of s.args.m.key) (mark_in s.args.m) s.args.part
 
 abbrev value : tie.Start → Mark
-value s = trimmed s.args.at_front (polynomialOf s.args.m.key) (markIn s.args.m) s.args.part
+value s = trimmed s.args.at_front (polynomial_of s.args.m.key) (mark_in s.args.m) s.args.part
 
 returns : tie.Need-returns
 returns c =
     let s = test→start c.before.before.before in
     let key = s.args.m.key in
     let t = c.before.before.before.test in
-    sym (ap (fedUnder key) (refused t.result key t.ensures (tests s) (markIn s.args.m) (value s) _ c.before.r.given.1))
+    sym (ap (fed_under key) (refused t.result key t.ensures (tests s) (mark_in s.args.m) (value s) _ c.before.r.given.1))
 
 -- the accepted key
 key-opened : (c : tie.After-p) → Opened (p→start c).args.m.key c.p.given.0.0
@@ -49,7 +49,7 @@ returns-2 : tie.Need-returns-2
 returns-2 c =
     let s = p→start c.before.before in
     c.trim-under.ensures
-    ∙ sym (ap (fedUnder s.args.m.key) (opened-first (key-opened c.before.before) (tests s) (markIn s.args.m) (value s)))
+    ∙ sym (ap (fed_under s.args.m.key) (opened-first (key-opened c.before.before) (tests s) (mark_in s.args.m) (value s)))
 
 pub trim-spec : {M : Type 1} → statement M
 trim-spec = tie.close (tie.spec (λ c κs. search rules) (λ c. search rules) (λ c. search rules) trim-under-requires returns returns-2)

@@ -27,7 +27,7 @@ one-by-one-requires c κs =
 returns : tie.Need-returns
 returns c =
     let p = (lanes→start c.before).requires in
-    let f = c.four_lanes.ensures in (
+    let f = c.four_lanes_lem.ensures in (
       omega arith,
       omega arith,
       omega (arith, p.2, c.before.before.if2.true),

@@ -3,15 +3,15 @@ use mathlib.Core.Path.{sym, ap, ◌∙◌}
 use mathlib.Core.List.{List}
 use borrow.Author.Rules.{rules}
 use Rattle.refusals.specs.Refusals.{Test}
-use Rattle.acceptance.specs.Keys.{polynomialOf}
+use Rattle.acceptance.specs.Keys.{polynomial_of}
 use Rattle.acceptance.specs.Opened.{Opened}
 use Rattle.acceptance.proofs.Opened.{opened-first}
 use Rattle.files.specs.declared.Mark.{Mark}
-use Rattle.files.specs.Files.{asPart, fedMark}
+use Rattle.files.specs.Files.{as_part, fed_mark}
 use Rattle.keys.proofs.Laws.{opened, refused}
-use Rattle.mark_tests.specs.MarkTests.{feedTests}
-use Rattle.marks.specs.Feeding.{feedBits}
-use Rattle.marks.specs.Answers.{markIn, fedUnder}
+use Rattle.mark_tests.specs.MarkTests.{feed_tests}
+use Rattle.marks.specs.Feeding.{feed_bits}
+use Rattle.marks.specs.Answers.{mark_in, fed_under}
 use Rattle.marks.proofs.Running.feed.Statement.{statement}
 use Rattle.marks.proofs.Running.feed.Tie as tie
 
@@ -25,18 +25,18 @@ p→start c = test→start c.before.before
 
 -- the tests behind those of the key, and the value
 abbrev tests : tie.Start → List Test
-tests s = feedTests (polynomialOf s.args.self.key) (markIn s.args.self) (asPart s.args.part.now s.args.used)
+tests s = feed_tests (polynomial_of s.args.self.key) (mark_in s.args.self) (as_part s.args.part.now s.args.used)
 
 abbrev value : tie.Start → Mark
-value s = fedMark (polynomialOf s.args.self.key) (markIn s.args.self) (asPart s.args.part.now s.args.used)
+value s = fed_mark (polynomial_of s.args.self.key) (mark_in s.args.self) (as_part s.args.part.now s.args.used)
 
 returns : tie.Need-returns
-unfolding feedBits
+unfolding feed_bits
 returns c =
     let s = test→start c.before.before.before in
     let key = s.args.self.key in
     let t = c.before.before.before.test in
-    sym (ap (fedUnder key) (refused t.result key t.ensures (tests s) (markIn s.args.self) (value s) _ c.before.r.given.1))
+    sym (ap (fed_under key) (refused t.result key t.ensures (tests s) (mark_in s.args.self) (value s) _ c.before.r.given.1))
 
 -- the accepted key
 key-opened : (c : tie.After-p) → Opened (p→start c).args.self.key c.p.given.0.0
@@ -48,11 +48,11 @@ feed-alone-requires : tie.Need-feed-alone-requires
 feed-alone-requires c κs = key-opened c.before
 
 returns-2 : tie.Need-returns-2
-unfolding feedBits
+unfolding feed_bits
 returns-2 c =
     let s = p→start c.before.before in
-    c.feed-alone.ensures ∙ sym (ap (fedUnder s.args.self.key)
-    (opened-first (key-opened c.before.before) (tests s) (markIn s.args.self) (value s)))
+    c.feed-alone.ensures ∙ sym (ap (fed_under s.args.self.key)
+    (opened-first (key-opened c.before.before) (tests s) (mark_in s.args.self) (value s)))
 
 pub feed-spec : {M : Type 1} → statement M
 feed-spec = tie.close (tie.spec (λ c κs. search rules) (λ c. search rules) (λ c. search rules) feed-alone-requires returns returns-2)

@@ -3,14 +3,14 @@ use mathlib.Core.Path.{sym, ap, ◌∙◌}
 use mathlib.Core.List.{List}
 use borrow.Author.Rules.{rules}
 use Rattle.refusals.specs.Refusals.{Test}
-use Rattle.acceptance.specs.Keys.{polynomialOf}
+use Rattle.acceptance.specs.Keys.{polynomial_of}
 use Rattle.acceptance.specs.Opened.{Opened}
 use Rattle.acceptance.proofs.Opened.{opened-first}
 use Rattle.files.specs.declared.Mark.{Mark}
 use Rattle.files.specs.PlainMarks.{turned}
 use Rattle.keys.proofs.Laws.{opened, refused}
-use Rattle.marks.specs.PlainMarks.{turnTests, turn}
-use Rattle.marks.specs.Answers.{markIn, fedUnder}
+use Rattle.marks.specs.PlainMarks.{turn_tests, turn}
+use Rattle.marks.specs.Answers.{mark_in, fed_under}
 use Rattle.marks.proofs.Running.turn.Statement.{statement}
 use Rattle.marks.proofs.Running.turn.Tie as tie
 
@@ -24,10 +24,10 @@ p→start c = test→start c.before.before
 
 -- the tests behind those of the key, and the value
 abbrev tests : tie.Start → List Test
-tests s = turnTests (polynomialOf s.args.self.key) (markIn s.args.self)
+tests s = turn_tests (polynomial_of s.args.self.key) (mark_in s.args.self)
 
 abbrev value : tie.Start → Mark
-value s = turned (polynomialOf s.args.self.key) (markIn s.args.self)
+value s = turned (polynomial_of s.args.self.key) (mark_in s.args.self)
 
 returns : tie.Need-returns
 unfolding turn
@@ -35,7 +35,7 @@ returns c =
     let s = test→start c.before.before.before in
     let key = s.args.self.key in
     let t = c.before.before.before.test in
-    sym (ap (fedUnder key) (refused t.result key t.ensures (tests s) (markIn s.args.self) (value s) _ c.before.r.given.1))
+    sym (ap (fed_under key) (refused t.result key t.ensures (tests s) (mark_in s.args.self) (value s) _ c.before.r.given.1))
 
 -- the accepted key
 key-opened : (c : tie.After-p) → Opened (p→start c).args.self.key c.p.given.0.0
@@ -50,8 +50,8 @@ returns-2 : tie.Need-returns-2
 unfolding turn
 returns-2 c =
     let s = p→start c.before.before in
-    c.turn-under.ensures ∙ sym (ap (fedUnder s.args.self.key)
-    (opened-first (key-opened c.before.before) (tests s) (markIn s.args.self) (value s)))
+    c.turn-under.ensures ∙ sym (ap (fed_under s.args.self.key)
+    (opened-first (key-opened c.before.before) (tests s) (mark_in s.args.self) (value s)))
 
 pub turn_spec : {M : Type 1} → statement M
 turn_spec = tie.close (tie.spec (λ c κs. search rules) (λ c. search rules) (λ c. search rules) turn-under-requires returns returns-2)
