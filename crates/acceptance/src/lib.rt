@@ -1,4 +1,6 @@
 // Which polynomials are keys: document 01's definition in specs/, and in proofs/ the criterion by which the code decides it.
+#![tactic(auto)]
+
 ghost use Rattle.std.specs.Prelude.{◌≡◌};
 ghost use Rattle.acceptance.specs.Keys.{key_of};
 

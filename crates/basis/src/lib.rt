@@ -1,5 +1,7 @@
 // Linear algebra over the field of two elements, on rows of 64 bits: bit i is the entry in column i. Are rows independent? These functions are for
 // the project's own crates: what they require, every caller proves.
+#![tactic(auto)]
+
 ghost use Rattle.std.specs.Prelude.{◌≡◌, ◌*◌, ◌/◌, ◌%◌, ◌^◌, ◌<◌, true, ◌↔◌, map};
 ghost use Rattle.lists.specs.Inner.{Scratch};
 ghost use Rattle.basis.specs.Rows.{Independent, clear};

@@ -1,1 +1,2 @@
 // The book and the guarantee of the Bench level: theorems only.
+#![tactic(auto)]

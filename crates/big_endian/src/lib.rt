@@ -1,5 +1,7 @@
 // Bytes of a slice as a number, the first byte highest: one, four or eight of them, or any number up to eight; and a number as bytes. These functions
 // are for the project's own crates: what they require, every caller proves.
+#![tactic(auto)]
+
 ghost use Rattle.std.specs.Prelude.{◌≡◌, ◌+◌, ◌*◌, ◌≤◌, ◌<◌, ◌^◌, length, take, drop};
 ghost use Rattle.std.proofs.lemmas.List.Edits.{sets};
 ghost use Rattle.files.specs.Files.{bits, value_from};

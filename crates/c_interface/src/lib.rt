@@ -1,4 +1,6 @@
 // What the functions for C share: a mark in two lent places.
+#![tactic(auto)]
+
 ghost use Rattle.std.specs.Prelude.{◌≡◌};
 ghost use Rattle.refusals.specs.Refusals.{number_of};
 ghost use Rattle.marks.specs.Answers.{begun, fed};

@@ -1,4 +1,6 @@
 // The bytes of the flagged windows against the pattern's. These functions are for the project's own crates: what they require, every caller proves.
+#![tactic(auto)]
+
 ghost use Rattle.std.specs.Prelude.{◌≡◌, false, ◌+◌, ◌*◌, ◌≤◌, ◌<◌, length};
 ghost use Rattle.std.proofs.lemmas.List.Edits.{sets};
 ghost use Rattle.refusals.specs.Refusals.{longest};

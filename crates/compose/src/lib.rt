@@ -1,4 +1,6 @@
 // Joining marks and changing a page in a file's mark, without the files.
+#![tactic(auto)]
+
 ghost use Rattle.std.specs.Prelude.{◌≡◌, not, ◌+◌, ◌*◌, ◌<◌, ltb};
 ghost use Rattle.refusals.specs.Refusals.{first_of};
 ghost use Rattle.acceptance.specs.Keys.{polynomial_of};

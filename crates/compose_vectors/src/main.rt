@@ -1,5 +1,7 @@
 // Joining, also in two groupings, and page changes, of our marks and of plain marks, printed and compared with their figures: the fingerprint and the
 // length in bits, or the refusal's number with the mark that went back. Under key 0x11B where nothing else is said.
+#![tactic(auto)]
+
 use acceptance::Key;
 use files::Mark;
 use marks::{Fed, Running};

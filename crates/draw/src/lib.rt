@@ -1,4 +1,6 @@
 // Drawing a key by Rabin's method: the caller brings a random element of a field, and gets its minimal polynomial.
+#![tactic(auto)]
+
 ghost use Rattle.std.specs.Prelude.{◌≡◌, ◌||◌, ◌^◌, ◌<◌, leb, ltb};
 ghost use Rattle.lists.specs.Members.{among};
 ghost use Rattle.gf2.specs.Polynomials.{◌⊗◌, rem};

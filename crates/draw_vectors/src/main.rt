@@ -1,5 +1,7 @@
 // The readings of document 01 about drawing; and of the 2,048 numbers of degree 11, how many are drawn by 11 of the 2,046 elements each, and
 // how many by none. Then degree 61, and degrees that are not listed.
+#![tactic(auto)]
+
 ghost use Rattle.std.specs.Prelude.{◌≡◌};
 ghost use Rattle.refusals.specs.Refusals.{value_or};
 ghost use Rattle.draw.specs.Drawing.{draw};

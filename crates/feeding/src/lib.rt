@@ -6,6 +6,8 @@
 // Whole bytes go one of these ways; the used bits of an unfinished final byte come in behind them by single steps (`files::feed_end`). The difference of two
 // pages is fed with no table, and never folded. Pages of a sheet that are not folded go many at a time by tables of their own (`sheet_pages`). These
 // functions are for the project's own crates: what they require, every caller proves.
+#![tactic(auto)]
+
 ghost use Rattle.std.specs.Prelude.{◌≡◌, true, false, ◌^◌, ◌<◌, length};
 ghost use Rattle.gf2.specs.Polynomials.{◌⊕◌, rem};
 ghost use Rattle.gf2.specs.Moduli.{polynomial, Proper};

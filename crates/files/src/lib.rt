@@ -1,6 +1,8 @@
 // Files, their fingerprints and their marks: the definitions are in specs/, their laws in proofs/; and the residues that feeding, joining and
 // changing a page come to. A part comes as bytes and the used bits of the final one. These functions are for the project's own crates: what they
 // require, every caller proves.
+#![tactic(auto)]
+
 ghost use Rattle.std.specs.Prelude.{◌≡◌, false, ◌+◌, ◌*◌, ◌^◌, ◌≤◌, ◌<◌, length, take};
 ghost use Rattle.gf2.specs.Polynomials.{◌⊕◌, rem};
 ghost use Rattle.gf2.specs.Moduli.{polynomial, Proper};

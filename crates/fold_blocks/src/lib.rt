@@ -1,6 +1,8 @@
 // Folding under the house key, t^61 + t^5 + t^2 + t + 1. Where w is a power of two, the key's power by w is the same sum of powers of t^w. So a
 // part is divided by that power with four additions a byte, many bytes at a time, a block a turn, and 61 words are left that stand for it. These
 // functions are for the project's own crates: what they require, every caller proves.
+#![tactic(auto)]
+
 ghost use Rattle.std.specs.Prelude.{◌≡◌, ◌+◌, ◌-◌, ◌*◌, ◌≤◌, ◌<◌, length, take, drop};
 ghost use Rattle.gf2.specs.Polynomials.{rem};
 ghost use Rattle.files.specs.Files.{bits, value_from};

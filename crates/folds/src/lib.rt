@@ -1,6 +1,8 @@
 // Feeding by folding (crate `fold_blocks`) under the house key, with no table: the words that are left of a long part are folded again by shorter
 // ones, and what is left of those comes in seven bytes at a time. These functions are for the project's own crates: what they require, every caller
 // proves.
+#![tactic(auto)]
+
 ghost use Rattle.std.specs.Prelude.{◌≡◌, ◌+◌, ◌*◌, ◌^◌, ◌≤◌, ◌<◌, length, take, drop, replicate};
 ghost use Rattle.gf2.specs.Polynomials.{◌⊕◌, rem};
 ghost use Rattle.files.specs.Files.{bits, value_from};

@@ -1,5 +1,7 @@
 // Polynomials over the field of two elements, as numbers: bit i is the coefficient of t^i. The definitions are in specs/, their laws in proofs/.
 // These functions are for the project's own crates: what they require, every caller proves.
+#![tactic(auto)]
+
 ghost use Rattle.std.specs.Prelude.{◌≡◌, not, ◌+◌, ◌*◌, ◌/◌, ◌%◌, ◌^◌, ◌≤◌, ◌<◌, leb};
 ghost use Rattle.gf2.specs.Polynomials.{◌⊗◌, degree, rem};
 ghost use Rattle.gf2.specs.Moduli.{polynomial, Proper};

@@ -1,5 +1,7 @@
 // The arithmetic of crate gf2, exported for the project's own measurements: modulo the house key for the
 // benchmark, and one step under any modulus for a look at its machine code.
+#![tactic(auto)]
+
 ghost use Rattle.std.specs.Prelude.{◌≡◌, ◌+◌, ◌-◌, ◌*◌, ◌/◌, ◌%◌, ◌^◌};
 ghost use Rattle.gf2.specs.Polynomials.{monic, rem, ◌⊗◌};
 

@@ -1,6 +1,8 @@
 // Readings of document 01 that the arithmetic can express, printed and compared with their figures: fingerprints under key 0x11B fed bit by
 // bit behind the 1, table words of that key as products, and 0x1071F as a product. Key 0x11B is of degree 8, with the low word 0x1B. Then
 // the step at its edges, whose figures tools/test-step compares with long division.
+#![tactic(auto)]
+
 ghost use Rattle.std.specs.Prelude.{◌^◌, ◌≤◌, ◌<◌};
 ghost use Rattle.gf2.specs.Moduli.{Proper};
 

@@ -1,6 +1,8 @@
 // The Bench level: the functions that it sells, for C. Each answers 0 or the refusal's number; on refusal every lent place and buffer
 // keeps what it held. A key comes as its degree and the word of its coefficients below t^degree. A mark's length is in bits, and `used` counts
 // the used bits of a part's final byte. The guarantee over lists of these calls stands in the crate bench_book.
+#![tactic(auto)]
+
 ghost use Rattle.std.specs.Prelude.{◌≡◌};
 ghost use Rattle.refusals.specs.Refusals.{number_of, state_of, value_or};
 ghost use Rattle.keys.specs.Testing.{test_key};

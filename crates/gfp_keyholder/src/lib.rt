@@ -1,4 +1,6 @@
 // The Keyholder level: drawing, for C. The guarantee of the drawn keys stands in the crate owner_risk.
+#![tactic(auto)]
+
 ghost use Rattle.std.specs.Prelude.{◌≡◌};
 ghost use Rattle.refusals.specs.Refusals.{number_of, value_or};
 ghost use Rattle.draw.specs.Drawing.{draw};

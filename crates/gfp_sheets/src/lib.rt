@@ -1,5 +1,7 @@
 // The Site level: its functions for page sheets, and the search, which is faster where it is compiled beside them (docs/DECISIONS.md), for C. Each answers 0
 // or the refusal's number; on refusal every lent place and buffer keeps what it held.
+#![tactic(auto)]
+
 ghost use Rattle.std.specs.Prelude.{◌≡◌, [], ◌∷◌};
 ghost use Rattle.refusals.specs.Refusals.{number_of, state_of, value_or, mapped};
 ghost use Rattle.files.specs.Files.{as_part};

@@ -1,5 +1,7 @@
 // The Site level: its functions on marks, for C. Each answers 0 or the refusal's number; on refusal every lent place and buffer keeps what it held. Its
 // functions for page sheets and the search stand in the crate gfp_sheets, the guarantee over lists of calls in the crate site_book.
+#![tactic(auto)]
+
 ghost use Rattle.std.specs.Prelude.{◌≡◌};
 ghost use Rattle.refusals.specs.Refusals.{number_of, state_of};
 ghost use Rattle.files.specs.Files.{as_part};

@@ -1,4 +1,6 @@
 // The house key, the stock key of degree 61, the test for it, and its table as a constant. They are for the project's own crates.
+#![tactic(auto)]
+
 mod constant;
 
 ghost use Rattle.std.specs.Prelude.{◌≡◌, true};

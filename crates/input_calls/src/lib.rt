@@ -1,5 +1,7 @@
 // Standard input, one call of read at a time: what a call's answer means, and how much was read so far. Only `read_once` calls read. These functions are
 // for the project's own crates: what they require, every caller proves.
+#![tactic(auto)]
+
 ghost use Rattle.std.specs.Prelude.{◌≡◌, ◌<◌, length};
 ghost use Rattle.input_calls.specs.declared.Got.TheVariants.{Interrupted};
 ghost use Rattle.input_calls.specs.Reading.{outcome, over, unread, after, abandoned, Read};

@@ -1,5 +1,7 @@
 // What the printing program reads, fed to a running mark. The head of the program (mark) says what is proved of it. These functions are for the
 // project's own crates: what they require, every caller proves.
+#![tactic(auto)]
+
 ghost use Rattle.std.specs.Prelude.{◌≡◌};
 ghost use Rattle.input_calls.specs.Reading.{InFront};
 ghost use Rattle.input_feeding.specs.Turns.{Turned};

@@ -1,5 +1,7 @@
 // Reads of standard input, made again where a signal interrupts them. The head of `input_calls` says what a state of the input is. These functions are for
 // the project's own crates: what they require, every caller proves.
+#![tactic(auto)]
+
 ghost use Rattle.std.specs.Prelude.{◌≡◌, ◌<◌, length, take, drop};
 ghost use Rattle.input_calls.specs.declared.Got.TheVariants.{Interrupted};
 ghost use Rattle.input_calls.specs.Reading.{Read};

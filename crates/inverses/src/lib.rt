@@ -1,5 +1,7 @@
 // The inverse modulo an irreducible polynomial, by Euclid's algorithm, and division by a power of t. These functions are for the project's own crates:
 // what they require, every caller proves.
+#![tactic(auto)]
+
 ghost use Rattle.std.specs.Prelude.{◌≡◌, ◌/◌, ◌^◌, ◌≤◌, ◌<◌};
 ghost use Rattle.gf2.specs.Polynomials.{◌⊗◌, rem, Irreducible};
 ghost use Rattle.gf2.specs.Moduli.{polynomial, Proper};

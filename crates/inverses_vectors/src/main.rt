@@ -1,4 +1,6 @@
 // Inverses modulo keys, printed and compared with their figures: under 0x11B, under the house key, and at the degrees 63 and 64.
+#![tactic(auto)]
+
 use acceptance::Key;
 use keys::Tested;
 

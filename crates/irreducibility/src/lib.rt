@@ -1,5 +1,7 @@
 // Is a polynomial irreducible? By the independence of rows of squares. These functions are for the project's own crates: what they require, every
 // caller proves.
+#![tactic(auto)]
+
 ghost use Rattle.std.specs.Prelude.{◌≡◌, true, not, ◌↔◌, ◌+◌, ◌-◌, ◌/◌, ◌^◌, ◌≤◌, length, get_or};
 ghost use Rattle.gf2.specs.Polynomials.{◌⊕◌};
 ghost use Rattle.gf2.specs.Moduli.{polynomial, Proper};

@@ -1,4 +1,6 @@
 // The key's line that the printing program reads. These functions are for the project's own crates: what they require, every caller proves.
+#![tactic(auto)]
+
 ghost use Rattle.std.specs.Prelude.{◌≡◌, true, ◌≤◌, length};
 ghost use Rattle.key_lines.specs.KeyLines.{digit, all_digits, hex_from, line_of, key_line};
 ghost use Rattle.key_lines.specs.Deciding.{undecided};

@@ -1,4 +1,6 @@
 // The test of a key.
+#![tactic(auto)]
+
 ghost use Rattle.std.specs.Prelude.{◌≡◌, true};
 ghost use Rattle.acceptance.specs.Keys.{outside};
 ghost use Rattle.stock.specs.Stock.{stock_word};

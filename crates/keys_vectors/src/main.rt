@@ -1,6 +1,8 @@
 // The readings of document 01 about keys: the number that each key is refused with, 0 where it is accepted, and how many keys of the
 // degrees 8 to 14 are accepted. A key is handed in as its degree and its word: 0x11B is degree 8, word 1B. Then those of wish 8: degree 64,
 // degrees outside 8 to 64, and words with a bit at or above t^k.
+#![tactic(auto)]
+
 ghost use Rattle.std.specs.Prelude.{◌≡◌};
 ghost use Rattle.refusals.specs.Refusals.{number_of};
 ghost use Rattle.keys.specs.Testing.{test_key};

@@ -1,1 +1,2 @@
 // Lists of numbers, truth values, counts and sums: the definitions are in specs/, their laws in proofs/.
+#![tactic(auto)]

@@ -7,6 +7,8 @@
 // Not proved, since no contract reaches behind a read: that libc::read puts the input's next bytes at the front of the buffer, which is assumed; that
 // `read_once` hands on what its call answered; that no read's state is dropped, so that none is left out and none made behind the end; that the parts are the
 // bytes that were read; that no more is read than the text needs; and that `main` prints what `run` gives: tools/test-form and tools/test-program test these.
+#![tactic(auto)]
+
 ghost use Rattle.std.specs.Prelude.{◌≡◌, length};
 ghost use Rattle.mark.specs.Program.{Ran};
 ghost use Rattle.mark.specs.Heads.{HeadRead, Known, Answered, told};

@@ -1,5 +1,7 @@
 // The tests of a mark and of a part that is to be fed to it, under an opened key. This function is for the project's own crates: what it requires, every
 // caller proves.
+#![tactic(auto)]
+
 ghost use Rattle.std.specs.Prelude.{◌≡◌, ◌+◌};
 ghost use Rattle.gf2.specs.Moduli.{polynomial, Proper};
 ghost use Rattle.refusals.specs.Refusals.{first_of};

@@ -1,6 +1,8 @@
 // Feeding a file to a running mark: with no table, by a lent table, and by the house key's constant words. Under the house key all three fold, and
 // read no table. A part comes as bytes and the used bits of the final one; feeding after an unfinished byte goes on at the next bit. A mark has the
 // leading 1, or it is a plain mark: feeding is the same for both, and a mark can be turned into the other kind.
+#![tactic(auto)]
+
 ghost use Rattle.std.specs.Prelude.{◌≡◌, ◌++◌, ◌<◌};
 ghost use Rattle.refusals.specs.Refusals.{first_of};
 ghost use Rattle.acceptance.specs.Keys.{polynomial_of};

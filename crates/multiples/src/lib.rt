@@ -1,6 +1,8 @@
 // Rows of multiples: the residues of i·x modulo a polynomial, for i from 0 to 2^width - 1, in consecutive words, and the same of x·t^width,
 // x·t^(2·width) and so on in the rows behind. A row is filled by doubling, and so it is tested (`row_tests`). These functions are for the
 // project's own crates: what they require, every caller proves.
+#![tactic(auto)]
+
 ghost use Rattle.std.specs.Prelude.{◌≡◌, ◌+◌, ◌*◌, ◌^◌, ◌≤◌, ◌<◌, length};
 ghost use Rattle.gf2.specs.Moduli.{polynomial, Proper};
 ghost use Rattle.multiples.specs.Rows.{Multiples, Rows, Shifted, SameBefore, SameFrom};

@@ -1,4 +1,6 @@
 // Texts and numbers in digits, put into a lent buffer. These functions are for the project's own crates: what they require, every caller proves.
+#![tactic(auto)]
+
 ghost use Rattle.std.specs.Prelude.{◌≡◌, false, ◌+◌, ◌≤◌, ◌++◌, length};
 ghost use Rattle.gf2.specs.Polynomials.{monic};
 ghost use Rattle.acceptance.specs.Keys.{polynomial_of, outside};

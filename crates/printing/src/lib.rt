@@ -1,4 +1,6 @@
 // The lines that the printing program prints. These functions are for the project's own crates: what they require, every caller proves.
+#![tactic(auto)]
+
 ghost use Rattle.std.specs.Prelude.{◌≡◌, false};
 ghost use Rattle.acceptance.specs.Keys.{outside};
 ghost use Rattle.numerals.specs.Buffers.{PutInFront};

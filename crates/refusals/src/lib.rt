@@ -1,4 +1,6 @@
 // The refusals of document 01, each by name, and the number of each; the limit of lengths.
+#![tactic(auto)]
+
 ghost use Rattle.std.specs.Prelude.{◌≡◌, not, [], ◌∷◌, ◌+◌, ◌*◌};
 ghost use Rattle.refusals.specs.Refusals.{number, number_of, passes};
 ghost use Rattle.refusals.specs.Answers.{told};

@@ -1,5 +1,7 @@
 // Sums of rows over the field of two elements, and the relation among rows. These functions are for the project's own crates: what they require,
 // every caller proves.
+#![tactic(auto)]
+
 ghost use Rattle.std.specs.Prelude.{◌≡◌, ◌+◌, ◌*◌, ◌%◌, ◌<◌, map, length};
 ghost use Rattle.gf2.specs.Degrees.{Degree};
 ghost use Rattle.basis.specs.Rows.{sum_of, NoRelation, clear};

@@ -1,6 +1,8 @@
 // Residues of windows, rolled from one to the next, by two tables of 256 words: `reduce` for the byte that comes in, `outgoing` for the byte that
 // goes out. The leading 1 of the fingerprint is left off: windows and pattern are equally long, and have it in common. These functions are for the
 // project's own crates: what they require, every caller proves.
+#![tactic(auto)]
+
 ghost use Rattle.std.specs.Prelude.{◌≡◌, ◌+◌, ◌*◌, ◌^◌, ◌≤◌, ◌<◌, length};
 ghost use Rattle.gf2.specs.Polynomials.{rem};
 ghost use Rattle.gf2.specs.Moduli.{polynomial};

@@ -1,5 +1,7 @@
 // Blocks of words against the blocks behind them: is each the one before with a word added? These functions are for the project's own crates: what
 // they require, every caller proves.
+#![tactic(auto)]
+
 ghost use Rattle.std.specs.Prelude.{◌≡◌, ◌↔◌, ◌+◌, ◌*◌, ◌≤◌, length};
 ghost use Rattle.multiples.specs.Rows.{Shifted};
 

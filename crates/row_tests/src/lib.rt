@@ -1,5 +1,7 @@
 // Are words rows of multiples, as `multiples` fills them? By doubling. These functions are for the project's own crates: what they require, every caller
 // proves.
+#![tactic(auto)]
+
 ghost use Rattle.std.specs.Prelude.{◌≡◌, true, ◌↔◌, ◌+◌, ◌*◌, ◌^◌, ◌≤◌, ◌<◌, length};
 ghost use Rattle.gf2.specs.Moduli.{polynomial, Proper};
 ghost use Rattle.multiples.specs.Rows.{Multiples, Rows};

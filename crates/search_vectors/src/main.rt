@@ -1,5 +1,7 @@
 // Searches, printed and compared with their figures: the numbers of places and false alarms, or the refusal's number, and the lent words,
 // each 9 before the call. Under the key of degree 8, word 1B, where nothing else is said.
+#![tactic(auto)]
+
 use acceptance::Key;
 use search::Searched;
 

@@ -1,4 +1,6 @@
 // Checking a file against a page sheet.
+#![tactic(auto)]
+
 ghost use Rattle.std.specs.Prelude.{◌≡◌, ◌≤◌, min};
 ghost use Rattle.files.specs.Files.{as_part};
 ghost use Rattle.sheets.specs.Sheets.{check_sheet};

@@ -1,5 +1,7 @@
 // What stands in front of a sheet's fingerprints: tested and read at once, and written. These functions are for the project's own crates: what they
 // require, every caller proves.
+#![tactic(auto)]
+
 ghost use Rattle.std.specs.Prelude.{◌≡◌, cond, ◌||◌, ◌+◌, ◌≤◌, ltb, length};
 ghost use Rattle.std.proofs.lemmas.List.Edits.{sets};
 ghost use Rattle.refusals.specs.Refusals.{longest};

@@ -1,5 +1,7 @@
 // The layout of a sheet in code, version by version: the fields in front of the fingerprints and where these begin, the bytes of a sheet and the
 // number of pages. These functions are for the project's own crates: what they require, every caller proves.
+#![tactic(auto)]
+
 ghost use Rattle.std.specs.Prelude.{◌≡◌, false, ◌||◌, not, ◌+◌, ◌*◌, ◌≤◌, ◌<◌, ◌^◌, ltb, length, drop};
 ghost use Rattle.refusals.specs.Refusals.{longest};
 ghost use Rattle.sheets.specs.Layout.{newest, layouts, known, layout_of, page_place, page_count, pages_for};

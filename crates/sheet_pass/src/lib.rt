@@ -1,5 +1,7 @@
 // One pass over the pages of a file: their fingerprints are compared with those that are known, and written where room is lent. These
 // functions are for the project's own crates: what they require, every caller proves.
+#![tactic(auto)]
+
 ghost use Rattle.std.specs.Prelude.{◌≡◌, false, ◌+◌, ◌*◌, ◌≤◌, ◌<◌, ◌^◌, length};
 ghost use Rattle.std.proofs.lemmas.List.Edits.{sets};
 ghost use Rattle.gf2.specs.Moduli.{polynomial, Proper};

@@ -1,4 +1,6 @@
 // Reading a page sheet. An answer of `read` holds a `Key`.
+#![tactic(auto)]
+
 ghost use Rattle.std.specs.Prelude.{◌≡◌, ◌++◌, ◌+◌, ◌*◌, ◌≤◌, min, length, drop};
 ghost use Rattle.refusals.specs.Answers.{reply};
 ghost use Rattle.big_endian.specs.Numbers.{numbers_at};

@@ -1,5 +1,7 @@
 // Page sheets: the answers of the calls. The definitions are in specs/, their laws in proofs/; the layout in code is in the crate sheet_layout, and
 // the calls are in the crates sheet_writing, sheet_reading and sheet_checking.
+#![tactic(auto)]
+
 use acceptance::Key;
 use refusals::Refusal;
 

@@ -1,5 +1,7 @@
 // Multiplication of residues by one power of t, by a table of 2,048 words, and feeding eight bytes at a time by it. These functions are
 // for the project's own crates: what they require, every caller proves.
+#![tactic(auto)]
+
 ghost use Rattle.std.specs.Prelude.{◌≡◌, ◌*◌, ◌%◌, ◌≤◌, ◌<◌, length, get_or};
 ghost use Rattle.gf2.specs.Polynomials.{◌⊕◌};
 ghost use Rattle.gf2.specs.Moduli.{polynomial, Proper};

@@ -1,1 +1,2 @@
 // The book and the guarantee of the Site level: theorems only.
+#![tactic(auto)]

@@ -1,6 +1,8 @@
 // Feeding with no table under a modulus whose coefficients below t^k are few and low: what would reach t^k comes back as a product with them
 // that stays below t^k. Every stock key from degree 16 on is such. These functions are for the project's own crates: what they require, every
 // caller proves.
+#![tactic(auto)]
+
 ghost use Rattle.std.specs.Prelude.{◌≡◌, ◌+◌, ◌*◌, ◌^◌, ◌≤◌, ◌<◌, length, drop};
 ghost use Rattle.gf2.specs.Polynomials.{◌⊕◌, ◌⊗◌, rem};
 ghost use Rattle.gf2.specs.Moduli.{polynomial, Proper};

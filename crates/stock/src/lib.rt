@@ -1,6 +1,8 @@
 // The stock list: a fixed table, one key a degree, by the coefficients below the leading one. The checker finds the same list by the divisors in
 // proofs/Table.antt, and computes that each key is irreducible. That is done in a second arithmetic, on coefficients (proofs/Coefficients.antt):
 // on numbers it would take the checker several times as long.
+#![tactic(auto)]
+
 ghost use Rattle.std.specs.Prelude.{◌≡◌, ◌≤◌, ◌<◌};
 ghost use Rattle.stock.specs.Stock.{stock_word};
 

@@ -1,5 +1,7 @@
 // Feeding a long part by a table, in four lanes side by side, and joining them by a power of t. These functions are for the project's own crates:
 // what they require, every caller proves.
+#![tactic(auto)]
+
 ghost use Rattle.std.specs.Prelude.{◌≡◌, ◌+◌, ◌*◌, ◌%◌, ◌^◌, ◌≤◌, ◌<◌, length, get_or};
 ghost use Rattle.gf2.specs.Polynomials.{◌⊕◌, ◌⊗◌, rem};
 ghost use Rattle.gf2.specs.Moduli.{polynomial, Proper};

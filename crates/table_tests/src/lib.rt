@@ -1,4 +1,6 @@
 // The tests of a lent table under an opened key. This function is for the project's own crates: what it requires, every caller proves.
+#![tactic(auto)]
+
 ghost use Rattle.std.specs.Prelude.{◌≡◌};
 ghost use Rattle.gf2.specs.Moduli.{polynomial, Proper};
 ghost use Rattle.refusals.specs.Refusals.{judged};

@@ -1,6 +1,8 @@
 // Making, testing and feeding by tables, printed and compared with their figures: the words of document 01, the refusals' numbers with the
 // mark that went back, and a part of 10,000 bytes against feeding by bits; and plain marks, fed and turned. Under key 0x11B where nothing else
 // is said.
+#![tactic(auto)]
+
 use acceptance::Key;
 use marks::{Begun, Fed, Running};
 use refusals::Reply;

@@ -1,4 +1,6 @@
 // Trimming a log's mark by the mark of its front or of its back, without the log.
+#![tactic(auto)]
+
 ghost use mathlib.Core.Path.{◌≡◌};
 ghost use mathlib.Core.List.{◌++◌};
 ghost use Prim.Native.Nat.{◌^◌, ◌≤◌, ◌<◌};

@@ -1,4 +1,6 @@
 // What the programs that print vectors share: keys, and labelled numbers, refusals and marks on standard output.
+#![tactic(auto)]
+
 ghost use Rattle.std.specs.Prelude.{◌≡◌, ◌+◌, ◌%◌, ◌^◌, if◌then◌else◌};
 
 use acceptance::Key;

@@ -1,5 +1,7 @@
 // Which windows of a text have a wanted residue: a flag for each window of a block. These functions are for the project's own crates: what they
 // require, every caller proves.
+#![tactic(auto)]
+
 ghost use Rattle.std.specs.Prelude.{◌≡◌, false, ◌+◌, ◌≤◌, ◌<◌, length};
 ghost use Rattle.rolling.specs.Rolling.{ResidueAt, Ready};
 ghost use Rattle.windows.specs.Flags.{hit, Filled, Flagged};

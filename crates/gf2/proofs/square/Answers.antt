@@ -4,8 +4,7 @@ use native.Mathlib.Omega.{arith}
 use lib.Bits.{and_le_r}
 use Rattle.gf2.specs.Polynomials.{◌⊕◌}
 use Rattle.gf2.proofs.Squares.{parted, spread-square}
-use Rattle.gf2.proofs.square.Statement.{statement}
-use Rattle.gf2.proofs.square.Tie as tie
+use Rattle.gf2.proofs.square.Goals as goal
 
 -- the four numbers before the last
 abbrev by-16 : ℕ → ℕ
@@ -21,25 +20,22 @@ by_4 x = parted 4 0xF0F0F0F0F0F0F0F (by_8 x)
 below : (s m x : ℕ) → parted s m x ≤ m
 below s m x = and_le_r (x ⊕ x * 2 ^ s) m
 
-mul-b : tie.Need-overflow-mul-b
+pub overflow_mul-b : goal.overflow_mul-b
 unfolding ◌⊕◌
-mul-b c = omega (arith, below 16 0xFFFF0000FFFF c.args.x)
+overflow_mul-b c = omega (arith, below 16 0xFFFF0000FFFF c.args.x)
 
-mul-c : tie.Need-overflow-mul-c
+pub overflow_mul-c : goal.overflow_mul-c
 unfolding ◌⊕◌
-mul-c c = omega (arith, below 8 0xFF00FF00FF00FF (by-16 c.args.x))
+overflow_mul-c c = omega (arith, below 8 0xFF00FF00FF00FF (by-16 c.args.x))
 
-mul-d : tie.Need-overflow-mul-d
+pub overflow_mul-d : goal.overflow_mul-d
 unfolding ◌⊕◌
-mul-d c = omega (arith, below 4 0xF0F0F0F0F0F0F0F (by_8 c.args.x))
+overflow_mul-d c = omega (arith, below 4 0xF0F0F0F0F0F0F0F (by_8 c.args.x))
 
-mul-result : tie.Need-overflow-mul-result
+pub overflow_mul-result : goal.overflow_mul-result
 unfolding ◌⊕◌
-mul-result c = omega (arith, below 2 0x3333333333333333 (by_4 c.args.x))
+overflow_mul-result c = omega (arith, below 2 0x3333333333333333 (by_4 c.args.x))
 
-returns : tie.Need-returns
+pub returns : goal.returns
 unfolding ◌⊕◌
 returns c = spread-square c.args.x c.requires
-
-pub square-spec : {M : Type 1} → statement M
-square-spec = tie.close (tie.spec (λ c. omega arith) mul-b mul-c mul-d mul-result returns)
