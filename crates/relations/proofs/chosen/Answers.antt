@@ -1,0 +1,9 @@
+-- `chosen` meets its contract.
+use Rattle.std.proofs.Common.{rules}
+use Rattle.basis.proofs.Elimination.{masked}
+use Rattle.relations.proofs.chosen.Goals as goal
+
+pub returns : goal.returns
+returns c =
+    let a = c.args in
+    masked a.v a.x c.wrapping_sub_u64.result (search rules) (search rules) c.wrapping_sub_u64.ensures.value
