@@ -1,21 +1,25 @@
 -- Standard input as the programs read it (document 01, "The printing program"): what a call of read answered, and what the calls gave so far.
-use Rattle.std.specs.Prelude.{◌≡◌, Bool, true, false, cond, ℕ, zero, suc, ◌+◌, ◌^◌, ◌<◌, min, eqb, ltb, ℤ, pos, negsuc, length}
+use Rattle.std.specs.Prelude.{◌≡◌, Bool, true, false, cond, ℕ, zero, suc, ◌+◌, ◌^◌, ◌<◌, min, ltb, length, Result, Ok, Err}
 use mathlib.Core.List.{List, [], ◌∷◌, flatten}
 use Rattle.io.specs.Counts.{IsPrefixLen}
+use Rattle.std.specs.IoError.{error_kind}
+use Rattle.std.specs.declared.io.Error.{Error}
+use Rattle.std.specs.declared.io.ErrorKind.{ErrorKind}
+use Rattle.std.specs.declared.io.ErrorKind.TheVariants as ErrorKindCases
 use Rattle.input_calls.specs.declared.Got.{Got}
 use Rattle.input_calls.specs.declared.Got.TheVariants.{Bytes, End, Interrupted, Failed}
 use Rattle.input_calls.specs.declared.Input.{Input}
 
--- a call that failed with an error number; 4 is EINTR
-abbrev pub failure : ℤ → Got
-failure (pos error) = cond (eqb error 4) Interrupted Failed
-failure (negsuc error) = Failed
+-- a call that failed, by the kind of its error
+abbrev pub failure : ErrorKind → Got
+failure ErrorKindCases.Interrupted = Interrupted
+failure kind = Failed
 
 -- what a call of read answered, with a buffer of n bytes
-abbrev pub outcome : ℤ → ℤ → ℕ → Got
-outcome (pos zero) error n = End
-outcome (pos (suc count)) error n = Bytes (min (suc count) n)
-outcome (negsuc count) error n = failure error
+abbrev pub outcome : Result ℕ Error → ℕ → Got
+outcome (Ok zero) n = End
+outcome (Ok (suc count)) n = Bytes (min (suc count) n)
+outcome (Err error) n = failure (error_kind error)
 
 -- how many bytes it gave; whether none is read behind it
 abbrev pub given : Got → ℕ

@@ -4,9 +4,10 @@
 
 ghost use Rattle.std.specs.Prelude.{◌≡◌, ◌<◌, length};
 ghost use Rattle.input_calls.specs.declared.Got.TheVariants.{Interrupted};
-ghost use Rattle.input_calls.specs.Reading.{outcome, over, unread, after, abandoned, Read};
+ghost use Rattle.input_calls.specs.Reading.{outcome, failure, over, unread, after, abandoned, Read};
 
-use libc::STDIN_FILENO;
+use std::io;
+use std::io::{ErrorKind, Read, Stdin};
 
 // What a read gave.
 #[derive(Clone, Copy)]
@@ -53,20 +54,25 @@ pub fn abandon(input: Input) -> Input
     }
 }
 
-// What a call of read answered, with the error number, which means something only where the call failed.
-fn outcome(count: isize, error: i32, buffer: &[u8]) -> Got
-    ensures { result ≡ outcome count error (length buffer.now) }
+// What a call of read answered.
+fn outcome(answer: io::Result<usize>, buffer: &[u8]) -> Got
+    ensures { result ≡ outcome answer (length buffer.now) }
 {
-    if count > 0 {
-        return Got::Bytes(io::count(count, buffer));
+    match answer {
+        Ok(0) => Got::End,
+        Ok(count) => Got::Bytes(count.min(buffer.len())),
+        Err(error) => failure(error.kind()),
     }
-    if count == 0 {
-        return Got::End;
+}
+
+// A call that failed.
+fn failure(kind: ErrorKind) -> Got
+    ensures { result ≡ failure kind }
+{
+    match kind {
+        ErrorKind::Interrupted => Got::Interrupted,
+        _ => Got::Failed,
     }
-    if error == libc::EINTR {
-        return Got::Interrupted;
-    }
-    Got::Failed
 }
 
 // Whether no read is made any more.
@@ -115,7 +121,7 @@ fn after(input: Input, got: Got) -> Input
 }
 
 // One call of read on standard input; none where an earlier one gave the end or failed. The buffer has room: with none, read answers 0 before the end too.
-pub fn read_once(input: Input, buffer: &mut [u8]) -> Input
+pub fn read_once(mut stdin: Stdin, input: Input, buffer: &mut [u8]) -> Input
     requires { 0 < length buffer.old }
     ensures { Read input result buffer.new }
 {
@@ -123,7 +129,6 @@ pub fn read_once(input: Input, buffer: &mut [u8]) -> Input
     if over(last) {
         return input;
     }
-    let count = libc::read(STDIN_FILENO, buffer);
-    let error = os::errno();
-    after(input, outcome(count, error, buffer))
+    let answer = stdin.read(buffer);
+    after(input, outcome(answer, buffer))
 }

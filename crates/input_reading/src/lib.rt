@@ -7,9 +7,10 @@ ghost use Rattle.input_calls.specs.declared.Got.TheVariants.{Interrupted};
 ghost use Rattle.input_calls.specs.Reading.{Read};
 
 use input_calls::{Got, Input};
+use std::io::Stdin;
 
 // One read; where a signal interrupts it, another one. A proved loop has to end: it counts its turns down from a number that no run uses up.
-pub fn read_some(input: Input, buffer: &mut [u8]) -> Input
+pub fn read_some(stdin: Stdin, input: Input, buffer: &mut [u8]) -> Input
     requires { 0 < length buffer.old }
     ensures read { Read input result buffer.new }
     ensures fact { result.last ≡ Interrupted → ⊥ }
@@ -17,7 +18,7 @@ pub fn read_some(input: Input, buffer: &mut [u8]) -> Input
     let mut at = input;
     let mut turns = u64::MAX;
     while turns > 0 {
-        at = input_calls::read_once(at, buffer);
+        at = input_calls::read_once(stdin, at, buffer);
         let got = input_calls::last(at);
         if let Got::Interrupted = got {
             turns -= 1;
@@ -29,11 +30,11 @@ pub fn read_some(input: Input, buffer: &mut [u8]) -> Input
 }
 
 // Reads behind the first bytes of a buffer, which stay.
-pub fn read_behind(input: Input, buffer: &mut [u8], done: usize) -> Input
+pub fn read_behind(stdin: Stdin, input: Input, buffer: &mut [u8], done: usize) -> Input
     requires { done < length buffer.old }
     ensures read { Read input result (drop done buffer.new) }
     ensures fact { result.last ≡ Interrupted → ⊥ }
     ensures buffer_unchanged { take done buffer.new ≡ take done buffer.old }
 {
-    read_some(input, &mut buffer[done..])
+    read_some(stdin, input, &mut buffer[done..])
 }

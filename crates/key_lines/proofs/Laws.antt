@@ -10,16 +10,15 @@ use native.Mathlib.Decide.{dec_le, dec_lt}
 use native.Mathlib.Numerals.{add-one}
 use native.Mathlib.Omega.{arith}
 use lib.Dec.{leb, ltb, eqb}
-use lib.ListN.{length, get_or, take, drop, length-take, length-append}
-use lib.Seq.{drop-cons, take-length, take-take, take-append-le, take-append_seam, take-append-add}
+use lib.ListN.{length, get_or, take, drop, length-take, length-drop, length-append}
+use lib.Seq.{drop-cons, take_all, take-take, take-append-le, take-append_seam, take-append-add}
 use borrow.Author.Tests.{ltb-true, lt-ltb, le-ltb, le-leb, lt-leb}
-use Rattle.bytes.specs.Bytes.{index_of, index_after, slice}
 use Rattle.lists.proofs.Truth.{and_both}
 use Rattle.gf2.specs.Polynomials.{monic}
 use Rattle.acceptance.specs.declared.Key.{Key}
 use Rattle.acceptance.specs.Keys.{key_of}
 use Rattle.acceptance.proofs.Laws.{within-range, range-key}
-use Rattle.key_lines.specs.KeyLines.{digit, all_digits, hex_from, line_of, key_before, key_line}
+use Rattle.key_lines.specs.KeyLines.{digit, all_digits, hex_from, line_of, key_before, index_of, key_line}
 use Rattle.key_lines.specs.Deciding.{undecided}
 use Rattle.key_lines.specs.declared.KeyLine.{KeyLine}
 use Rattle.key_lines.specs.declared.KeyLine.TheVariants as LineCases
@@ -46,6 +45,11 @@ unfolding digit
 digit-over b h = simp (lt-leb b 57 (omega arith), and-false (leb 48 b), lt-leb b 102 h, and-false (leb 97 b))
 
 module _ (line : List ℕ) (i : ℕ) (h : i < length line) where
+  -- the place of a byte, by the next one
+  pub index_next : (b : ℕ) → index_of b (drop i line) ≡ cond (eqb (get_or line i 0) b) 0 (suc (index_of b (drop (i + 1) line)))
+  unfolding index_of
+  index_next b = rw (add-one, drop-cons line i 0 h)
+
   pub digits-next : all_digits (drop i line) ≡ (ltb (digit (get_or line i 0)) 16 && all_digits (drop (i + 1) line))
   unfolding all_digits
   digits-next = rw (add-one, drop-cons line i 0 h)
@@ -85,6 +89,16 @@ hex_top (x ∷ xs) l =
     let e : length xs ≡ 16 = omega arith in
     hex_behind (0 * 16 + digit x) xs ∙ ap (λ (n : ℕ). (0 * 16 + digit x) * 16 ^ n + hex_from 0 xs) e ∙ simp (zero-mul, zero-add)
 
+-- the digits below the top one
+pub digits-below : (line : List ℕ) → take (length line - 1) (drop 1 line) ≡ drop 1 line
+digits-below line = take_all (length line - 1) (drop 1 line) (omega (arith, length-drop 1 line))
+
+-- what seventeen digits write, by the top digit and the word
+pub line_written : (line : List ℕ) (top word : ℕ) → length line ≡ 17 → top ≡ digit (get_or line 0 0)
+    → word ≡ hex_from 0 (take (length line - 1) (drop 1 line)) → hex_from 0 line ≡ top * 2 ^ 64 + word
+line_written line top word long e f =
+    hex_top line long ∙ ap₂ (λ (x w : ℕ). x * 2 ^ 64 + w) (sym e) (sym (f ∙ ap (hex_from 0) (digits-below line)))
+
 -- a top digit above 1
 pub top_large : (d w : ℕ) → 2 ≤ d → 2 ^ 65 ≤ d * 2 ^ 64 + w
 top_large d w h = le_trans (mul-le-mul_right (2 ^ 64) h) (le-add_right (d * 2 ^ 64) w)
@@ -105,9 +119,9 @@ top_key w h = let x : Key = record { degree = 64; word = w } in sym (range-key x
 
 -- ---- the tests
 
-pub line_at : (input : List ℕ) (r : ℕ) → r ≡ 0 + index_of 10 (slice 0 (length input) input) → key_line input ≡ key_before r input
-unfolding key_line slice
-line_at input r e = ap (λ (n : ℕ). key_before n input) (sym (e ∙ zero-add (index_of 10 (take (length input) input)) ∙ ap (index_of 10) (take-length input)))
+pub line_at : (input : List ℕ) (r : ℕ) → r ≡ index_of 10 input → key_line input ≡ key_before r input
+unfolding key_line
+line_at input r e = ap (λ (n : ℕ). key_before n input) (sym e)
 
 module _ (n : ℕ) (input : List ℕ) where
   pub no_newline : length input ≤ n → key_before n input ≡ LineCases.NoKey
@@ -157,8 +171,7 @@ key-within input x at e = go (ltb n (length input)) (leb 1 n && leb n 17) (all_d
 
 -- ---- the first 18 bytes decide the key's line
 
-index_more : (t : Bool) (m i j : ℕ) → i ≡ min m j → index_after t i ≡ min (suc m) (index_after t j)
-unfolding index_after
+index_more : (t : Bool) (m i j : ℕ) → i ≡ min m j → cond t 0 (suc i) ≡ min (suc m) (cond t 0 (suc j))
 index_more true m i j e = sym (min-zero (suc m))
 index_more false m i j e = ap suc e ∙ sym (suc-min-suc m j)
 

@@ -1,7 +1,6 @@
 -- The key's line of the printing program (document 01; 17 digits: document 02, wish 8), on lists of bytes: 1 to 17 lowercase hexadecimal digits
 -- before the first newline.
-use Rattle.std.specs.Prelude.{Bool, true, cond, ◌&&◌, List, [], ◌∷◌, ℕ, ◌+◌, ◌-◌, ◌*◌, ◌^◌, leb, ltb, length, take}
-use Rattle.bytes.specs.Bytes.{index_of}
+use Rattle.std.specs.Prelude.{Bool, true, cond, ◌&&◌, List, [], ◌∷◌, ℕ, ◌+◌, ◌-◌, ◌*◌, ◌^◌, suc, eqb, leb, ltb, length, take}
 use Rattle.acceptance.specs.Keys.{key_of}
 use Rattle.key_lines.specs.declared.KeyLine.{KeyLine}
 use Rattle.key_lines.specs.declared.KeyLine.TheVariants as LineCases
@@ -27,6 +26,11 @@ line_of v at = cond (ltb v (2 ^ 65)) (LineCases.Key (key_of v) at) LineCases.Too
 unfoldable pub key_before : ℕ → List ℕ → KeyLine
 key_before n input =
     cond (ltb n (length input) && (leb 1 n && leb n 17) && all_digits (take n input)) (line_of (hex_from 0 (take n input)) (n + 1)) LineCases.NoKey
+
+-- the place of the first byte b, the length where there is none
+unfoldable pub index_of : ℕ → List ℕ → ℕ
+index_of b [] = 0
+index_of b (x ∷ xs) = cond (eqb x b) 0 (suc (index_of b xs))
 
 unfoldable pub key_line : List ℕ → KeyLine
 key_line input = key_before (index_of 10 input) input

@@ -2,7 +2,7 @@
 #![tactic(auto)]
 
 ghost use Rattle.std.specs.Prelude.{◌≡◌, true, ◌≤◌, length};
-ghost use Rattle.key_lines.specs.KeyLines.{digit, all_digits, hex_from, line_of, key_line};
+ghost use Rattle.key_lines.specs.KeyLines.{digit, all_digits, hex_from, line_of, index_of, key_line};
 ghost use Rattle.key_lines.specs.Deciding.{undecided};
 
 use acceptance::Key;
@@ -86,11 +86,26 @@ fn line_of(line: &[u8], at: usize) -> KeyLine
     KeyLine::TooLarge
 }
 
+// The place of the first byte b, the length where there is none.
+fn find(input: &[u8], b: u8) -> usize
+    ensures value { result ≡ index_of b input.now }
+    ensures in_bounds { result ≤ length input.now }
+{
+    let mut n = 0;
+    while n < input.len() {
+        if input[n] == b {
+            return n;
+        }
+        n += 1;
+    }
+    n
+}
+
 // The key that the first line of an input gives.
 pub fn key_line(input: &[u8]) -> KeyLine
     ensures { result ≡ key_line input.now }
 {
-    let n = bytes::scan::find(input, 0, input.len(), b'\n');
+    let n = find(input, b'\n');
     if n == input.len() {
         return KeyLine::NoKey;
     }

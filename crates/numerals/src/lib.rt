@@ -15,8 +15,9 @@ pub fn put(out: &mut [u8], at: usize, text: &[u8]) -> usize
     ensures value { result ≡ at + length text.now }
     ensures out_after { out.new ≡ put_at out.old at text.now }
 {
-    let n = bytes::copy(text, &mut out[at..]);
-    at + n
+    let next = at + text.len();
+    out[at..next].copy_from_slice(text);
+    next
 }
 
 // The same of two texts, one behind the other.
