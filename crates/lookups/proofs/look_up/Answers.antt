@@ -1,0 +1,19 @@
+-- `look_up` meets its contract: two rows, and two behind them.
+use mathlib.Core.Path.{ap₂, ◌∙◌}
+use Prim.Native.Nat.{ℕ}
+use native.Mathlib.Omega.{arith}
+use Rattle.gf2.specs.Polynomials.{◌⊕◌}
+use Rattle.lookups.proofs.Cut.{look_four}
+use Rattle.lookups.proofs.look_up.Goals as goal
+
+pub look_two-requires : goal.look_two-requires
+look_two-requires c = (omega arith, c.requires)
+
+pub look_two-requires-2 : goal.look_two-requires-2
+look_two-requires-2 c = (omega arith, c.requires)
+
+pub returns : goal.returns
+unfolding ◌⊕◌
+returns c =
+    let a = c.args in
+    ap₂ (λ (x y : ℕ). a.below ⊕ x ⊕ y) c.look_two.ensures c.look_two-2.ensures ∙ look_four a.words.now a.below a.above

@@ -1,0 +1,38 @@
+-- `make` meets its contract: the tests of the key, and then those of `make_under`.
+use mathlib.Core.Path.{sym, ap, ◌∙◌}
+use mathlib.Core.List.{[], ◌∷◌}
+use Prim.Native.Nat.{ℕ}
+use Rattle.refusals.specs.Refusals.{first_of}
+use Rattle.lookups.specs.Rule.{table}
+use Rattle.acceptance.specs.Keys.{polynomial_of}
+use Rattle.acceptance.specs.Opened.{Opened}
+use Rattle.acceptance.proofs.Opened.{opened-whole, opened-proper, opened-first}
+use Rattle.keys.proofs.Laws.{opened, refused}
+use Rattle.tables.specs.Tables.{make_table}
+use Rattle.table_tests.specs.TableTests.{table_size_test}
+use Rattle.tables.proofs.make.Goals as goal
+use Rattle.tables.proofs.make.Goals.{In-Accepted-2}
+
+key-opened : (c : In-Accepted-2) → Opened c.args.key c.p.given.0.0
+key-opened c = let t = c.test in opened t.result c.args.key t.ensures _ c.p.given.1
+
+pub make_under-requires : goal.make_under-requires
+make_under-requires c = opened-proper (key-opened (goal.at.make_under-requires c).In-Accepted-2)
+
+pub returns-in-Refused : goal.returns-in-Refused
+unfolding make_table
+returns-in-Refused c =
+    let a = c.args in
+    let words = a.words.now in
+    let t = c.test in
+    sym (refused t.result a.key t.ensures (table_size_test words ∷ []) words (table (polynomial_of a.key)) _ c.r.given.1)
+
+pub returns-in-Accepted : goal.returns-in-Accepted
+unfolding make_table
+returns-in-Accepted c =
+    let a = c.args in
+    let words = a.words.now in
+    let h = key-opened (goal.at.returns-in-Accepted c).In-Accepted-2 in
+    c.make_under.ensures
+    ∙ ap (λ (q : ℕ). first_of (table_size_test words ∷ []) words (table q)) (opened-whole h)
+    ∙ sym (opened-first h (table_size_test words ∷ []) words (table (polynomial_of a.key)))
