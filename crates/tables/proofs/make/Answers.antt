@@ -11,13 +11,13 @@ use Rattle.keys.proofs.Laws.{opened, refused}
 use Rattle.tables.specs.Tables.{make_table}
 use Rattle.table_tests.specs.TableTests.{table_size_test}
 use Rattle.tables.proofs.make.Goals as goal
-use Rattle.tables.proofs.make.Goals.{In-Accepted-2}
+use Rattle.tables.proofs.make.Goals.{In-Accepted}
 
-key-opened : (c : In-Accepted-2) → Opened c.args.key c.p.given.0.0
-key-opened c = let t = c.test in opened t.result c.args.key t.ensures _ c.p.given.1
+key-opened : (c : In-Accepted) → Opened c.args.key c.in-Accepted.p
+key-opened c = let t = c.test in opened t.result c.args.key t.ensures _ c.in-Accepted.is
 
 pub make_under-requires : goal.make_under-requires
-make_under-requires c = opened-proper (key-opened (goal.at.make_under-requires c).In-Accepted-2)
+make_under-requires c = opened-proper (key-opened (goal.at.make_under-requires c).In-Accepted)
 
 pub returns-in-Refused : goal.returns-in-Refused
 unfolding make_table
@@ -25,14 +25,14 @@ returns-in-Refused c =
     let a = c.args in
     let words = a.words.now in
     let t = c.test in
-    sym (refused t.result a.key t.ensures (table_size_test words ∷ []) words (table (polynomial_of a.key)) _ c.r.given.1)
+    sym (refused t.result a.key t.ensures (table_size_test words ∷ []) words (table (polynomial_of a.key)) _ c.in-Refused.is)
 
 pub returns-in-Accepted : goal.returns-in-Accepted
 unfolding make_table
 returns-in-Accepted c =
     let a = c.args in
     let words = a.words.now in
-    let h = key-opened (goal.at.returns-in-Accepted c).In-Accepted-2 in
+    let h = key-opened (goal.at.returns-in-Accepted c).In-Accepted in
     c.make_under.ensures
     ∙ ap (λ (q : ℕ). first_of (table_size_test words ∷ []) words (table q)) (opened-whole h)
     ∙ sym (opened-first h (table_size_test words ∷ []) words (table (polynomial_of a.key)))

@@ -2,12 +2,8 @@
 use Rattle.lists.specs.Lists.{same}
 use Rattle.house.proofs.Rows.{rows}
 use Rattle.house.proofs.House.{house-table}
-use Rattle.house.proofs.words.Statement.{statement}
-use Rattle.house.proofs.words.Tie as tie
+use Rattle.house.proofs.words.Goals as goal
 
-returns : tie.Need-returns
+pub returns : goal.returns
 unfolding same rows
 returns c = house-table _ tt
-
-pub words-spec : {M : Type 1} → statement M
-words-spec = tie.close (tie.spec returns)
