@@ -9,19 +9,11 @@ use Rattle.gf2.specs.Moduli.{polynomial}
 use Rattle.gf2.specs.declared.Modulus.{Modulus}
 use Rattle.sparse.specs.Sparse.{Sparse}
 use Rattle.sparse.proofs.Steps.{top_small, sparse_step}
-use borrow.Author.Rules.{rules}
-use Rattle.sparse.proofs.behind.Statement.{statement}
-use Rattle.sparse.proofs.behind.Tie as tie
+use Rattle.sparse.proofs.behind.Goals as goal
 
 -- the shift loses nothing
 shifted : (p : Modulus) (n : ℕ) → Sparse p n → (f : ℕ) → f % 2 ^ (p.degree - 8 * n) * 2 ^ (8 * n) % 2 ^ 64 ≡ f % 2 ^ (p.degree - 8 * n) * 2 ^ (8 * n)
 shifted p n s f = shl_exact (p.degree - 8 * n) (8 * n) 64 (mod-lt f (pow_pos (p.degree - 8 * n))) (omega (arith, s.0.1, s.4))
-
-times-requires : tie.Need-times-requires
-times-requires c κs =
-    let s = c.before.before in
-    let a = s.args in
-    (lt_of_lt_of_le (top_small a.p a.n s.requires.0 a.f a.v s.requires.1 s.requires.2) (pow_mono {i = 8 * a.n} {j = 56} (omega arith)), s.requires.0.3)
 
 summed : (p : Modulus) (n : ℕ) (s : Sparse p n) (f v x rest : ℕ) → f < 2 ^ p.degree → v < 2 ^ (8 * n)
     → x ≡ f / 2 ^ (p.degree - 8 * n) ⊗ p.low → rest ≡ f % 2 ^ (p.degree - 8 * n)
@@ -30,25 +22,14 @@ summed p n s f v x rest hf hv ex er =
     ap₂ (λ (y z : ℕ). y ⊕ z ⊕ v) ex (ap (λ (y : ℕ). y * 2 ^ (8 * n) % 2 ^ 64) er ∙ shifted p n s f)
     ∙ sparse_step p n s f v hf hv
 
-returns : tie.Need-returns
+pub times-requires : goal.times-requires
+times-requires c =
+    let a = c.args in
+    (lt_of_lt_of_le (top_small a.p a.n c.requires.0 a.f a.v c.requires.1 c.requires.2) (pow_mono {i = 8 * a.n} {j = 56} (omega arith)), c.requires.0.3)
+
+pub returns : goal.returns
 unfolding ◌⊕◌
 returns c =
-    let s = c.before.before.before in
-    let a = s.args in
-    summed a.p a.n s.requires.0 a.f a.v c.times.result c.before.low-bits.result s.requires.1 s.requires.2 c.times.ensures
-    c.before.low-bits.ensures
-
-pub behind-spec : {M : Type 1} → statement M
-behind-spec =
-    tie.close
-    (tie.spec
-    (λ c. search rules)
-    (λ c. search rules)
-    (λ c κs. search rules)
-    (λ c. search rules)
-    (λ c. search rules)
-    times-requires
-    (λ c. search rules)
-    (λ c. search rules)
-    (λ c. search rules)
-    returns)
+    let a = c.args in
+    summed a.p a.n c.requires.0 a.f a.v c.times.result c.low_bits-rest.result c.requires.1 c.requires.2 c.times.ensures
+    c.low_bits-rest.ensures

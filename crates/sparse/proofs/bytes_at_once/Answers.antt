@@ -8,9 +8,7 @@ use Rattle.gf2.specs.Moduli.{Proper}
 use Rattle.gf2.specs.declared.Modulus.{Modulus}
 use Rattle.gf2.proofs.Degrees.{degree-is, deg_hi, deg-le}
 use Rattle.sparse.specs.Sparse.{Sparse}
-use borrow.Author.Rules.{rules}
-use Rattle.sparse.proofs.bytes_at_once.Statement.{statement}
-use Rattle.sparse.proofs.bytes_at_once.Tie as tie
+use Rattle.sparse.proofs.bytes_at_once.Goals as goal
 
 module _ (p : Modulus) (proper : Proper p) (some : 0 < p.low) where
   low-degree : degree p.low < p.degree
@@ -28,27 +26,14 @@ module _ (p : Modulus) (proper : Proper p) (some : 0 < p.low) where
         (pow_mono {i = suc (degree p.low)} {j = p.degree - 8 * n + 1} (omega arith)),
   )
 
--- ---- the places: from each one to an earlier one
+pub overflow_sub-n : goal.overflow_sub-n
+overflow_sub-n c =
+    omega (arith, c.degree.ensures, low-degree c.args.p c.requires (omega arith))
 
-abbrev degree→start : tie.After-degree → tie.Start
-degree→start c = c.before.before.before.before.before
+pub returns-then-n-lt8 : goal.returns-then-n-lt8
+returns-then-n-lt8 c pos =
+    enough c.args.p c.requires (omega arith) (omega arith) _ (omega arith) (omega (arith, c.degree.ensures)) pos
 
-sub-n : tie.Need-overflow-sub-n
-sub-n c =
-    let s = degree→start c.before in
-    omega (arith, c.before.degree.ensures, low-degree s.args.p s.pre (omega arith))
-
-returns-3 : tie.Need-returns-3
-returns-3 c pos =
-    let s = degree→start c.before.before in
-    enough s.args.p s.pre (omega arith) (omega arith) _ (omega arith) (omega (arith, c.before.before.degree.ensures)) pos
-
-returns-4 : tie.Need-returns-4
-returns-4 c pos =
-    let s = degree→start c.before.before in
-    enough s.args.p s.pre (omega arith) (omega arith) 7 (omega arith) (omega (arith, c.before.before.degree.ensures)) pos
-
-pub bytes-at-once-spec : {M : Type 1} → statement M
-bytes-at-once-spec =
-    tie.close
-    (tie.spec (λ c. search rules) (λ c. search rules) (λ c κs. search rules) sub-n returns-3 returns-4)
+pub returns-else-n-lt8 : goal.returns-else-n-lt8
+returns-else-n-lt8 c pos =
+    enough c.args.p c.requires (omega arith) (omega arith) 7 (omega arith) (omega (arith, c.degree.ensures)) pos

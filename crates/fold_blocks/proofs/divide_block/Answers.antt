@@ -1,0 +1,85 @@
+-- `divide_block` meets its contract: what the words from place i on stand for, with the bytes from place i on behind it, has the residue of the whole.
+use mathlib.Core.Path.{◌≡◌, refl, sym, ap, ◌∙◌}
+use mathlib.Core.List.{List}
+use Prim.Native.Nat.{ℕ, ◌+◌, ◌-◌, ◌*◌, ◌≤◌}
+use native.Mathlib.Omega.{arith}
+use lib.ListN.{length, take, drop, length-drop}
+use lib.Seq.{drop-drop, length-take-le}
+use borrow.Rule.Slice.PartMut.{put_mid, same_len_mid}
+use Rattle.lists.proofs.Sublists.{put_last}
+use Rattle.gf2.specs.Polynomials.{rem}
+use Rattle.files.specs.Files.{bits, value_from}
+use Rattle.house.specs.House.{house_key}
+use Rattle.fold_blocks.specs.Folds.{exponents, folded, Word}
+use Rattle.fold_blocks.proofs.Folding.{block-fed, nothing_left, rest_all}
+use Rattle.fold_blocks.proofs.House.{house-pos, house-last}
+use Rattle.fold_blocks.proofs.divide_block.Goals as goal
+
+-- a piece from place i to place b, by which the list from place i on becomes r
+piece : (s : ℕ) → Word s → (q src r : List ℕ) (i b : ℕ) → i ≤ b → b ≤ length src → length src + 61 * s ≤ length q
+    → length r ≡ length (take (length q - i) (drop i q))
+    → folded exponents s r (length (take (b - i) (drop i src)))
+    ≡ value_from (folded exponents s (take (length q - i) (drop i q)) 0) (bits (take (b - i) (drop i src)))
+    → rem house_key (value_from (folded exponents s (drop b (put_mid i (length q - i) q r)) 0) (bits (drop b src)))
+    ≡ rem house_key (value_from (folded exponents s (drop i q) 0) (bits (drop i src)))
+piece s w q src r i b l m h len e =
+    block-fed house-pos src i b (folded exponents s (drop i q) 0) (folded exponents s (drop b (put_mid i (length q - i) q r)) 0) l
+    (ap (λ (x : List ℕ). rem house_key (folded exponents s x 0)) behind
+    ∙ sym (house-last s w r (b - i) (omega (arith, len, ap length (rest_all q i), length-drop i q)))
+    ∙ ap (rem house_key)
+    (ap (folded exponents s r) (sym size)
+    ∙ e
+    ∙ ap (λ (x : List ℕ). value_from (folded exponents s x 0) (bits (take (b - i) (drop i src)))) (rest_all q i)))
+  where
+    size : length (take (b - i) (drop i src)) ≡ b - i
+    size = length-take-le (b - i) (drop i src) (rw length-drop (omega arith))
+
+    behind : drop b (put_mid i (length q - i) q r) ≡ drop (b - i) r
+    behind =
+        let e : b ≡ i + (b - i) = omega arith in
+        ap (λ (j : ℕ). drop j (put_mid i (length q - i) q r)) e
+        ∙ sym (drop-drop (b - i) i (put_mid i (length q - i) q r))
+        ∙ ap (drop (b - i)) (put_last i q r (omega arith))
+
+lengths : (q src : List ℕ) (s i b : ℕ) → i ≤ b → b ≤ length src → length src + 61 * s ≤ length q
+    → length (take (b - i) (drop i src)) + 61 * s ≤ length (take (length q - i) (drop i q))
+lengths q src s i b l m h =
+    rw (length-take-le (b - i) (drop i src) (rw length-drop (omega arith)), rest_all q i, length-drop) (omega arith)
+
+pub loop-i-init : goal.loop-i-init
+loop-i-init c = (omega arith, refl, refl)
+
+pub divide_piece-requires : goal.divide_piece-requires
+divide_piece-requires c =
+    let l = c.loop-i in
+    (c.requires.0, lengths l.q c.args.src.now c.args.s l.i (l.i + 64) (omega arith) (omega arith) (omega (arith, l.invariant.1, c.requires.1)))
+
+pub loop-i-preserved : goal.loop-i-preserved
+loop-i-preserved c =
+    let a = c.args in
+    let l = c.loop-i in
+    let d = c.divide_piece in (
+      omega arith,
+      same_len_mid l.i (length l.q - l.i) l.q d.new.q d.auto.q ∙ l.invariant.1,
+      piece a.s c.requires.0 l.q a.src.now d.new.q l.i (l.i + 64) (omega arith) (omega arith) (omega (arith, l.invariant.1, c.requires.1))
+          d.auto.q
+          d.ensures
+          ∙ l.invariant.2,
+    )
+
+pub divide_piece-requires-2 : goal.divide_piece-requires-2
+divide_piece-requires-2 c =
+    let l = c.loop-i in
+    let n = length c.args.src.now in
+    (c.requires.0, lengths l.q c.args.src.now c.args.s l.i n (omega arith) (omega arith) (omega (arith, l.invariant.1, c.requires.1)))
+
+pub returns : goal.returns
+returns c =
+    let a = c.args in
+    let l = c.loop-i in
+    let d = c.divide_piece-2 in
+    let n = length a.src.now in
+    sym (nothing_left house_key (folded exponents a.s (drop n (put_mid l.i (length l.q - l.i) l.q d.new.q)) 0) a.src.now n (omega arith))
+    ∙ piece a.s c.requires.0 l.q a.src.now d.new.q l.i n (omega arith) (omega arith) (omega (arith, l.invariant.1, c.requires.1)) d.auto.q
+    d.ensures
+    ∙ l.invariant.2
