@@ -8,26 +8,29 @@ ghost use Rattle.draw.specs.Drawing.{draw};
 
 use acceptance::Key;
 use draw::Drawn;
+use std::io;
+use std::io::Print;
 
 // A drawn key's polynomial: the listed degrees are below 64.
-fn show_key(key: Key) {
+fn show_key(rt: &impl Print, key: Key) -> io::Result<()> {
     let k = key.degree;
     if k < 64 {
         let power: u64 = 1 << k;
-        vectors::hex(b"", power ^ key.word);
+        vectors::hex(rt, b"", power ^ key.word)?;
     }
+    Ok(())
 }
 
-fn show(degree: u32, element: u64) {
+fn show(rt: &impl Print, degree: u32, element: u64) -> io::Result<()> {
     match draw::draw(degree, element) {
         Drawn::Key(key) => {
-            show_key(key);
+            show_key(rt, key)?;
         }
         Drawn::Refused(r) => {
-            vectors::refused(refusals::number(r));
+            vectors::refused(rt, refusals::number(r))?;
         }
     }
-    vectors::text(b"\n");
+    vectors::text(rt, b"\n")
 }
 
 // The key of degree 11 that an element draws, degree 0 where it is refused.
@@ -64,26 +67,26 @@ fn places_with(counts: &[u64], n: u64) -> u64 {
     places
 }
 
-fn show_counts(counts: &[u64]) {
-    vectors::decimal(b"", places_with(counts, 11));
-    vectors::decimal(b" drawn by 11 elements each, ", places_with(counts, 0));
-    vectors::text(b" by none\n");
+fn show_counts(rt: &impl Print, counts: &[u64]) -> io::Result<()> {
+    vectors::decimal(rt, b"", places_with(counts, 11))?;
+    vectors::decimal(rt, b" drawn by 11 elements each, ", places_with(counts, 0))?;
+    vectors::text(rt, b" by none\n")
 }
 
-fn main() {
-    show(11, 2);
-    show(11, 3);
-    show(11, 4);
-    show(11, 1);
-    show(11, 2048);
-    show(12, 2);
-    show(12, 0);
+fn main(rt: HostRuntime) -> io::Result<()> {
+    show(&rt, 11, 2)?;
+    show(&rt, 11, 3)?;
+    show(&rt, 11, 4)?;
+    show(&rt, 11, 1)?;
+    show(&rt, 11, 2048)?;
+    show(&rt, 12, 2)?;
+    show(&rt, 12, 0)?;
     let mut counts: [u64; 2048] = [0; 2048];
     count_keys(&mut counts);
-    show_counts(&counts);
-    show(61, 2);
-    show(61, 3);
-    show(7, 2);
-    show(64, 2);
-    show(65, 2);
+    show_counts(&rt, &counts)?;
+    show(&rt, 61, 2)?;
+    show(&rt, 61, 3)?;
+    show(&rt, 7, 2)?;
+    show(&rt, 64, 2)?;
+    show(&rt, 65, 2)
 }

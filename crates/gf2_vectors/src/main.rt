@@ -7,6 +7,8 @@ ghost use Rattle.std.specs.Prelude.{◌^◌, ◌≤◌, ◌<◌};
 ghost use Rattle.gf2.specs.Moduli.{Proper};
 
 use gf2::Modulus;
+use std::io;
+use std::io::Print;
 
 // The key 0x11B.
 const KEY: Modulus = Modulus {
@@ -57,77 +59,74 @@ fn word(j: u64, i: u64) -> u64
     gf2::product(KEY, i, power)
 }
 
-fn show(what: &[u8], x: u64) {
-    io::write_all(1, what);
-    io::print_hex(1, x, 2);
-    io::write_all(1, b"\n");
+fn show(rt: &impl Print, what: &[u8], x: u64) -> io::Result<()> {
+    rt.write_all(what)?;
+    println!(rt; "{x:02x}")
 }
 
 // A number behind a space.
-fn show_word(x: u64) {
-    io::write_all(1, b" ");
-    io::print_hex(1, x, 1);
+fn show_word(rt: &impl Print, x: u64) -> io::Result<()> {
+    print!(rt; " {x:x}")
 }
 
 // The step behind a residue, with the bit 0 and with the bit 1: a line with the degree, the coefficients below, the residue and both results.
-fn show_steps(p: Modulus, f: u64)
+fn show_steps(rt: &impl Print, p: Modulus, f: u64) -> io::Result<()>
     requires { Proper p × (f < 2 ^ p.degree) }
 {
-    io::write_all(1, b"step ");
-    io::print_decimal(1, p.degree as u64);
-    show_word(p.low);
-    show_word(f);
-    io::write_all(1, b":");
-    show_word(gf2::step(p, f, 0));
-    show_word(gf2::step(p, f, 1));
-    io::write_all(1, b"\n");
+    print!(rt; "step {}", p.degree)?;
+    show_word(rt, p.low)?;
+    show_word(rt, f)?;
+    print!(rt; ":")?;
+    show_word(rt, gf2::step(p, f, 0))?;
+    show_word(rt, gf2::step(p, f, 1))?;
+    println!(rt)
 }
 
 // The same behind the largest residue from which a 0 falls out, and behind the smallest and the largest from which a 1 does.
-fn show_residues(degree: u32, low: u64, ones: u64)
+fn show_residues(rt: &impl Print, degree: u32, low: u64, ones: u64) -> io::Result<()>
     requires { (0 < degree) × (degree ≤ 64) × (low < 2 ^ degree) × (ones < 2 ^ degree) }
 {
     let p = Modulus { degree, low };
-    show_steps(p, ones / 2);
-    show_steps(p, ones - ones / 2);
-    show_steps(p, ones);
+    show_steps(rt, p, ones / 2)?;
+    show_steps(rt, p, ones - ones / 2)?;
+    show_steps(rt, p, ones)
 }
 
 // The same under the degree with no coefficient below, with the last alone, and with all.
-fn show_edges(degree: u32)
+fn show_edges(rt: &impl Print, degree: u32) -> io::Result<()>
     requires { (0 < degree) × (degree ≤ 64) }
 {
     let ones: u64 = 0xFFFFFFFFFFFFFFFF >> (64 - degree);
-    show_residues(degree, 0, ones);
-    show_residues(degree, 1, ones);
-    show_residues(degree, ones, ones);
+    show_residues(rt, degree, 0, ones)?;
+    show_residues(rt, degree, 1, ones)?;
+    show_residues(rt, degree, ones, ones)
 }
 
-fn main() {
-    show(b"empty file: ", 1);
-    show(b"file 00: ", fed(1, 0x00));
-    show(b"file 1b: ", fed(1, 0x1B));
-    show(b"file 41: ", fed(1, 0x41));
-    show(b"file 42: ", fed(1, 0x42));
+fn main(rt: HostRuntime) -> io::Result<()> {
+    show(&rt, b"empty file: ", 1)?;
+    show(&rt, b"file 00: ", fed(1, 0x00))?;
+    show(&rt, b"file 1b: ", fed(1, 0x1B))?;
+    show(&rt, b"file 41: ", fed(1, 0x41))?;
+    show(&rt, b"file 42: ", fed(1, 0x42))?;
     let first = fed(1, 0x41);
-    show(b"file 41 42: ", fed(first, 0x42));
+    show(&rt, b"file 41 42: ", fed(first, 0x42))?;
     let zero = fed(1, 0x00);
-    show(b"file 00 00: ", fed(zero, 0x00));
+    show(&rt, b"file 00 00: ", fed(zero, 0x00))?;
     let one = fed(1, 0x01);
-    show(b"file 01 1b: ", fed(one, 0x1B));
-    show(b"word 1: ", word(0, 1));
-    show(b"word 2: ", word(0, 2));
-    show(b"word 128: ", word(0, 128));
-    show(b"word 257: ", word(1, 1));
-    show(b"11b times 11d: ", gf2::product(WIDE, 0x11B, 0x11D));
-    show(b"degree of 1071f: ", gf2::degree(0x1071F) as u64);
-    show_edges(1);
-    show_edges(2);
-    show_edges(8);
-    show_edges(31);
-    show_edges(32);
-    show_edges(33);
-    show_edges(61);
-    show_edges(63);
-    show_edges(64);
+    show(&rt, b"file 01 1b: ", fed(one, 0x1B))?;
+    show(&rt, b"word 1: ", word(0, 1))?;
+    show(&rt, b"word 2: ", word(0, 2))?;
+    show(&rt, b"word 128: ", word(0, 128))?;
+    show(&rt, b"word 257: ", word(1, 1))?;
+    show(&rt, b"11b times 11d: ", gf2::product(WIDE, 0x11B, 0x11D))?;
+    show(&rt, b"degree of 1071f: ", gf2::degree(0x1071F) as u64)?;
+    show_edges(&rt, 1)?;
+    show_edges(&rt, 2)?;
+    show_edges(&rt, 8)?;
+    show_edges(&rt, 31)?;
+    show_edges(&rt, 32)?;
+    show_edges(&rt, 33)?;
+    show_edges(&rt, 61)?;
+    show_edges(&rt, 63)?;
+    show_edges(&rt, 64)
 }

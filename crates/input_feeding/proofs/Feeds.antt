@@ -1,13 +1,12 @@
 -- The parts that the program reads: feeding them one after another marks the file that they make.
 use mathlib.Core.Path.{◌≡◌, refl, sym, ap, subst, ◌∙◌}
-use mathlib.Core.Bool.{Bool, true, false, cond}
+use mathlib.Core.Bool.{Bool, true, false}
 use mathlib.Core.List.{List, [], ◌∷◌, ◌++◌, flatten, append_assoc, append-nil}
-use Prim.Native.Nat.{ℕ, ◌+◌, ◌-◌, ◌*◌, ◌≤◌, ◌<◌}
+use Prim.Native.Nat.{ℕ, ◌+◌, ◌*◌, ◌≤◌, ◌<◌}
 use native.Mathlib.Decide.{dec_le}
 use native.Mathlib.Omega.{arith}
 use lib.ListN.{length, take, length-append}
 use borrow.Author.Tests.{lt-ltb, le-ltb}
-use Rattle.io.specs.Counts.{IsPrefixLen}
 use Rattle.lists.specs.Lists.{list_from}
 use Rattle.refusals.specs.declared.Refusal.{Refusal}
 use Rattle.refusals.specs.declared.Refusal.TheVariants.{TooLong, MarkNotReduced, FinalByte}
@@ -33,7 +32,6 @@ use Rattle.mark_tests.specs.MarkTests.{feed_tests}
 use Rattle.marks.specs.Feeding.{begin_from, begin, feed_table}
 use Rattle.marks.specs.Answers.{mark_in, running, fed, begun_under, fed_under}
 use Rattle.printing.specs.Printing.{mark_file}
-use Rattle.input_feeding.specs.declared.Marked.{Marked}
 use Rattle.input_feeding.specs.declared.Marked.TheVariants as MarkedCases
 use Rattle.input_feeding.specs.declared.Step.{Step}
 use Rattle.input_feeding.specs.declared.Step.TheVariants as StepCases

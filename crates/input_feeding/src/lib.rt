@@ -11,6 +11,7 @@ use acceptance::Key;
 use input_calls::{Got, Input};
 use marks::{Begun, Fed, Running};
 use refusals::{Refusal, Reply};
+use std::io::Stdin;
 
 // One turn: the answer to feeding the bytes that were read, or that there were none.
 #[derive(Clone, Copy)]
@@ -49,7 +50,7 @@ fn turn(got: Got, m: Running, words: &[u64], buffer: &[u8]) -> Step
 }
 
 // Feeds the rest of the input, until a read gives the end or fails, or a feed is refused. It ends: each part makes the mark longer, and number 7 bounds it.
-fn feed_rest(start: Running, words: &[u64], input: Input) -> Marking
+fn feed_rest(stdin: Stdin, start: Running, words: &[u64], input: Input) -> Marking
     ensures { FedInParts start words.now input result }
 {
     let mut buffer = [0u8; 262144];
@@ -57,7 +58,7 @@ fn feed_rest(start: Running, words: &[u64], input: Input) -> Marking
     let mut at = input;
     let mut more = true;
     while more {
-        at = input_reading::read_some(at, &mut buffer);
+        at = input_reading::read_some(stdin, at, &mut buffer);
         match turn(input_calls::last(at), m, words, &buffer) {
             Step::Fed(answer) => match answer {
                 Fed::Next(next) => {
@@ -88,7 +89,7 @@ fn feed_rest(start: Running, words: &[u64], input: Input) -> Marking
 }
 
 // The mark of the file that begins with the first bytes and goes on to the input's end, fed by the table of the key.
-pub fn mark_file(key: Key, first: &[u8], input: Input) -> Marking
+pub fn mark_file(stdin: Stdin, key: Key, first: &[u8], input: Input) -> Marking
     ensures { MarkedInParts key first.now input result }
 {
     let mut words = [0u64; 1024];
@@ -98,7 +99,7 @@ pub fn mark_file(key: Key, first: &[u8], input: Input) -> Marking
             Reply::Refused(r) => refused(r, input),
             Reply::Done => match m.feed_table(&words, first, 8) {
                 Fed::Refused(r, _) => refused(r, input),
-                Fed::Next(next) => feed_rest(next, &words, input),
+                Fed::Next(next) => feed_rest(stdin, next, &words, input),
             },
         },
     }

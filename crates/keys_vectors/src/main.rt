@@ -9,6 +9,8 @@ ghost use Rattle.keys.specs.Testing.{test_key};
 
 use acceptance::Key;
 use keys::Tested;
+use std::io;
+use std::io::Print;
 
 // The number of the refusal, 0 where the key is accepted.
 fn number_of(key: Key) -> u32
@@ -20,9 +22,9 @@ fn number_of(key: Key) -> u32
     0
 }
 
-fn print(n: u64) {
-    vectors::decimal(b"", n);
-    vectors::text(b"\n");
+fn print(rt: &impl Print, n: u64) -> io::Result<()> {
+    vectors::decimal(rt, b"", n)?;
+    vectors::text(rt, b"\n")
 }
 
 // The accepted keys of a degree with words below `end`.
@@ -34,53 +36,53 @@ fn accepted_below(degree: u32, end: u64) -> u64 {
     count
 }
 
-fn print_number(degree: u32, word: u64) {
-    print(number_of(Key { degree, word }) as u64);
+fn print_number(rt: &impl Print, degree: u32, word: u64) -> io::Result<()> {
+    print(rt, number_of(Key { degree, word }) as u64)
 }
 
-fn print_count(degree: u32, end: u64) {
-    print(accepted_below(degree, end));
+fn print_count(rt: &impl Print, degree: u32, end: u64) -> io::Result<()> {
+    print(rt, accepted_below(degree, end))
 }
 
-fn print_at_64() {
-    print_number(64, 0x1B);
-    print_number(64, 0x1D);
-    print_number(64, 0xB000000000000001);
-    print_number(64, 0xAD93D23594C935A9);
-    print_number(64, 0x00);
-    print_number(64, 0x01);
-    print_number(64, 0x19);
-    print_number(64, 0xFFFFFFFFFFFFFFFF);
+fn print_at_64(rt: &impl Print) -> io::Result<()> {
+    print_number(rt, 64, 0x1B)?;
+    print_number(rt, 64, 0x1D)?;
+    print_number(rt, 64, 0xB000000000000001)?;
+    print_number(rt, 64, 0xAD93D23594C935A9)?;
+    print_number(rt, 64, 0x00)?;
+    print_number(rt, 64, 0x01)?;
+    print_number(rt, 64, 0x19)?;
+    print_number(rt, 64, 0xFFFFFFFFFFFFFFFF)
 }
 
-fn print_outside() {
-    print_number(7, 0x03);
-    print_number(65, 0x1B);
-    print_number(255, 0x1B);
-    print_number(0xFFFFFFFF, 0x1B);
-    print_number(8, 0x11B);
-    print_number(8, 0x21B);
-    print_number(63, 0x8000000000000003);
+fn print_outside(rt: &impl Print) -> io::Result<()> {
+    print_number(rt, 7, 0x03)?;
+    print_number(rt, 65, 0x1B)?;
+    print_number(rt, 255, 0x1B)?;
+    print_number(rt, 0xFFFFFFFF, 0x1B)?;
+    print_number(rt, 8, 0x11B)?;
+    print_number(rt, 8, 0x21B)?;
+    print_number(rt, 63, 0x8000000000000003)
 }
 
-fn main() {
-    print_number(0, 0x00);
-    print_number(7, 0x7F);
-    print_number(8, 0x00);
-    print_number(8, 0x01);
-    print_number(10, 0x05);
-    print_number(16, 0x071F);
-    print_number(8, 0x1B);
-    print_number(8, 0x1D);
-    print_number(9, 0x03);
-    print_number(10, 0x09);
-    print_count(8, 0x100);
-    print_count(9, 0x200);
-    print_count(10, 0x400);
-    print_count(11, 0x800);
-    print_count(12, 0x1000);
-    print_count(13, 0x2000);
-    print_count(14, 0x4000);
-    print_at_64();
-    print_outside();
+fn main(rt: HostRuntime) -> io::Result<()> {
+    print_number(&rt, 0, 0x00)?;
+    print_number(&rt, 7, 0x7F)?;
+    print_number(&rt, 8, 0x00)?;
+    print_number(&rt, 8, 0x01)?;
+    print_number(&rt, 10, 0x05)?;
+    print_number(&rt, 16, 0x071F)?;
+    print_number(&rt, 8, 0x1B)?;
+    print_number(&rt, 8, 0x1D)?;
+    print_number(&rt, 9, 0x03)?;
+    print_number(&rt, 10, 0x09)?;
+    print_count(&rt, 8, 0x100)?;
+    print_count(&rt, 9, 0x200)?;
+    print_count(&rt, 10, 0x400)?;
+    print_count(&rt, 11, 0x800)?;
+    print_count(&rt, 12, 0x1000)?;
+    print_count(&rt, 13, 0x2000)?;
+    print_count(&rt, 14, 0x4000)?;
+    print_at_64(&rt)?;
+    print_outside(&rt)
 }

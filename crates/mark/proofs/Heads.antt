@@ -8,7 +8,6 @@ use native.Mathlib.Omega.{arith}
 use lib.ListN.{length, take, drop, length-drop}
 use lib.Seq.{take-add, length-take-le}
 use denote.Enum.Declared.{tag_of}
-use Rattle.io.specs.Counts.{IsPrefixLen}
 use Rattle.key_lines.specs.Deciding.{undecided}
 use Rattle.key_lines.proofs.Laws.{undecided-short}
 use Rattle.input_calls.specs.declared.Got.{Got}
@@ -18,7 +17,6 @@ use Rattle.input_calls.specs.Reading.{given, over, Read, Gave}
 use Rattle.input_calls.specs.contracts.Got.{the_type}
 use Rattle.input_calls.proofs.Answers.{counts}
 use Rattle.input_reading.proofs.Given.{read-bytes, read_none, gave-none, gave-append, gave_one, flatten_append, flatten_one}
-use Rattle.mark.specs.declared.Head.{Head}
 use Rattle.mark.specs.Heads.{HeadRead}
 
 -- the parts that the reads gave stand at the front of the head

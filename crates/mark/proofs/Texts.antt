@@ -1,9 +1,9 @@
 -- What is printed is what `printed` says of the input that the head and the parts behind it make.
 use mathlib.Core.Path.{◌≡◌, refl, sym, ap, subst, ◌∙◌}
-use mathlib.Core.Bool.{Bool, true, false}
+use mathlib.Core.Bool.{true, false}
 use mathlib.Core.List.{List, [], ◌∷◌, ◌++◌, flatten, append-nil}
 use mathlib.Core.Logic.{◌⊎◌, inl, inr}
-use Prim.Native.Nat.{ℕ, ◌+◌, ◌-◌, ◌*◌}
+use Prim.Native.Nat.{ℕ, ◌-◌, ◌*◌}
 use native.Mathlib.Omega.{arith}
 use lib.ListN.{length, take, drop, length-drop}
 use lib.Seq.{drop-append-le, take_all}
@@ -29,7 +29,7 @@ use Rattle.key_lines.proofs.Laws.{key-within, key-stays}
 use Rattle.input_calls.specs.declared.Got.{Got}
 use Rattle.input_calls.specs.declared.Got.TheVariants as GotCases
 use Rattle.input_calls.specs.declared.Input.{Input}
-use Rattle.input_calls.specs.Reading.{over, Gave}
+use Rattle.input_calls.specs.Reading.{over}
 use Rattle.input_calls.proofs.Answers.{true_false}
 use Rattle.input_reading.proofs.Given.{gave-none, gave-append, flatten_append}
 use Rattle.input_feeding.specs.declared.Marked.{Marked}

@@ -4,7 +4,7 @@
 // of the buffer as it is then, are fed, an end is taken for the end and a failure for a failure (`input_feeding::turn`); that behind the end the state of the
 // input stays (`input_calls::read_once`); and that the text is what `printed` says of parts with as many bytes as the state of the input counts, where that
 // state says End or where no further byte changes the text, or that there is none because it says Failed. A state is made in `input_calls` alone.
-// Not proved, since no contract reaches behind a read: that libc::read puts the input's next bytes at the front of the buffer, which is assumed; that
+// Not proved, since no contract reaches behind a read: that a read puts the input's next bytes at the front of the buffer, which is assumed; that
 // `read_once` hands on what its call answered; that no read's state is dropped, so that none is left out and none made behind the end; that the parts are the
 // bytes that were read; that no more is read than the text needs; and that `main` prints what `run` gives: tools/test-form and tools/test-program test these.
 #![tactic(auto)]
@@ -16,8 +16,8 @@ ghost use Rattle.mark.specs.Heads.{HeadRead, Known, Answered, told};
 use input_calls::{Got, Input};
 use input_feeding::Marked;
 use key_lines::KeyLine;
-use libc::{STDERR_FILENO, STDOUT_FILENO};
 use refusals::Refusal;
+use std::io::{Print, Stdin};
 
 // The length of the text at the front of a buffer, or that standard input cannot be read.
 #[derive(Clone, Copy)]
@@ -41,7 +41,7 @@ struct Head {
 }
 
 // Reads until the first bytes decide what the key's line says, or a read gives the end or fails. It reads no more than 18 bytes: these decide it.
-fn read_head(input: Input, head: &mut [u8]) -> Head
+fn read_head(stdin: Stdin, input: Input, head: &mut [u8]) -> Head
     requires { 18 ≡ length head.old }
     ensures { HeadRead input head.new result }
 {
@@ -49,7 +49,7 @@ fn read_head(input: Input, head: &mut [u8]) -> Head
     let mut done = 0;
     let mut more = true;
     while more {
-        at = input_reading::read_behind(at, head, done);
+        at = input_reading::read_behind(stdin, at, head, done);
         match input_calls::last(at) {
             Got::Bytes(n) => {
                 done += n;
@@ -76,14 +76,14 @@ fn told(front: Front, input: Input) -> Text
 }
 
 // The text for an input that begins with the bytes of head, which decide what the key's line says or are the whole input. Answers its length.
-fn answer(head: &[u8], input: Input, out: &mut [u8; 96]) -> Text
+fn answer(stdin: Stdin, head: &[u8], input: Input, out: &mut [u8; 96]) -> Text
     requires { Known head.now input }
     ensures { Answered head.now input out.old out.new result }
 {
     match key_lines::key_line(head) {
         KeyLine::NoKey => told(Front::Bytes(printing::no_key(out)), input),
         KeyLine::Key(key, at) => {
-            let marking = input_feeding::mark_file(key, &head[at..], input);
+            let marking = input_feeding::mark_file(stdin, key, &head[at..], input);
             let marked = marking.marked;
             match marked {
                 Marked::Done(m) => told(Front::Bytes(printing::report(m, out)), marking.input),
@@ -99,35 +99,39 @@ fn answer(head: &[u8], input: Input, out: &mut [u8; 96]) -> Text
 }
 
 // The text for the input, at the front of out.
-fn run(input: Input, out: &mut [u8; 96]) -> Text
+fn run(stdin: Stdin, input: Input, out: &mut [u8; 96]) -> Text
     ensures { Ran input out.old out.new result }
 {
     let mut head = [0u8; 18];
-    let read = read_head(input, &mut head);
+    let read = read_head(stdin, input, &mut head);
     match input_calls::last(read.input) {
         Got::Failed => told(Front::Unread, read.input),
-        _ => answer(&head[..read.count], read.input, out),
+        _ => answer(stdin, &head[..read.count], read.input, out),
     }
 }
 
 // Writes the text, or a line on standard error that says that it cannot.
-fn print(text: &[u8]) {
-    if !io::write_all(STDOUT_FILENO, text) {
-        io::write_all(STDERR_FILENO, b"mark: standard output cannot be written\n");
+fn print(rt: &HostRuntime, text: &[u8]) {
+    if rt.stdout().write_all(text).is_err() {
+        let _ = rt
+            .stderr()
+            .write_all(b"mark: standard output cannot be written\n");
     }
 }
 
 // The line where a read failed.
-fn unread() {
-    io::write_all(STDERR_FILENO, b"mark: standard input cannot be read\n");
+fn unread(rt: &HostRuntime) {
+    let _ = rt
+        .stderr()
+        .write_all(b"mark: standard input cannot be read\n");
 }
 
-fn main() {
+fn main(rt: HostRuntime) {
     let mut out = [0u8; 96];
-    let text = run(input_calls::unread(), &mut out);
+    let text = run(rt.stdin(), input_calls::unread(), &mut out);
     let front = text.front;
     match front {
-        Front::Unread => unread(),
-        Front::Bytes(k) => print(&out[..k]),
+        Front::Unread => unread(&rt),
+        Front::Bytes(k) => print(&rt, &out[..k]),
     }
 }

@@ -3,25 +3,24 @@ use mathlib.Core.Path.{◌≡◌, refl, sym, ap₂, ◌∙◌}
 use mathlib.Core.List.{List, ◌++◌}
 use Prim.Native.Nat.{ℕ}
 use native.Mathlib.Omega.{arith}
-use Rattle.bytes.specs.Bytes.{index_of, index_after}
 use Rattle.gf2.specs.Polynomials.{◌⊕◌, halvings, degree, monic, reduce, long_division, rem}
 use Rattle.lists.specs.Lists.{any_below}
 use Rattle.acceptance.specs.Keys.{reducible, key_of}
-use Rattle.files.specs.Files.{bits, low_bits, value_from, fingerprint_from, fingerprint, mark_from}
+use Rattle.files.specs.Files.{bits, low_bits, value_from, fingerprint_from, mark_from}
 use Rattle.key_lines.specs.declared.KeyLine.TheVariants.{Key}
-use Rattle.key_lines.specs.KeyLines.{key_line, key_before, line_of, all_digits, digit, hex_from}
+use Rattle.key_lines.specs.KeyLines.{key_line, key_before, line_of, all_digits, digit, hex_from, index_of}
 use Rattle.numerals.specs.Numerals.{digits_of, numeral}
 use Rattle.printing.specs.Printing.{ascii, printed, report, refused, mark_file}
 use Rattle.numerals.proofs.Numerals.{numeral-is, numeral_64}
 
 pub example : printed (ascii "11b\nAB") ≡ ascii "key 8 11b\nbytes 2\nmark 9d\n"
 unfolding ascii printed key_line key_before line_of all_digits digit hex_from digits_of numeral report mark_file
-    index_of index_after degree halvings monic rem long_division reduce ◌⊕◌ reducible any_below bits low_bits value_from fingerprint_from mark_from
+    index_of degree halvings monic rem long_division reduce ◌⊕◌ reducible any_below bits low_bits value_from fingerprint_from mark_from
 example = refl
 
 -- its key's line, and its answer as a report
 pub example-line : key_line (ascii "11b\nAB") ≡ Key (key_of 0x11B) 4
-unfolding ascii key_line key_before line_of all_digits digit hex_from index_of index_after
+unfolding ascii key_line key_before line_of all_digits digit hex_from index_of
 example-line = refl
 
 pub example-report : printed (ascii "11b\nAB") ≡ report (record { key = key_of 0x11B; fingerprint = 0x9D; length = 16 })
@@ -30,7 +29,7 @@ example-report = example
 
 -- wish 8's: seventeen digits, the first of them 1, 0 and 2
 pub line_64 : key_line (ascii "1000000000000001b\nAB") ≡ Key (record { degree = 64; word = 0x1B }) 18
-unfolding ascii key_line key_before line_of all_digits digit hex_from index_of index_after degree halvings
+unfolding ascii key_line key_before line_of all_digits digit hex_from index_of degree halvings
 line_64 = refl
 
 pub report_64 : report (record { key = record { degree = 64; word = 0x1B }; fingerprint = 0x14142; length = 16 })
@@ -44,9 +43,9 @@ report_64 =
     ∙ unfold numeral in refl
 
 pub line-zeros : key_line (ascii "0000000000000011b\nAB") ≡ Key (record { degree = 8; word = 0x1B }) 18
-unfolding ascii key_line key_before line_of all_digits digit hex_from index_of index_after degree halvings
+unfolding ascii key_line key_before line_of all_digits digit hex_from index_of degree halvings
 line-zeros = refl
 
 pub line_65 : printed (ascii "2000000000000001b\nAB") ≡ ascii "refused 1\n"
-unfolding ascii printed key_line key_before line_of all_digits digit hex_from index_of index_after digits_of numeral refused
+unfolding ascii printed key_line key_before line_of all_digits digit hex_from index_of digits_of numeral refused
 line_65 = refl

@@ -4,18 +4,21 @@
 
 use acceptance::Key;
 use search::Searched;
+use std::io;
+use std::io::Print;
 
-fn show(answer: Searched) {
+fn show(rt: &impl Print, answer: Searched) -> io::Result<()> {
     match answer {
         Searched::Found(c) => {
-            vectors::decimal(b"", wide(c.places));
-            vectors::decimal(b" places, ", wide(c.alarms));
-            vectors::text(b" false alarms");
+            vectors::decimal(rt, b"", wide(c.places))?;
+            vectors::decimal(rt, b" places, ", wide(c.alarms))?;
+            vectors::text(rt, b" false alarms")?;
         }
         Searched::Refused(r) => {
-            vectors::refused(refusals::number(r));
+            vectors::refused(rt, refusals::number(r))?;
         }
     }
+    Ok(())
 }
 
 fn wide(x: u32) -> u64 {
@@ -31,80 +34,107 @@ fn word(words: &[u32], i: usize) -> u64 {
 }
 
 // With two words lent.
-fn with_two(what: &[u8], key: Key, text: &[u8], pattern: &[u8]) {
+fn with_two(rt: &impl Print, what: &[u8], key: Key, text: &[u8], pattern: &[u8]) -> io::Result<()> {
     let mut words: [u32; 2] = [9; 2];
-    vectors::text(what);
-    show(search::search(key, text, pattern, &mut words));
-    vectors::decimal(b", words ", word(&words, 0));
-    vectors::decimal(b" ", word(&words, 1));
-    vectors::text(b"\n");
+    vectors::text(rt, what)?;
+    show(rt, search::search(key, text, pattern, &mut words))?;
+    vectors::decimal(rt, b", words ", word(&words, 0))?;
+    vectors::decimal(rt, b" ", word(&words, 1))?;
+    vectors::text(rt, b"\n")
 }
 
 // With one word lent.
-fn with_one(what: &[u8], key: Key, text: &[u8], pattern: &[u8]) {
+fn with_one(rt: &impl Print, what: &[u8], key: Key, text: &[u8], pattern: &[u8]) -> io::Result<()> {
     let mut words: [u32; 1] = [9; 1];
-    vectors::text(what);
-    show(search::search(key, text, pattern, &mut words));
-    vectors::decimal(b", word ", word(&words, 0));
-    vectors::text(b"\n");
+    vectors::text(rt, what)?;
+    show(rt, search::search(key, text, pattern, &mut words))?;
+    vectors::decimal(rt, b", word ", word(&words, 0))?;
+    vectors::text(rt, b"\n")
 }
 
 // A pattern that overlaps itself, a false alarm, a place, and patterns that are too long or empty.
-fn under_one_key() {
+fn under_one_key(rt: &impl Print) -> io::Result<()> {
     let aaa: [u8; 3] = [0x61, 0x61, 0x61];
     let aa: [u8; 2] = [0x61, 0x61];
     let zeros: [u8; 2] = [0x00, 0x00];
     let other: [u8; 2] = [0x01, 0x1B];
     let key = vectors::key(8, 0x1B);
-    with_two(b"61 61 in 61 61 61: ", key, &aaa, &aa);
-    with_one(b"61 61 in 61 61 61: ", key, &aaa, &aa);
-    with_two(b"01 1B in 00 00: ", key, &zeros, &other);
-    with_two(b"00 00 in 00 00: ", key, &zeros, &zeros);
-    with_two(b"61 61 61 in 61 61: ", key, &aa, &aaa);
-    with_two(b"the empty pattern: ", key, &aa, b"");
-    with_two(b"61 61 in the empty text: ", key, b"", &aa);
+    with_two(rt, b"61 61 in 61 61 61: ", key, &aaa, &aa)?;
+    with_one(rt, b"61 61 in 61 61 61: ", key, &aaa, &aa)?;
+    with_two(rt, b"01 1B in 00 00: ", key, &zeros, &other)?;
+    with_two(rt, b"00 00 in 00 00: ", key, &zeros, &zeros)?;
+    with_two(rt, b"61 61 61 in 61 61: ", key, &aa, &aaa)?;
+    with_two(rt, b"the empty pattern: ", key, &aa, b"")?;
+    with_two(rt, b"61 61 in the empty text: ", key, b"", &aa)
 }
 
 // Under keys that are refused.
-fn refused_keys() {
+fn refused_keys(rt: &impl Print) -> io::Result<()> {
     let aaa: [u8; 3] = [0x61, 0x61, 0x61];
     let aa: [u8; 2] = [0x61, 0x61];
-    with_two(b"key ff: ", vectors::key(7, 0x7F), &aaa, &aa);
+    with_two(rt, b"key ff: ", vectors::key(7, 0x7F), &aaa, &aa)?;
     with_two(
+        rt,
         b"key 101, the empty pattern: ",
         vectors::key(8, 0x01),
         &aaa,
         b"",
-    );
-    with_two(b"degree 8, word 11b: ", vectors::key(8, 0x11B), &aaa, &aa);
-    with_two(b"degree 65, word 1b: ", vectors::key(65, 0x1B), &aaa, &aa);
+    )?;
+    with_two(
+        rt,
+        b"degree 8, word 11b: ",
+        vectors::key(8, 0x11B),
+        &aaa,
+        &aa,
+    )?;
+    with_two(
+        rt,
+        b"degree 65, word 1b: ",
+        vectors::key(65, 0x1B),
+        &aaa,
+        &aa,
+    )
 }
 
 // Under keys of degree 64, where a false alarm has nine bytes.
-fn at_64() {
+fn at_64(rt: &impl Print) -> io::Result<()> {
     let aaa: [u8; 3] = [0x61, 0x61, 0x61];
     let aa: [u8; 2] = [0x61, 0x61];
     let zeros: [u8; 9] = [0x00; 9];
     let other: [u8; 9] = [0x01, 0x00, 0x00, 0x00, 0x00, 0x00, 0x00, 0x00, 0x1B];
     let key = vectors::key(64, 0x1B);
-    with_two(b"degree 64, word 1b, 61 61 in 61 61 61: ", key, &aaa, &aa);
     with_two(
+        rt,
+        b"degree 64, word 1b, 61 61 in 61 61 61: ",
+        key,
+        &aaa,
+        &aa,
+    )?;
+    with_two(
+        rt,
         b"degree 64, word 1b, 01, 00 seven times, 1B in 00 nine times: ",
         key,
         &zeros,
         &other,
-    );
+    )?;
     with_two(
+        rt,
         b"degree 64, word 1b, 00 nine times in 00 nine times: ",
         key,
         &zeros,
         &zeros,
-    );
-    with_two(b"degree 64, word 1: ", vectors::key(64, 0x01), &aaa, &aa);
+    )?;
+    with_two(
+        rt,
+        b"degree 64, word 1: ",
+        vectors::key(64, 0x01),
+        &aaa,
+        &aa,
+    )
 }
 
-fn main() {
-    under_one_key();
-    refused_keys();
-    at_64();
+fn main(rt: HostRuntime) -> io::Result<()> {
+    under_one_key(&rt)?;
+    refused_keys(&rt)?;
+    at_64(&rt)
 }

@@ -4,8 +4,9 @@
 ghost use Rattle.std.specs.Prelude.{◌≡◌, ◌+◌, ◌%◌, ◌^◌, if◌then◌else◌};
 
 use acceptance::Key;
-use libc::STDOUT_FILENO;
 use marks::{Fed, Running};
+use std::io;
+use std::io::Print;
 
 // A key by its degree and its word.
 pub fn key(degree: u32, word: u64) -> Key
@@ -17,44 +18,42 @@ pub fn key(degree: u32, word: u64) -> Key
     }
 }
 
-pub fn text(bytes: &[u8]) {
-    io::write_all(STDOUT_FILENO, bytes);
+pub fn text(rt: &impl Print, bytes: &[u8]) -> io::Result<()> {
+    rt.write_all(bytes)
 }
 
 // A label, and behind it a number in decimal.
-pub fn decimal(label: &[u8], n: u64) {
-    text(label);
-    io::print_decimal(STDOUT_FILENO, n);
+pub fn decimal(rt: &impl Print, label: &[u8], n: u64) -> io::Result<()> {
+    text(rt, label)?;
+    print!(rt; "{n}")
 }
 
 // The same in hexadecimal, in two digits at least.
-pub fn hex(label: &[u8], n: u64) {
-    text(label);
-    io::print_hex(STDOUT_FILENO, n, 2);
+pub fn hex(rt: &impl Print, label: &[u8], n: u64) -> io::Result<()> {
+    text(rt, label)?;
+    print!(rt; "{n:02x}")
 }
 
 // A refusal's number.
-pub fn refused(number: u32) {
-    decimal(b"refused ", number as u64);
+pub fn refused(rt: &impl Print, number: u32) -> io::Result<()> {
+    decimal(rt, b"refused ", number as u64)
 }
 
 // A mark: its fingerprint, and its length in bits.
-pub fn mark(m: Running) {
-    hex(b"", m.fingerprint);
-    decimal(b", ", m.length);
-    text(b" bits\n");
+pub fn mark(rt: &impl Print, m: Running) -> io::Result<()> {
+    hex(rt, b"", m.fingerprint)?;
+    decimal(rt, b", ", m.length)?;
+    text(rt, b" bits\n")
 }
 
 // A mark, or the refusal's number with the mark that went back.
-pub fn fed_or_refused(answer: Fed) {
+pub fn fed_or_refused(rt: &impl Print, answer: Fed) -> io::Result<()> {
     match answer {
-        Fed::Next(m) => {
-            mark(m);
-        }
+        Fed::Next(m) => mark(rt, m),
         Fed::Refused(r, m) => {
-            refused(refusals::number(r));
-            text(b", mark ");
-            mark(m);
+            refused(rt, refusals::number(r))?;
+            text(rt, b", mark ")?;
+            mark(rt, m)
         }
     }
 }

@@ -1,0 +1,7 @@
+-- `mark::run` meets its contract: the head, and the answer behind it.
+use Rattle.mark.proofs.Texts.{head-answered}
+use Rattle.mark.proofs.run.Goals as goal
+
+pub returns-in_default : goal.returns-in_default
+returns-in_default c =
+    head-answered c.args.input c.read_head-read.new.head c.read_head-read.result c.read_head-read.ensures _ _ c.answer.result c.answer.ensures
