@@ -70,4 +70,4 @@ benchmark-figures:
 
 # Lays every .rt and .antt file out.
 fmt:
-	rt fmt
+	@for crate in crates/*/src; do (cd $$crate/.. && rt fmt) || exit; done
