@@ -7,27 +7,27 @@ ROUNDS = 1
 
 # The main job on an embedded sample: the printing program reads a key and a file and prints the file's mark.
 run:
-	@echo 'Proving the printing program and what it stands on first: a line a crate, two to three minutes in all on two quiet cores; nothing the next time.' >&2
-	@tools/prove mark
+	@echo 'Proving the printing program and what it stands on first: a line a crate, some minutes in all; nothing the next time.' >&2
+	@tools/program
 	@printf '2000000000000027\nGauge 7, offset -0.0125 m\n' | target/bin/mark
 
-# Proves every crate from nothing, tries the must-fail edits, runs the programs and compares the C interface with a second
-# implementation. Its last line is "N passed, 0 failed".
+# Proves every crate, tries the must-fail edits, runs the programs and compares the C interface with a second implementation. Its
+# last line is "N passed, 0 failed".
 test:
 	@tools/test
 
 # The static libraries for C and Rust, one a level, made anew where a file of a crate is newer.
 libraries: target/staticlib/made
 
-target/staticlib/made: crates.txt tools/libraries $(shell find crates)
-	@echo 'Proving the libraries and what they stand on first: a line a crate, less than five minutes in all on two quiet cores; less the next time.' >&2
+target/staticlib/made: crates.txt tools/libraries $(shell find crates -mindepth 2 -path 'crates/*/out' -prune -o -print)
+	@echo 'Proving the libraries and what they stand on first: a line a crate, some minutes in all; less the next time.' >&2
 	@tools/libraries
 
 # The libraries, the header, the Rust wrapper, the printing program and the document that the header names, where a C or Rust project finds
 # them.
 install: libraries
 	@echo 'Proving the printing program: a line a crate.' >&2
-	@tools/prove mark
+	@tools/program
 	@mkdir -p $(PREFIX)/lib/pkgconfig $(PREFIX)/include $(PREFIX)/bin $(PREFIX)/share/gfp $(PREFIX)/share/doc/gfp
 	@cp $(LIBRARIES:%=target/staticlib/lib%.a) $(PREFIX)/lib/
 	@cp include/gfp.h $(PREFIX)/include/
@@ -53,7 +53,7 @@ HEADER = include
 BUILT = target/staticlib
 PROGRAM =
 benchmark: libraries
-	@rt staticlib gf2_measured > /dev/null
+	@tools/archive gf2_measured
 	@mkdir -p $(BENCHMARK)
 	@cd benchmark && GO111MODULE=off GOPATH=/usr/share/gocode go build -buildmode=c-archive -o ../$(BENCHMARK)/librestic.a restic.go
 	@gcc -O3 -falign-functions=64 -c benchmark/peers.c -o $(BENCHMARK)/peers.o
@@ -70,4 +70,4 @@ benchmark-figures:
 
 # Lays every .rt and .antt file out.
 fmt:
-	rt fmt
+	@for crate in crates/*/src; do (cd $$crate/.. && rt fmt) || exit; done

@@ -3,9 +3,7 @@ use mathlib.Core.Path.{◌≡◌}
 use Prim.Native.Nat.{ℕ, ◌+◌, ◌-◌, ◌/◌, ◌%◌, ◌^◌, ◌<◌}
 use native.Mathlib.Omega.{arith}
 use lib.Pow.{shr_lt}
-use borrow.Author.Rules.{rules}
-use Rattle.gf2_measured.proofs.measured_step.Statement.{statement}
-use Rattle.gf2_measured.proofs.measured_step.Tie as tie
+use Rattle.gf2_measured.proofs.measured_step.Goals as goal
 
 -- the highest bits of a word, as many as the degree, are below 2 ^ degree
 high_lt : (d x : ℕ) → x < 2 ^ 64 → x / 2 ^ (63 - d % 64) < 2 ^ (1 + d % 64)
@@ -14,14 +12,8 @@ high_lt d x h = shr_lt (1 + d % 64) (63 - d % 64) (rw whole h)
     whole : 1 + d % 64 + (63 - d % 64) ≡ 64
     whole = omega arith
 
-step-requires : tie.Need-step-requires
-step-requires c κs =
+pub step-requires : goal.step-requires
+step-requires c =
     let a = c.args in
     let fits = c.ranges in
     ((omega arith, omega arith, high_lt a.d a.low fits.low.fits), high_lt a.d a.f fits.f.fits, omega arith)
-
-pub measured-step-spec : {M : Type 1} → statement M
-measured-step-spec =
-    tie.close
-    (tie.spec (λ c. search rules) (λ c. search rules) (λ c. search rules) (λ c. search rules) (λ c. search rules) (λ c. search rules) step-requires
-    (λ c. search rules))
