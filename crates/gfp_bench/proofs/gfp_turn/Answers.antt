@@ -1,7 +1,6 @@
 -- The answer, stored: on refusal nothing is written, and the state is the mark that was handed in.
 use mathlib.Core.Path.{◌≡◌}
 use mathlib.Core.List.{◌++◌}
-use borrow.Author.Rules.{rules}
 use Rattle.refusals.specs.Refusals.{state_of, value_or}
 use Rattle.refusals.proofs.Replies.{first-keeps}
 use Rattle.acceptance.specs.declared.Key.{Key}
@@ -11,25 +10,16 @@ use Rattle.files.specs.PlainMarks.{turned}
 use Rattle.marks.specs.PlainMarks.{turn_tests, turn}
 use Rattle.c_interface.specs.Interface.{key_at, mark_at}
 use Rattle.c_interface.proofs.Answers.{stored}
-use Rattle.gfp_bench.proofs.gfp_turn.Statement.{statement}
-use Rattle.gfp_bench.proofs.gfp_turn.Tie as tie
-
--- ---- the places: from each one to an earlier one
-
-abbrev turn→start : tie.After-turn → tie.Start
-turn→start c = c.before.before.before
+use Rattle.gfp_bench.proofs.gfp_turn.Goals as goal
 
 -- on refusal the state is the mark that was handed in
 keeps : (x : Key) (m : Mark) → value_or m (turn x m) ≡ state_of (turn x m)
 unfolding turn
 keeps x m = first-keeps (key_tests x ++ turn_tests (polynomial_of x) m) m (turned (polynomial_of x) m)
 
-returns : tie.Need-returns
+pub returns : goal.returns
 returns c =
-    let s = (turn→start c.before.before.before).args in
+    let s = c.args in
     let x = key_at s.degree s.word in
     let m = mark_at s.fingerprint.now s.bits.now in
-    stored x m (turn x m) _ _ _ (keeps x m) c.before.before.before.turn.ensures c.store.ensures
-
-pub gfp-turn-spec : {M : Type 1} → statement M
-gfp-turn-spec = tie.close (tie.spec (λ c κs. search rules) (λ c κs. search rules) returns)
+    stored x m (turn x m) _ _ _ (keeps x m) c.turn.ensures c.store.ensures
