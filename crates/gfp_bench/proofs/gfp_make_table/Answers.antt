@@ -3,4 +3,4 @@ use Rattle.refusals.proofs.Replies.{replied}
 use Rattle.gfp_bench.proofs.gfp_make_table.Goals as goal
 
 pub returns : goal.returns
-returns c = let m = c.make in replied m.result m.ensures c.number_of_lem.ensures
+returns c = let m = c.make in replied m.result m.ensures c.number_of.ensures

@@ -4,4 +4,4 @@ use Rattle.refusals.specs.Refusals.{number_of}
 use Rattle.gfp_bench.proofs.gfp_test_table.Goals as goal
 
 pub returns : goal.returns
-returns c = c.number_of_lem.ensures ∙ ap number_of c.test.ensures
+returns c = c.number_of.ensures ∙ ap number_of c.test.ensures

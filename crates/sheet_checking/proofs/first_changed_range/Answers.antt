@@ -22,10 +22,9 @@ known-at_after_compare : (c : After-compare) → ReadAs c.args.sheet.now c.in-Op
 known-at_after_compare c = read_as c.args.sheet.now c.in-Opened.x.numbers (ap opening (sym c.in-Opened.is) ∙ c.open_sheet.ensures.0)
 
 -- the check's answer
-answer : (c : After-compare) → check_answer c.compare.result ≡ check_sheet c.args.sheet.now (file c.before.before.before.before.before.before.before.before.before)
+answer : (c : After-compare) → check_answer c.compare.result ≡ check_sheet c.args.sheet.now (as_part c.args.file.now c.args.used)
 answer c =
-    let c = (c) in
-    c.compare.ensures ∙ sym (check_done c.args.sheet.now (known-at_after_compare c) (file c.before.before.before.before.before.before.before.before.before))
+    c.compare.ensures ∙ sym (check_done c.args.sheet.now (known-at_after_compare c) (as_part c.args.file.now c.args.used))
 
 pub compare-requires : goal.compare-requires
 compare-requires c = (known (goal.at.compare-requires c).In-Opened, subst Kept c.in-Opened.is (c).open_sheet.ensures.1)

@@ -20,7 +20,7 @@ known c =
     let a = c.args in
     measured (length a.file.now) a.size c.in-Bytes.needed (ap length_answer (sym c.in-Bytes.is) ∙ c.length.ensures)
 
-well : (c : Else-is_misused) → misused (part c.before.before.before.before.before.before.before.before.before.before) ≡ false
+well : (c : Else-is_misused) → misused (as_part c.args.file.now c.args.used) ≡ false
 well c = sym c.is_misused.ensures ∙ c.if-is_misused.false
 
 pub returns-then-buffer-needed : goal.returns-then-buffer-needed
