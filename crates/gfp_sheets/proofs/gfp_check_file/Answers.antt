@@ -1,14 +1,15 @@
 -- The answer of the check is told in two places; on refusal nothing is.
-use mathlib.Core.Path.{◌≡◌, sym, ap, ◌∙◌}
+use mathlib.Core.Path.{◌≡◌, refl, sym, ap, ◌∙◌}
 use mathlib.Core.List.{List, [], ◌∷◌}
 use Prim.Native.Nat.{ℕ}
 use Rattle.refusals.specs.Refusals.{Answer, number_of, value_or, mapped}
 use Rattle.files.specs.Files.{as_part}
+use Rattle.refusals.specs.declared.Refusal.{Refusal}
 use Rattle.sheets.specs.declared.Checked.{Checked}
+use Rattle.sheets.specs.declared.Checked.TheVariants as CheckedCases
 use Rattle.sheets.specs.Sheets.{Outcome, check_sheet}
 use Rattle.sheets.specs.Outputs.{outcome_in}
 use Rattle.sheets.specs.Answers.{check_answer}
-use Rattle.sheets.proofs.Answers.{no_page, other-left}
 use Rattle.gfp_sheets.proofs.gfp_check_file.Goals as goal
 use Rattle.gfp_sheets.proofs.gfp_check_file.Goals.{After-check-answer}
 
@@ -37,11 +38,18 @@ returns-in-Refused c =
 pub returns-in-Same : goal.returns-in-Same
 returns-in-Same c = told (goal.at.returns-in-Same c).After-check-answer _ c.in-Same.is
 
--- what is left is another length
+-- what is neither a page nor refused nor same
+other_length : (o : Checked) → ((i : ℕ) → o ≡ CheckedCases.Page i → ⊥) → ((r : Refusal) → o ≡ CheckedCases.Refused r → ⊥) → (o ≡ CheckedCases.Same → ⊥)
+    → o ≡ CheckedCases.OtherLength
+other_length CheckedCases.OtherLength p r s = refl
+other_length (CheckedCases.Page i) p r s = absurd (p i refl)
+other_length (CheckedCases.Refused x) p r s = absurd (r x refl)
+other_length CheckedCases.Same p r s = absurd (s refl)
+
 pub returns-in_default : goal.returns-in_default
 returns-in_default c =
-    let o = c.check-answer.result in
-    told (goal.at.returns-in_default c).After-check-answer _ (other-left o (no_page o c.in_default.in_default-own.keys2) c.in_default-answer-2.in_default-answer-2-own.keys2 c.in_default-answer.in_default-answer-own.keys2)
+    told (goal.at.returns-in_default c).After-check-answer _
+    (other_length c.check-answer.result c.in_default.not-Page c.in_default-answer.not-Refused c.in_default-answer-2.not-Same)
 
 -- a page
 pub returns : goal.returns
