@@ -6,8 +6,7 @@ use native.Mathlib.Omega.{arith}
 use lib.Pow.{pow_mono}
 use Rattle.gf2.specs.Polynomials.{monic}
 use Rattle.gf2.proofs.Steps.{shifted_one}
-use Rattle.inverses.proofs.inverse_of_t.Statement.{statement}
-use Rattle.inverses.proofs.inverse_of_t.Tie as tie
+use Rattle.inverses.proofs.inverse_of_t.Goals as goal
 
 half_is : (k c : ℕ) → 0 < k → k ≤ 64 → c / 2 + 1 * 2 ^ (k - 1) % 2 ^ 64 ≡ monic k c / 2
 unfolding monic
@@ -21,11 +20,11 @@ half-fits (suc k) c l h b =
     let e = shifted_one k (omega arith) in let f : suc k - 1 ≡ k = omega arith in
     rw (f, e) (lt_of_lt_of_le (omega arith) (pow_mono {i = suc k} {j = 64} h))
 
-add-result : tie.Need-overflow-add-result
-add-result c = let s = c.before.before in record { fits = half-fits s.args.p.degree s.args.p.low s.requires.0 s.requires.1 s.requires.2 }
+pub overflow_add-result : goal.overflow_add-result
+overflow_add-result c = record { fits = half-fits c.args.p.degree c.args.p.low c.requires.0 c.requires.1 c.requires.2 }
 
-returns : tie.Need-returns
-returns c = let s = c.before.before in half_is s.args.p.degree s.args.p.low s.requires.0 s.requires.1
+pub returns : goal.returns
+returns c = half_is c.args.p.degree c.args.p.low c.requires.0 c.requires.1
 
-pub inverse-of-t-spec : {M : Type 1} → statement M
-inverse-of-t-spec = tie.close (tie.spec (λ c. omega arith) (λ c. record { fits = omega arith }) (λ c. omega arith) add-result returns)
+pub overflow_cast-top : goal.overflow_cast-top
+overflow_cast-top c = record { fits = omega arith }
