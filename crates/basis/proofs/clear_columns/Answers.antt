@@ -1,5 +1,5 @@
 -- `clear_columns` meets its contract.
-use Rattle.std.proofs.Common.{◌≡◌, ℕ, ◌-◌, length, sym, refl, ap, ◌∙◌, arith}
+use Rattle.std.proofs.Common.{◌≡◌, ℕ, length, sym, refl, ap, ◌∙◌, arith}
 use mathlib.Core.List.{map-map}
 use Rattle.basis.specs.Rows.{clear}
 use Rattle.basis.proofs.Mapping.{mapped-length, mapped_next, mapped-whole}

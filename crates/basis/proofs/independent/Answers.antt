@@ -2,7 +2,7 @@
 use Rattle.std.proofs.Common.{◌≡◌, ◌-◌, ◌↔◌, get_or, take, sym, refl, ◌∙◌, arith, length-take-le, ltb-true, lt-ltb}
 use mathlib.Core.Bool.{false≢true}
 use lib.Seq.{take-length, length_front}
-use Rattle.basis.specs.Rows.{Independent, clear}
+use Rattle.basis.specs.Rows.{Independent}
 use Rattle.basis.proofs.Turns.{last-zero, next-zero, turn-before, only_row}
 use Rattle.basis.proofs.Elimination.{no_rows}
 use Rattle.basis.proofs.independent.Goals as goal

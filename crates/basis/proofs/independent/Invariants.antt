@@ -1,5 +1,5 @@
 -- `independent` meets its contract.
-use Rattle.std.proofs.Common.{◌≡◌, ◌-◌, ◌≤◌, ◌↔◌, length, take}
+use Rattle.std.proofs.Common.{◌≡◌, ◌≤◌, ◌↔◌, length, take}
 use Rattle.basis.specs.Rows.{Independent}
 use Rattle.basis.proofs.independent.Given as goal
 

@@ -1,6 +1,6 @@
 -- `files::difference` meets its contract: what is left of both pages, the old one behind x, gives what the whole pages give.
 use mathlib.Core.Path.{refl, sym, ap, ◌∙◌}
-use Prim.Native.Nat.{◌-◌, ◌<◌}
+use Prim.Native.Nat.{◌<◌}
 use native.Mathlib.Omega.{arith}
 use lib.ListN.{get_or, drop_of_length-le}
 use lib.Pow.{pow_pos}

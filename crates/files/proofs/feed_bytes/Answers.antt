@@ -1,6 +1,6 @@
 -- `files::feed_bytes` meets its contract: what is left of the part is fed to x, and gives what the whole part gives behind f.
 use mathlib.Core.Path.{refl, sym, ◌∙◌}
-use Prim.Native.Nat.{◌+◌, ◌-◌, ◌*◌, ◌<◌}
+use Prim.Native.Nat.{◌+◌, ◌*◌, ◌<◌}
 use native.Mathlib.Omega.{arith}
 use lib.ListN.{get_or, drop_of_length-le}
 use Rattle.gf2.proofs.Monics.{monic-pos}

@@ -1,6 +1,6 @@
 -- `files::feed_low` meets its contract: what is left of the bits is fed to x, and gives what all of them give behind f.
 use mathlib.Core.Path.{◌≡◌}
-use Prim.Native.Nat.{◌-◌, ◌^◌, ◌≤◌, ◌<◌}
+use Prim.Native.Nat.{◌^◌, ◌≤◌, ◌<◌}
 use Rattle.gf2.specs.Polynomials.{rem}
 use Rattle.gf2.specs.Moduli.{polynomial}
 use Rattle.files.specs.Files.{low_bits, value_from}

@@ -1,7 +1,7 @@
 -- `gf2::power_of_t` meets its contract. The loop's invariant: x is the power by the bits of n from place i on. The measure is i.
 use mathlib.Core.Path.{◌≡◌}
 use Prim.Native.Nat.{◌/◌, ◌^◌, ◌≤◌}
-use Rattle.gf2.specs.Polynomials.{◌⊗◌, rem}
+use Rattle.gf2.specs.Polynomials.{rem}
 use Rattle.gf2.specs.Powers.{◌⊗^◌}
 use Rattle.gf2.specs.Moduli.{polynomial}
 use Rattle.gf2.proofs.power_of_t.Given as goal

@@ -1,7 +1,7 @@
 -- `gf2::product` meets its contract. The loop's invariant: the sum is the product with the i low bits of b, and a is shifted by i places.
 -- The measure is the number of bits that are left.
 use mathlib.Core.Path.{◌≡◌, sym, ap, ◌∙◌}
-use Prim.Native.Nat.{ℕ, ◌+◌, ◌-◌, ◌*◌, ◌%◌, ◌^◌}
+use Prim.Native.Nat.{ℕ, ◌+◌, ◌*◌, ◌%◌, ◌^◌}
 use native.Mathlib.Nat.{mul-one, mod-one, mod-eq_of_lt, lt_of_le_of_lt}
 use native.Mathlib.Numerals.{add-one}
 use native.Mathlib.Omega.{arith}

@@ -1,11 +1,11 @@
 -- `inverse` meets its contract. The modulus is 2h + 1. The measure is r + s.
 use mathlib.Core.Path.{◌≡◌}
-use Prim.Native.Nat.{ℕ, ◌+◌, ◌-◌, ◌*◌, ◌^◌, ◌≤◌, ◌<◌}
+use Prim.Native.Nat.{ℕ, ◌+◌, ◌*◌, ◌^◌, ◌≤◌, ◌<◌}
 use native.Mathlib.Omega.{arith}
 use Rattle.gf2.specs.Polynomials.{degree}
 use Rattle.gf2.specs.Moduli.{polynomial}
 use Rattle.gf2.proofs.Monics.{monic-degree}
-use Rattle.inverses.specs.Euclid.{next, Related}
+use Rattle.inverses.specs.Euclid.{Related}
 use Rattle.inverses.proofs.Euclid.{odd-modulus, next-keeps, next-less, last-inverse, first-related, no_divisor}
 use Rattle.inverses.proofs.inverse.Goals as goal
 use Rattle.inverses.proofs.inverse.Goals.{After-inverse_of_t-h, At-loop-x}

@@ -1,5 +1,5 @@
 -- `inverse` meets its contract. The modulus is 2h + 1. The measure is r + s.
-use Prim.Native.Nat.{◌+◌, ◌-◌, ◌*◌}
+use Prim.Native.Nat.{◌+◌, ◌*◌}
 use Rattle.inverses.specs.Euclid.{Related}
 use Rattle.inverses.proofs.inverse.Given as goal
 

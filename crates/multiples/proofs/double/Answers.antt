@@ -1,6 +1,6 @@
 -- `double` meets its contract: the words before `next` stay, and the i words behind it are shifted ones; so do those behind all n.
 use mathlib.Core.Path.{refl}
-use Prim.Native.Nat.{◌+◌, ◌-◌, ◌<◌}
+use Prim.Native.Nat.{◌+◌, ◌<◌}
 use native.Mathlib.Omega.{arith}
 use Rattle.gf2.specs.Polynomials.{◌⊕◌}
 use Rattle.multiples.proofs.Doubling.{same_more, from_more, shifted-more}

@@ -1,6 +1,6 @@
 -- `fill_row` meets its contract: after b turns the row has 2^b words, and y is the multiple by 2^b.
 use mathlib.Core.Path.{◌≡◌, refl, ap, ◌∙◌}
-use Prim.Native.Nat.{ℕ, ◌+◌, ◌-◌, ◌*◌, ◌^◌, ◌<◌}
+use Prim.Native.Nat.{ℕ, ◌+◌, ◌*◌, ◌^◌, ◌<◌}
 use native.Mathlib.Omega.{arith}
 use Rattle.gf2.specs.Polynomials.{◌⊗◌, rem}
 use Rattle.gf2.specs.Moduli.{polynomial}

@@ -1,5 +1,5 @@
 -- The loop's invariant is `Kept`. The measure is the number of rows that are left.
-use Rattle.std.proofs.Common.{◌≡◌, ◌-◌, ◌*◌, ◌%◌, ◌^◌, ◌<◌, arith, length-drop, length-take, rules}
+use Rattle.std.proofs.Common.{◌≡◌, ◌*◌, ◌%◌, ◌^◌, ◌<◌, arith, length-drop, length-take, rules}
 use Rattle.gf2.specs.Polynomials.{◌⊕◌}
 use Rattle.gf2.proofs.Steps.{shifted_one}
 use Rattle.relations.proofs.Relations.{kept-start, pivot, kept-turn, relation_found}

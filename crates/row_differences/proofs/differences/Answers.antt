@@ -1,6 +1,6 @@
 -- `differences` meets its contract: the sum is 0 where the first i words agree.
 use mathlib.Core.Path.{◌≡◌, refl}
-use Prim.Native.Nat.{◌+◌, ◌-◌}
+use Prim.Native.Nat.{◌+◌}
 use native.Mathlib.Omega.{arith}
 use Rattle.gf2.specs.Polynomials.{◌⊕◌}
 use Rattle.multiples.proofs.Doubling.{or_iff, iff_trans, difference_iff, shifted_iff}

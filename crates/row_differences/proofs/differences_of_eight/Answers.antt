@@ -1,6 +1,5 @@
 -- `differences_of_eight` meets its contract: the sum is 0 where the first i words of each part agree.
 use mathlib.Core.Path.{◌≡◌, refl}
-use Prim.Native.Nat.{◌-◌}
 use native.Mathlib.Omega.{arith}
 use Rattle.gf2.specs.Polynomials.{◌⊕◌}
 use Rattle.multiples.proofs.Doubling.{iff_trans, parts_iff, parts_none, parts_whole}
