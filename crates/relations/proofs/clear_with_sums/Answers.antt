@@ -1,5 +1,5 @@
 -- The loop's invariant: the rows before j are cleared, and their sums are changed. The measure is the number of rows that are left.
-use Rattle.std.proofs.Common.{◌≡◌, ℕ, ◌-◌, length, get_or, refl, ap, arith}
+use Rattle.std.proofs.Common.{◌≡◌, ℕ, length, get_or, refl, ap, arith}
 use lib.Bits.{bit_xor}
 use Rattle.gf2.specs.Polynomials.{◌⊕◌}
 use Rattle.basis.specs.Rows.{clear}

@@ -1,6 +1,6 @@
 -- The loop's invariant: what was summed, with what the rows that are left sum to, is the whole. The measure is the number of rows that are
 -- left.
-use Rattle.std.proofs.Common.{ℕ, ◌-◌, List, sym, ◌∙◌, arith}
+use Rattle.std.proofs.Common.{ℕ, List, sym, ◌∙◌, arith}
 use Rattle.gf2.specs.Polynomials.{◌⊕◌}
 use Rattle.gf2.proofs.Sums.{zero-⊕}
 use Rattle.basis.specs.Rows.{sum_of}
