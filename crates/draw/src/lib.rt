@@ -55,27 +55,31 @@ fn multiples(p: Modulus, a: u64) -> [u64; 64]
     rows
 }
 
-// The powers 1, e, e^2, .. as the rows of a matrix: that of the map which takes a polynomial to its value at e.
-fn powers(p: Modulus, e: u64) -> [u64; 64]
+// The powers 1, e, e^2, .. as the rows of a matrix: that of the map which takes a polynomial to its value at e. Multiplication by e goes to the
+// lent array.
+fn powers(p: Modulus, e: u64, times_e: &mut [u64; 64]) -> [u64; 64]
     requires { Proper p × (e < 2 ^ p.degree) }
     ensures { Matrix (λ q. at (polynomial p) q e) result }
 {
-    let times_e = multiples(p, e);
+    *times_e = multiples(p, e);
     let mut rows: [u64; 64] = [0; 64];
     let mut power: u64 = 1;
     for i in 0..64 {
         rows[i] = power;
-        power = relations::sum_of(power, &times_e);
+        power = relations::sum_of(power, times_e);
     }
     rows
 }
 
-// The minimal polynomial of e modulo a polynomial that makes a field: the relation among the powers of e.
+// The minimal polynomial of e modulo a polynomial that makes a field: the relation among the powers of e. Both steps take the same room beside the
+// powers, so that the stack holds two arrays and not three.
 fn minimal_polynomial(p: Modulus, e: u64) -> u64
     requires { Proper p × (p.degree < 64) × Field (polynomial p) p.degree × (1 < e) × (e < 2 ^ p.degree) }
     ensures { result ≡ drawn (polynomial p) p.degree e }
 {
-    relations::relation(powers(p, e), p.degree)
+    let mut room: [u64; 64] = [0; 64];
+    let rows = powers(p, e, &mut room);
+    relations::relation_by(rows, p.degree, &mut room)
 }
 
 // The key of a degree that an element draws. Numbers 3, 4.

@@ -47,8 +47,17 @@ pub fn relation(rows: [u64; 64], k: u32) -> u64
     requires { (k < 64) × NoRelation k rows × (NoRelation (k + 1) rows → ⊥) }
     ensures { Degree result k × (sum_of result rows ≡ 0) }
 {
-    let mut work = rows;
     let mut sums: [u64; 64] = [0; 64];
+    relation_by(rows, k, &mut sums)
+}
+
+// The same, with the sums in a lent array: a caller that has one lends it, and takes less stack.
+pub fn relation_by(rows: [u64; 64], k: u32, sums: &mut [u64; 64]) -> u64
+    requires { (k < 64) × NoRelation k rows × (NoRelation (k + 1) rows → ⊥) }
+    ensures { Degree result k × (sum_of result rows ≡ 0) }
+{
+    let mut work = rows;
+    *sums = [0; 64];
     let last = k as usize;
     let n = last + 1;
     for i in 0..last {

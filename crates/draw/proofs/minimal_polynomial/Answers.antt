@@ -3,14 +3,14 @@ use Rattle.gf2.specs.Moduli.{polynomial}
 use Rattle.draw.proofs.Evaluation.{none-smaller, one-there, relation_drawn}
 use Rattle.draw.proofs.minimal_polynomial.Goals as goal
 
-pub powers-requires : goal.powers-requires
-powers-requires c = (c.requires.0, c.requires.4)
+pub powers-rows-requires : goal.powers-rows-requires
+powers-rows-requires c = (c.requires.0, c.requires.4)
 
-pub relation-requires : goal.relation-requires
-relation-requires c =
+pub relation_by-requires : goal.relation_by-requires
+relation_by-requires c =
     let a = c.args in
     let p = c.requires in
-    let n = c.powers in (
+    let n = c.powers-rows in (
       p.1,
       none-smaller (polynomial a.p) a.p.degree p.2 a.e p.3 p.4 p.1 n.result n.ensures,
       one-there (polynomial a.p) a.p.degree p.2 a.e p.3 p.4 p.1 n.result n.ensures,
@@ -20,6 +20,6 @@ pub returns : goal.returns
 returns c =
     let a = c.args in
     let p = c.requires in
-    let n = c.powers in
-    let r = c.relation in
+    let n = c.powers-rows in
+    let r = c.relation_by in
     relation_drawn (polynomial a.p) a.p.degree p.2 a.e p.3 p.4 p.1 n.result n.ensures r.result r.ensures.0 r.ensures.1

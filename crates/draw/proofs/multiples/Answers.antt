@@ -1,6 +1,6 @@
 -- `draw::multiples` meets its contract. The loop's invariant: the rows before j are in, and x is row j. The measure is the number of rows that are left.
 use mathlib.Core.Path.{sym, ap, ◌∙◌}
-use Prim.Native.Nat.{◌-◌, ◌^◌}
+use Prim.Native.Nat.{◌^◌}
 use native.Mathlib.Omega.{arith}
 use borrow.Author.Rules.{rules}
 use lib.ListN.{length-set}

@@ -1,7 +1,7 @@
 -- The loop's invariant is `Kept`. The measure is the number of rows that are left.
 use Rattle.std.proofs.Common.{◌-◌}
 use Rattle.relations.proofs.Relations.{Kept}
-use Rattle.relations.proofs.relation.Given as goal
+use Rattle.relations.proofs.relation_by.Given as goal
 
 abbrev pub invariant-loop-i : goal.invariant-loop-i
 invariant-loop-i l = Kept l.initial.work l.k l.i l.work l.sums

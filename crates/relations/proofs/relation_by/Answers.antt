@@ -3,8 +3,8 @@ use Rattle.std.proofs.Common.{◌≡◌, ◌*◌, ◌%◌, ◌^◌, ◌<◌, ari
 use Rattle.gf2.specs.Polynomials.{◌⊕◌}
 use Rattle.gf2.proofs.Steps.{shifted_one}
 use Rattle.relations.proofs.Relations.{kept-start, pivot, kept-turn, relation_found}
-use Rattle.relations.proofs.relation.Goals as goal
-use Rattle.relations.proofs.relation.Goals.{In-loop-i}
+use Rattle.relations.proofs.relation_by.Goals as goal
+use Rattle.relations.proofs.relation_by.Goals.{In-loop-i}
 
 -- what the arithmetic of a rests on
 in-turn : (c : In-loop-i) → (c.loop-i.i < c.args.k) × (c.args.k < 64)
