@@ -29,13 +29,13 @@ pub cleared-w-requires : goal.cleared-w-requires
 cleared-w-requires c = let one = c.lowest_one-c.ensures in (one.0, one.1)
 
 pub shape_of-rows-then-w-eq0 : goal.shape_of-rows-then-w-eq0
-shape_of-rows-then-w-eq0 c = (c).loop-n.invariant.1
+shape_of-rows-then-w-eq0 c = c.loop-n.invariant.1
 
 pub returns-then-w-eq0 : goal.returns-then-w-eq0
 returns-then-w-eq0 c =
     let w = c.cleared-w in
     let one = c.lowest_one-c in
-    let l = (c).loop-n in (
+    let l = c.loop-n in (
       (
         λ f. absurd (false≢true f),
         λ i. absurd (next-zero l.n l.rows (omega arith) (omega arith) one.result one.ensures.2 w.result w.ensures c.if-w-eq0.true
@@ -46,7 +46,7 @@ returns-then-w-eq0 c =
 
 pub slice_bounds-clear_columns-end-in-loop-n : goal.slice_bounds-clear_columns-end-in-loop-n
 slice_bounds-clear_columns-end-in-loop-n c =
-    let l = ((c)).loop-n in
+    let l = c.loop-n in
     sym (length-take-le (l.n - 2) l.rows (omega arith))
 
 pub clear_columns-requires : goal.clear_columns-requires
@@ -59,8 +59,8 @@ pub loop-n-preserved : goal.loop-n-preserved
 loop-n-preserved c =
     let two = c.lowest_one-d in
     let w = c.cleared-w in
-    let one = (c).lowest_one-c in
-    let l = (((c))).loop-n in
+    let one = c.lowest_one-c in
+    let l = c.loop-n in
     let clear = c.clear_columns in
     let t = turn-before l.n l.rows (omega arith) (omega arith) one.result one.ensures.2 w.result w.ensures
     two.result clear.new.rows two.ensures.2 clear.ensures in (

@@ -96,7 +96,6 @@ same c = sym (old-is-at_after_page_within c) ∙ c.if-n-other.false ∙ new_is-a
 
 past : (c : After-page_within) → c.page_within.result ≡ not (ltb c.args.m.length (8 * c.args.place + part_length (old c.before.before.before.before.before.before.before.before.before.before.before.before)))
 past c =
-    let c = c in
     c.page_within.ensures
     ∙ ap (λ (n : ℕ). not (ltb c.args.m.length (8 * c.args.place + n))) (old-is-at_after_page_within c)
 
@@ -116,7 +115,6 @@ old-is-at_else_not_page_within c = c.part_length-n.ensures ∙ counted_is _ (wit
 
 past-at_else_not_page_within : (c : Else-not-page_within) → c.page_within.result ≡ not (ltb c.args.m.length (8 * c.args.place + part_length (old c.before.before.before.before.before.before.before.before.before.before.before.before.before)))
 past-at_else_not_page_within c =
-    let c = c in
     c.page_within.ensures
     ∙ ap (λ (n : ℕ). not (ltb c.args.m.length (8 * c.args.place + n))) (old-is-at_else_not_page_within c)
 
@@ -150,7 +148,6 @@ old-is-at_else_is_misused c = c.part_length-n.ensures ∙ counted_is _ (within (
 
 past-at_else_is_misused : (c : Else-is_misused) → c.page_within.result ≡ not (ltb c.args.m.length (8 * c.args.place + part_length (old c.before.before.before.before.before.before.before.before.before.before.before.before.before.before.before.before)))
 past-at_else_is_misused c =
-    let c = c in
     c.page_within.ensures
     ∙ ap (λ (n : ℕ). not (ltb c.args.m.length (8 * c.args.place + n))) (old-is-at_else_is_misused c)
 
@@ -173,7 +170,6 @@ same-at_else_is_misused c = sym (old-is-at_else_is_misused c) ∙ c.if-n-other.f
 -- as many bytes in either page, and as many used bits
 used : (c : Else-is_misused) → (length c.args.old.now ≡ length c.args.new.now) × (c.args.old_used ≡ c.args.new_used)
 used c =
-    let c = c in
     let h = or-neither (misused (old c.before.before.before.before.before.before.before.before.before.before.before.before.before.before.before.before)) (misused (new c.before.before.before.before.before.before.before.before.before.before.before.before.before.before.before.before)) (right c) in
     same-used (old c.before.before.before.before.before.before.before.before.before.before.before.before.before.before.before.before) (new c.before.before.before.before.before.before.before.before.before.before.before.before.before.before.before.before) (well-used (old c.before.before.before.before.before.before.before.before.before.before.before.before.before.before.before.before) h.0) (well-used (new c.before.before.before.before.before.before.before.before.before.before.before.before.before.before.before.before) h.1) (same-at_else_is_misused c)
 
@@ -246,7 +242,7 @@ returns c =
     let x = a.m.key in
     let key = polynomial_of x in
     let m = mark_in a.m in
-    let page = (c).part_length-n.result in
+    let page = c.part_length-n.result in
     let change : ℕ → ℕ → ℕ = λ q u. fingerprint q (part_bits (old (goal.at.returns c).Start)) ⊕ fingerprint q (part_bits (as_part a.new.now u)) in
     let is : c.replaced_residue.result ≡ rem key (m.fingerprint ⊕ change key a.new_used * 2 ^ (m.length - (8 * a.place + part_length (old (goal.at.returns c).Start)))) =
     c.replaced_residue.ensures

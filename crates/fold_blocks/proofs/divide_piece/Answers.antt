@@ -26,10 +26,10 @@ divide-requires-else-s-eq16 c =
 
 pub returns-then-s-eq16 : goal.returns-then-s-eq16
 returns-then-s-eq16 c =
-    let a = ((c)).args in
-    by_size a.s 16 a.q.now c.divide.new.q a.src.now (c).if-s-eq16.true c.divide.ensures
+    let a = c.args in
+    by_size a.s 16 a.q.now c.divide.new.q a.src.now c.if-s-eq16.true c.divide.ensures
 
 pub returns-else-s-eq16 : goal.returns-else-s-eq16
 returns-else-s-eq16 c =
     let a = c.args in
-    by_size a.s 4 a.q.now c.divide-else-s-eq16.new.q a.src.now (not_wide c.requires.0 (c).if-s-eq16.false) c.divide-else-s-eq16.ensures
+    by_size a.s 4 a.q.now c.divide-else-s-eq16.new.q a.src.now (not_wide c.requires.0 c.if-s-eq16.false) c.divide-else-s-eq16.ensures

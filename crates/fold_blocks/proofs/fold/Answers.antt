@@ -13,8 +13,8 @@ loop-at-init c = (omega arith, refl, refl)
 
 pub loop-at-preserved : goal.loop-at-preserved
 loop-at-preserved c =
-    let a = ((c)).args in
-    let l = (c).loop-at in
+    let a = c.args in
+    let l = c.loop-at in
     let b = c.block_end-end in
     let t = c.turn in (
       omega (arith, b.ensures.1),

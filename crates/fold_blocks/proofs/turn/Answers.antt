@@ -10,7 +10,7 @@ use Rattle.fold_blocks.proofs.turn.Goals as goal
 
 pub returns : goal.returns
 returns c =
-    let a = (c).args in
+    let a = c.args in
     let d = c.divide_block in
     let k = c.keep_last in
     ap (rem house_key) (folded-same 61 a.s k.new.q (drop (length a.src.now) d.new.q) k.ensures exponents all-exponents)

@@ -46,8 +46,8 @@ module _ (s : ℕ) (q q₁ q₂ q₃ : List ℕ)
 
 pub returns : goal.returns
 returns c =
-    let a = ((c)).args in
-    let x = (c).add_front in
+    let a = c.args in
+    let x = c.add_front in
     let y = c.add_front-2 in
     let z = c.add_front-3 in
     flat a.s a.q.now x.new.q y.new.q z.new.q x.ensures.0 x.ensures.1 y.ensures.0 y.ensures.1 z.ensures.0

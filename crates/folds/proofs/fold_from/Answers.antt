@@ -56,7 +56,7 @@ flatten-requires c =
 pub returns : goal.returns
 returns c =
     let a = c.args in
-    let b = (c).eight-start in
+    let b = c.eight-start in
     let d = c.divide_piece in
     let g = c.fold in
     let h = c.flatten in

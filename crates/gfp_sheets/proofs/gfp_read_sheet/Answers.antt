@@ -39,7 +39,7 @@ told c o e =
 pub overflow_cast-version : goal.overflow_cast-version
 unfolding contents_in
 overflow_cast-version c =
-    let sheet = (c).args.sheet.now in
+    let sheet = c.args.sheet.now in
     let was = read_as sheet c.in-Sheet.x (ap reading (sym c.in-Sheet.is) ∙ c.read.ensures) in
     omega (arith, known_small (contents_in sheet).version (sound sheet was).version, version-read sheet was)
 

@@ -49,7 +49,7 @@ whole-at_at_loop_x c =
     omega arith
 
 -- the relation at the loop's head, over the modulus
-related : (c : At-loop-x) → Related (modulus-at_at_loop_x c) (c).args.a c.loop-x.x
+related : (c : At-loop-x) → Related (modulus-at_at_loop_x c) c.args.a c.loop-x.x
 related c = rw (whole-at_at_loop_x c) at c.loop-x.invariant
 
 pub loop-x-init : goal.loop-x-init

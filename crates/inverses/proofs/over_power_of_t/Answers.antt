@@ -41,7 +41,6 @@ no_divisor-at_after_inverse_inverted s = power-not (modulus-at_after_inverse_inv
 
 inverted-is : (c : After-inverse-inverted) → c.inverse-inverted.result ≡ inverse (modulus-at_after_inverse_inverted c) (2 ^ c.args.n)
 inverted-is c =
-    let c = c in
     c.inverse-inverted.ensures
     ∙ ap (inverse (modulus-at_after_inverse_inverted c)) c.power_of_t-power.ensures
     ∙ inverse-residue (modulus-at_after_inverse_inverted c) c.requires.2 (2 ^ c.args.n) (no_divisor-at_after_inverse_inverted c)

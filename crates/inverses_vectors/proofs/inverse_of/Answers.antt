@@ -21,11 +21,11 @@ is_residue-requires c = opened-proper (key-opened c)
 pub inverse-requires : goal.inverse-requires
 inverse-requires c =
     let o = key-opened (goal.at.inverse-requires c).In-Accepted in
-    let a = ((c)).args.a in (
+    let a = c.args.a in (
       opened-proper o,
       omega (arith, opened-eight o),
       opened-irreducible o,
       c.if-a-gt0.true,
-      leb-false (2 ^ (c).in-Accepted.p.degree) a
-          (not-true (leb (2 ^ (c).in-Accepted.p.degree) a) (sym c.is_residue.ensures ∙ c.if-is_residue.true)),
+      leb-false (2 ^ c.in-Accepted.p.degree) a
+          (not-true (leb (2 ^ c.in-Accepted.p.degree) a) (sym c.is_residue.ensures ∙ c.if-is_residue.true)),
     )

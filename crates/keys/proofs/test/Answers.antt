@@ -36,23 +36,23 @@ returns-then-out_of_range c = let x = c.args.key in sym (rw (sym c.out_of_range.
 
 pub returns-then-is_stock : goal.returns-then-is_stock
 returns-then-is_stock c =
-    let x = (c).args.key in
+    let x = c.args.key in
     accepted-is x (inside (goal.at.returns-then-is_stock c).Else-out_of_range) (stock-clear x (inside (goal.at.returns-then-is_stock c).Else-out_of_range) (c.is_stock.ensures c.if-is_stock.true))
 
 pub irreducible-requires : goal.irreducible-requires
 irreducible-requires c =
-    let r = in_range (c).args.key (inside (goal.at.irreducible-requires c).Else-out_of_range) in
+    let r = in_range c.args.key (inside (goal.at.irreducible-requires c).Else-out_of_range) in
     (omega (arith, r.0), r.1, r.2)
 
 pub returns-then-not-irreducible : goal.returns-then-not-irreducible
 unfolding test_key
 returns-then-not-irreducible c =
-    let x = (c).args.key in
+    let x = c.args.key in
     let i = c.irreducible in
     rw (inside (goal.at.returns-then-not-irreducible c).Else-out_of_range, holds i.result (reducible (polynomial_of x)) i.ensures c.if-not-irreducible.true-raw)
 
 pub returns : goal.returns
 returns c =
-    let x = (c).args.key in
+    let x = c.args.key in
     let i = c.irreducible in
     accepted-is x (inside (goal.at.returns c).Else-out_of_range) (fails i.result (reducible (polynomial_of x)) i.ensures c.if-not-irreducible.false-raw)

@@ -26,7 +26,6 @@ long c = passes (lengths c.args.m.length c.part_length-n.result)
 
 counted : (c : After-part_length-n) → long c ≡ passes (lengths c.args.m.length (part_length (part_at c.before.before.before)))
 counted c =
-    let c = c in
     ap (λ (n : ℕ). passes (lengths c.args.m.length n)) c.part_length-n.ensures ∙ counted-sum c.args.m.length (part_length (part_at c.before.before.before))
 
 abbrev long-at_else_not_fits : Else-not-fits → Bool
@@ -34,21 +33,19 @@ long-at_else_not_fits c = passes (lengths c.args.m.length c.part_length-n.result
 
 counted-at_else_not_fits : (c : Else-not-fits) → long-at_else_not_fits c ≡ passes (lengths c.args.m.length (part_length (part_at c.before.before.before.before.before)))
 counted-at_else_not_fits c =
-    let c = c in
     ap (λ (n : ℕ). passes (lengths c.args.m.length n)) c.part_length-n.ensures ∙ counted-sum c.args.m.length (part_length (part_at c.before.before.before.before.before))
 
 short : (c : Else-not-fits) → passes (lengths c.args.m.length (part_length (part_at c.before.before.before.before.before))) ≡ false
 short c = sym (counted-at_else_not_fits c) ∙ fails _ (long-at_else_not_fits c) c.fits.ensures c.if-not-fits.false-raw
 
 within : (c : Else-not-fits) → c.args.m.length + part_length (part_at c.before.before.before.before.before) ≤ longest
-within c = let c = c in sum-within c.args.m.length (part_length (part_at c.before.before.before.before.before)) (short c)
+within c = sum-within c.args.m.length (part_length (part_at c.before.before.before.before.before)) (short c)
 
 in-full : (c : Else-not-fits) → c.part_length-n.result ≡ part_length (part_at c.before.before.before.before.before)
 in-full c = c.part_length-n.ensures ∙ counted_is (part_length (part_at c.before.before.before.before.before)) (omega (arith, within c))
 
 low : (c : Else-not-is_residue) → unreduced (polynomial c.args.p) c.args.m ≡ false
 low c =
-    let c = (c) in
     let r = c.is_residue in
     is-residue c.args.p c.requires c.args.m.fingerprint r.result r.ensures c.if-not-is_residue.false-raw
 

@@ -68,7 +68,7 @@ slice_bounds-feed_eights-end-in-loop-i c = omega (arith, c.requires.3, second_fi
 
 pub feed_eights-x-requires : goal.feed_eights-x-requires
 feed_eights-x-requires c =
-    let p = part-length (goal.at.feed_eights-x-requires c).Start (c).loop-i.i (first_fits (goal.at.feed_eights-x-requires c).After-beside-j) in
+    let p = part-length (goal.at.feed_eights-x-requires c).Start c.loop-i.i (first_fits (goal.at.feed_eights-x-requires c).After-beside-j) in
     let q = part-length (goal.at.feed_eights-x-requires c).Start c.beside-j.result (second_fits (goal.at.feed_eights-x-requires c).After-beside-j) in
     (c.requires.0, rw p c.requires.1, rw p c.requires.2, rw (p, q))
 
@@ -77,7 +77,7 @@ bounds-marks-j c = simp length-set (omega arith)
 
 pub loop-i-preserved : goal.loop-i-preserved
 loop-i-preserved c =
-    let l = (c).loop-i in
+    let l = c.loop-i in
     let a = c.args in
     let j = c.beside-j in
     let x = c.feed_eights-x in

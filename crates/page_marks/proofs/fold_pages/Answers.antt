@@ -30,11 +30,11 @@ loop-i-init c = (omega arith, refl, λ i l. absurd (omega arith), λ i l. refl)
 pub loop-i-preserved : goal.loop-i-preserved
 loop-i-preserved c =
     let l = c.loop-i in
-    let a = (c).args in
+    let a = c.args in
     let x = c.fed_page in (
       omega arith,
       simp length-set l.invariant.1,
-      finished_more house_key a.size 0 a.pages.now l.marks l.i x.result (omega (arith, (c).requires.1, l.invariant.1, c.loop-i-test.true))
+      finished_more house_key a.size 0 a.pages.now l.marks l.i x.result (omega (arith, c.requires.1, l.invariant.1, c.loop-i-test.true))
           l.invariant.2 (page-is house_key a.size l.i x.result a.pages.now x.ensures),
       λ j b. get_or-set_other l.marks l.i j x.result 0 (λ e. omega (arith, e, b, c.loop-i-test.true)) ∙ l.invariant.3 j b,
     )

@@ -28,7 +28,7 @@ unfolding ◌⊕◌
 loop-i-preserved c =
     let clear = c.clear_with_sums in
     let one = c.lowest_one-c in
-    let l = (c).loop-i in
+    let l = c.loop-i in
     let below = c.requires.0 in
     let taken = c.loop-i-test.true in
     kept-turn c.args.rows c.args.k below l.i l.work l.sums l.invariant taken one.result one.ensures.2

@@ -83,9 +83,8 @@ module _ (c : After-step-y) where
   middle-at_after_step_y = held-at_after_step_y c (n-at_after_step_y / 2) half_lt-at_after_step_y
 
 -- the multiples by n, 2 n and 4 n
-once_is : (c : After-step-y) → c.step-y.result ≡ rem (key-at_after_step_y c) (n-at_after_step_y c ⊗ (c).args.x)
+once_is : (c : After-step-y) → c.step-y.result ≡ rem (key-at_after_step_y c) (n-at_after_step_y c ⊗ c.args.x)
 once_is c =
-    let c = c in
     multiple-step (pos c.before.before.before.before.before.before.before.before) c.args.x (n-at_after_step_y c / 2) _ c.step-y.result (middle-at_after_step_y c) c.step-y.ensures
     ∙ ap (λ (m : ℕ). rem (key-at_after_step_y c) (m ⊗ c.args.x)) (half-at_after_step_y c)
 
@@ -117,15 +116,13 @@ module _ (c : After-step-z) where
   middle-at_after_step_z : let a = c.args in get_or a.words.now (a.at + n-at_after_step_z / 2) 0 ≡ rem key-at_after_step_z (n-at_after_step_z / 2 ⊗ a.x)
   middle-at_after_step_z = held-at_after_step_z c (n-at_after_step_z / 2) half_lt-at_after_step_z
 
-once_is-at_after_step_z : (c : After-step-z) → c.step-y.result ≡ rem (key-at_after_step_z c) (n-at_after_step_z c ⊗ (c).args.x)
+once_is-at_after_step_z : (c : After-step-z) → c.step-y.result ≡ rem (key-at_after_step_z c) (n-at_after_step_z c ⊗ c.args.x)
 once_is-at_after_step_z c =
-    let c = c in
     multiple-step (pos c.before.before.before.before.before.before.before.before.before) c.args.x (n-at_after_step_z c / 2) _ c.step-y.result (middle-at_after_step_z c) c.step-y.ensures
     ∙ ap (λ (m : ℕ). rem (key-at_after_step_z c) (m ⊗ c.args.x)) (half-at_after_step_z c)
 
-twice-is : (c : After-step-z) → c.step-z.result ≡ rem (key-at_after_step_z c) (n-at_after_step_z c * 2 ⊗ (c).args.x)
+twice-is : (c : After-step-z) → c.step-z.result ≡ rem (key-at_after_step_z c) (n-at_after_step_z c * 2 ⊗ c.args.x)
 twice-is c =
-    let c = c in
     multiple-step (pos c.before.before.before.before.before.before.before.before.before) c.args.x (n-at_after_step_z c) _ c.step-z.result (once_is-at_after_step_z c) c.step-z.ensures
 
 held-at_after_step_v : (c : After-step-v) → let a = c.args in Multiples (polynomial a.p) a.x a.at (2 ^ (a.width - 3)) a.words.now
@@ -156,20 +153,17 @@ module _ (c : After-step-v) where
   middle-at_after_step_v : let a = c.args in get_or a.words.now (a.at + n-at_after_step_v / 2) 0 ≡ rem key-at_after_step_v (n-at_after_step_v / 2 ⊗ a.x)
   middle-at_after_step_v = held-at_after_step_v c (n-at_after_step_v / 2) half_lt-at_after_step_v
 
-once_is-at_after_step_v : (c : After-step-v) → c.step-y.result ≡ rem (key-at_after_step_v c) (n-at_after_step_v c ⊗ (c).args.x)
+once_is-at_after_step_v : (c : After-step-v) → c.step-y.result ≡ rem (key-at_after_step_v c) (n-at_after_step_v c ⊗ c.args.x)
 once_is-at_after_step_v c =
-    let c = c in
     multiple-step (pos c.before.before.before.before.before.before.before.before.before.before) c.args.x (n-at_after_step_v c / 2) _ c.step-y.result (middle-at_after_step_v c) c.step-y.ensures
     ∙ ap (λ (m : ℕ). rem (key-at_after_step_v c) (m ⊗ c.args.x)) (half-at_after_step_v c)
 
-twice-is-at_after_step_v : (c : After-step-v) → c.step-z.result ≡ rem (key-at_after_step_v c) (n-at_after_step_v c * 2 ⊗ (c).args.x)
+twice-is-at_after_step_v : (c : After-step-v) → c.step-z.result ≡ rem (key-at_after_step_v c) (n-at_after_step_v c * 2 ⊗ c.args.x)
 twice-is-at_after_step_v c =
-    let c = c in
     multiple-step (pos c.before.before.before.before.before.before.before.before.before.before) c.args.x (n-at_after_step_v c) _ c.step-z.result (once_is-at_after_step_v c) c.step-z.ensures
 
-thrice-is : (c : After-step-v) → c.step-v.result ≡ rem (key-at_after_step_v c) (n-at_after_step_v c * 2 * 2 ⊗ (c).args.x)
+thrice-is : (c : After-step-v) → c.step-v.result ≡ rem (key-at_after_step_v c) (n-at_after_step_v c * 2 * 2 ⊗ c.args.x)
 thrice-is c =
-    let c = c in
     multiple-step (pos c.before.before.before.before.before.before.before.before.before.before) c.args.x (n-at_after_step_v c * 2) _ c.step-v.result (twice-is-at_after_step_v c) c.step-v.ensures
 
 -- ---- the needs

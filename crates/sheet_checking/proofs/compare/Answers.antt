@@ -112,7 +112,6 @@ prints c =
 -- by the version and the key of the sheet
 prints-are : (c : After-over_pages-same) → page_fingerprints (layout c.before.before.before.before.before.before.before.before.before.before.before.before.before.before) (polynomial_of c.args.x.numbers.key) (8 * c.args.x.numbers.size) (count c.before.before.before.before.before.before.before.before.before.before.before.before.before.before) (part_bits (file c.before.before.before.before.before.before.before.before.before.before.before.before.before.before)) ≡ prints c
 prints-are c =
-    let c = (c) in
     let x = c.args.x in
     let size = 8 * x.numbers.size in
     prints-filling (layout c.before.before.before.before.before.before.before.before.before.before.before.before.before.before) x.filled (sym c.requires.1.filled) (polynomial_of x.numbers.key) size (count c.before.before.before.before.before.before.before.before.before.before.before.before.before.before) (part_bits (file c.before.before.before.before.before.before.before.before.before.before.before.before.before.before))
@@ -207,10 +206,10 @@ overflow_cast-result c =
 
 pub returns-then-same-y : goal.returns-then-same-y
 returns-then-same-y c =
-    sym (answer (goal.at.returns-then-same-y c).After-over_pages-same ∙ ap Done (pass_changed (prints (goal.at.returns-then-same-y c).After-over_pages-same) (c).page_fields-pages.result.now _ _ c.over_pages-same.result (count (goal.at.returns-then-same-y c).Start)
+    sym (answer (goal.at.returns-then-same-y c).After-over_pages-same ∙ ap Done (pass_changed (prints (goal.at.returns-then-same-y c).After-over_pages-same) c.page_fields-pages.result.now _ _ c.over_pages-same.result (count (goal.at.returns-then-same-y c).Start)
     c.over_pages-same.ensures (long (goal.at.returns-then-same-y c).After-over_pages-same) (part (goal.at.returns-then-same-y c).After-page_fields-pages) (omega (arith, c.if-same-y.true, many (goal.at.returns-then-same-y c).After-over_pages-same))))
 
 pub returns : goal.returns
 returns c =
-    sym (answer (goal.at.returns c).After-over_pages-same ∙ ap Done (pass_same (prints (goal.at.returns c).After-over_pages-same) (c).page_fields-pages.result.now _ _ c.over_pages-same.result (count (goal.at.returns c).Start)
+    sym (answer (goal.at.returns c).After-over_pages-same ∙ ap Done (pass_same (prints (goal.at.returns c).After-over_pages-same) c.page_fields-pages.result.now _ _ c.over_pages-same.result (count (goal.at.returns c).Start)
     c.over_pages-same.ensures (long (goal.at.returns c).After-over_pages-same) (part (goal.at.returns c).After-page_fields-pages) (omega (arith, c.if-same-y.false, many (goal.at.returns c).After-over_pages-same))))

@@ -27,12 +27,12 @@ answer c =
     c.compare.ensures ∙ sym (check_done c.args.sheet.now (known-at_after_compare c) (as_part c.args.file.now c.args.used))
 
 pub compare-requires : goal.compare-requires
-compare-requires c = (known (goal.at.compare-requires c).In-Opened, subst Kept c.in-Opened.is (c).open_sheet.ensures.1)
+compare-requires c = (known (goal.at.compare-requires c).In-Opened, subst Kept c.in-Opened.is c.open_sheet.ensures.1)
 
 -- the page size is that of the sheet, and right
 pub in_bytes-requires : goal.in_bytes-requires
 in_bytes-requires c =
-    let sheet = ((c)).args.sheet.now in
+    let sheet = c.args.sheet.now in
     omega (arith, size_is sheet (known (goal.at.in_bytes-requires c).In-Opened), (sound sheet (known (goal.at.in_bytes-requires c).In-Opened)).page_size.1)
 
 pub returns-in-Refused : goal.returns-in-Refused

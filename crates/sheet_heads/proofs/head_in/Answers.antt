@@ -49,7 +49,7 @@ least-at_else_sheet_place : (c : Else-sheet-place) → sheet_length (layout-at_e
 least-at_else_sheet_place c = omega (arith, length_from c.args.version 0, place_laid c.fields_of-v.ensures)
 
 enough : (c : Else-sheet-place) → ltb (length (sheet-at_else_sheet_place c)) (sheet_length (layout-at_else_sheet_place c) 0) ≡ false
-enough c = let c = c in le-ltb (length (sheet-at_else_sheet_place c)) (sheet_length (layout-at_else_sheet_place c) 0) (omega (arith, least-at_else_sheet_place c, long c))
+enough c = le-ltb (length (sheet-at_else_sheet_place c)) (sheet_length (layout-at_else_sheet_place c) 0) (omega (arith, least-at_else_sheet_place c, long c))
 
 abbrev v-at_after_number_at : After-number_at → Fields
 v-at_after_number_at c = c.fields_of-v.result
@@ -63,7 +63,6 @@ sheet-at_after_number_at c = c.args.sheet.now
 -- the length in bits
 bits : (c : After-number_at) → (v-at_after_number_at c).unit * c.number_at.result ≡ length_in (layout-at_after_number_at c) (sheet-at_after_number_at c)
 bits c =
-    let c = c in
     ap (λ (n : ℕ). (v-at_after_number_at c).unit * n) c.number_at.ensures.0 ∙ sym (length_laid c.fields_of-v.ensures (sheet-at_after_number_at c))
 
 below : {x w n : ℕ} → x < 2 ^ (8 * w) → w ≤ n → x < 2 ^ (8 * n)
@@ -90,13 +89,13 @@ key_in-requires c = omega (arith, long (goal.at.key_in-requires c).Else-sheet-pl
 
 pub number_at-requires-2 : goal.number_at-requires-2
 number_at-requires-2 c =
-    (omega (arith, (c).fields_of-v.ensures.size_fits), omega (arith, long (goal.at.number_at-requires-2 c).Else-sheet-place))
+    (omega (arith, c.fields_of-v.ensures.size_fits), omega (arith, long (goal.at.number_at-requires-2 c).Else-sheet-place))
 
 pub returns : goal.returns
 returns c =
     let h = c.fields_of-v.ensures in
     let l = sheet (goal.at.returns c).After-fields_of-v in
-    let own = (c).requires in
+    let own = c.requires in
     let within : length_in (layout (goal.at.returns c).After-fields_of-v) l ≤ longest = omega (arith, bits (goal.at.returns c).After-number_at, c.if-n-gt-LONGEST.false) in
     rw (enough (goal.at.returns c).Else-sheet-place, le-ltb longest (length_in (layout (goal.at.returns c).After-fields_of-v) l) within) (
       refl,

@@ -8,7 +8,7 @@ use Rattle.sheet_joining.proofs.Joining.{low-lt, bits_none, bits-all, few-joined
 use Rattle.sheet_joining.proofs.join_run.Goals as goal
 use Rattle.sheet_joining.proofs.join_run.Goals.{After-power_of_t-t}
 
-power-lt : (c : After-power_of_t-t) → c.power_of_t-t.result < 2 ^ (c).args.p.degree
+power-lt : (c : After-power_of_t-t) → c.power_of_t-t.result < 2 ^ c.args.p.degree
 power-lt c = residue-below c.args.p c.requires.0 _ _ c.power_of_t-t.ensures
 
 pub returns-then-n-lt64 : goal.returns-then-n-lt64
@@ -29,19 +29,19 @@ times_plus-ab-requires c =
 
 pub times_plus-abc-requires : goal.times_plus-abc-requires
 times_plus-abc-requires c =
-    let s = ((c)) in
+    let s = c in
     (s.requires.0, low-lt s.args.p.degree _ _ c.low_part-2.ensures, power-lt (goal.at.times_plus-abc-requires c).After-power_of_t-t)
 
 pub times_plus-abcd-requires : goal.times_plus-abcd-requires
 times_plus-abcd-requires c =
-    let s = ((c)) in
+    let s = c in
     (s.requires.0, low-lt s.args.p.degree _ _ c.low_part-3.ensures, power-lt (goal.at.times_plus-abcd-requires c).After-power_of_t-t)
 
 pub returns : goal.returns
 returns c =
-    let x = (c).join_lanes-x in
-    let t = ((c)).fill in
-    let s = ((c)) in
+    let x = c.join_lanes-x in
+    let t = c.fill in
+    let s = c in
     let a = s.args in
     let q = a.n / 4 in
     record {

@@ -57,7 +57,7 @@ pub overflow_mul-whole : goal.overflow_mul-whole
 overflow_mul-whole c = omega (arith, few (goal.at.overflow_mul-whole c).Start, (last (goal.at.overflow_mul-whole c).Else-whole-count).1)
 
 pub eight_at-requires : goal.eight_at-requires
-eight_at-requires c = omega (arith, (c).requires.5, (last (goal.at.eight_at-requires c).Else-whole-count).1)
+eight_at-requires c = omega (arith, c.requires.5, (last (goal.at.eight_at-requires c).Else-whole-count).1)
 
 pub returns : goal.returns
 unfolding number_at

@@ -30,13 +30,12 @@ some c = some-page c.args.count c.args.n (page c.before.before) (covers c.before
 
 others : (c : Else-n-count) → (c.args.count - 1) * page c.before.before + page c.before.before ≡ c.args.count * page c.before.before
 others c =
-    let c = c in
     let n = c.args.count in
     let back : n - 1 + 1 ≡ n = omega (arith, some c) in
     omega (arith, add-mul (n - 1) 1 (page c.before.before), ap (λ (m : ℕ). m * page c.before.before) back)
 
 below : (c : Else-n-count) → c.args.n < (c.args.count - 1) * page c.before.before + page c.before.before
-below c = let c = c in ne-lt (others c) (covers c.before.before) c.if-n-count.false
+below c = ne-lt (others c) (covers c.before.before) c.if-n-count.false
   where
     ne-lt : {a m n : ℕ} → a ≡ m → n ≤ m → n ≢ m → n < a
     ne-lt e h d = omega (arith, e, h, d)

@@ -122,7 +122,7 @@ fields : (c : Else-not-is_residue)
 fields c =
     let n = k c.before.before.before.before.before.before.before in
     let b = c.pages_joined-joined.result.bits in
-    let f = (c).args.file in
+    let f = c.args.file in
     let o = or-neither (leb (2 ^ n) b) (leb (2 ^ n) f) (sym (or_leb n b f) ∙ fails _ _ c.is_residue.ensures c.if-not-is_residue.false-raw) in
     (sym (bits-joined-at_else_not_is_residue c n) ∙ o.0, leb-false (2 ^ n) f o.1)
 

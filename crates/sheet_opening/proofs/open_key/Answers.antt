@@ -15,7 +15,7 @@ sheet c = c.args.sheet.now
 
 key-opened : (c : In-Accepted) → Opened c.args.head.key c.in-Accepted.p
 key-opened c =
-    opened c.test.result (c).args.head.key c.test.ensures c.in-Accepted.p c.in-Accepted.is
+    opened c.test.result c.args.head.key c.test.ensures c.in-Accepted.p c.in-Accepted.is
 
 pub open_under-requires : goal.open_under-requires
 open_under-requires c = (c.requires.1, key-opened c)

@@ -58,12 +58,10 @@ place_is s = s.requires.0.place ∙ ap (λ (v : ℕ). page_place (layout_of v) 0
 -- the bytes that the sheet should have
 asked : (c : After-sheet_length) → c.sheet_length.result ≡ sheet_length (layout c.before.before.before.before.before.before) c.pages_for-count.result
 asked c =
-    let c = c in
     omega (arith, c.sheet_length.ensures, place_is c.before.before.before.before.before.before, length_from (head c.before.before.before.before.before.before).version c.pages_for-count.result)
 
 asked-at_else_sheet_sheet_length : (c : Else-sheet-sheet_length) → c.sheet_length.result ≡ sheet_length (layout c.before.before.before.before.before.before.before) c.pages_for-count.result
 asked-at_else_sheet_sheet_length c =
-    let c = c in
     omega (arith, c.sheet_length.ensures, place_is c.before.before.before.before.before.before.before, length_from (head c.before.before.before.before.before.before.before).version c.pages_for-count.result)
 
 -- it has them
@@ -72,16 +70,14 @@ total c = c.if-sheet-sheet_length.false ∙ asked-at_else_sheet_sheet_length c
 
 asked-at_after_eight_at_file : (c : After-eight_at-file) → c.sheet_length.result ≡ sheet_length (layout c.before.before.before.before.before.before.before.before) c.pages_for-count.result
 asked-at_after_eight_at_file c =
-    let c = c in
     omega (arith, c.sheet_length.ensures, place_is c.before.before.before.before.before.before.before.before, length_from (head c.before.before.before.before.before.before.before.before).version c.pages_for-count.result)
 
 total-at_after_eight_at_file : (c : After-eight_at-file) → length (sheet c.before.before.before.before.before.before.before.before) ≡ sheet_length (layout c.before.before.before.before.before.before.before.before) c.pages_for-count.result
 total-at_after_eight_at_file c = c.if-sheet-sheet_length.false ∙ asked-at_after_eight_at_file c
 
-sized : (c : After-eight_at-file) → Sized (sheet c.before.before.before.before.before.before.before.before) (head c.before.before.before.before.before.before.before.before) (c).pages_for-count.result c.eight_at-file.result
+sized : (c : After-eight_at-file) → Sized (sheet c.before.before.before.before.before.before.before.before) (head c.before.before.before.before.before.before.before.before) c.pages_for-count.result c.eight_at-file.result
 unfolding number_at
 sized c =
-    let c = c in
     let at = ap (λ (m : ℕ). m + 8 * c.pages_for-count.result) (place_is c.before.before.before.before.before.before.before.before) ∙ sym (place-from (head c.before.before.before.before.before.before.before.before).version c.pages_for-count.result) in
     record { counted = c.pages_for-count.ensures; total = total-at_after_eight_at_file c; last = c.eight_at-file.ensures ∙ ap (λ (m : ℕ). number_at m 8 (sheet c.before.before.before.before.before.before.before.before)) at }
 

@@ -28,7 +28,7 @@ counted c =
 
 residue : (c : After-fed_last-own) → c.fed_last-own.result < 2 ^ c.args.x.p.degree
 unfolding fingerprint_from
-residue c = let c = c in residue-below c.args.x.p c.requires.0.proper _ (value (part_bits (page c.before.before.before.before.before))) c.fed_last-own.ensures
+residue c = residue-below c.args.x.p c.requires.0.proper _ (value (part_bits (page c.before.before.before.before.before))) c.fed_last-own.ensures
 
 pub overflow_sub-bits : goal.overflow_sub-bits
 overflow_sub-bits c = omega (arith, counted c, (part-range (page (goal.at.overflow_sub-bits c).Start)).0, c.requires.1)

@@ -74,7 +74,6 @@ page : (c : After-last_page) → let n = c.block-n.result in
     let key = polynomial c.args.x.p in
     c.last_page.result ≡ fingerprint key (page_of (filling c.args.x.filled) (8 * size c.before.before.before.before.before.before.before.before.before.before.before.before.before.before.before.before) (drop (n * (8 * size c.before.before.before.before.before.before.before.before.before.before.before.before.before.before.before.before)) (part_bits (rest c.before.before.before.before.before.before.before.before.before.before.before.before.before.before.before.before))))
 page c =
-    let c = c in
     let n = c.block-n.result in
     c.last_page.ensures
     ∙ ap (λ (q : List ℕ). fingerprint (polynomial c.args.x.p) (page_of (filling c.args.x.filled) (8 * size c.before.before.before.before.before.before.before.before.before.before.before.before.before.before.before.before) q))
@@ -99,7 +98,7 @@ overflow_mul-n c = omega (arith, fits (goal.at.overflow_mul-n c).After-block-n)
 
 pub returns-then-rest-n : goal.returns-then-rest-n
 returns-then-rest-n c =
-    let w = (c).whole_marks in
+    let w = c.whole_marks in
     let all = count-reached (size (goal.at.returns-then-rest-n c).Start) (length (rest (goal.at.returns-then-rest-n c).Start).bytes) c.block-n.result (omega (arith, c.requires.1)) c.if-rest-n.true in
     record { count = omega (arith, begin (goal.at.returns-then-rest-n c).After-block-n, all, pages (goal.at.returns-then-rest-n c).Start, c.block-n.ensures); prints = prints (goal.at.returns-then-rest-n c).After-slice_known-2-1 _; behind = w.ensures.1 }
 
@@ -117,7 +116,7 @@ last_page-requires c =
 
 pub returns : goal.returns
 returns c =
-    let w = (c).whole_marks in
+    let w = c.whole_marks in
     let n = c.block-n.result in
     let few = c.block-n.ensures in
     let more = count_next (size (goal.at.returns c).Start) (length (rest (goal.at.returns c).Start).bytes) n (omega (arith, c.requires.1)) (omega (arith, c.if-rest-n.false)) (short (goal.at.returns c).Else-rest-n) in

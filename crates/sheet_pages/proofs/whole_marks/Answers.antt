@@ -14,7 +14,7 @@ fold_pages-requires c = (c.requires.2, c.requires.3)
 
 pub returns-then-words-eq0 : goal.returns-then-words-eq0
 returns-then-words-eq0 c =
-    (rw ((c).requires.0.house c.if-words-eq0.true) c.fold_pages.ensures.0, c.fold_pages.ensures.1)
+    (rw (c.requires.0.house c.if-words-eq0.true) c.fold_pages.ensures.0, c.fold_pages.ensures.1)
 
 pub begin_pages-requires : goal.begin_pages-requires
 begin_pages-requires c = ((tables c).shifts.long, omega arith, omega arith, omega arith, c.requires.2, c.requires.3)

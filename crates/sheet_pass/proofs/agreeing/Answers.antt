@@ -33,8 +33,8 @@ eight_at-requires c = omega (arith, room (goal.at.eight_at-requires c).At-loop-i
 pub returns-then-eight_at-marks : goal.returns-then-eight_at-marks
 unfolding number_at
 returns-then-eight_at-marks c =
-    let l = (c).loop-i in
-    let a = ((c)).args in
+    let l = c.loop-i in
+    let a = c.args in
     omega (arith, l.invariant.2, agree_off l.place a.known.now a.marks.now l.i (omega arith) (λ d. c.if-eight_at-marks.true (c.eight_at.ensures ∙ d)))
 
 pub overflow_add-place : goal.overflow_add-place
@@ -43,8 +43,8 @@ overflow_add-place c = omega (arith, room (goal.at.overflow_add-place c).At-loop
 pub loop-i-preserved : goal.loop-i-preserved
 unfolding number_at
 loop-i-preserved c =
-    let l = (c).loop-i in
-    let a = ((c)).args in
+    let l = c.loop-i in
+    let a = c.args in
     let on = agree_on l.place a.known.now a.marks.now l.i (omega arith) (sym c.eight_at.ensures ∙ c.if-eight_at-marks.false) in
     (omega arith, omega (arith, l.invariant.1), omega (arith, l.invariant.2, on))
 

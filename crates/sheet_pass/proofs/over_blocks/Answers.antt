@@ -101,7 +101,7 @@ fits-at_after_agreeing_same c = omega (arith, within-at_after_agreeing_same c, m
 
 few : (c : After-agreeing-same) → c.agreeing-same.result ≤ c.next_pages-n.result
 few c =
-    block-few c.args.known.now (prints c.before.before.before.before.before.before.before.before.before.before.before.before.before.before) (block-at_after_agreeing_same c) (c).loop-page.page c.next_pages-n.result (marks-at_after_agreeing_same c) (fits-at_after_agreeing_same c) c.agreeing-same.result
+    block-few c.args.known.now (prints c.before.before.before.before.before.before.before.before.before.before.before.before.before.before) (block-at_after_agreeing_same c) c.loop-page.page c.next_pages-n.result (marks-at_after_agreeing_same c) (fits-at_after_agreeing_same c) c.agreeing-same.result
     c.agreeing-same.ensures
 
 all-marks-at_after_agreeing_same : (c : After-agreeing-same) → c.next_pages-n.result ≤ length c.next_pages-n.new.marks
@@ -131,16 +131,16 @@ fits-at_after_put_fields c = omega (arith, within-at_after_put_fields c, many c.
 
 few-at_after_put_fields : (c : After-put_fields) → c.agreeing-same.result ≤ c.next_pages-n.result
 few-at_after_put_fields c =
-    block-few c.args.known.now (prints c.before.before.before.before.before.before.before.before.before.before.before.before.before.before.before.before.before) (block-at_after_put_fields c) (c).loop-page.page c.next_pages-n.result (marks-at_after_put_fields c) (fits-at_after_put_fields c) c.agreeing-same.result
+    block-few c.args.known.now (prints c.before.before.before.before.before.before.before.before.before.before.before.before.before.before.before.before.before) (block-at_after_put_fields c) c.loop-page.page c.next_pages-n.result (marks-at_after_put_fields c) (fits-at_after_put_fields c) c.agreeing-same.result
     c.agreeing-same.ensures
 
 -- the fingerprints that agree are written behind the others
 written : (c : After-put_fields)
     → c.put_fields.new.out
-    ≡ sets ((c)).args.out.now 0
-    (fields_of 8 (take ((c).loop-page.page + c.agreeing-same.result) (prints c.before.before.before.before.before.before.before.before.before.before.before.before.before.before.before.before.before)))
+    ≡ sets c.args.out.now 0
+    (fields_of 8 (take (c.loop-page.page + c.agreeing-same.result) (prints c.before.before.before.before.before.before.before.before.before.before.before.before.before.before.before.before.before)))
 written c =
-    let l = (c).loop-page in
+    let l = c.loop-page in
     c.put_fields.ensures
     ∙ ap (λ (b : List ℕ). sets b (8 * l.page) (fields_of 8 (take c.agreeing-same.result c.next_pages-n.new.marks))) l.invariant.3
     ∙ block_written (prints c.before.before.before.before.before.before.before.before.before.before.before.before.before.before.before.before.before) c.next_pages-n.new.marks c.args.out.now l.page c.next_pages-n.result c.agreeing-same.result (marks-at_after_put_fields c) (fits-at_after_put_fields c) (few-at_after_put_fields c)
@@ -178,7 +178,7 @@ pub slice_bounds-agreeing-end : goal.slice_bounds-agreeing-end
 slice_bounds-agreeing-end c = sym (long (goal.at.slice_bounds-agreeing-end c).After-next_pages-n)
 
 pub agreeing-same-requires : goal.agreeing-same-requires
-agreeing-same-requires c lent = omega (arith, long (goal.at.agreeing-same-requires c).After-next_pages-n, within (goal.at.agreeing-same-requires c).After-next_pages-n, ((c)).requires.5 lent)
+agreeing-same-requires c lent = omega (arith, long (goal.at.agreeing-same-requires c).After-next_pages-n, within (goal.at.agreeing-same-requires c).After-next_pages-n, c.requires.5 lent)
 
 pub overflow_mul-page-in-loop-page-2 : goal.overflow_mul-page-in-loop-page-2
 overflow_mul-page-in-loop-page-2 c = omega (arith, within (goal.at.overflow_mul-page-in-loop-page-2 c).After-next_pages-n, small (goal.at.overflow_mul-page-in-loop-page-2 c).Start)
@@ -191,19 +191,19 @@ slice_bounds-put_fields-end c = sym (taken (goal.at.slice_bounds-put_fields-end 
 
 pub put_fields-requires : goal.put_fields-requires
 put_fields-requires c lent =
-    let l = (c).loop-page in
-    omega (arith, taken (goal.at.put_fields-requires c).After-agreeing-same, few (goal.at.put_fields-requires c).After-agreeing-same, within (goal.at.put_fields-requires c).After-next_pages-n, l.invariant.2, ((c)).requires.4 (omega (arith, l.invariant.2)))
+    let l = c.loop-page in
+    omega (arith, taken (goal.at.put_fields-requires c).After-agreeing-same, few (goal.at.put_fields-requires c).After-agreeing-same, within (goal.at.put_fields-requires c).After-next_pages-n, l.invariant.2, c.requires.4 (omega (arith, l.invariant.2)))
 
 pub overflow_add-page : goal.overflow_add-page
 overflow_add-page c = omega (arith, few (goal.at.overflow_add-page c).After-agreeing-same, within (goal.at.overflow_add-page c).After-next_pages-n, small (goal.at.overflow_add-page c).Start)
 
 pub shape_of-out-then-same-n : goal.shape_of-out-then-same-n
-shape_of-out-then-same-n c = c.put_fields.auto.out ∙ (((c))).loop-page.invariant.2
+shape_of-out-then-same-n c = c.put_fields.auto.out ∙ c.loop-page.invariant.2
 
 -- one of the block differs: the first page that does
 pub returns-then-same-n : goal.returns-then-same-n
 returns-then-same-n c =
-    let l = (c).loop-page in
+    let l = c.loop-page in
     let ends =
     block-ends c.args.known.now (prints (goal.at.returns-then-same-n c).Start) (block (goal.at.returns-then-same-n c).After-next_pages-n) l.page c.next_pages-n.result (marks (goal.at.returns-then-same-n c).After-next_pages-n) (fits (goal.at.returns-then-same-n c).After-next_pages-n) c.agreeing-same.result c.agreeing-same.ensures
     c.if-same-n.true in
@@ -214,7 +214,7 @@ loop-page-smaller c = omega (arith, few (goal.at.loop-page-smaller c).After-agre
 
 pub loop-page-preserved : goal.loop-page-preserved
 loop-page-preserved c =
-    let l = (c).loop-page in
+    let l = c.loop-page in
     let agrees =
     block_agrees c.args.known.now (prints (goal.at.loop-page-preserved c).Start) (block (goal.at.loop-page-preserved c).After-next_pages-n) l.page c.next_pages-n.result (marks (goal.at.loop-page-preserved c).After-next_pages-n) (fits (goal.at.loop-page-preserved c).After-next_pages-n) c.agreeing-same.result c.agreeing-same.ensures
     c.if-same-n.false in (

@@ -30,8 +30,8 @@ overflow_add-place c = omega (arith, room (goal.at.overflow_add-place c).At-loop
 
 pub loop-i-preserved : goal.loop-i-preserved
 loop-i-preserved c =
-    let l = (c).loop-i in
-    let marks = ((c)).args.marks.now in
+    let l = c.loop-i in
+    let marks = c.args.marks.now in
     let rest = drop (l.i + 1) marks in (
       omega arith,
       omega (arith, l.invariant.1),

@@ -78,12 +78,12 @@ copy_fields-requires c =
 
 pub returns-in-Refused : goal.returns-in-Refused
 returns-in-Refused c =
-    let a = (c).args in
+    let a = c.args in
     sym (pages-refused a.sheet.now a.lent.now c.in-Refused.r (ap opening (sym c.in-Refused.is) ∙ c.open_sheet.ensures.0))
 
 pub returns-in-Opened : goal.returns-in-Opened
 returns-in-Opened c =
-    let lent = ((c)).args.lent.now in
+    let lent = c.args.lent.now in
     let n = c.least-n.result in
     let m = pages_in (layout (goal.at.returns-in-Opened c).In-Opened) (sheet (goal.at.returns-in-Opened c).In-Opened) in
     let count : n ≡ min m (length lent) = c.least-n.ensures ∙ ap (λ (i : ℕ). min i (length lent)) (pages-counted (sheet (goal.at.returns-in-Opened c).In-Opened) (known (goal.at.returns-in-Opened c).In-Opened)) in

@@ -110,11 +110,11 @@ pages_joined-joined-requires c = (
 )
 
 pub overflow_mul-count : goal.overflow_mul-count
-overflow_mul-count c = omega (arith, passed (goal.at.overflow_mul-count c).After-over_pages-count, (c).requires.5)
+overflow_mul-count c = omega (arith, passed (goal.at.overflow_mul-count c).After-over_pages-count, c.requires.5)
 
 pub put-requires : goal.put-requires
 put-requires c =
-    (omega arith, omega (arith, passed (goal.at.put-requires c).After-over_pages-count, c.over_pages-count.auto.out, (c).requires.5))
+    (omega arith, omega (arith, passed (goal.at.put-requires c).After-over_pages-count, c.over_pages-count.auto.out, c.requires.5))
 
 pub returns : goal.returns
 returns c =

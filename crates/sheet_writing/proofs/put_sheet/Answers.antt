@@ -27,9 +27,9 @@ v = layout_of newest.version
 fits : (c : After-pages_place-from)
     → c.pages_place-from.result + 8 * page_count c.args.size (length c.args.file.now) + 8 ≤ length c.put_head.new.buffer
 fits c =
-    let a = (c).args in
+    let a = c.args in
     let from = length_from newest.version (page_count a.size (length a.file.now)) in
-    omega (arith, c.put_head.auto.buffer, (c).requires.4, c.pages_place-from.ensures.0, from)
+    omega (arith, c.put_head.auto.buffer, c.requires.4, c.pages_place-from.ensures.0, from)
 
 abbrev part : Start → Part
 part s = as_part s.args.file.now s.args.used
@@ -50,8 +50,8 @@ slice_bounds-put_fingerprints-start c = omega (arith, fits c)
 
 pub put_fingerprints-requires : goal.put_fingerprints-requires
 put_fingerprints-requires c =
-    let b = (c).put_head.new.buffer in
-    let p = ((c)).requires in
+    let b = c.put_head.new.buffer in
+    let p = c.requires in
     let n = c.pages_place-from.result in
     let part = ap length (all_left b n) ∙ length-drop n b in
     (opened-proper p.0, opened-eight p.0, p.1, p.2, p.3, omega (arith, part, fits (goal.at.put_fingerprints-requires c).After-pages_place-from), p.5, counted (goal.at.put_fingerprints-requires c).After-part_length-n)

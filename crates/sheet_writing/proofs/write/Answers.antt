@@ -16,7 +16,7 @@ write_under-requires c = key-opened (goal.at.write_under-requires c).In-Accepted
 
 pub returns-in-Refused : goal.returns-in-Refused
 returns-in-Refused c =
-    let a = (c).args in
+    let a = c.args in
     let file = as_part a.file.now a.used in
     sym (write_refused a.key a.size file a.buffer.now c.test.result c.in-Refused.r c.test.ensures c.in-Refused.is)
 

@@ -37,9 +37,9 @@ returns-then-is_misused c =
 pub put_sheet-requires : goal.put_sheet-requires
 put_sheet-requires c =
     let m = known (goal.at.put_sheet-requires c).In-Bytes in
-    let a = ((c)).args in
+    let a = c.args in
     let own = ap (λ (v : Layout). sheet_length v (page_count a.size (length a.file.now))) newest-is in
-    (((c)).requires, m.size.0, m.size.1, omega (arith, m.fits), omega (arith, m.total, own, c.if-buffer-needed.false), well (goal.at.put_sheet-requires c).Else-is_misused)
+    (c.requires, m.size.0, m.size.1, omega (arith, m.fits), omega (arith, m.total, own, c.if-buffer-needed.false), well (goal.at.put_sheet-requires c).Else-is_misused)
 
 pub returns-in-Refused : goal.returns-in-Refused
 returns-in-Refused c =

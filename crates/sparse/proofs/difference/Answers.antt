@@ -51,7 +51,7 @@ behind-x-requires c =
 pub loop-i-preserved : goal.loop-i-preserved
 unfolding ◌⊕◌
 loop-i-preserved c =
-    let l = (c).loop-i in
+    let l = c.loop-i in
     let a = c.args in
     let k = 64 - 8 * a.n in
     let u = c.eight_at-a.result in

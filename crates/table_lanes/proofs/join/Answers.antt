@@ -16,17 +16,17 @@ made c =
 -- ---- the needs
 
 pub times-requires : goal.times-requires
-times-requires c = ((c).requires.0, (made (goal.at.times-requires c).After-fill_rows).1)
+times-requires c = (c.requires.0, (made (goal.at.times-requires c).After-fill_rows).1)
 
 pub times-requires-2 : goal.times-requires-2
-times-requires-2 c = ((c).requires.0, (made (goal.at.times-requires-2 c).After-fill_rows).1)
+times-requires-2 c = (c.requires.0, (made (goal.at.times-requires-2 c).After-fill_rows).1)
 
 pub times-requires-3 : goal.times-requires-3
-times-requires-3 c = ((c).requires.0, (made (goal.at.times-requires-3 c).After-fill_rows).1)
+times-requires-3 c = (c.requires.0, (made (goal.at.times-requires-3 c).After-fill_rows).1)
 
 pub returns : goal.returns
 unfolding ◌⊕◌
 returns c =
-    let a = (c).args in
+    let a = c.args in
     joined a.p a.t (get_or c.fill_rows.new.words 1 0) a.x.a a.x.b a.x.c a.x.d c.times.result c.times-2.result
     c.times-3.result (made (goal.at.returns c).After-fill_rows).0 c.times.ensures c.times-2.ensures c.times-3.ensures

@@ -22,7 +22,6 @@ rolls : (c : In-loop-j) (n x : ℕ) → n ≤ 768
     → let a = c.args in let j = c.loop-j.j in Lane c.before.before.before.before.before.before (a.from + (j + n)) x
     → Ready a.s a.reduce.now a.outgoing.now × (a.from + j + n + a.s.m < length a.text.now) × Lane c.before.before.before.before.before.before (a.from + j + n) x
 rolls c n x l h =
-    let c = c in
     let a = c.args in
     let j = c.loop-j.j in
     (c.requires.0, omega (arith, c.requires.2, c.loop-j-test.true), same_place a.s a.text.now (a.from + (j + n)) (a.from + j + n) x (omega arith) h)
