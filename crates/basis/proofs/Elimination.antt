@@ -1,6 +1,8 @@
 -- Elimination keeps independence: with a 1 in column c of v, the rows v, r, s, .. are independent where r, s, .. are once v has cleared
 -- column c of each.
-use Rattle.std.proofs.Common.{◌≡◌, ℕ, zero, suc, ◌+◌, ◌-◌, ◌*◌, ◌/◌, ◌%◌, ◌^◌, ◌<◌, ◌⊎◌, ◌↔◌, List, [], ◌∷◌, ◌++◌, map, length, sym, refl, ap, ◌∙◌, ap₂, inl, inr, add-zero, mod-lt, mod-eq_of_lt, add_comm, one-mul, pow-suc, mul-zero, zero-mul, div-one, add-one, one-add, arith, length-append, pow_pos, pow-add, shr_lt}
+use Rattle.std.proofs.Common.{◌≡◌, ℕ, zero, suc, ◌+◌, ◌-◌, ◌*◌, ◌/◌, ◌%◌, ◌^◌, ◌<◌, ◌⊎◌, ◌↔◌, List, [], ◌∷◌, ◌++◌, map, length, sym, refl, ap, ◌∙◌, ap₂, inl}
+use Rattle.std.proofs.Common.{inr, add-zero, mod-lt, mod-eq_of_lt, add_comm, one-mul, pow-suc, mul-zero, zero-mul, div-one, add-one, one-add, arith}
+use Rattle.std.proofs.Common.{length-append, pow_pos, pow-add, shr_lt}
 use native.Mathlib.Nat.{pow-succ'}
 use native.Mathlib.Nat.{zero-mod, mod-one, zero-div, div-div-eq-div-mul}
 use lib.ListN.{length-map}
@@ -200,7 +202,8 @@ masked-from c v x mask lc lv z lm e = go (bit-cases (x / 2 ^ c % 2) (mod_2 (x / 
 
 -- ---- the lowest one of a row
 
-pub lowest-one : (k n : ℕ) → 0 < n → n < 2 ^ k → (count_trailing_zeros k n < k) × (n % 2 ^ count_trailing_zeros k n ≡ 0) × (n / 2 ^ count_trailing_zeros k n % 2 ≡ 1)
+pub lowest-one : (k n : ℕ) → 0 < n → n < 2 ^ k
+    → (count_trailing_zeros k n < k) × (n % 2 ^ count_trailing_zeros k n ≡ 0) × (n / 2 ^ count_trailing_zeros k n % 2 ≡ 1)
 unfolding count_trailing_zeros
 lowest-one zero n p l = absurd (omega arith)
 lowest-one (suc k) n p l = go (bit-cases (n % 2) (mod_2 n)) (λ q. lowest-one k (n / 2) q (half_lt n k l))
@@ -209,7 +212,8 @@ lowest-one (suc k) n p l = go (bit-cases (n % 2) (mod_2 n)) (λ q. lowest-one k 
     more t e z = ap (λ (m : ℕ). n % 2 ^ m) (sym (add-one t)) ∙ mod-pow-add n t 1 ∙ rw (e, z)
 
     go : (n % 2 ≡ 0) ⊎ (n % 2 ≡ 1)
-        → (0 < n / 2 → (count_trailing_zeros k (n / 2) < k) × (n / 2 % 2 ^ count_trailing_zeros k (n / 2) ≡ 0) × (n / 2 / 2 ^ count_trailing_zeros k (n / 2) % 2 ≡ 1))
+        → (0 < n / 2 → (count_trailing_zeros k (n / 2) < k) × (n / 2 % 2 ^ count_trailing_zeros k (n / 2) ≡ 0) ×
+        (n / 2 / 2 ^ count_trailing_zeros k (n / 2) % 2 ≡ 1))
         → (under (n % 2) (count_trailing_zeros k (n / 2)) < suc k)
         × (n % 2 ^ under (n % 2) (count_trailing_zeros k (n / 2)) ≡ 0)
         × (n / 2 ^ under (n % 2) (count_trailing_zeros k (n / 2)) % 2 ≡ 1)

@@ -1,5 +1,6 @@
 -- A buffer whose rows are replaced one by one, from the front, each by its value under f.
-use Rattle.std.proofs.Common.{◌≡◌, ℕ, zero, suc, ◌+◌, ◌<◌, List, [], ◌∷◌, ◌++◌, map, length, get_or, take, drop, set, refl, ap, ◌∙◌, ap₂, le_of_suc-le-suc, not-suc-le-zero, add-one}
+use Rattle.std.proofs.Common.{◌≡◌, ℕ, zero, suc, ◌+◌, ◌<◌, List, [], ◌∷◌, ◌++◌, map, length, get_or, take, drop, set, refl, ap, ◌∙◌, ap₂, le_of_suc-le-suc}
+use Rattle.std.proofs.Common.{not-suc-le-zero, add-one}
 
 -- the first i of the given rows are replaced, each by its value under f
 abbrev pub Mapped : (ℕ → ℕ) → ℕ → List ℕ → List ℕ → Type 0

@@ -1,5 +1,6 @@
 -- A linear map by its rows: where row j is the value at t^j, the rows that the bits of x choose sum to the value at x.
-use Rattle.std.proofs.Common.{◌≡◌, ℕ, suc, ◌+◌, ◌*◌, ◌/◌, ◌%◌, ◌^◌, ◌<◌, List, [], ◌∷◌, length, get_or, set, sym, ap, ◌∙◌, ap₂, suc-le-suc, add-zero, add-suc, mul_assoc, mul_comm, suc-add, pow-suc, zero-add, zero-mul, mul-one, arith}
+use Rattle.std.proofs.Common.{◌≡◌, ℕ, suc, ◌+◌, ◌*◌, ◌/◌, ◌%◌, ◌^◌, ◌<◌, List, [], ◌∷◌, length, get_or, set, sym, ap, ◌∙◌, ap₂, suc-le-suc, add-zero, add-suc}
+use Rattle.std.proofs.Common.{mul_assoc, mul_comm, suc-add, pow-suc, zero-add, zero-mul, mul-one, arith}
 use lib.Arith.{lt-one}
 use Rattle.gf2.specs.Polynomials.{◌⊕◌}
 use Rattle.gf2.proofs.Sums.{⊕_comm, ⊕_shl}

@@ -1,5 +1,6 @@
 -- Laws of the sum of the rows that the bits of a number choose.
-use Rattle.std.proofs.Common.{◌≡◌, ℕ, zero, suc, ◌+◌, ◌*◌, ◌/◌, ◌%◌, ◌^◌, ◌<◌, List, [], ◌∷◌, map, length, get_or, take, drop, sym, refl, ap, ◌∙◌, ap₂, one-mul, pow-suc, zero-mul, add-one, arith, drop-cons}
+use Rattle.std.proofs.Common.{◌≡◌, ℕ, zero, suc, ◌+◌, ◌*◌, ◌/◌, ◌%◌, ◌^◌, ◌<◌, List, [], ◌∷◌, map, length, get_or, take, drop, sym, refl, ap, ◌∙◌, ap₂, one-mul}
+use Rattle.std.proofs.Common.{pow-suc, zero-mul, add-one, arith, drop-cons}
 use lib.Arith.{lt-one}
 use lib.Seq.{drop-length}
 use Rattle.gf2.specs.Polynomials.{◌⊕◌}

@@ -1,5 +1,6 @@
 -- A turn of elimination on a buffer, of which the code lends the rows to be cleared as a part: those behind row i, or those before row n - 1.
-use Rattle.std.proofs.Common.{◌≡◌, ℕ, suc, ◌+◌, ◌-◌, ◌/◌, ◌%◌, ◌^◌, ◌<◌, ◌≤◌, ◌⊎◌, ◌↔◌, List, [], ◌∷◌, ◌++◌, map, length, get_or, take, drop, ap, ◌∙◌, inl, inr, eq-zero-or-pos, add-one, arith, length-take-le, drop-cons, take-suc, take_at, drop_at}
+use Rattle.std.proofs.Common.{◌≡◌, ℕ, suc, ◌+◌, ◌-◌, ◌/◌, ◌%◌, ◌^◌, ◌<◌, ◌≤◌, ◌⊎◌, ◌↔◌, List, [], ◌∷◌, ◌++◌, map, length, get_or, take, drop, ap, ◌∙◌, inl, inr}
+use Rattle.std.proofs.Common.{eq-zero-or-pos, add-one, arith, length-take-le, drop-cons, take-suc, take_at, drop_at}
 use mathlib.Core.List.{map-append}
 use lib.ListN.{length-map}
 use borrow.Rule.Slice.PartMut.{put_mid, mid_len}

@@ -59,7 +59,8 @@ module _ (s key : ℕ) (pos : 0 < key) (file : List ℕ) where
   bits-agree : (part : Part) → Agrees s key (step key (mark_from s key file) (ByBits part)) (book_step (bench_from s) key file (ByBits part))
   unfolding step feed_bits book_step book_tests written
   bits-agree part =
-      handed (λ (q : ℕ). first_of (key_tests (key_of key) ++ feed_tests q (mark_from s key file) part) (mark_from s key file) (fed_mark q (mark_from s key file) part))
+      handed (λ (q : ℕ). first_of (key_tests (key_of key) ++ feed_tests q (mark_from s key file) part) (mark_from s key file)
+      (fed_mark q (mark_from s key file) part))
       (first_of (key_tests (key_of key) ++ tests part) file (file ++ part_bits part)) (feed_agrees (key_tests (key_of key)) part)
 
   table-agree : (words : List ℕ) (part : Part)

@@ -224,7 +224,8 @@ numbers_of_part p w n l = numbers-part p 0 w n l ∙ ap (λ (q : ℕ). numbers_a
 pub fields-append : (w : ℕ) (us vs : List ℕ) → fields_of w (us ++ vs) ≡ fields_of w us ++ fields_of w vs
 unfolding fields_of
 fields-append w [] vs = refl
-fields-append w (u ∷ us) vs = ap (λ (l : List ℕ). bytes_of w u ++ l) (fields-append w us vs) ∙ sym (append_assoc (bytes_of w u) (fields_of w us) (fields_of w vs))
+fields-append w (u ∷ us) vs = ap (λ (l : List ℕ). bytes_of w u ++ l) (fields-append w us vs) ∙ sym
+    (append_assoc (bytes_of w u) (fields_of w us) (fields_of w vs))
 
 sets_append : (u v l : List ℕ) (i : ℕ) → sets (sets l i u) (i + length u) v ≡ sets l i (u ++ v)
 sets_append [] v l i = ap (λ (n : ℕ). sets l n v) (add-zero i)

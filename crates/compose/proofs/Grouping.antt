@@ -281,7 +281,8 @@ left_grouped s x a b c = then_stateless (join_behind_from s x a b) (λ m. statel
 
 right_grouped : (s : ℕ) (x : Key) (a b c : Mark) → right_first s x a b c ≡ joined_by s x (Both (One a) (Both (One b) (One c)))
 right_grouped s x a b c =
-    then_same (join_behind_from s x b c) (λ m. stateless (join_in_front_from s x m a)) (λ m. stateless (join_behind_from s x a m)) (λ m. sym (either_call s x a m))
+    then_same (join_behind_from s x b c) (λ m. stateless (join_in_front_from s x m a)) (λ m. stateless (join_behind_from s x a m))
+    (λ m. sym (either_call s x a m))
     ∙ then_stateless (join_behind_from s x b c) (λ m. stateless (join_behind_from s x a m))
 
 pub any_two-first : AnyTwoFirst
@@ -321,7 +322,8 @@ module _ (s key : ℕ) (pos : 0 < key) where
       ap₂ (joined_from s key) (by_done g a.0 a.1.0) (by_done h b.0 b.1.0)
       ∙ behind-done a.0 b.0 m (stateless-done (join_behind_from s (key_of key) a.0 b.0) m b.1.1)
 
-  turn_true : (file : List ℕ) (files : List (List ℕ)) → in_turn s key (mark_from s key file) (map (mark_from s key) files) ≡ mark_from s key (file ++ flatten files)
+  turn_true : (file : List ℕ) (files : List (List ℕ))
+      → in_turn s key (mark_from s key file) (map (mark_from s key) files) ≡ mark_from s key (file ++ flatten files)
   unfolding in_turn flatten
   turn_true file [] = ap (mark_from s key) (sym (append-nil file))
   turn_true file (f ∷ files) =

@@ -70,7 +70,8 @@ module _ (key : ℕ) (pos : 0 < key) where
       handed (λ (q : ℕ). first_of (key_tests (key_of key) ++ feed_tests q (turned key m) part) (turned key m) (fed_mark q (turned key m) part))
       (λ (q : ℕ). first_of (key_tests (key_of key) ++ feed_tests q m part) m (fed_mark q m part)) (fed-alike m low part (key_tests (key_of key)))
   alike m low (ByTable words part) =
-      handed (λ (q : ℕ). first_of (key_tests (key_of key) ++ table_tests q words ++ feed_tests q (turned key m) part) (turned key m) (fed_mark q (turned key m) part))
+      handed (λ (q : ℕ). first_of (key_tests (key_of key) ++ table_tests q words ++ feed_tests q (turned key m) part) (turned key m)
+      (fed_mark q (turned key m) part))
       (λ (q : ℕ). first_of (key_tests (key_of key) ++ table_tests q words ++ feed_tests q m part) m (fed_mark q m part))
       (fed-alike m low part (key_tests (key_of key) ++ table_tests key words))
 

@@ -84,7 +84,8 @@ pages-begin {p} pos x y e =
 
 -- the difference of n more bits, which the numbers c and d have
 pub pages-end : {p : ℕ} (pos : 0 < p) (x y : List ℕ) (n c d : ℕ) → c < 2 ^ n → d < 2 ^ n
-    → rem p (value_from (rem p (value_from 0 x ⊕ value_from 0 y)) (low_bits n (c ⊕ d))) ≡ rem p (value_from 0 (x ++ low_bits n c) ⊕ value_from 0 (y ++ low_bits n d))
+    → rem p (value_from (rem p (value_from 0 x ⊕ value_from 0 y)) (low_bits n (c ⊕ d))) ≡ rem p
+    (value_from 0 (x ++ low_bits n c) ⊕ value_from 0 (y ++ low_bits n d))
 pages-end {p} pos x y n c d hc hd =
     rem-from pos (s ⊕ t) (low_bits n (c ⊕ d))
     ∙ ap (rem p) (low-behind n (s ⊕ t) (c ⊕ d) (⊕-lt n c d hc hd) ∙ sums ∙ ap₂ (λ (v w : ℕ). v ⊕ w) (behind x c hc) (behind y d hd))

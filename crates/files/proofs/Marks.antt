@@ -49,7 +49,8 @@ module _ {p : ℕ} (pos : 0 < p) where
       (value-change s 1 pre old new post e)
 
   replaced-print : (s : ℕ) (pre old new post : List ℕ) → length old ≡ length new
-      → rem p (fingerprint_from s p (pre ++ old ++ post) ⊕ (fingerprint p old ⊕ fingerprint p new) * 2 ^ length post) ≡ fingerprint_from s p (pre ++ new ++ post)
+      → rem p (fingerprint_from s p (pre ++ old ++ post) ⊕ (fingerprint p old ⊕ fingerprint p new) * 2 ^ length post) ≡ fingerprint_from s p
+      (pre ++ new ++ post)
   unfolding fingerprint_from
   replaced-print s pre old new post e =
       rem-⊕ pos (rem p (value_from s (pre ++ old ++ post))) ((rem p (value_from 1 old) ⊕ rem p (value_from 1 new)) * 2 ^ length post)

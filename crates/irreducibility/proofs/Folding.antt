@@ -33,7 +33,8 @@ unfolding even_root
 root-sum zero a b = sym (⊕_self 0)
 root-sum (suc n) a b = bits-eq (half (root-sum n (a / 4) (b / 4))) (root-sum-low n a b)
   where
-    half : even_root n (a / 4 ⊕ b / 4) ≡ even_root n (a / 4) ⊕ even_root n (b / 4) → even_root (suc n) (a ⊕ b) / 2 ≡ (even_root (suc n) a ⊕ even_root (suc n) b) / 2
+    half : even_root n (a / 4 ⊕ b / 4) ≡ even_root n (a / 4) ⊕ even_root n (b / 4)
+        → even_root (suc n) (a ⊕ b) / 2 ≡ (even_root (suc n) a ⊕ even_root (suc n) b) / 2
     half e =
         root-half n (a ⊕ b) ∙ ap (even_root n) (⊕_shr 2 a b) ∙ e
         ∙ sym (⊕-half (even_root (suc n) a) (even_root (suc n) b) ∙ ap₂ (λ (x y : ℕ). x ⊕ y) (root-half n a) (root-half n b))

@@ -166,7 +166,8 @@ pub computed : Gives begun (as_part (0x00 ∷ []) 1) 0x02 1
     × Gives begun (as_part (0x41 ∷ 0x40 ∷ []) 3) 0xE4 11
     × Gives begun front 0x0A 3
     × Gives (record { fingerprint = 0x0A; length = 3 }) back 0x9D 16
-unfolding feed_bits fed_mark misused part_bits part_length used_bits value_from bits low_bits monic reducible any_below rem long_division reduce degree halvings ◌⊕◌
+unfolding feed_bits fed_mark misused part_bits part_length used_bits value_from bits low_bits monic reducible any_below rem long_division reduce degree
+    halvings ◌⊕◌
 computed = (refl, refl, refl, refl, refl, refl)
 
 -- ---- under the house key, from the empty file

@@ -11,7 +11,8 @@ use Rattle.refusals.specs.Refusals.{Done, Refused}
 use Rattle.acceptance.specs.declared.Key.{Key}
 use Rattle.acceptance.specs.Keys.{reducible, key_of}
 use Rattle.files.specs.declared.Mark.{Mark}
-use Rattle.files.specs.Files.{low_bits, bits, value_from, fingerprint_from, mark_from, mark_of, as_part, whole, used_bits, part_length, part_bits, misused, fed_mark}
+use Rattle.files.specs.Files.{low_bits, bits, value_from, fingerprint_from, mark_from, mark_of, as_part, whole, used_bits, part_length, part_bits, misused}
+use Rattle.files.specs.Files.{fed_mark}
 use Rattle.files.specs.Files.{joined_from, replaced}
 use Rattle.files.specs.PlainMarks.{plain_mark_of, turned}
 use Rattle.lookups.specs.Rule.{differs}
@@ -67,7 +68,8 @@ turns = (refl, refl, refl, refl, refl, refl, refl, refl, refl)
 pub turned-inside : (feed_bits x (mark 0x00 0) ours.front ≡ Done (mark 0x02 3))
     × (turn x (mark 0x02 3) ≡ Done (mark 0x0A 3))
     × (feed_bits x (mark 0x0A 3) ours.back ≡ Done (mark 0x9D 16))
-unfolding feed_bits turn fed_mark turned misused part_bits part_length used_bits value_from bits low_bits monic reducible any_below rem long_division reduce degree
+unfolding feed_bits turn fed_mark turned misused part_bits part_length used_bits value_from bits low_bits monic reducible any_below rem long_division reduce
+    degree
     halvings ◌⊕◌
 turned-inside = (refl, refl, refl)
 
@@ -118,7 +120,8 @@ by_calls =
 
 -- from a file that is not empty
 pub by_one_call : PlainBench.PlainRoute 0x11B (bits (0x41 ∷ 0x42 ∷ [])) 0xC3
-unfolding run book_step feeds.step feed_bits fed_mark BenchLevel.book_tests BenchLevel.written misused part_bits part_length used_bits mark_from fingerprint_from
+unfolding run book_step feeds.step feed_bits fed_mark BenchLevel.book_tests BenchLevel.written misused part_bits part_length used_bits mark_from
+    fingerprint_from
     value_from bits low_bits monic reducible any_below rem long_division reduce degree halvings ◌⊕◌
 by_one_call =
     PlainBench.ByCalls (mark 0xC3 16)
@@ -191,7 +194,8 @@ site_book = refl
 
 pub site_list : run (step 0 0x11B) (mark 0x00 0) calls ≡ (mark 0x23 24, numbers)
 unfolding calls run step feeds.step feed_bits feed_table fed_mark join_behind_from join_in_front_from joined_from replace_page replaced
-    monic reducible any_below fingerprint_from value_from bits low_bits used_bits part_length part_bits misused rem long_division reduce degree halvings ◌⊕◌ differs
+    monic reducible any_below fingerprint_from value_from bits low_bits used_bits part_length part_bits misused rem long_division reduce degree halvings ◌⊕◌
+    differs
 site_list = refl
 
 pub site-honest : Honest plain_site 0x11B [] calls

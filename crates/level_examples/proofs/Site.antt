@@ -72,7 +72,8 @@ the_book = refl
 
 pub the_list : run (step 1 0x11B) (mark 0x01 0) calls ≡ (mark (fingerprint 0x11B (bits (0x41 ∷ 0x00 ∷ 0x00 ∷ []))) 24, numbers)
 unfolding calls run step feeds.step feed_bits feed_table fed_mark join_behind_from join_in_front_from joined_from replace_page replaced
-    monic reducible any_below fingerprint_from value_from bits low_bits used_bits part_length part_bits misused rem long_division reduce degree halvings ◌⊕◌ differs
+    monic reducible any_below fingerprint_from value_from bits low_bits used_bits part_length part_bits misused rem long_division reduce degree halvings ◌⊕◌
+    differs
 the_list = refl
 
 pub the_list_is-honest : Honest site 0x11B [] calls
@@ -196,7 +197,8 @@ old-sheet = 0x47 ∷ 0x46 ∷ 0x50 ∷ 0x00 ∷ 0x01 ∷ key_field ++ 0x00 ∷ 0
 
 old-pages : TruePages 0x11B two old-sheet (contents_of 1 (key_of 0x11B) 16 two)
 unfolding old-sheet every overlay filled contents_of page_fingerprints read_sheet contents_in key_from known layout_among numbers_at number_at
-    fingerprint_from value_from bits low_bits joined_pages joined_from some_unreduced mark_from monic reducible any_below rem long_division reduce degree halvings ◌⊕◌
+    fingerprint_from value_from bits low_bits joined_pages joined_from some_unreduced mark_from monic reducible any_below rem long_division reduce degree
+    halvings ◌⊕◌
 old-pages =
     record {
       bytes = all_map (λ b t. ltb→lt b 256 t) old-sheet (all_by_test (λ b. ltb b 256) old-sheet tt);
@@ -208,7 +210,8 @@ old-pages =
 
 pub read_AC : Route 0x11B (two ++ replicate 112 0) 0xAC
 unfolding old-sheet overlay filled contents_of page_fingerprints read_pages read_sheet contents_in key_from known layout_among numbers_at number_at
-    fingerprint_from value_from bits low_bits joined_pages joined_from some_unreduced mark_from monic reducible any_below rem long_division reduce degree halvings ◌⊕◌
+    fingerprint_from value_from bits low_bits joined_pages joined_from some_unreduced mark_from monic reducible any_below rem long_division reduce degree
+    halvings ◌⊕◌
 read_AC = ByReadingPages two old-sheet (0x00 ∷ []) (0xAC ∷ []) (contents_of 1 (key_of 0x11B) 16 two) 0 old-pages refl (omega arith) (omega arith) refl refl
 
 -- ---- the pages of the 17 bytes 00 to 10, the last of one byte: filled up in version 1, as it is in versions 2 to 4

@@ -1,5 +1,7 @@
 -- Elimination with the sums of rows beside the rows: what it keeps, and how it ends in a relation.
-use Rattle.std.proofs.Common.{◌≡◌, ℕ, zero, suc, ◌+◌, ◌-◌, ◌*◌, ◌/◌, ◌%◌, ◌^◌, ◌<◌, ◌≤◌, ◌⊎◌, List, [], ◌∷◌, map, length, get_or, take, drop, set, replicate, sym, refl, ap, ◌∙◌, ap₂, inl, inr, suc-le-suc, lt_of_lt_of_le, le_of_suc-le-suc, not-suc-le-zero, add-zero, add-suc, eq-zero-or-pos, suc-add, one-mul, zero-add, zero-mul, add-one, arith, length-take-le, get_or-take, pow_pos, pow_mono}
+use Rattle.std.proofs.Common.{◌≡◌, ℕ, zero, suc, ◌+◌, ◌-◌, ◌*◌, ◌/◌, ◌%◌, ◌^◌, ◌<◌, ◌≤◌, ◌⊎◌, List, [], ◌∷◌, map, length, get_or, take, drop, set, replicate}
+use Rattle.std.proofs.Common.{sym, refl, ap, ◌∙◌, ap₂, inl, inr, suc-le-suc, lt_of_lt_of_le, le_of_suc-le-suc, not-suc-le-zero, add-zero, add-suc}
+use Rattle.std.proofs.Common.{eq-zero-or-pos, suc-add, one-mul, zero-add, zero-mul, add-one, arith, length-take-le, get_or-take, pow_pos, pow_mono}
 use native.Mathlib.Nat.{sub-zero, div_self}
 use native.Mathlib.Nat.{le-suc}
 use lib.ListN.{length-map, length-replicate}

@@ -102,13 +102,15 @@ bits_none k fs = rw (lt-leb (2 ^ k) 0 (pow_pos k))
 
 -- the bits and four lanes, each by itself
 bits-apart : (k bits : ℕ) (s t u v : List ℕ)
-    → some_unreduced k (bits ∷ (s ++ t ++ u ++ v)) ≡ (leb (2 ^ k) bits || (some_unreduced k s || (some_unreduced k t || (some_unreduced k u || some_unreduced k v))))
+    → some_unreduced k (bits ∷ (s ++ t ++ u ++ v)) ≡ (leb (2 ^ k) bits ||
+    (some_unreduced k s || (some_unreduced k t || (some_unreduced k u || some_unreduced k v))))
 bits-apart k bits s t u v = simp (unreduced-first, unreduced-append, or_assoc)
 
 -- four fields a turn
 pub bits-four : (k bits place lane n e f g h : ℕ) (l : List ℕ) → 0 < n → e ≡ number_at place 8 l → f ≡ number_at (place + lane) 8 l
     → g ≡ number_at (place + lane + lane) 8 l → h ≡ number_at (place + lane + lane + lane) 8 l
-    → some_unreduced k (bit_or (bit_or (bit_or (bit_or bits e) f) g) h ∷ four_lanes (place + 8) lane (n - 1) l) ≡ some_unreduced k (bits ∷ four_lanes place lane n l)
+    → some_unreduced k (bit_or (bit_or (bit_or (bit_or bits e) f) g) h ∷ four_lanes (place + 8) lane (n - 1) l) ≡ some_unreduced k
+    (bits ∷ four_lanes place lane n l)
 bits-four k bits place lane n e f g h l p ee ef eg eh =
     let b : place + 8 + lane ≡ place + lane + 8 = omega arith in
     let c : place + 8 + lane + lane ≡ place + lane + lane + 8 = omega arith in
@@ -283,7 +285,8 @@ module _ (p : Modulus) (md : Proper p) (s place n q from : ℕ) (fits : 4 * q �
       → abcd ≡ rem (polynomial p) (abc % 2 ^ p.degree ⊗ t) ⊕ x.d → abcd ≡ chained (polynomial p) (8 * s) 1 (lane_a ++ lane_b ++ lane_c ++ lane_d)
   unfolding lane_d
   is_abcd ab abc abcd e f g =
-      lane-behind p md (8 * s) q (lane_a ++ lane_b ++ lane_c) lane_d abc x.d t abcd (length-numbers_at (place + 8 * q + 8 * q + 8 * q) 8 q l) (is_abc ab abc e f)
+      lane-behind p md (8 * s) q (lane_a ++ lane_b ++ lane_c) lane_d abc x.d t abcd (length-numbers_at (place + 8 * q + 8 * q + 8 * q) 8 q l)
+      (is_abc ab abc e f)
       (four.d ∙ by_table 0 lane_d (pow_pos p.degree) reduced.3) et g
 
   pub all-joined : (ab abc abcd y : ℕ) → ab ≡ rem (polynomial p) (x.a % 2 ^ p.degree ⊗ t) ⊕ x.b → abc ≡ rem (polynomial p) (ab % 2 ^ p.degree ⊗ t) ⊕ x.c

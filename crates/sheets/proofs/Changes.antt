@@ -188,7 +188,8 @@ module _ (place : ℕ) (sheet gs : List ℕ) (i : ℕ) (l : i < length gs) where
       (drop-next gs i 0 l)
 
   pub agree_on : number_at place 8 sheet ≡ get_or gs i 0
-      → agreeing (numbers_at place 8 (length gs - i) sheet) (drop i gs) ≡ suc (agreeing (numbers_at (place + 8) 8 (length gs - (i + 1)) sheet) (drop (i + 1) gs))
+      → agreeing (numbers_at place 8 (length gs - i) sheet) (drop i gs) ≡ suc
+      (agreeing (numbers_at (place + 8) 8 (length gs - (i + 1)) sheet) (drop (i + 1) gs))
   agree_on e = heads ∙ agree-step _ _ _ _ e
 
   pub agree_off : number_at place 8 sheet ≢ get_or gs i 0 → agreeing (numbers_at place 8 (length gs - i) sheet) (drop i gs) ≡ 0

@@ -144,33 +144,34 @@ module _ (sheet : List ℕ) (h : Bytes sheet) (three : length (layout_of (versio
     (some : 0 < (layout_of (version_in sheet)).length_unit)
     (total : length sheet ≡ sheet_length (layout_of (version_in sheet)) (pages_in (layout_of (version_in sheet)) sheet))
     (right : field_in (layout_of (version_in sheet)) 0 sheet ≡ letters)
-    (key : key_number (layout_of (version_in sheet)).paired (key_in (layout_of (version_in sheet)) sheet) ≡ field_in (layout_of (version_in sheet)) 2 sheet) where
-  abbrev w : Layout
-  w = layout_of (version_in sheet)
+    (key : key_number (layout_of (version_in sheet)).paired (key_in (layout_of (version_in sheet)) sheet) ≡ field_in (layout_of (version_in sheet)) 2 sheet)
+  where
+    abbrev w : Layout
+    w = layout_of (version_in sheet)
 
-  agree : (i : ℕ) → i < length (field_widths w) → field_in w i sheet ≡ get_or (head_of (contents_in sheet)) i 0
-  unfolding contents_in
-  agree zero l = right
-  agree (suc zero) l = refl
-  agree (suc (suc zero)) l = sym key
-  agree (suc (suc (suc zero))) l =
-      sym (ap (λ (n : ℕ). n / w.length_unit) (mul_comm w.length_unit (field_in w 3 sheet)) ∙ mul-div_cancel (field_in w 3 sheet) some)
-  agree (suc (suc (suc (suc zero)))) l = refl
-  agree (suc (suc (suc (suc (suc i))))) l = absurd (omega (arith, three, l))
+    agree : (i : ℕ) → i < length (field_widths w) → field_in w i sheet ≡ get_or (head_of (contents_in sheet)) i 0
+    unfolding contents_in
+    agree zero l = right
+    agree (suc zero) l = refl
+    agree (suc (suc zero)) l = sym key
+    agree (suc (suc (suc zero))) l =
+        sym (ap (λ (n : ℕ). n / w.length_unit) (mul_comm w.length_unit (field_in w 3 sheet)) ∙ mul-div_cancel (field_in w 3 sheet) some)
+    agree (suc (suc (suc (suc zero)))) l = refl
+    agree (suc (suc (suc (suc (suc i))))) l = absurd (omega (arith, three, l))
 
-  pub write_back : sheet_bytes (contents_in sheet) ≡ sheet
-  unfolding sheet_bytes contents_in
-  write_back =
-      let f = fingerprint_width in
-      let c = pages_in w sheet in
-      let p = width (field_widths w) in
-      let start : page_place w 0 ≡ p = sym (place-first w) in
-      ap₂ (λ (a b : List ℕ). a ++ b)
-      (ap₂ (λ (a b : List ℕ). a ++ b)
-      (fields-written sheet h (field_widths w) (head_of (contents_in sheet)) 0 (ap (λ (n : ℕ). suc (suc n)) three) (λ i l. rw zero-add (agree i l))
-      (omega (arith, total)))
-      (fields-numbers sheet h c (page_place w 0) f (omega (arith, start, total)) ∙ ap (λ (n : ℕ). take (f * c) (drop n sheet)) start)
-      ∙ sym (take-add p (f * c) sheet))
-      (bytes-number sheet h (page_place w c) f (omega (arith, total)))
-      ∙ sym (take-add (page_place w c) f sheet)
-      ∙ take_all (sheet_length w c) sheet (omega (arith, total))
+    pub write_back : sheet_bytes (contents_in sheet) ≡ sheet
+    unfolding sheet_bytes contents_in
+    write_back =
+        let f = fingerprint_width in
+        let c = pages_in w sheet in
+        let p = width (field_widths w) in
+        let start : page_place w 0 ≡ p = sym (place-first w) in
+        ap₂ (λ (a b : List ℕ). a ++ b)
+        (ap₂ (λ (a b : List ℕ). a ++ b)
+        (fields-written sheet h (field_widths w) (head_of (contents_in sheet)) 0 (ap (λ (n : ℕ). suc (suc n)) three) (λ i l. rw zero-add (agree i l))
+        (omega (arith, total)))
+        (fields-numbers sheet h c (page_place w 0) f (omega (arith, start, total)) ∙ ap (λ (n : ℕ). take (f * c) (drop n sheet)) start)
+        ∙ sym (take-add p (f * c) sheet))
+        (bytes-number sheet h (page_place w c) f (omega (arith, total)))
+        ∙ sym (take-add (page_place w c) f sheet)
+        ∙ take_all (sheet_length w c) sheet (omega (arith, total))

@@ -269,7 +269,8 @@ pub page-begins : (s n i : ℕ) → 0 < s → i ≤ page_count s n → i * s < n
 page-begins s n i h l = omega (arith, mul-le-mul_right s l, count-tight s n h)
 
 -- n pages of what is left from page i on are pages of the file
-pub block_within : (s i n : ℕ) (file : List ℕ) → 0 < s → i * s ≤ length file → n ≤ page_count s (length (drop (i * s) file)) → i + n ≤ page_count s (length file)
+pub block_within : (s i n : ℕ) (file : List ℕ) → 0 < s → i * s ≤ length file → n ≤ page_count s (length (drop (i * s) file))
+    → i + n ≤ page_count s (length file)
 block_within s i n file h l b =
     let e : page_count s (length (drop (i * s) file)) ≡ page_count s (length file - i * s) = ap (page_count s) (length-drop (i * s) file) in
     omega (arith, e, count-after s (length file) i h l)

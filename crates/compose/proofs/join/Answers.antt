@@ -31,5 +31,6 @@ returns-in-Accepted c =
     let a = c.args in
     let key = a.m.key in
     c.join_under.ensures
-    ∙ sym (ap (fed_under key) (opened-first (key-opened (goal.at.returns-in-Accepted c).In-Accepted) (marks_tests (polynomial_of key) a.first a.second) (mark_in a.m)
+    ∙ sym (ap (fed_under key) (opened-first (key-opened (goal.at.returns-in-Accepted c).In-Accepted) (marks_tests (polynomial_of key) a.first a.second)
+    (mark_in a.m)
     (joined_from a.start (polynomial_of key) a.first a.second)))

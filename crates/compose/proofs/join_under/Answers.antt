@@ -74,7 +74,8 @@ pub returns-then-not-is_residue-2 : goal.returns-then-not-is_residue-2
 returns-then-not-is_residue-2 c =
     let r = c.is_residue-2 in
     let high = not-residue c.requires.0 _ r.result r.ensures c.if-not-is_residue-2.true-raw in
-    unreduced-refused (goal.at.returns-then-not-is_residue-2 c).Else-not-fits (rw (first-low (goal.at.returns-then-not-is_residue-2 c).Else-not-is_residue, high))
+    unreduced-refused (goal.at.returns-then-not-is_residue-2 c).Else-not-fits
+    (rw (first-low (goal.at.returns-then-not-is_residue-2 c).Else-not-is_residue, high))
 
 pub joined_residue-requires : goal.joined_residue-requires
 joined_residue-requires c =

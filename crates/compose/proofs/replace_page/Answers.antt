@@ -37,7 +37,8 @@ unfolding replace_page
 returns-in-Refused c =
     let key = c.args.m.key in
     let t = c.test in
-    sym (ap (fed_under key) (refused t.result key t.ensures (tests (goal.at.returns-in-Refused c).Start) (mark_in c.args.m) (value (goal.at.returns-in-Refused c).Start) _ c.in-Refused.is))
+    sym (ap (fed_under key) (refused t.result key t.ensures (tests (goal.at.returns-in-Refused c).Start) (mark_in c.args.m)
+    (value (goal.at.returns-in-Refused c).Start) _ c.in-Refused.is))
 
 pub replace-requires : goal.replace-requires
 replace-requires c = key-opened c
@@ -47,4 +48,5 @@ unfolding replace_page
 returns-in-Accepted c =
     let key = c.args.m.key in
     c.replace.ensures
-    ∙ sym (ap (fed_under key) (opened-first (key-opened (goal.at.returns-in-Accepted c).In-Accepted) (tests (goal.at.returns-in-Accepted c).Start) (mark_in c.args.m) (value (goal.at.returns-in-Accepted c).Start)))
+    ∙ sym (ap (fed_under key) (opened-first (key-opened (goal.at.returns-in-Accepted c).In-Accepted) (tests (goal.at.returns-in-Accepted c).Start)
+    (mark_in c.args.m) (value (goal.at.returns-in-Accepted c).Start)))

@@ -35,7 +35,8 @@ loop-i-preserved c =
     let l = c.loop-i in (
       omega arith,
       length-set l.rows l.i l.power ∙ l.invariant.1,
-      λ p t. filling-next (value-additive p t.0 c.args.e) l.rows l.power l.i (omega arith) (l.invariant.2 p t) _ (turned (goal.at.loop-i-preserved c).After-sum_of-power p t),
+      λ p t. filling-next (value-additive p t.0 c.args.e) l.rows l.power l.i (omega arith) (l.invariant.2 p t) _
+          (turned (goal.at.loop-i-preserved c).After-sum_of-power p t),
     )
 
 pub returns : goal.returns

@@ -32,7 +32,13 @@ new-used s = well-used (newAt s) s.requires.3
 final : (c : After-whole_bytes-w) → c.whole_bytes-w.result < length c.args.old.now
 final c =
     let n = c.if-used-eq8.false in
-    omega (arith, c.whole_bytes-w.ensures.0, whole-front (oldAt c.before.before.before.before.before) n, some_bytes (oldAt c.before.before.before.before.before) (old-used c.before.before.before.before.before) n)
+    omega (
+      arith,
+      c.whole_bytes-w.ensures.0,
+      whole-front (oldAt c.before.before.before.before.before) n,
+      some_bytes
+          (oldAt c.before.before.before.before.before) (old-used c.before.before.before.before.before) n,
+    )
 
 pub returns-then-used-eq8 : goal.returns-then-used-eq8
 returns-then-used-eq8 c =
@@ -72,4 +78,5 @@ returns c =
     c.feed_low.ensures
     ∙ ap₂ (λ (x n : ℕ). rem (polynomial a.p) (value_from x (low_bits a.used ((get_or a.old.now n 0 ⊕ get_or a.new.now n 0) / 2 ^ (8 - a.used)))))
     c.requires.4 c.whole_bytes-w.ensures.0
-    ∙ pages-rest pos a.old.now a.new.now a.used c.requires.1 (old-used (goal.at.returns c).Start) (new-used (goal.at.returns c).Start) c.if-used-eq8.false byte-old byte-new
+    ∙ pages-rest pos a.old.now a.new.now a.used c.requires.1 (old-used (goal.at.returns c).Start) (new-used (goal.at.returns c).Start) c.if-used-eq8.false
+    byte-old byte-new

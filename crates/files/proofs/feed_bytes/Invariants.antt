@@ -8,7 +8,8 @@ use Rattle.files.specs.Files.{bits, value_from}
 use Rattle.files.proofs.feed_bytes.Given as goal
 
 abbrev pub invariant-loop-i : goal.invariant-loop-i
-invariant-loop-i l = (l.i ≤ length l.part) × (l.x < 2 ^ l.p.degree) × (rem (polynomial l.p) (value_from l.x (bits (drop l.i l.part))) ≡ rem (polynomial l.p) (value_from l.f (bits l.part)))
+invariant-loop-i l = (l.i ≤ length l.part) × (l.x < 2 ^ l.p.degree) ×
+    (rem (polynomial l.p) (value_from l.x (bits (drop l.i l.part))) ≡ rem (polynomial l.p) (value_from l.f (bits l.part)))
 
 abbrev pub decreases-loop-i : goal.decreases-loop-i
 decreases-loop-i l = length l.part - l.i

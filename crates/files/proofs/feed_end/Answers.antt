@@ -45,4 +45,5 @@ feed_low-requires c = (c.requires.0, c.requires.1, (well (goal.at.feed_low-requi
 pub returns : goal.returns
 returns c =
     let a = c.args in
-    c.feed_low.ensures ∙ sym (ap (λ l. rem (polynomial a.p) (value_from a.f l)) (end_low (part_at (goal.at.returns c).Start) (well (goal.at.returns c).Start) c.if-used-eq8.false))
+    c.feed_low.ensures ∙ sym (ap (λ l. rem (polynomial a.p) (value_from a.f l))
+    (end_low (part_at (goal.at.returns c).Start) (well (goal.at.returns c).Start) c.if-used-eq8.false))

@@ -7,7 +7,8 @@ use Rattle.fold_blocks.specs.Folds.{exponents, folded}
 use Rattle.fold_blocks.proofs.divide.Given as goal
 
 abbrev pub invariant-loop-i : goal.invariant-loop-i
-invariant-loop-i l = (l.i ≤ length l.src) × (length l.q ≡ length l.initial.q) × (folded exponents l.s l.q l.i ≡ value_from (folded exponents l.s l.initial.q 0) (bits (take l.i l.src)))
+invariant-loop-i l = (l.i ≤ length l.src) × (length l.q ≡ length l.initial.q) ×
+    (folded exponents l.s l.q l.i ≡ value_from (folded exponents l.s l.initial.q 0) (bits (take l.i l.src)))
 
 abbrev pub decreases-loop-i : goal.decreases-loop-i
 decreases-loop-i l = length l.src - l.i

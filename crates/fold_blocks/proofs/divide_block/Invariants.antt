@@ -11,7 +11,8 @@ use Rattle.fold_blocks.proofs.divide_block.Given as goal
 abbrev pub invariant-loop-i : goal.invariant-loop-i
 invariant-loop-i l =
     (l.i ≤ length l.src) × (length l.q ≡ length l.initial.q)
-    × (rem house_key (value_from (folded exponents l.s (drop l.i l.q) 0) (bits (drop l.i l.src))) ≡ rem house_key (value_from (folded exponents l.s l.initial.q 0) (bits l.src)))
+    × (rem house_key (value_from (folded exponents l.s (drop l.i l.q) 0) (bits (drop l.i l.src))) ≡ rem house_key
+    (value_from (folded exponents l.s l.initial.q 0) (bits l.src)))
 
 abbrev pub decreases-loop-i : goal.decreases-loop-i
 decreases-loop-i l = length l.src - l.i

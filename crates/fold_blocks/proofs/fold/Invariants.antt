@@ -11,7 +11,8 @@ use Rattle.fold_blocks.proofs.fold.Given as goal
 abbrev pub invariant-loop-at : goal.invariant-loop-at
 invariant-loop-at l =
     (l.at ≤ length l.part) × (length l.q ≡ length l.initial.q)
-    × (rem house_key (value_from (folded exponents l.s l.q 0) (bits (drop l.at l.part))) ≡ rem house_key (value_from (folded exponents l.s l.initial.q 0) (bits l.part)))
+    × (rem house_key (value_from (folded exponents l.s l.q 0) (bits (drop l.at l.part))) ≡ rem house_key
+    (value_from (folded exponents l.s l.initial.q 0) (bits l.part)))
 
 abbrev pub decreases-loop-at : goal.decreases-loop-at
 decreases-loop-at l = length l.part - l.at

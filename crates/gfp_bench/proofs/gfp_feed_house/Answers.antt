@@ -18,7 +18,8 @@ use Rattle.gfp_bench.proofs.gfp_feed_house.Goals as goal
 -- on refusal the state is the mark that was handed in
 keeps : (x : Key) (m : Mark) (part : Part) → value_or m (feed_house x m part) ≡ state_of (feed_house x m part)
 unfolding feed_house feed_table
-keeps x m part = first-keeps (key_tests x ++ table_tests (polynomial_of x) house_words ++ feed_tests (polynomial_of x) m part) m (fed_mark (polynomial_of x) m part)
+keeps x m part = first-keeps (key_tests x ++ table_tests (polynomial_of x) house_words ++ feed_tests (polynomial_of x) m part) m
+    (fed_mark (polynomial_of x) m part)
 
 pub returns : goal.returns
 returns c =

@@ -18,7 +18,8 @@ use Rattle.gfp_bench.proofs.gfp_feed_table.Goals as goal
 -- on refusal the state is the mark that was handed in
 keeps : (x : Key) (m : Mark) (words : List ℕ) (part : Part) → value_or m (feed_table x m words part) ≡ state_of (feed_table x m words part)
 unfolding feed_table
-keeps x m words part = first-keeps (key_tests x ++ table_tests (polynomial_of x) words ++ feed_tests (polynomial_of x) m part) m (fed_mark (polynomial_of x) m part)
+keeps x m words part = first-keeps (key_tests x ++ table_tests (polynomial_of x) words ++ feed_tests (polynomial_of x) m part) m
+    (fed_mark (polynomial_of x) m part)
 
 pub returns : goal.returns
 returns c =

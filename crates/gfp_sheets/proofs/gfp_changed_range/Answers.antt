@@ -21,7 +21,8 @@ before c = let a = c.args in a.outcome.now ∷ a.from.now ∷ a.to.now ∷ []
 told : (c : After-first_changed_range) (o : Changed) → c.first_changed_range.result ≡ o
     → let sheet = c.args.sheet.now in
     let checked = check_sheet sheet (as_part c.args.file.now c.args.used) in
-    (number_of (change_answer o) ≡ number_of checked) × (value_or (before c) (change_answer o) ≡ value_or (before c) (mapped (range_in (contents_in sheet)) checked))
+    (number_of (change_answer o) ≡ number_of checked) × (value_or (before c) (change_answer o) ≡ value_or (before c)
+    (mapped (range_in (contents_in sheet)) checked))
 told c o e =
     let sheet = c.args.sheet.now in
     let file = as_part c.args.file.now c.args.used in

@@ -16,7 +16,8 @@ returns-in-Found c =
     let e = sym c.in-Found.is in (
       ap (λ (x : Searched). number_of (searched x)) e ∙ ap number_of m.ensures.0,
       m.ensures.1,
-      ap (λ (x : Searched). value_or (before (goal.at.returns-in-Found c).Start) (searched x)) e ∙ ap (value_or (before (goal.at.returns-in-Found c).Start)) m.ensures.0,
+      ap (λ (x : Searched). value_or (before (goal.at.returns-in-Found c).Start) (searched x)) e ∙ ap (value_or (before (goal.at.returns-in-Found c).Start))
+          m.ensures.0,
     )
 
 pub returns-in-Refused : goal.returns-in-Refused
@@ -25,5 +26,6 @@ returns-in-Refused c =
     let e = sym c.in-Refused.is in (
       c.number.ensures ∙ ap (λ (x : Searched). number_of (searched x)) e ∙ ap number_of m.ensures.0,
       m.ensures.1,
-      ap (λ (x : Searched). value_or (before (goal.at.returns-in-Refused c).Start) (searched x)) e ∙ ap (value_or (before (goal.at.returns-in-Refused c).Start)) m.ensures.0,
+      ap (λ (x : Searched). value_or (before (goal.at.returns-in-Refused c).Start) (searched x)) e ∙ ap
+          (value_or (before (goal.at.returns-in-Refused c).Start)) m.ensures.0,
     )

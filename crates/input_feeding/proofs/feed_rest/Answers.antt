@@ -52,8 +52,14 @@ loop-more-smaller-in-Next c =
     omega (arith, ((facts (goal.at.loop-more-smaller-in-Next c).After-turn).goes_on _ c.in-Fed.is _ c.in-Next.is).1)
 
 pub loop-more-preserved-in-Next : goal.loop-more-preserved-in-Next
-loop-more-preserved-in-Next c =
-    (search rules, (((facts (goal.at.loop-more-preserved-in-Next c).After-turn).goes_on _ c.in-Fed.is _ c.in-Next.is).0, still_more _ (next (goal.at.loop-more-preserved-in-Next c).After-turn) (more_of (goal.at.loop-more-preserved-in-Next c).After-turn)))
+loop-more-preserved-in-Next c = (
+  search rules,
+  (
+    ((facts (goal.at.loop-more-preserved-in-Next c).After-turn).goes_on _ c.in-Fed.is _ c.in-Next.is).0,
+    still_more _
+        (next (goal.at.loop-more-preserved-in-Next c).After-turn) (more_of (goal.at.loop-more-preserved-in-Next c).After-turn),
+  ),
+)
 
 pub returns-in-Refused : goal.returns-in-Refused
 returns-in-Refused c = (facts (goal.at.returns-in-Refused c).After-turn).stops _ c.in-Fed.is _ _ c.in-Refused.is

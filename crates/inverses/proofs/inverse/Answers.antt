@@ -60,14 +60,18 @@ pub loop-x-smaller : goal.loop-x-smaller
 loop-x-smaller c =
     let h = c.inverse_of_t-h in
     rw c.next-x.ensures
-    (next-less (modulus (goal.at.loop-x-smaller c).After-inverse_of_t-h) c.requires.2 (two (goal.at.loop-x-smaller c).After-inverse_of_t-h) c.args.a h.result h.ensures c.loop-x.x (related (goal.at.loop-x-smaller c).At-loop-x) c.loop-x-test.true)
+    (next-less (modulus (goal.at.loop-x-smaller c).After-inverse_of_t-h) c.requires.2 (two (goal.at.loop-x-smaller c).After-inverse_of_t-h) c.args.a h.result
+    h.ensures c.loop-x.x (related (goal.at.loop-x-smaller c).At-loop-x) c.loop-x-test.true)
 
 pub loop-x-preserved : goal.loop-x-preserved
 loop-x-preserved c =
-    let next = next-keeps (modulus (goal.at.loop-x-preserved c).After-inverse_of_t-h) c.requires.2 (two (goal.at.loop-x-preserved c).After-inverse_of_t-h) c.args.a c.inverse_of_t-h.result c.inverse_of_t-h.ensures c.loop-x.x (related (goal.at.loop-x-preserved c).At-loop-x) in
+    let next = next-keeps (modulus (goal.at.loop-x-preserved c).After-inverse_of_t-h) c.requires.2 (two (goal.at.loop-x-preserved c).After-inverse_of_t-h)
+    c.args.a c.inverse_of_t-h.result c.inverse_of_t-h.ensures c.loop-x.x (related (goal.at.loop-x-preserved c).At-loop-x) in
     rw (whole (goal.at.loop-x-preserved c).After-inverse_of_t-h, c.next-x.ensures) next
 
 pub returns : goal.returns
 returns c =
-    last-inverse (modulus (goal.at.returns c).After-inverse_of_t-h) c.requires.2 (two (goal.at.returns c).After-inverse_of_t-h) c.args.a c.inverse_of_t-h.result c.inverse_of_t-h.ensures c.loop-x.x (related (goal.at.returns c).At-loop-x)
-    (no_divisor (modulus (goal.at.returns c).After-inverse_of_t-h) c.requires.2 (two (goal.at.returns c).After-inverse_of_t-h) c.args.a c.inverse_of_t-h.result c.inverse_of_t-h.ensures c.requires.3 (small (goal.at.returns c).After-inverse_of_t-h)) (omega arith)
+    last-inverse (modulus (goal.at.returns c).After-inverse_of_t-h) c.requires.2 (two (goal.at.returns c).After-inverse_of_t-h) c.args.a
+    c.inverse_of_t-h.result c.inverse_of_t-h.ensures c.loop-x.x (related (goal.at.returns c).At-loop-x)
+    (no_divisor (modulus (goal.at.returns c).After-inverse_of_t-h) c.requires.2 (two (goal.at.returns c).After-inverse_of_t-h) c.args.a c.inverse_of_t-h.result
+    c.inverse_of_t-h.ensures c.requires.3 (small (goal.at.returns c).After-inverse_of_t-h)) (omega arith)

@@ -31,13 +31,15 @@ pub returns-then-half-x : goal.returns-then-half-x
 unfolding ◌⊕◌
 returns-then-half-x c =
     let a = c.args in
-    next-is a.h a.x true c.over_t-u.result (rw (c.if-bit-eq1.true, lt-ltb (a.x.r / 2) a.x.s c.if-half-x.true)) (u-is (goal.at.returns-then-half-x c).After-over_t-u)
+    next-is a.h a.x true c.over_t-u.result (rw (c.if-bit-eq1.true, lt-ltb (a.x.r / 2) a.x.s c.if-half-x.true))
+    (u-is (goal.at.returns-then-half-x c).After-over_t-u)
 
 pub returns-else-half-x : goal.returns-else-half-x
 unfolding ◌⊕◌
 returns-else-half-x c =
     let a = c.args in
-    next-is a.h a.x false c.over_t-u.result (rw (c.if-bit-eq1.true, le-ltb (a.x.r / 2) a.x.s (omega arith))) (u-is (goal.at.returns-else-half-x c).After-over_t-u)
+    next-is a.h a.x false c.over_t-u.result (rw (c.if-bit-eq1.true, le-ltb (a.x.r / 2) a.x.s (omega arith)))
+    (u-is (goal.at.returns-else-half-x c).After-over_t-u)
 
 pub returns-else-bit-eq1 : goal.returns-else-bit-eq1
 unfolding ◌⊕◌

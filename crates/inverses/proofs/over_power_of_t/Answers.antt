@@ -37,7 +37,8 @@ same-degree-at_after_inverse_inverted : (s : After-inverse-inverted) → degree 
 same-degree-at_after_inverse_inverted s = monic-degree s.args.p.degree s.args.p.low s.requires.0.2
 
 no_divisor-at_after_inverse_inverted : (s : After-inverse-inverted) → Divides (modulus-at_after_inverse_inverted s) (2 ^ s.args.n) → ⊥
-no_divisor-at_after_inverse_inverted s = power-not (modulus-at_after_inverse_inverted s) s.requires.2 (rw (same-degree-at_after_inverse_inverted s) s.requires.1) s.args.n
+no_divisor-at_after_inverse_inverted s = power-not (modulus-at_after_inverse_inverted s) s.requires.2
+    (rw (same-degree-at_after_inverse_inverted s) s.requires.1) s.args.n
 
 inverted-is : (c : After-inverse-inverted) → c.inverse-inverted.result ≡ inverse (modulus-at_after_inverse_inverted c) (2 ^ c.args.n)
 inverted-is c =
@@ -49,15 +50,22 @@ below : (s : Start) → inverse (modulus s) (2 ^ s.args.n) < 2 ^ s.args.p.degree
 below s = lt_of_lt_of_le (inverse-lt (modulus s) s.requires.2 (2 ^ s.args.n) (no_divisor s)) (pow_mono (le_of_eq (same-degree s)))
 
 below-at_after_inverse_inverted : (s : After-inverse-inverted) → inverse (modulus-at_after_inverse_inverted s) (2 ^ s.args.n) < 2 ^ s.args.p.degree
-below-at_after_inverse_inverted s = lt_of_lt_of_le (inverse-lt (modulus-at_after_inverse_inverted s) s.requires.2 (2 ^ s.args.n) (no_divisor-at_after_inverse_inverted s)) (pow_mono (le_of_eq (same-degree-at_after_inverse_inverted s)))
+below-at_after_inverse_inverted s = lt_of_lt_of_le (inverse-lt (modulus-at_after_inverse_inverted s) s.requires.2 (2 ^ s.args.n)
+    (no_divisor-at_after_inverse_inverted s)) (pow_mono (le_of_eq (same-degree-at_after_inverse_inverted s)))
 
 inverted-lt : (c : After-inverse-inverted) → c.inverse-inverted.result < 2 ^ c.args.p.degree
 inverted-lt c = rw (inverted-is c) (below-at_after_inverse_inverted c)
 
 pub inverse-inverted-requires : goal.inverse-inverted-requires
 inverse-inverted-requires c =
-    let e = c.power_of_t-power.ensures in
-    (c.requires.0, c.requires.1, c.requires.2, rw e (power_pos (goal.at.inverse-inverted-requires c).Start), rw e (residue-lt c.args.p.degree c.args.p.low c.requires.0.2 (2 ^ c.args.n)))
+    let e = c.power_of_t-power.ensures in (
+      c.requires.0,
+      c.requires.1,
+      c.requires.2,
+      rw e (power_pos (goal.at.inverse-inverted-requires c).Start),
+      rw e
+          (residue-lt c.args.p.degree c.args.p.low c.requires.0.2 (2 ^ c.args.n)),
+    )
 
 pub product-requires : goal.product-requires
 product-requires c = (c.requires.0, c.requires.3, inverted-lt c)

@@ -98,28 +98,46 @@ pub square_rows-requires : goal.square_rows-requires
 square_rows-requires c = (c.requires, part-length (known (goal.at.square_rows-requires c).Start))
 
 pub slice_bounds-rows-end : goal.slice_bounds-rows-end
-slice_bounds-rows-end c = omega (arith, within (goal.at.slice_bounds-rows-end c).After-square_rows, thirds-within (goal.at.slice_bounds-rows-end c).After-square_rows)
+slice_bounds-rows-end c = omega (
+  arith,
+  within (goal.at.slice_bounds-rows-end c).After-square_rows,
+  thirds-within
+      (goal.at.slice_bounds-rows-end c).After-square_rows,
+)
 
 pub slice_bounds-independent_squares-end : goal.slice_bounds-independent_squares-end
 slice_bounds-independent_squares-end c =
-    sym (length-take-le _ (made (goal.at.slice_bounds-independent_squares-end c).After-square_rows) (omega (arith, within (goal.at.slice_bounds-independent_squares-end c).After-square_rows, (known (goal.at.slice_bounds-independent_squares-end c).Start).low)))
+    sym (length-take-le _ (made (goal.at.slice_bounds-independent_squares-end c).After-square_rows)
+    (omega (
+      arith,
+      within (goal.at.slice_bounds-independent_squares-end c).After-square_rows,
+      (known (goal.at.slice_bounds-independent_squares-end c).Start).low,
+    )))
 
 pub returns-then-not-independent_squares : goal.returns-then-not-independent_squares
 returns-then-not-independent_squares c =
     let d = known (goal.at.returns-then-not-independent_squares c).Start in
     let no = not-true c.independent_squares.result c.if-not-independent_squares.true-raw in
     by_test (reducible (key (goal.at.returns-then-not-independent_squares c).After-square_rows)) false (λ f. absurd (false≢true f))
-    (λ e. sym no ∙ (first (goal.at.returns-then-not-independent_squares c).After-square_rows c.independent_squares.ensures.0).1 (irreducible-squares (key (goal.at.returns-then-not-independent_squares c).After-square_rows) (k (goal.at.returns-then-not-independent_squares c).After-square_rows) d.proper d.is d.low d.high e))
+    (λ e. sym no ∙ (first (goal.at.returns-then-not-independent_squares c).After-square_rows c.independent_squares.ensures.0).1
+    (irreducible-squares (key (goal.at.returns-then-not-independent_squares c).After-square_rows)
+    (k (goal.at.returns-then-not-independent_squares c).After-square_rows) d.proper d.is d.low d.high e))
 
 pub slice_bounds-squares-end-2 : goal.slice_bounds-squares-end-2
 slice_bounds-squares-end-2 c = within (goal.at.slice_bounds-squares-end-2 c).After-square_rows
 
 pub slice_bounds-independent_differences-end : goal.slice_bounds-independent_differences-end
-slice_bounds-independent_differences-end c = sym (length-take-le _ (made (goal.at.slice_bounds-independent_differences-end c).After-square_rows) (within (goal.at.slice_bounds-independent_differences-end c).After-square_rows))
+slice_bounds-independent_differences-end c = sym (length-take-le _ (made (goal.at.slice_bounds-independent_differences-end c).After-square_rows)
+    (within (goal.at.slice_bounds-independent_differences-end c).After-square_rows))
 
 pub independent_differences-requires : goal.independent_differences-requires
 independent_differences-requires c =
-    omega (arith, length-take-le (k (goal.at.independent_differences-requires c).After-square_rows / 2) (made (goal.at.independent_differences-requires c).After-square_rows) (within (goal.at.independent_differences-requires c).After-square_rows), (known (goal.at.independent_differences-requires c).Start).high)
+    omega (
+      arith,
+      length-take-le (k (goal.at.independent_differences-requires c).After-square_rows / 2)
+          (made (goal.at.independent_differences-requires c).After-square_rows) (within (goal.at.independent_differences-requires c).After-square_rows),
+      (known (goal.at.independent_differences-requires c).Start).high,
+    )
 
 pub returns : goal.returns
 returns c =

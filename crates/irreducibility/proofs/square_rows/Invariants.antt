@@ -10,7 +10,8 @@ use Rattle.irreducibility.proofs.square_rows.Given as goal
 
 -- w is the square before the next row's
 abbrev pub invariant-loop-i : goal.invariant-loop-i
-invariant-loop-i l = (l.i ≤ length l.initial.rows) × (l.w ≡ square (polynomial l.p) (l.h - 1 + l.i)) × (l.rows ≡ list_from (square (polynomial l.p)) l.h l.i ++ drop l.i l.initial.rows)
+invariant-loop-i l = (l.i ≤ length l.initial.rows) × (l.w ≡ square (polynomial l.p) (l.h - 1 + l.i)) ×
+    (l.rows ≡ list_from (square (polynomial l.p)) l.h l.i ++ drop l.i l.initial.rows)
 
 abbrev pub decreases-loop-i : goal.decreases-loop-i
 decreases-loop-i l = length l.initial.rows - l.i

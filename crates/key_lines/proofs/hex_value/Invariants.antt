@@ -7,7 +7,8 @@ use Rattle.key_lines.specs.KeyLines.{all_digits, hex_from}
 use Rattle.key_lines.proofs.hex_value.Given as goal
 
 abbrev pub invariant-loop-i : goal.invariant-loop-i
-invariant-loop-i l = (l.i ≤ length l.line) × (l.value < 2 ^ (4 * l.i)) × (all_digits (drop l.i l.line) ≡ true) × (hex_from l.value (drop l.i l.line) ≡ hex_from 0 l.line)
+invariant-loop-i l = (l.i ≤ length l.line) × (l.value < 2 ^ (4 * l.i)) × (all_digits (drop l.i l.line) ≡ true) ×
+    (hex_from l.value (drop l.i l.line) ≡ hex_from 0 l.line)
 
 abbrev pub decreases-loop-i : goal.decreases-loop-i
 decreases-loop-i l = length l.line - l.i

@@ -37,7 +37,8 @@ returns-then-out_of_range c = let x = c.args.key in sym (rw (sym c.out_of_range.
 pub returns-then-is_stock : goal.returns-then-is_stock
 returns-then-is_stock c =
     let x = c.args.key in
-    accepted-is x (inside (goal.at.returns-then-is_stock c).Else-out_of_range) (stock-clear x (inside (goal.at.returns-then-is_stock c).Else-out_of_range) (c.is_stock.ensures c.if-is_stock.true))
+    accepted-is x (inside (goal.at.returns-then-is_stock c).Else-out_of_range)
+    (stock-clear x (inside (goal.at.returns-then-is_stock c).Else-out_of_range) (c.is_stock.ensures c.if-is_stock.true))
 
 pub irreducible-requires : goal.irreducible-requires
 irreducible-requires c =

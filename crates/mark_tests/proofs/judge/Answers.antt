@@ -31,9 +31,11 @@ counted c =
 abbrev long-at_else_not_fits : Else-not-fits → Bool
 long-at_else_not_fits c = passes (lengths c.args.m.length c.part_length-n.result)
 
-counted-at_else_not_fits : (c : Else-not-fits) → long-at_else_not_fits c ≡ passes (lengths c.args.m.length (part_length (part_at c.before.before.before.before.before)))
+counted-at_else_not_fits : (c : Else-not-fits)
+    → long-at_else_not_fits c ≡ passes (lengths c.args.m.length (part_length (part_at c.before.before.before.before.before)))
 counted-at_else_not_fits c =
-    ap (λ (n : ℕ). passes (lengths c.args.m.length n)) c.part_length-n.ensures ∙ counted-sum c.args.m.length (part_length (part_at c.before.before.before.before.before))
+    ap (λ (n : ℕ). passes (lengths c.args.m.length n)) c.part_length-n.ensures ∙ counted-sum c.args.m.length
+    (part_length (part_at c.before.before.before.before.before))
 
 short : (c : Else-not-fits) → passes (lengths c.args.m.length (part_length (part_at c.before.before.before.before.before))) ≡ false
 short c = sym (counted-at_else_not_fits c) ∙ fails _ (long-at_else_not_fits c) c.fits.ensures c.if-not-fits.false-raw
@@ -52,7 +54,8 @@ low c =
 pub returns-then-not-fits : goal.returns-then-not-fits
 returns-then-not-fits c =
     sym (feed-long (polynomial c.args.p) c.args.m (part_at (goal.at.returns-then-not-fits c).Start) _
-    (sym (counted (goal.at.returns-then-not-fits c).After-part_length-n) ∙ holds _ (long (goal.at.returns-then-not-fits c).After-part_length-n) c.fits.ensures c.if-not-fits.true-raw))
+    (sym (counted (goal.at.returns-then-not-fits c).After-part_length-n) ∙ holds _ (long (goal.at.returns-then-not-fits c).After-part_length-n) c.fits.ensures
+    c.if-not-fits.true-raw))
 
 pub is_residue-requires : goal.is_residue-requires
 is_residue-requires c = c.requires
@@ -62,18 +65,23 @@ returns-then-not-is_residue c =
     let m = c.args.m in
     let r = c.is_residue in
     let high = not-residue c.args.p c.requires m.fingerprint r.result r.ensures c.if-not-is_residue.true-raw in
-    sym (feed-unreduced (polynomial c.args.p) m (part_at (goal.at.returns-then-not-is_residue c).Start) _ (short (goal.at.returns-then-not-is_residue c).Else-not-fits) high)
+    sym (feed-unreduced (polynomial c.args.p) m (part_at (goal.at.returns-then-not-is_residue c).Start) _
+    (short (goal.at.returns-then-not-is_residue c).Else-not-fits) high)
 
 pub returns-then-is_misused : goal.returns-then-is_misused
 returns-then-is_misused c =
-    sym (feed-misused (polynomial c.args.p) c.args.m (part_at (goal.at.returns-then-is_misused c).Start) _ (short (goal.at.returns-then-is_misused c).Else-not-fits) (low (goal.at.returns-then-is_misused c).Else-not-is_residue)
+    sym (feed-misused (polynomial c.args.p) c.args.m (part_at (goal.at.returns-then-is_misused c).Start) _
+    (short (goal.at.returns-then-is_misused c).Else-not-fits) (low (goal.at.returns-then-is_misused c).Else-not-is_residue)
     (sym c.is_misused.ensures ∙ c.if-is_misused.true))
 
 pub overflow_add-total : goal.overflow_add-total
-overflow_add-total c = record { fits = omega (arith, in-full (goal.at.overflow_add-total c).Else-not-fits, within (goal.at.overflow_add-total c).Else-not-fits) }
+overflow_add-total c = record {
+  fits = omega (arith, in-full (goal.at.overflow_add-total c).Else-not-fits, within (goal.at.overflow_add-total c).Else-not-fits);
+}
 
 pub returns : goal.returns
 returns c =
     ap (λ (n : ℕ). Done (c.args.m.length + n)) (in-full (goal.at.returns c).Else-not-fits)
-    ∙ sym (feed-passed (polynomial c.args.p) c.args.m (part_at (goal.at.returns c).Start) _ (short (goal.at.returns c).Else-not-fits) (low (goal.at.returns c).Else-not-is_residue)
+    ∙ sym (feed-passed (polynomial c.args.p) c.args.m (part_at (goal.at.returns c).Start) _ (short (goal.at.returns c).Else-not-fits)
+    (low (goal.at.returns c).Else-not-is_residue)
     (sym c.is_misused.ensures ∙ c.if-is_misused.false))

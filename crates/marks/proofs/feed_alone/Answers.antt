@@ -16,7 +16,8 @@ judge-requires c = opened-proper c.requires
 pub returns-in-Refused : goal.returns-in-Refused
 returns-in-Refused c =
     let j = c.judge in
-    sym (ap (fed_under c.args.m.key) (feed-refused c.requires (mark_in c.args.m) (part_at (goal.at.returns-in-Refused c).Start) j.result j.ensures _ c.in-Refused.is))
+    sym (ap (fed_under c.args.m.key) (feed-refused c.requires (mark_in c.args.m) (part_at (goal.at.returns-in-Refused c).Start) j.result j.ensures _
+    c.in-Refused.is))
 
 pub part_alone-next-requires : goal.part_alone-next-requires
 part_alone-next-requires c =

@@ -18,7 +18,8 @@ judge-requires c = opened-proper c.requires.0
 pub returns-in-Refused : goal.returns-in-Refused
 returns-in-Refused c =
     let j = c.judge in
-    sym (ap (fed_under c.args.m.key) (feed-refused c.requires.0 (mark_in c.args.m) (part_at (goal.at.returns-in-Refused c).Start) j.result j.ensures _ c.in-Refused.is))
+    sym (ap (fed_under c.args.m.key) (feed-refused c.requires.0 (mark_in c.args.m) (part_at (goal.at.returns-in-Refused c).Start) j.result j.ensures _
+    c.in-Refused.is))
 
 pub part_by_table-looked-requires : goal.part_by_table-looked-requires
 part_by_table-looked-requires c =

@@ -44,7 +44,8 @@ judge-requires c = opened-proper c.requires
 pub returns-in-Refused : goal.returns-in-Refused
 returns-in-Refused c =
     let a = c.args in
-    let refused = judged-refused (table_tests (polynomial_of a.m.key) a.words.now) c.judge.result (found (goal.at.returns-in-Refused c).After-judge) (tests (goal.at.returns-in-Refused c).Start) (mark_in a.m) (value (goal.at.returns-in-Refused c).Start) _
+    let refused = judged-refused (table_tests (polynomial_of a.m.key) a.words.now) c.judge.result (found (goal.at.returns-in-Refused c).After-judge)
+    (tests (goal.at.returns-in-Refused c).Start) (mark_in a.m) (value (goal.at.returns-in-Refused c).Start) _
     c.in-Refused.is in
     sym (ap (fed_under a.m.key) refused)
 
@@ -56,4 +57,5 @@ returns-in-Done c =
     let a = c.args in
     let key = polynomial_of a.m.key in
     c.feed_looked.ensures
-    ∙ sym (ap (fed_under a.m.key) (more-clear (table_tests key a.words.now) (tests (goal.at.returns-in-Done c).Start) (mark_in a.m) (value (goal.at.returns-in-Done c).Start) (clear (goal.at.returns-in-Done c).In-Done)))
+    ∙ sym (ap (fed_under a.m.key) (more-clear (table_tests key a.words.now) (tests (goal.at.returns-in-Done c).Start) (mark_in a.m)
+    (value (goal.at.returns-in-Done c).Start) (clear (goal.at.returns-in-Done c).In-Done)))

@@ -70,4 +70,5 @@ returns c =
     let value : c.turned_residue-turned.result ≡ rem key (m.fingerprint ⊕ 2 ^ m.length) =
     c.turned_residue-turned.ensures ∙ ap (λ (q : ℕ). rem q (m.fingerprint ⊕ 2 ^ m.length)) (opened-whole c.requires) in
     ap (λ (z : Mark). fed_under m.key (Done z)) (mark-eq value refl)
-    ∙ sym (ap (fed_under m.key) (passed key (mark_in m) (turned key (mark_in m)) (short (goal.at.returns c).Else-not-bits_fit) (low (goal.at.returns c).Else-not-is_residue)))
+    ∙ sym (ap (fed_under m.key) (passed key (mark_in m) (turned key (mark_in m)) (short (goal.at.returns c).Else-not-bits_fit)
+    (low (goal.at.returns c).Else-not-is_residue)))

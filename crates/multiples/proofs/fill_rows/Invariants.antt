@@ -9,7 +9,8 @@ use Rattle.multiples.proofs.fill_rows.Given as goal
 
 abbrev pub invariant-loop-j : goal.invariant-loop-j
 invariant-loop-j l =
-    (l.j ≤ l.rows) × (length l.words ≡ length l.initial.words) × (l.y ≡ rem (polynomial l.p) (l.x * 2 ^ (l.width * l.j))) × Rows l.width (polynomial l.p) l.x l.j l.words
+    (l.j ≤ l.rows) × (length l.words ≡ length l.initial.words) × (l.y ≡ rem (polynomial l.p) (l.x * 2 ^ (l.width * l.j))) × Rows l.width (polynomial l.p) l.x
+    l.j l.words
     × SameFrom (l.rows * 2 ^ l.width) l.initial.words l.words
 
 abbrev pub decreases-loop-j : goal.decreases-loop-j

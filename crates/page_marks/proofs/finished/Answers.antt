@@ -23,7 +23,8 @@ pub returns-then-rest-eq0 : goal.returns-then-rest-eq0
 unfolding value_from bits
 returns-then-rest-eq0 c =
     c.residue-f.ensures
-    ∙ ap (λ (q : List ℕ). rem (key (goal.at.returns-then-rest-eq0 c).Start) (value_from c.args.x (bits q))) (take_all 0 c.args.rest.now (omega (arith, c.if-rest-eq0.true)))
+    ∙ ap (λ (q : List ℕ). rem (key (goal.at.returns-then-rest-eq0 c).Start) (value_from c.args.x (bits q)))
+    (take_all 0 c.args.rest.now (omega (arith, c.if-rest-eq0.true)))
 
 pub fed-requires : goal.fed-requires
 fed-requires c =

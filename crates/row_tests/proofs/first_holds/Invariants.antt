@@ -8,7 +8,8 @@ use Rattle.multiples.specs.Rows.{Multiples}
 use Rattle.row_tests.proofs.first_holds.Given as goal
 
 abbrev pub invariant-loop-b : goal.invariant-loop-b
-invariant-loop-b l = (l.b ≤ l.width) × (l.n ≡ 2 ^ l.b) × (l.y ≡ rem (polynomial l.p) (l.n ⊗ l.x)) × ((l.sum ≡ 0) ↔ Multiples (polynomial l.p) l.x l.at l.n l.words)
+invariant-loop-b l = (l.b ≤ l.width) × (l.n ≡ 2 ^ l.b) × (l.y ≡ rem (polynomial l.p) (l.n ⊗ l.x)) ×
+    ((l.sum ≡ 0) ↔ Multiples (polynomial l.p) l.x l.at l.n l.words)
 
 abbrev pub decreases-loop-b : goal.decreases-loop-b
 decreases-loop-b l = l.width - l.b

@@ -85,7 +85,8 @@ module _ (c : After-step-y) where
 -- the multiples by n, 2 n and 4 n
 once_is : (c : After-step-y) → c.step-y.result ≡ rem (key-at_after_step_y c) (n-at_after_step_y c ⊗ c.args.x)
 once_is c =
-    multiple-step (pos c.before.before.before.before.before.before.before.before) c.args.x (n-at_after_step_y c / 2) _ c.step-y.result (middle-at_after_step_y c) c.step-y.ensures
+    multiple-step (pos c.before.before.before.before.before.before.before.before) c.args.x (n-at_after_step_y c / 2) _ c.step-y.result
+    (middle-at_after_step_y c) c.step-y.ensures
     ∙ ap (λ (m : ℕ). rem (key-at_after_step_y c) (m ⊗ c.args.x)) (half-at_after_step_y c)
 
 held-at_after_step_z : (c : After-step-z) → let a = c.args in Multiples (polynomial a.p) a.x a.at (2 ^ (a.width - 3)) a.words.now
@@ -118,12 +119,14 @@ module _ (c : After-step-z) where
 
 once_is-at_after_step_z : (c : After-step-z) → c.step-y.result ≡ rem (key-at_after_step_z c) (n-at_after_step_z c ⊗ c.args.x)
 once_is-at_after_step_z c =
-    multiple-step (pos c.before.before.before.before.before.before.before.before.before) c.args.x (n-at_after_step_z c / 2) _ c.step-y.result (middle-at_after_step_z c) c.step-y.ensures
+    multiple-step (pos c.before.before.before.before.before.before.before.before.before) c.args.x (n-at_after_step_z c / 2) _ c.step-y.result
+    (middle-at_after_step_z c) c.step-y.ensures
     ∙ ap (λ (m : ℕ). rem (key-at_after_step_z c) (m ⊗ c.args.x)) (half-at_after_step_z c)
 
 twice-is : (c : After-step-z) → c.step-z.result ≡ rem (key-at_after_step_z c) (n-at_after_step_z c * 2 ⊗ c.args.x)
 twice-is c =
-    multiple-step (pos c.before.before.before.before.before.before.before.before.before) c.args.x (n-at_after_step_z c) _ c.step-z.result (once_is-at_after_step_z c) c.step-z.ensures
+    multiple-step (pos c.before.before.before.before.before.before.before.before.before) c.args.x (n-at_after_step_z c) _ c.step-z.result
+    (once_is-at_after_step_z c) c.step-z.ensures
 
 held-at_after_step_v : (c : After-step-v) → let a = c.args in Multiples (polynomial a.p) a.x a.at (2 ^ (a.width - 3)) a.words.now
 held-at_after_step_v c = let f = c.first_holds-2 in f.ensures.0 (not-false f.result c.if-not-first_holds.false-raw)
@@ -155,16 +158,19 @@ module _ (c : After-step-v) where
 
 once_is-at_after_step_v : (c : After-step-v) → c.step-y.result ≡ rem (key-at_after_step_v c) (n-at_after_step_v c ⊗ c.args.x)
 once_is-at_after_step_v c =
-    multiple-step (pos c.before.before.before.before.before.before.before.before.before.before) c.args.x (n-at_after_step_v c / 2) _ c.step-y.result (middle-at_after_step_v c) c.step-y.ensures
+    multiple-step (pos c.before.before.before.before.before.before.before.before.before.before) c.args.x (n-at_after_step_v c / 2) _ c.step-y.result
+    (middle-at_after_step_v c) c.step-y.ensures
     ∙ ap (λ (m : ℕ). rem (key-at_after_step_v c) (m ⊗ c.args.x)) (half-at_after_step_v c)
 
 twice-is-at_after_step_v : (c : After-step-v) → c.step-z.result ≡ rem (key-at_after_step_v c) (n-at_after_step_v c * 2 ⊗ c.args.x)
 twice-is-at_after_step_v c =
-    multiple-step (pos c.before.before.before.before.before.before.before.before.before.before) c.args.x (n-at_after_step_v c) _ c.step-z.result (once_is-at_after_step_v c) c.step-z.ensures
+    multiple-step (pos c.before.before.before.before.before.before.before.before.before.before) c.args.x (n-at_after_step_v c) _ c.step-z.result
+    (once_is-at_after_step_v c) c.step-z.ensures
 
 thrice-is : (c : After-step-v) → c.step-v.result ≡ rem (key-at_after_step_v c) (n-at_after_step_v c * 2 * 2 ⊗ c.args.x)
 thrice-is c =
-    multiple-step (pos c.before.before.before.before.before.before.before.before.before.before) c.args.x (n-at_after_step_v c * 2) _ c.step-v.result (twice-is-at_after_step_v c) c.step-v.ensures
+    multiple-step (pos c.before.before.before.before.before.before.before.before.before.before) c.args.x (n-at_after_step_v c * 2) _ c.step-v.result
+    (twice-is-at_after_step_v c) c.step-v.ensures
 
 -- ---- the needs
 
@@ -188,7 +194,13 @@ pub row_size-n-requires : goal.row_size-n-requires
 row_size-n-requires c = let p = c.requires in omega arith
 
 pub bounds-words-at : goal.bounds-words-at
-bounds-words-at c = omega (arith, half_lt (goal.at.bounds-words-at c).After-row_size-n, within (goal.at.bounds-words-at c).After-row_size-n, half (goal.at.bounds-words-at c).After-row_size-n)
+bounds-words-at c = omega (
+  arith,
+  half_lt (goal.at.bounds-words-at c).After-row_size-n,
+  within (goal.at.bounds-words-at c).After-row_size-n,
+  half
+      (goal.at.bounds-words-at c).After-row_size-n,
+)
 
 pub step-y-requires : goal.step-y-requires
 step-y-requires c =
@@ -208,8 +220,10 @@ returns c =
     let low = c.args.width - 3 in
     let e = c.row_size-n.ensures in
     let all = row_iff_eight (pos (goal.at.returns c).Start) c.args.x c.args.at c.args.words.now low (n (goal.at.returns c).After-row_size-n) c.step-y.result
-    c.step-z.result c.step-v.result e (once_is (goal.at.returns c).After-step-y) (twice-is (goal.at.returns c).After-step-z) (thrice-is (goal.at.returns c).After-step-v) in
-    let first : Multiples (key (goal.at.returns c).After-row_size-n) c.args.x c.args.at (n (goal.at.returns c).After-row_size-n) c.args.words.now = λ i l. held (goal.at.returns c).Else-not-first_holds i (omega (arith, e)) in (
+    c.step-z.result c.step-v.result e (once_is (goal.at.returns c).After-step-y) (twice-is (goal.at.returns c).After-step-z)
+    (thrice-is (goal.at.returns c).After-step-v) in
+    let first : Multiples (key (goal.at.returns c).After-row_size-n) c.args.x c.args.at (n (goal.at.returns c).After-row_size-n) c.args.words.now = λ i l. held
+    (goal.at.returns c).Else-not-first_holds i (omega (arith, e)) in (
       λ z i l. all.0 (first, d.ensures.0 (eqb-true d.result 0 z)) i (rw (eight (goal.at.returns c).After-row_size-n) l),
       λ f. eq-eqb d.result 0 (d.ensures.1 (all.1 (λ i l. f i (rw (eight (goal.at.returns c).After-row_size-n) at l))).1),
     )

@@ -46,7 +46,8 @@ returns-then-pattern-eq0 c =
 pub returns-then-text-pattern : goal.returns-then-text-pattern
 returns-then-text-pattern c =
     let a = c.args in
-    call_none (polynomial a.p) a.text.now a.pattern.now a.places.now (short (goal.at.returns-then-text-pattern c).Else-not-fit) c.if-pattern-eq0.false c.if-text-pattern.true
+    call_none (polynomial a.p) a.text.now a.pattern.now a.places.now (short (goal.at.returns-then-text-pattern c).Else-not-fit) c.if-pattern-eq0.false
+    c.if-text-pattern.true
 
 pub search_text-requires : goal.search_text-requires
 search_text-requires c =

@@ -46,6 +46,7 @@ returns-in-Refused c =
 pub returns-in-Opened : goal.returns-in-Opened
 returns-in-Opened c =
     let sheet = c.args.sheet.now in
-    c.in_bytes.ensures (contents_in sheet) (sym (size_is sheet (known (goal.at.returns-in-Opened c).In-Opened))) (λ i e. named-bytes sheet (file (goal.at.returns-in-Opened c).Start) i (sym (answer (goal.at.returns-in-Opened c).After-compare) ∙ e))
+    c.in_bytes.ensures (contents_in sheet) (sym (size_is sheet (known (goal.at.returns-in-Opened c).In-Opened)))
+    (λ i e. named-bytes sheet (file (goal.at.returns-in-Opened c).Start) i (sym (answer (goal.at.returns-in-Opened c).After-compare) ∙ e))
     ∙ ap (ranged (contents_in sheet)) (answer (goal.at.returns-in-Opened c).After-compare)
     ∙ sym (changed_by_check sheet (file (goal.at.returns-in-Opened c).Start))

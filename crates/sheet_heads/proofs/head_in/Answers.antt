@@ -39,13 +39,15 @@ abbrev sheet-at_else_sheet_place : Else-sheet-place → List ℕ
 sheet-at_else_sheet_place c = c.args.sheet.now
 
 -- it has them
-long : (c : Else-sheet-place) → 5 + (v-at_else_sheet_place c).key + (v-at_else_sheet_place c).length + (v-at_else_sheet_place c).size + 8 ≤ length (sheet-at_else_sheet_place c)
+long : (c : Else-sheet-place)
+    → 5 + (v-at_else_sheet_place c).key + (v-at_else_sheet_place c).length + (v-at_else_sheet_place c).size + 8 ≤ length (sheet-at_else_sheet_place c)
 long c = omega (arith, c.if-sheet-place.false)
 
 abbrev layout-at_else_sheet_place : Else-sheet-place → Layout
 layout-at_else_sheet_place c = layout_of c.args.version
 
-least-at_else_sheet_place : (c : Else-sheet-place) → sheet_length (layout-at_else_sheet_place c) 0 ≡ 5 + (v-at_else_sheet_place c).key + (v-at_else_sheet_place c).length + (v-at_else_sheet_place c).size + 8
+least-at_else_sheet_place : (c : Else-sheet-place)
+    → sheet_length (layout-at_else_sheet_place c) 0 ≡ 5 + (v-at_else_sheet_place c).key + (v-at_else_sheet_place c).length + (v-at_else_sheet_place c).size + 8
 least-at_else_sheet_place c = omega (arith, length_from c.args.version 0, place_laid c.fields_of-v.ensures)
 
 enough : (c : Else-sheet-place) → ltb (length (sheet-at_else_sheet_place c)) (sheet_length (layout-at_else_sheet_place c) 0) ≡ false
@@ -70,7 +72,9 @@ below {x} {w} {n} l h = lt_of_lt_of_le l (pow_mono {i = 8 * w} {j = 8 * n} (omeg
 
 pub returns-then-sheet-place : goal.returns-then-sheet-place
 returns-then-sheet-place c =
-    rw (lt-ltb (length (sheet (goal.at.returns-then-sheet-place c).After-fields_of-v)) (sheet_length (layout (goal.at.returns-then-sheet-place c).After-fields_of-v) 0) (omega (arith, least (goal.at.returns-then-sheet-place c).After-fields_of-v, c.if-sheet-place.true)))
+    rw (lt-ltb (length (sheet (goal.at.returns-then-sheet-place c).After-fields_of-v))
+    (sheet_length (layout (goal.at.returns-then-sheet-place c).After-fields_of-v) 0)
+    (omega (arith, least (goal.at.returns-then-sheet-place c).After-fields_of-v, c.if-sheet-place.true)))
 
 pub number_at-requires : goal.number_at-requires
 number_at-requires c = (c.fields_of-v.ensures.length-fits, omega (arith, long (goal.at.number_at-requires c).Else-sheet-place))
@@ -82,7 +86,12 @@ overflow_mul-n c =
 
 pub returns-then-n-gt-LONGEST : goal.returns-then-n-gt-LONGEST
 returns-then-n-gt-LONGEST c =
-    rw (enough (goal.at.returns-then-n-gt-LONGEST c).Else-sheet-place, lt-ltb longest (length_in (layout (goal.at.returns-then-n-gt-LONGEST c).After-fields_of-v) (sheet (goal.at.returns-then-n-gt-LONGEST c).After-fields_of-v)) (rw (bits (goal.at.returns-then-n-gt-LONGEST c).After-number_at) at c.if-n-gt-LONGEST.true))
+    rw (
+      enough (goal.at.returns-then-n-gt-LONGEST c).Else-sheet-place,
+      lt-ltb longest
+          (length_in (layout (goal.at.returns-then-n-gt-LONGEST c).After-fields_of-v) (sheet (goal.at.returns-then-n-gt-LONGEST c).After-fields_of-v))
+          (rw (bits (goal.at.returns-then-n-gt-LONGEST c).After-number_at) at c.if-n-gt-LONGEST.true),
+    )
 
 pub key_in-requires : goal.key_in-requires
 key_in-requires c = omega (arith, long (goal.at.key_in-requires c).Else-sheet-place, c.fields_of-v.ensures.key-width)
@@ -96,7 +105,8 @@ returns c =
     let h = c.fields_of-v.ensures in
     let l = sheet (goal.at.returns c).After-fields_of-v in
     let own = c.requires in
-    let within : length_in (layout (goal.at.returns c).After-fields_of-v) l ≤ longest = omega (arith, bits (goal.at.returns c).After-number_at, c.if-n-gt-LONGEST.false) in
+    let within : length_in (layout (goal.at.returns c).After-fields_of-v) l ≤ longest = omega
+    (arith, bits (goal.at.returns c).After-number_at, c.if-n-gt-LONGEST.false) in
     rw (enough (goal.at.returns c).Else-sheet-place, le-ltb longest (length_in (layout (goal.at.returns c).After-fields_of-v) l) within) (
       refl,
       record {

@@ -43,11 +43,21 @@ returns-then-number_at-ne-LETTERS c =
 
 pub returns-then-not-is_known : goal.returns-then-not-is_known
 returns-then-not-is_known c =
-    rw (long (goal.at.returns-then-not-is_known c).Else-number_at-ne-LETTERS, letters-right (goal.at.returns-then-not-is_known c).Else-number_at-ne-LETTERS, sym (known_is (goal.at.returns-then-not-is_known c).After-is_known) ∙ not-true c.is_known.result c.if-not-is_known.true-raw)
+    rw (
+      long (goal.at.returns-then-not-is_known c).Else-number_at-ne-LETTERS,
+      letters-right (goal.at.returns-then-not-is_known c).Else-number_at-ne-LETTERS,
+      sym (known_is (goal.at.returns-then-not-is_known c).After-is_known) ∙ not-true c.is_known.result c.if-not-is_known.true-raw,
+    )
 
 pub head_in-requires : goal.head_in-requires
 head_in-requires c = version-is (goal.at.head_in-requires c).After-is_known
 
 pub returns : goal.returns
 returns c =
-    rw (long (goal.at.returns c).Else-number_at-ne-LETTERS, letters-right (goal.at.returns c).Else-number_at-ne-LETTERS, sym (known_is (goal.at.returns c).After-is_known) ∙ not-false c.is_known.result c.if-not-is_known.false-raw) (rw (version-is (goal.at.returns c).After-is_known) at c.head_in.ensures)
+    rw (
+      long (goal.at.returns c).Else-number_at-ne-LETTERS,
+      letters-right (goal.at.returns c).Else-number_at-ne-LETTERS,
+      sym
+          (known_is (goal.at.returns c).After-is_known) ∙ not-false c.is_known.result c.if-not-is_known.false-raw,
+    )
+    (rw (version-is (goal.at.returns c).After-is_known) at c.head_in.ensures)

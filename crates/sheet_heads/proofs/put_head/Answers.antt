@@ -25,12 +25,29 @@ room : (c : After-fields_of-v)
 room c = omega (arith, place_laid c.fields_of-v.ensures, c.requires)
 
 pub put-requires-3 : goal.put-requires-3
-put-requires-3 c =
-    (omega arith, omega (arith, room (goal.at.put-requires-3 c).After-fields_of-v, wide (goal.at.put-requires-3 c).After-fields_of-v, c.put-2.auto.bytes, c.put.auto.bytes))
+put-requires-3 c = (
+  omega arith,
+  omega (
+    arith,
+    room (goal.at.put-requires-3 c).After-fields_of-v,
+    wide (goal.at.put-requires-3 c).After-fields_of-v,
+    c.put-2.auto.bytes,
+    c.put.auto.bytes,
+  ),
+)
 
 pub put-requires-4 : goal.put-requires-4
-put-requires-4 c =
-    (omega arith, omega (arith, room (goal.at.put-requires-4 c).After-fields_of-v, wide (goal.at.put-requires-4 c).After-fields_of-v, c.put-3.auto.bytes, c.put-2.auto.bytes, c.put.auto.bytes))
+put-requires-4 c = (
+  omega arith,
+  omega (
+    arith,
+    room (goal.at.put-requires-4 c).After-fields_of-v,
+    wide (goal.at.put-requires-4 c).After-fields_of-v,
+    c.put-3.auto.bytes,
+    c.put-2.auto.bytes,
+    c.put.auto.bytes,
+  ),
+)
 
 pub put-requires-5 : goal.put-requires-5
 put-requires-5 c = (
@@ -41,14 +58,23 @@ put-requires-5 c = (
 pub put-requires-6 : goal.put-requires-6
 put-requires-6 c = (
   omega (arith, c.fields_of-v.ensures.size_fits),
-  omega (arith, room (goal.at.put-requires-6 c).After-fields_of-v, c.put-5.auto.bytes, c.put-4.auto.bytes, c.put-3.auto.bytes, c.put-2.auto.bytes, c.put.auto.bytes),
+  omega (
+    arith,
+    room (goal.at.put-requires-6 c).After-fields_of-v,
+    c.put-5.auto.bytes,
+    c.put-4.auto.bytes,
+    c.put-3.auto.bytes,
+    c.put-2.auto.bytes,
+    c.put.auto.bytes,
+  ),
 )
 
 pub returns : goal.returns
 returns c =
     let key = c.args.key in
     let small : key.word < 2 ^ 64 = omega (arith, c.struct_known-4-1.given) in
-    let pair = store_pair (layout_of newest.version).paired key _ 5 _ _ _ paired (wide (goal.at.returns c).After-fields_of-v) small c.put-3.ensures c.put-4.ensures in
+    let pair = store_pair (layout_of newest.version).paired key _ 5 _ _ _ paired (wide (goal.at.returns c).After-fields_of-v) small c.put-3.ensures
+    c.put-4.ensures in
     rw (c.fields_of-v.ensures.widths, c.fields_of-v.ensures.unit)
     (store_field _ _ _ _ _ _ _ _ c.put.ensures
     (store_field _ _ _ _ _ _ _ _ c.put-2.ensures

@@ -10,7 +10,8 @@ use Rattle.sheet_joining.proofs.join_lane.Given as goal
 
 abbrev pub invariant-loop-left : goal.invariant-loop-left
 invariant-loop-left l =
-    (l.place + 8 * l.left ≤ length l.fields) × (looping l.shift l.x (numbers_at l.place 8 l.left l.fields) ≡ looping l.shift l.f (numbers_at l.from 8 l.n l.fields))
+    (l.place + 8 * l.left ≤ length l.fields) × (looping l.shift l.x (numbers_at l.place 8 l.left l.fields) ≡ looping l.shift l.f
+    (numbers_at l.from 8 l.n l.fields))
     × ((k : ℕ) → some_unreduced k (l.bits ∷ numbers_at l.place 8 l.left l.fields) ≡ some_unreduced k (l.before ∷ numbers_at l.from 8 l.n l.fields))
 
 abbrev pub decreases-loop-left : goal.decreases-loop-left

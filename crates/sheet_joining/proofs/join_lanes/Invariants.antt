@@ -15,7 +15,8 @@ invariant-loop-left l =
     × (looping l.shift l.a (numbers_at l.place 8 l.left l.fields) ≡ looping l.shift 1 (numbers_at 0 8 l.q l.fields))
     × (looping l.shift l.b (numbers_at (l.place + l.lane) 8 l.left l.fields) ≡ looping l.shift 0 (numbers_at (0 + 8 * l.q) 8 l.q l.fields))
     × (looping l.shift l.c (numbers_at (l.place + l.lane + l.lane) 8 l.left l.fields) ≡ looping l.shift 0 (numbers_at (0 + 8 * l.q + 8 * l.q) 8 l.q l.fields))
-    × (looping l.shift l.d (numbers_at (l.place + l.lane + l.lane + l.lane) 8 l.left l.fields) ≡ looping l.shift 0 (numbers_at (0 + 8 * l.q + 8 * l.q + 8 * l.q) 8 l.q l.fields))
+    × (looping l.shift l.d (numbers_at (l.place + l.lane + l.lane + l.lane) 8 l.left l.fields) ≡ looping l.shift 0
+    (numbers_at (0 + 8 * l.q + 8 * l.q + 8 * l.q) 8 l.q l.fields))
     × ((k : ℕ) → some_unreduced k (l.bits ∷ four_lanes l.place l.lane l.left l.fields) ≡ some_unreduced k (0 ∷ four_lanes 0 (8 * l.q) l.q l.fields))
 
 abbrev pub decreases-loop-left : goal.decreases-loop-left

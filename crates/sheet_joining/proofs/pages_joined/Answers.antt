@@ -40,7 +40,8 @@ join_run-requires c = (c.requires.0, c.requires.2, few (goal.at.join_run-require
 pub returns-then-whole-count : goal.returns-then-whole-count
 returns-then-whole-count c =
     let a = c.args in
-    run-joined c.requires.0 (filling a.filled) (page (goal.at.returns-then-whole-count c).Start) a.n a.fields.now a.count _ (c.whole_pages-whole.ensures.all c.if-whole-count.true)
+    run-joined c.requires.0 (filling a.filled) (page (goal.at.returns-then-whole-count c).Start) a.n a.fields.now a.count _
+    (c.whole_pages-whole.ensures.all c.if-whole-count.true)
     c.join_run.ensures
 
 pub join_run-x-requires : goal.join_run-x-requires
@@ -66,5 +67,6 @@ returns c =
     let w = whole (goal.at.returns c).Else-whole-count in
     let l = last (goal.at.returns c).Else-whole-count in
     rw (← l.1)
-    (last-joined c.requires.0 (filling a.filled) (page (goal.at.returns c).Start) a.n a.fields.now w (a.n - w * page (goal.at.returns c).Start) _ _ _ l.0 (omega (arith, l.2))
+    (last-joined c.requires.0 (filling a.filled) (page (goal.at.returns c).Start) a.n a.fields.now w (a.n - w * page (goal.at.returns c).Start) _ _ _ l.0
+    (omega (arith, l.2))
     (omega (arith, l.3)) c.eight_at.ensures c.join_run-x.ensures c.join_last.ensures)

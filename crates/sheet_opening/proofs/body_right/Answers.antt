@@ -75,9 +75,11 @@ bits-joined : (c : After-pages_joined-joined) → BitsOf (numbers_at 0 8 (count 
 bits-joined c =
     subst (λ (m : ℕ). BitsOf (numbers_at 0 8 m (pages c)) c.pages_joined-joined.result.bits) c.requires.4.counted c.pages_joined-joined.ensures.bits
 
-mark-joined : (c : After-pages_joined-joined) → some_unreduced (k c.before.before.before.before) (numbers_at 0 8 (count c.before.before.before.before) (pages c)) ≡ false
+mark-joined : (c : After-pages_joined-joined)
+    → some_unreduced (k c.before.before.before.before) (numbers_at 0 8 (count c.before.before.before.before) (pages c)) ≡ false
     → c.pages_joined-joined.result.mark
-    ≡ (joined_pages (layout c.before.before.before.before) (polynomial c.args.p) (8 * (head c.before.before.before.before).size) (head c.before.before.before.before).length
+    ≡ (joined_pages (layout c.before.before.before.before) (polynomial c.args.p) (8 * (head c.before.before.before.before).size)
+    (head c.before.before.before.before).length
     (mark_of (polynomial c.args.p) []) (numbers_at 0 8 (count c.before.before.before.before) (pages c))
     ).fingerprint
 mark-joined c u =
@@ -87,37 +89,48 @@ mark-joined c u =
     let m = mark_of key [] in
     let n = (head c.before.before.before.before).length in
     c.pages_joined-joined.ensures.mark (ap (λ (i : ℕ). some_unreduced (k c.before.before.before.before) (numbers_at 0 8 i (pages c))) e ∙ u)
-    ∙ ap (λ (x : Mark). x.fingerprint) (sym (joined-filling (layout c.before.before.before.before) (head c.before.before.before.before).filled (filled-like c.before.before.before.before) key (8 * (head c.before.before.before.before).size) n m fs))
-    ∙ ap (λ (i : ℕ). (joined_pages (layout c.before.before.before.before) key (8 * (head c.before.before.before.before).size) n m (numbers_at 0 8 i (pages c))).fingerprint) e
+    ∙ ap (λ (x : Mark). x.fingerprint) (sym (joined-filling (layout c.before.before.before.before) (head c.before.before.before.before).filled
+    (filled-like c.before.before.before.before) key (8 * (head c.before.before.before.before).size) n m fs))
+    ∙ ap (λ (i : ℕ). (joined_pages (layout c.before.before.before.before) key (8 * (head c.before.before.before.before).size) n m
+    (numbers_at 0 8 i (pages c))).fingerprint) e
 
 abbrev pages-at_after_is_residue : After-is_residue → List ℕ
 pages-at_after_is_residue c = c.page_fields-fields.result.now
 
-part-at_after_is_residue : (c : After-is_residue) → c.page_fields-fields.result.now ≡ fingerprints_part (head c.before.before.before.before.before.before).version (sheet c.before.before.before.before.before.before)
-part-at_after_is_residue c = c.page_fields-fields.ensures ∙ ap (λ (n : ℕ). drop n (sheet c.before.before.before.before.before.before)) (place_is c.before.before.before.before.before.before)
+part-at_after_is_residue : (c : After-is_residue)
+    → c.page_fields-fields.result.now ≡ fingerprints_part (head c.before.before.before.before.before.before).version
+    (sheet c.before.before.before.before.before.before)
+part-at_after_is_residue c = c.page_fields-fields.ensures ∙ ap (λ (n : ℕ). drop n (sheet c.before.before.before.before.before.before))
+    (place_is c.before.before.before.before.before.before)
 
-bits-joined-at_after_is_residue : (c : After-is_residue) → BitsOf (numbers_at 0 8 (count c.before.before.before.before.before.before) (pages-at_after_is_residue c)) c.pages_joined-joined.result.bits
+bits-joined-at_after_is_residue : (c : After-is_residue)
+    → BitsOf (numbers_at 0 8 (count c.before.before.before.before.before.before) (pages-at_after_is_residue c)) c.pages_joined-joined.result.bits
 bits-joined-at_after_is_residue c =
-    subst (λ (m : ℕ). BitsOf (numbers_at 0 8 m (pages-at_after_is_residue c)) c.pages_joined-joined.result.bits) c.requires.4.counted c.pages_joined-joined.ensures.bits
+    subst (λ (m : ℕ). BitsOf (numbers_at 0 8 m (pages-at_after_is_residue c)) c.pages_joined-joined.result.bits) c.requires.4.counted
+    c.pages_joined-joined.ensures.bits
 
 -- the bits of all fields are tested
 bits : (c : After-is_residue)
     → leb (2 ^ k c.before.before.before.before.before.before) (bit_or c.pages_joined-joined.result.bits c.args.file)
     ≡ some_unreduced (degree (polynomial_of (head c.before.before.before.before.before.before).key)) (all c.before.before.before.before.before.before)
 bits c =
-    bits_are (sheet c.before.before.before.before.before.before) (head c.before.before.before.before.before.before) c.requires.0 c.requires.1 c.args.p c.requires.3 c.pages_joined-joined.result.bits _ (pages-at_after_is_residue c)
+    bits_are (sheet c.before.before.before.before.before.before) (head c.before.before.before.before.before.before) c.requires.0 c.requires.1 c.args.p
+    c.requires.3 c.pages_joined-joined.result.bits _ (pages-at_after_is_residue c)
     (part-at_after_is_residue c) (file c.before.before.before.before.before.before) (bits-joined-at_after_is_residue c)
 
 abbrev pages-at_else_not_is_residue : Else-not-is_residue → List ℕ
 pages-at_else_not_is_residue c = c.page_fields-fields.result.now
 
-bits-joined-at_else_not_is_residue : (c : Else-not-is_residue) → BitsOf (numbers_at 0 8 (count c.before.before.before.before.before.before.before) (pages-at_else_not_is_residue c)) c.pages_joined-joined.result.bits
+bits-joined-at_else_not_is_residue : (c : Else-not-is_residue)
+    → BitsOf (numbers_at 0 8 (count c.before.before.before.before.before.before.before) (pages-at_else_not_is_residue c)) c.pages_joined-joined.result.bits
 bits-joined-at_else_not_is_residue c =
-    subst (λ (m : ℕ). BitsOf (numbers_at 0 8 m (pages-at_else_not_is_residue c)) c.pages_joined-joined.result.bits) c.requires.4.counted c.pages_joined-joined.ensures.bits
+    subst (λ (m : ℕ). BitsOf (numbers_at 0 8 m (pages-at_else_not_is_residue c)) c.pages_joined-joined.result.bits) c.requires.4.counted
+    c.pages_joined-joined.ensures.bits
 
 -- no bit stands too high: the pages' fields and the file's are reduced
 fields : (c : Else-not-is_residue)
-    → (some_unreduced (k c.before.before.before.before.before.before.before) (numbers_at 0 8 (count c.before.before.before.before.before.before.before) (pages-at_else_not_is_residue c)) ≡ false)
+    → (some_unreduced (k c.before.before.before.before.before.before.before)
+    (numbers_at 0 8 (count c.before.before.before.before.before.before.before) (pages-at_else_not_is_residue c)) ≡ false)
     × (c.args.file < 2 ^ k c.before.before.before.before.before.before.before)
 fields c =
     let n = k c.before.before.before.before.before.before.before in
@@ -147,22 +160,43 @@ many : (s : Start) → page s * s.args.count < 2 ^ 64
 many s = omega (arith, all-bits s, count-tight (page s) (head s).length (omega (arith, s.requires.1)), s.requires.2, s.requires.0.length-fits)
 
 pub page_fields-fields-requires : goal.page_fields-fields-requires
-page_fields-fields-requires c = omega (arith, place_is (goal.at.page_fields-fields-requires c).Start, total (goal.at.page_fields-fields-requires c).Start, length_from (head (goal.at.page_fields-fields-requires c).Start).version (count (goal.at.page_fields-fields-requires c).Start))
+page_fields-fields-requires c = omega (
+  arith,
+  place_is (goal.at.page_fields-fields-requires c).Start,
+  total (goal.at.page_fields-fields-requires c).Start,
+  length_from (head (goal.at.page_fields-fields-requires c).Start).version (count (goal.at.page_fields-fields-requires c).Start),
+)
 
 pub pages_joined-joined-requires : goal.pages_joined-joined-requires
 pages_joined-joined-requires c =
-    let long = ap length (part c) ∙ length-drop (page_place (layout (goal.at.pages_joined-joined-requires c).Start) 0) (sheet (goal.at.pages_joined-joined-requires c).Start) in
+    let long = ap length (part c) ∙ length-drop (page_place (layout (goal.at.pages_joined-joined-requires c).Start) 0)
+    (sheet (goal.at.pages_joined-joined-requires c).Start) in
     let from = length_from (head (goal.at.pages_joined-joined-requires c).Start).version (count (goal.at.pages_joined-joined-requires c).Start) in
-    let e = c.requires.4.counted in
-    (opened-proper c.requires.3, c.requires.1, c.requires.2, c.requires.0.length-fits, e, omega (arith, long, total (goal.at.pages_joined-joined-requires c).Start, from, e))
+    let e = c.requires.4.counted in (
+      opened-proper c.requires.3,
+      c.requires.1,
+      c.requires.2,
+      c.requires.0.length-fits,
+      e,
+      omega
+          (arith, long, total (goal.at.pages_joined-joined-requires c).Start, from, e),
+    )
 
 pub is_residue-requires : goal.is_residue-requires
 is_residue-requires c = opened-proper c.requires.3
 
 pub returns-then-not-is_residue : goal.returns-then-not-is_residue
 returns-then-not-is_residue c =
-    let t : some_unreduced (degree (polynomial_of (head (goal.at.returns-then-not-is_residue c).Start).key)) (all (goal.at.returns-then-not-is_residue c).Start) ≡ true = sym (bits (goal.at.returns-then-not-is_residue c).After-is_residue) ∙ holds _ _ c.is_residue.ensures c.if-not-is_residue.true-raw in
-    rw (body_is (sheet (goal.at.returns-then-not-is_residue c).Start) (head (goal.at.returns-then-not-is_residue c).Start) c.requires.0 c.requires.1, eq-eqb (length (sheet (goal.at.returns-then-not-is_residue c).Start)) (sheet_length (layout (goal.at.returns-then-not-is_residue c).Start) (count (goal.at.returns-then-not-is_residue c).Start)) (total (goal.at.returns-then-not-is_residue c).Start), t)
+    let t : some_unreduced (degree (polynomial_of (head (goal.at.returns-then-not-is_residue c).Start).key))
+    (all (goal.at.returns-then-not-is_residue c).Start) ≡ true = sym (bits (goal.at.returns-then-not-is_residue c).After-is_residue) ∙ holds _ _
+    c.is_residue.ensures c.if-not-is_residue.true-raw in
+    rw (
+      body_is (sheet (goal.at.returns-then-not-is_residue c).Start) (head (goal.at.returns-then-not-is_residue c).Start) c.requires.0 c.requires.1,
+      eq-eqb
+          (length (sheet (goal.at.returns-then-not-is_residue c).Start)) (sheet_length (layout (goal.at.returns-then-not-is_residue c).Start)
+          (count (goal.at.returns-then-not-is_residue c).Start)) (total (goal.at.returns-then-not-is_residue c).Start),
+      t,
+    )
 
 pub overflow_mul-size-2 : goal.overflow_mul-size-2
 overflow_mul-size-2 c = omega (arith, many (goal.at.overflow_mul-size-2 c).Start)
@@ -174,9 +208,14 @@ file_filled-requires c =
 pub returns : goal.returns
 returns c =
     let a = c.args in
-    let t : some_unreduced (degree (polynomial_of (head (goal.at.returns c).Start).key)) (all (goal.at.returns c).Start) ≡ false = sym (bits (goal.at.returns c).After-is_residue) ∙ fails _ _ c.is_residue.ensures c.if-not-is_residue.false-raw in
-    let mark = joined_are (sheet (goal.at.returns c).Start) (head (goal.at.returns c).Start) c.requires.0 c.requires.1 a.p c.requires.3 c.pages_joined-joined.result.mark (pages (goal.at.returns c).After-pages_joined-joined)
-    (part (goal.at.returns c).After-page_fields-fields) (mark-joined (goal.at.returns c).After-pages_joined-joined (fields (goal.at.returns c).Else-not-is_residue).0) in
-    let filled = filled_is (sheet (goal.at.returns c).Start) (head (goal.at.returns c).Start) c.requires.0 c.requires.1 a.p c.requires.3 _ c.file_filled.result _ (file (goal.at.returns c).Start) (zeros (goal.at.returns c).Start)
+    let t : some_unreduced (degree (polynomial_of (head (goal.at.returns c).Start).key)) (all (goal.at.returns c).Start) ≡ false = sym
+    (bits (goal.at.returns c).After-is_residue) ∙ fails _ _ c.is_residue.ensures c.if-not-is_residue.false-raw in
+    let mark = joined_are (sheet (goal.at.returns c).Start) (head (goal.at.returns c).Start) c.requires.0 c.requires.1 a.p c.requires.3
+    c.pages_joined-joined.result.mark (pages (goal.at.returns c).After-pages_joined-joined)
+    (part (goal.at.returns c).After-page_fields-fields) (mark-joined (goal.at.returns c).After-pages_joined-joined
+    (fields (goal.at.returns c).Else-not-is_residue).0) in
+    let filled = filled_is (sheet (goal.at.returns c).Start) (head (goal.at.returns c).Start) c.requires.0 c.requires.1 a.p c.requires.3 _ c.file_filled.result
+    _ (file (goal.at.returns c).Start) (zeros (goal.at.returns c).Start)
     c.file_filled.ensures in
-    body-joined (sheet (goal.at.returns c).Start) (head (goal.at.returns c).Start) c.requires.0 c.requires.1 c.pages_joined-joined.result.mark c.file_filled.result (total (goal.at.returns c).Start) t mark filled
+    body-joined (sheet (goal.at.returns c).Start) (head (goal.at.returns c).Start) c.requires.0 c.requires.1 c.pages_joined-joined.result.mark
+    c.file_filled.result (total (goal.at.returns c).Start) t mark filled

@@ -22,13 +22,15 @@ open_under-requires c = (c.requires.1, key-opened c)
 
 pub returns-in-Refused : goal.returns-in-Refused
 returns-in-Refused c = (
-  sym (ap sheet_read (read-refused (sheet (goal.at.returns-in-Refused c).After-test) c.requires.0 c.test.result c.in-Refused.r (c.test.ensures ∙ ap test_key c.requires.1.key) c.in-Refused.is)),
+  sym (ap sheet_read (read-refused (sheet (goal.at.returns-in-Refused c).After-test) c.requires.0 c.test.result c.in-Refused.r
+      (c.test.ensures ∙ ap test_key c.requires.1.key) c.in-Refused.is)),
   tt,
 )
 
 pub returns-in-Accepted : goal.returns-in-Accepted
 returns-in-Accepted c = (
   c.open_under.ensures.0
-      ∙ sym (ap sheet_read (read_opened (sheet (goal.at.returns-in-Accepted c).After-test) c.requires.0 c.in-Accepted.p (rw (← c.requires.1.key) (key-opened (goal.at.returns-in-Accepted c).In-Accepted)))),
+      ∙ sym (ap sheet_read (read_opened (sheet (goal.at.returns-in-Accepted c).After-test) c.requires.0 c.in-Accepted.p
+      (rw (← c.requires.1.key) (key-opened (goal.at.returns-in-Accepted c).In-Accepted)))),
   c.open_under.ensures.1,
 )

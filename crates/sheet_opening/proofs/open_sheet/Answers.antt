@@ -19,8 +19,10 @@ told : (c : After-open_head) (h : Header) → c.open_head.result ≡ h → Heade
 told c h e = subst (HeaderOf (sheet c) (head_wrong layouts (sheet c))) e c.open_head.ensures
 
 pub returns-in-Wrong : goal.returns-in-Wrong
-returns-in-Wrong c =
-    (sym (ap sheet_read (read_head (sheet (goal.at.returns-in-Wrong c).After-open_head) (told (goal.at.returns-in-Wrong c).After-open_head _ c.in-Wrong.is))), tt)
+returns-in-Wrong c = (
+  sym (ap sheet_read (read_head (sheet (goal.at.returns-in-Wrong c).After-open_head) (told (goal.at.returns-in-Wrong c).After-open_head _ c.in-Wrong.is))),
+  tt,
+)
 
 pub open_key-requires : goal.open_key-requires
 open_key-requires c = told (goal.at.open_key-requires c).After-open_head _ c.in-Right.is

@@ -44,7 +44,8 @@ returns-then-x c =
     let bits = part_bits (page (goal.at.returns-then-x c).Start) in
     let zeros = 8 * c.args.x.size - length bits in
     c.with_zeros.ensures
-    ∙ ap (λ (n : ℕ). rem (key (goal.at.returns-then-x c).Start) (c.fed_last-own.result * 2 ^ (8 * c.args.x.size - n))) (counted (goal.at.returns-then-x c).After-part_length ∙ sym (part-length (page (goal.at.returns-then-x c).Start)))
+    ∙ ap (λ (n : ℕ). rem (key (goal.at.returns-then-x c).Start) (c.fed_last-own.result * 2 ^ (8 * c.args.x.size - n)))
+    (counted (goal.at.returns-then-x c).After-part_length ∙ sym (part-length (page (goal.at.returns-then-x c).Start)))
     ∙ ap (λ (g : ℕ). rem (key (goal.at.returns-then-x c).Start) (g * 2 ^ zeros)) c.fed_last-own.ensures
     ∙ with_zeros (monic-pos p.degree p.low c.requires.0.proper.2) zeros bits
     ∙ ap (λ (b : Bool). fingerprint (key (goal.at.returns-then-x c).Start) (cond b (filled (8 * c.args.x.size) bits) bits)) (sym c.if-x.true)
@@ -52,4 +53,5 @@ returns-then-x c =
 pub returns : goal.returns
 returns c =
     c.fed_last-own.ensures
-    ∙ ap (λ (b : Bool). fingerprint (key (goal.at.returns c).Start) (cond b (filled (8 * c.args.x.size) (part_bits (page (goal.at.returns c).Start))) (part_bits (page (goal.at.returns c).Start)))) (sym c.if-x.false)
+    ∙ ap (λ (b : Bool). fingerprint (key (goal.at.returns c).Start) (cond b (filled (8 * c.args.x.size) (part_bits (page (goal.at.returns c).Start)))
+    (part_bits (page (goal.at.returns c).Start)))) (sym c.if-x.false)

@@ -42,7 +42,14 @@ known-at_after_least_n c = read_as (sheet-at_after_least_n c) c.in-Opened.x.numb
 fits : (c : After-least-n) → page_place (layout-at_after_least_n c) 0 + 8 * c.least-n.result ≤ length (sheet-at_after_least_n c)
 fits c =
     let v = version_in (sheet-at_after_least_n c) in
-    omega (arith, c.least-n.ensures, total (sheet-at_after_least_n c) (known-at_after_least_n c), pages-counted (sheet-at_after_least_n c) (known-at_after_least_n c), length_from v (pages_in (layout_of v) (sheet-at_after_least_n c)))
+    omega (
+      arith,
+      c.least-n.ensures,
+      total (sheet-at_after_least_n c) (known-at_after_least_n c),
+      pages-counted (sheet-at_after_least_n c)
+          (known-at_after_least_n c),
+      length_from v (pages_in (layout_of v) (sheet-at_after_least_n c)),
+    )
 
 -- the fingerprints begin where the version says
 place_is : (c : In-Opened) → c.in-Opened.x.place ≡ page_place (layout c) 0
@@ -61,7 +68,8 @@ known-at_after_page_fields : (c : After-page_fields) → ReadAs (sheet-at_after_
 known-at_after_page_fields c = read_as (sheet-at_after_page_fields c) c.in-Opened.x.numbers (ap opening (sym c.in-Opened.is) ∙ c.open_sheet.ensures.0)
 
 place_is-at_after_page_fields : (c : After-page_fields) → c.in-Opened.x.place ≡ page_place (layout-at_after_page_fields c) 0
-place_is-at_after_page_fields c = (kept-at_after_page_fields c).place ∙ ap (λ (v : ℕ). page_place (layout_of v) 0) (version-read (sheet-at_after_page_fields c) (known-at_after_page_fields c))
+place_is-at_after_page_fields c = (kept-at_after_page_fields c).place ∙ ap (λ (v : ℕ). page_place (layout_of v) 0)
+    (version-read (sheet-at_after_page_fields c) (known-at_after_page_fields c))
 
 -- the part that begins with them
 part : (c : After-page_fields) → c.page_fields.result.now ≡ fingerprints_part (version_in (sheet-at_after_page_fields c)) (sheet-at_after_page_fields c)
@@ -73,7 +81,8 @@ page_fields-requires c = omega (arith, fits (goal.at.page_fields-requires c).Aft
 
 pub copy_fields-requires : goal.copy_fields-requires
 copy_fields-requires c =
-    let long = ap length (part c) ∙ length-drop (page_place (layout (goal.at.copy_fields-requires c).In-Opened) 0) (sheet (goal.at.copy_fields-requires c).In-Opened) in
+    let long = ap length (part c) ∙ length-drop (page_place (layout (goal.at.copy_fields-requires c).In-Opened) 0)
+    (sheet (goal.at.copy_fields-requires c).In-Opened) in
     (omega (arith, c.least-n.ensures), omega (arith, long, fits (goal.at.copy_fields-requires c).After-least-n))
 
 pub returns-in-Refused : goal.returns-in-Refused
@@ -86,9 +95,11 @@ returns-in-Opened c =
     let lent = c.args.lent.now in
     let n = c.least-n.result in
     let m = pages_in (layout (goal.at.returns-in-Opened c).In-Opened) (sheet (goal.at.returns-in-Opened c).In-Opened) in
-    let count : n ≡ min m (length lent) = c.least-n.ensures ∙ ap (λ (i : ℕ). min i (length lent)) (pages-counted (sheet (goal.at.returns-in-Opened c).In-Opened) (known (goal.at.returns-in-Opened c).In-Opened)) in
+    let count : n ≡ min m (length lent) = c.least-n.ensures ∙ ap (λ (i : ℕ). min i (length lent))
+    (pages-counted (sheet (goal.at.returns-in-Opened c).In-Opened) (known (goal.at.returns-in-Opened c).In-Opened)) in
     ap Done
     (c.copy_fields.ensures
     ∙ lent_are c.page_fields.result.now lent m n count
-    ∙ ap (λ (ps : List ℕ). overlay ps lent) (ap (numbers_at 0 8 m) (part (goal.at.returns-in-Opened c).After-page_fields) ∙ sym (pages-in (sheet (goal.at.returns-in-Opened c).In-Opened))))
+    ∙ ap (λ (ps : List ℕ). overlay ps lent) (ap (numbers_at 0 8 m) (part (goal.at.returns-in-Opened c).After-page_fields) ∙ sym
+    (pages-in (sheet (goal.at.returns-in-Opened c).In-Opened))))
     ∙ sym (pages-done (sheet (goal.at.returns-in-Opened c).In-Opened) lent (known (goal.at.returns-in-Opened c).In-Opened))

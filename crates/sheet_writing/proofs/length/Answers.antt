@@ -42,8 +42,15 @@ page_count-count-requires c = let b = size c in (omega (arith, b.0), b.1, few (g
 pub sheet_length-requires : goal.sheet_length-requires
 sheet_length-requires c =
     let a = c.args in
-    let b = size (goal.at.sheet_length-requires c).Else-not-size_right in
-    (c.pages_place.ensures.1, omega (arith, c.page_count-count.ensures, count-few a.size a.n b.0 b.1 (few (goal.at.sheet_length-requires c).Else-not-bytes_fit)))
+    let b = size (goal.at.sheet_length-requires c).Else-not-size_right in (
+      c.pages_place.ensures.1,
+      omega (
+        arith,
+        c.page_count-count.ensures,
+        count-few a.size a.n b.0 b.1
+            (few (goal.at.sheet_length-requires c).Else-not-bytes_fit),
+      ),
+    )
 
 pub returns : goal.returns
 returns c =

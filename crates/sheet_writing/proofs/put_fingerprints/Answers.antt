@@ -55,49 +55,89 @@ fingerprints s = page_fingerprints v (key s) (size s) (count s) (file s)
 -- as many as were passed
 passed : (c : After-over_pages-count) → c.over_pages-count.result ≡ count c.before.before.before.before.before.before
 passed c =
-    pass_count (fingerprints c.before.before.before.before.before.before) c.args.fields.now _ c.over_pages-count.result c.over_pages-count.ensures ∙ length-pages v (key c.before.before.before.before.before.before) (count c.before.before.before.before.before.before) (size c.before.before.before.before.before.before) (file c.before.before.before.before.before.before)
+    pass_count (fingerprints c.before.before.before.before.before.before) c.args.fields.now _ c.over_pages-count.result c.over_pages-count.ensures ∙
+    length-pages v (key c.before.before.before.before.before.before) (count c.before.before.before.before.before.before)
+    (size c.before.before.before.before.before.before) (file c.before.before.before.before.before.before)
 
 pages-counted : (s : Start) → count s ≡ pages_for s.args.size s.args.n
 pages-counted s = sym (ap (pages_for s.args.size) s.requires.7 ∙ ap (page_count s.args.size) (part_bytes (part s)))
 
 -- the fields after all pages' fingerprints, and what they read as
-prints : (c : After-over_pages-count) → c.over_pages-count.new.out ≡ sets c.args.fields.now 0 (fields_of 8 (fingerprints c.before.before.before.before.before.before))
+prints : (c : After-over_pages-count)
+    → c.over_pages-count.new.out ≡ sets c.args.fields.now 0 (fields_of 8 (fingerprints c.before.before.before.before.before.before))
 prints c = pass_all (fingerprints c.before.before.before.before.before.before) c.args.fields.now _ c.over_pages-count.result c.over_pages-count.ensures
 
-read_back : (c : After-over_pages-count) → numbers_at 0 8 c.over_pages-count.result c.over_pages-count.new.out ≡ fingerprints c.before.before.before.before.before.before
+read_back : (c : After-over_pages-count)
+    → numbers_at 0 8 c.over_pages-count.result c.over_pages-count.new.out ≡ fingerprints c.before.before.before.before.before.before
 read_back c =
     ap₂ (λ (m : ℕ) (b : List ℕ). numbers_at 0 8 m b) (passed c) (prints c)
-    ∙ pages-stored c.args.p c.requires.0 v (size c.before.before.before.before.before.before) (count c.before.before.before.before.before.before) (file c.before.before.before.before.before.before) c.args.fields.now (omega (arith, c.requires.5))
+    ∙ pages-stored c.args.p c.requires.0 v (size c.before.before.before.before.before.before) (count c.before.before.before.before.before.before)
+    (file c.before.before.before.before.before.before) c.args.fields.now (omega (arith, c.requires.5))
 
-passed-at_after_pages_joined_joined : (c : After-pages_joined-joined) → c.over_pages-count.result ≡ count c.before.before.before.before.before.before.before.before.before
+passed-at_after_pages_joined_joined : (c : After-pages_joined-joined)
+    → c.over_pages-count.result ≡ count c.before.before.before.before.before.before.before.before.before
 passed-at_after_pages_joined_joined c =
-    pass_count (fingerprints c.before.before.before.before.before.before.before.before.before) c.args.fields.now _ c.over_pages-count.result c.over_pages-count.ensures ∙ length-pages v (key c.before.before.before.before.before.before.before.before.before) (count c.before.before.before.before.before.before.before.before.before) (size c.before.before.before.before.before.before.before.before.before) (file c.before.before.before.before.before.before.before.before.before)
+    pass_count (fingerprints c.before.before.before.before.before.before.before.before.before) c.args.fields.now _ c.over_pages-count.result
+    c.over_pages-count.ensures ∙ length-pages v (key c.before.before.before.before.before.before.before.before.before)
+    (count c.before.before.before.before.before.before.before.before.before) (size c.before.before.before.before.before.before.before.before.before)
+    (file c.before.before.before.before.before.before.before.before.before)
 
-prints-at_after_pages_joined_joined : (c : After-pages_joined-joined) → c.over_pages-count.new.out ≡ sets c.args.fields.now 0 (fields_of 8 (fingerprints c.before.before.before.before.before.before.before.before.before))
-prints-at_after_pages_joined_joined c = pass_all (fingerprints c.before.before.before.before.before.before.before.before.before) c.args.fields.now _ c.over_pages-count.result c.over_pages-count.ensures
+prints-at_after_pages_joined_joined : (c : After-pages_joined-joined)
+    → c.over_pages-count.new.out ≡ sets c.args.fields.now 0 (fields_of 8 (fingerprints c.before.before.before.before.before.before.before.before.before))
+prints-at_after_pages_joined_joined c = pass_all (fingerprints c.before.before.before.before.before.before.before.before.before) c.args.fields.now _
+    c.over_pages-count.result c.over_pages-count.ensures
 
-read_back-at_after_pages_joined_joined : (c : After-pages_joined-joined) → numbers_at 0 8 c.over_pages-count.result c.over_pages-count.new.out ≡ fingerprints c.before.before.before.before.before.before.before.before.before
+read_back-at_after_pages_joined_joined : (c : After-pages_joined-joined)
+    → numbers_at 0 8 c.over_pages-count.result c.over_pages-count.new.out ≡ fingerprints c.before.before.before.before.before.before.before.before.before
 read_back-at_after_pages_joined_joined c =
     ap₂ (λ (m : ℕ) (b : List ℕ). numbers_at 0 8 m b) (passed-at_after_pages_joined_joined c) (prints-at_after_pages_joined_joined c)
-    ∙ pages-stored c.args.p c.requires.0 v (size c.before.before.before.before.before.before.before.before.before) (count c.before.before.before.before.before.before.before.before.before) (file c.before.before.before.before.before.before.before.before.before) c.args.fields.now (omega (arith, c.requires.5))
+    ∙ pages-stored c.args.p c.requires.0 v (size c.before.before.before.before.before.before.before.before.before)
+    (count c.before.before.before.before.before.before.before.before.before) (file c.before.before.before.before.before.before.before.before.before)
+    c.args.fields.now (omega (arith, c.requires.5))
 
 -- the joined have the file's fingerprint
-joined : (c : After-pages_joined-joined) → c.pages_joined-joined.result.mark ≡ fingerprint (key c.before.before.before.before.before.before.before.before.before) (file c.before.before.before.before.before.before.before.before.before)
+joined : (c : After-pages_joined-joined)
+    → c.pages_joined-joined.result.mark ≡ fingerprint (key c.before.before.before.before.before.before.before.before.before)
+    (file c.before.before.before.before.before.before.before.before.before)
 unfolding mark_from
 joined c =
     let a = c.args in
     let pos = monic-pos a.p.degree a.p.low c.requires.0.2 in
-    let small = rw (monic-degree a.p.degree a.p.low c.requires.0.2) at (fingerprints-lt pos v (count c.before.before.before.before.before.before.before.before.before) (size c.before.before.before.before.before.before.before.before.before) (file c.before.before.before.before.before.before.before.before.before)) in
-    let all : count c.before.before.before.before.before.before.before.before.before ≡ page_count (size c.before.before.before.before.before.before.before.before.before) (length (file c.before.before.before.before.before.before.before.before.before)) =
-    sym (pages-held a.size (part c.before.before.before.before.before.before.before.before.before)) ∙ pages-count a.size (length (file c.before.before.before.before.before.before.before.before.before)) (omega (arith, c.requires.2)) in
-    c.pages_joined-joined.ensures.mark (ap (some_unreduced a.p.degree) (read_back-at_after_pages_joined_joined c) ∙ list_reduced a.p.degree (fingerprints c.before.before.before.before.before.before.before.before.before) small)
-    ∙ ap₂ (λ (n : ℕ) (fs : List ℕ). (joined_pages v (key c.before.before.before.before.before.before.before.before.before) (size c.before.before.before.before.before.before.before.before.before) n (mark_of (key c.before.before.before.before.before.before.before.before.before) []) fs).fingerprint) (c.requires.7 ∙ sym (part-length (part c.before.before.before.before.before.before.before.before.before))) (read_back-at_after_pages_joined_joined c)
-    ∙ ap (λ (m : ℕ). (joined_pages v (key c.before.before.before.before.before.before.before.before.before) (size c.before.before.before.before.before.before.before.before.before) (length (file c.before.before.before.before.before.before.before.before.before)) (mark_of (key c.before.before.before.before.before.before.before.before.before) []) (page_fingerprints v (key c.before.before.before.before.before.before.before.before.before) (size c.before.before.before.before.before.before.before.before.before) m (file c.before.before.before.before.before.before.before.before.before))).fingerprint) all
-    ∙ ap (λ (m : Mark). m.fingerprint) (own-joined pos v refl (size c.before.before.before.before.before.before.before.before.before) (file c.before.before.before.before.before.before.before.before.before) (omega (arith, c.requires.2)))
+    let small = rw (monic-degree a.p.degree a.p.low c.requires.0.2) at (fingerprints-lt pos v
+    (count c.before.before.before.before.before.before.before.before.before) (size c.before.before.before.before.before.before.before.before.before)
+    (file c.before.before.before.before.before.before.before.before.before)) in
+    let all : count c.before.before.before.before.before.before.before.before.before ≡ page_count
+    (size c.before.before.before.before.before.before.before.before.before)
+    (length (file c.before.before.before.before.before.before.before.before.before)) =
+    sym (pages-held a.size (part c.before.before.before.before.before.before.before.before.before)) ∙ pages-count a.size
+    (length (file c.before.before.before.before.before.before.before.before.before)) (omega (arith, c.requires.2)) in
+    c.pages_joined-joined.ensures.mark (ap (some_unreduced a.p.degree) (read_back-at_after_pages_joined_joined c) ∙ list_reduced a.p.degree
+    (fingerprints c.before.before.before.before.before.before.before.before.before) small)
+    ∙ ap₂ (λ (n : ℕ) (fs : List ℕ). (joined_pages v (key c.before.before.before.before.before.before.before.before.before)
+    (size c.before.before.before.before.before.before.before.before.before) n
+    (mark_of (key c.before.before.before.before.before.before.before.before.before) []) fs).fingerprint)
+    (c.requires.7 ∙ sym (part-length (part c.before.before.before.before.before.before.before.before.before))) (read_back-at_after_pages_joined_joined c)
+    ∙ ap (λ (m : ℕ). (joined_pages v (key c.before.before.before.before.before.before.before.before.before)
+    (size c.before.before.before.before.before.before.before.before.before)
+    (length (file c.before.before.before.before.before.before.before.before.before))
+    (mark_of (key c.before.before.before.before.before.before.before.before.before) [])
+    (page_fingerprints v (key c.before.before.before.before.before.before.before.before.before)
+    (size c.before.before.before.before.before.before.before.before.before) m
+    (file c.before.before.before.before.before.before.before.before.before))).fingerprint) all
+    ∙ ap (λ (m : Mark). m.fingerprint) (own-joined pos v refl (size c.before.before.before.before.before.before.before.before.before)
+    (file c.before.before.before.before.before.before.before.before.before) (omega (arith, c.requires.2)))
 
 pub over_pages-count-requires : goal.over_pages-count-requires
-over_pages-count-requires c =
-    (c.requires.0, c.requires.1, c.requires.2, c.requires.3, c.requires.4, λ lent. omega (arith, c.requires.5), λ lent. absurd (omega (arith, lent)), c.requires.6)
+over_pages-count-requires c = (
+  c.requires.0,
+  c.requires.1,
+  c.requires.2,
+  c.requires.3,
+  c.requires.4,
+  λ lent. omega (arith, c.requires.5),
+  λ lent. absurd (omega (arith, lent)),
+  c.requires.6,
+)
 
 pub pages_joined-joined-requires : goal.pages_joined-joined-requires
 pages_joined-joined-requires c = (
@@ -122,11 +162,14 @@ returns c =
     let fields = fields_of 8 (fingerprints (goal.at.returns c).Start) in
     let last = bytes_of 8 (fingerprint (key (goal.at.returns c).Start) (file (goal.at.returns c).Start)) in
     let long : 8 * count (goal.at.returns c).Start ≡ 0 + length fields =
-    sym (zero-add (length fields) ∙ length-fields_of 8 (fingerprints (goal.at.returns c).Start) ∙ ap (λ (n : ℕ). 8 * n) (length-pages v (key (goal.at.returns c).Start) (count (goal.at.returns c).Start) (size (goal.at.returns c).Start) (file (goal.at.returns c).Start))) in
+    sym (zero-add (length fields) ∙ length-fields_of 8 (fingerprints (goal.at.returns c).Start) ∙ ap (λ (n : ℕ). 8 * n)
+    (length-pages v (key (goal.at.returns c).Start) (count (goal.at.returns c).Start) (size (goal.at.returns c).Start) (file (goal.at.returns c).Start))) in
     let own = ap (λ (w : Layout). w.filled) newest-is in
     c.put.ensures
-    ∙ ap₂ (λ (n f : ℕ). sets c.over_pages-count.new.out (8 * n) (bytes_of 8 f)) (passed (goal.at.returns c).After-over_pages-count) (joined (goal.at.returns c).After-pages_joined-joined)
+    ∙ ap₂ (λ (n f : ℕ). sets c.over_pages-count.new.out (8 * n) (bytes_of 8 f)) (passed (goal.at.returns c).After-over_pages-count)
+    (joined (goal.at.returns c).After-pages_joined-joined)
     ∙ ap (λ (b : List ℕ). sets b (8 * count (goal.at.returns c).Start) last) (prints (goal.at.returns c).After-over_pages-count)
     ∙ sets_behind fields last a.fields.now 0 (8 * count (goal.at.returns c).Start) long
     ∙ ap (λ (fs : List ℕ). sets a.fields.now 0 (fields_of 8 fs ++ last))
-    (sym (prints-filling (layout_of newest.version) false own (key (goal.at.returns c).Start) (size (goal.at.returns c).Start) (count (goal.at.returns c).Start) (file (goal.at.returns c).Start)))
+    (sym (prints-filling (layout_of newest.version) false own (key (goal.at.returns c).Start) (size (goal.at.returns c).Start)
+    (count (goal.at.returns c).Start) (file (goal.at.returns c).Start)))

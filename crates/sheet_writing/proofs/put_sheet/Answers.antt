@@ -53,8 +53,17 @@ put_fingerprints-requires c =
     let b = c.put_head.new.buffer in
     let p = c.requires in
     let n = c.pages_place-from.result in
-    let part = ap length (all_left b n) ∙ length-drop n b in
-    (opened-proper p.0, opened-eight p.0, p.1, p.2, p.3, omega (arith, part, fits (goal.at.put_fingerprints-requires c).After-pages_place-from), p.5, counted (goal.at.put_fingerprints-requires c).After-part_length-n)
+    let part = ap length (all_left b n) ∙ length-drop n b in (
+      opened-proper p.0,
+      opened-eight p.0,
+      p.1,
+      p.2,
+      p.3,
+      omega (arith, part, fits (goal.at.put_fingerprints-requires c).After-pages_place-from),
+      p.5,
+      counted
+          (goal.at.put_fingerprints-requires c).After-part_length-n,
+    )
 
 pub returns : goal.returns
 unfolding contents_of
@@ -81,6 +90,7 @@ returns c =
     ∙ ap (λ (m : ℕ). take m b ++ part) from
     ∙ sheet_stores (contents_of newest.version a.key a.size file) count a.buffer.now b part
     (length-pages v key (pages_for a.size (length file)) size file ∙ held) c.requires.4
-    (c.put_head.ensures ∙ ap (λ (m : ℕ). sets a.buffer.now 0 (bytes_in (field_widths v) (fields m))) (counted (goal.at.returns c).After-part_length-n ∙ sym bits))
+    (c.put_head.ensures ∙ ap (λ (m : ℕ). sets a.buffer.now 0 (bytes_in (field_widths v) (fields m)))
+    (counted (goal.at.returns c).After-part_length-n ∙ sym bits))
     (stored
     ∙ ap₂ (λ (m c : ℕ). sets (drop m b) 0 (fields_of 8 (page_fingerprints v key size c file) ++ bytes_of 8 (fingerprint key file))) from (sym held))

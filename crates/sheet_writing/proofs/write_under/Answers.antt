@@ -26,20 +26,29 @@ well c = sym c.is_misused.ensures ∙ c.if-is_misused.false
 pub returns-then-buffer-needed : goal.returns-then-buffer-needed
 returns-then-buffer-needed c =
     let a = c.args in
-    sym (write_short a.key a.size (part (goal.at.returns-then-buffer-needed c).Start) a.buffer.now c.requires c.in-Bytes.needed (known (goal.at.returns-then-buffer-needed c).In-Bytes) (omega (arith, c.if-buffer-needed.true)))
+    sym (write_short a.key a.size (part (goal.at.returns-then-buffer-needed c).Start) a.buffer.now c.requires c.in-Bytes.needed
+    (known (goal.at.returns-then-buffer-needed c).In-Bytes) (omega (arith, c.if-buffer-needed.true)))
 
 pub returns-then-is_misused : goal.returns-then-is_misused
 returns-then-is_misused c =
     let a = c.args in
-    sym (write_misused a.key a.size (part (goal.at.returns-then-is_misused c).Start) a.buffer.now c.requires c.in-Bytes.needed (known (goal.at.returns-then-is_misused c).In-Bytes) (omega (arith, c.if-buffer-needed.false))
+    sym (write_misused a.key a.size (part (goal.at.returns-then-is_misused c).Start) a.buffer.now c.requires c.in-Bytes.needed
+    (known (goal.at.returns-then-is_misused c).In-Bytes) (omega (arith, c.if-buffer-needed.false))
     (sym c.is_misused.ensures ∙ c.if-is_misused.true))
 
 pub put_sheet-requires : goal.put_sheet-requires
 put_sheet-requires c =
     let m = known (goal.at.put_sheet-requires c).In-Bytes in
     let a = c.args in
-    let own = ap (λ (v : Layout). sheet_length v (page_count a.size (length a.file.now))) newest-is in
-    (c.requires, m.size.0, m.size.1, omega (arith, m.fits), omega (arith, m.total, own, c.if-buffer-needed.false), well (goal.at.put_sheet-requires c).Else-is_misused)
+    let own = ap (λ (v : Layout). sheet_length v (page_count a.size (length a.file.now))) newest-is in (
+      c.requires,
+      m.size.0,
+      m.size.1,
+      omega (arith, m.fits),
+      omega (arith, m.total, own, c.if-buffer-needed.false),
+      well
+          (goal.at.put_sheet-requires c).Else-is_misused,
+    )
 
 pub returns-in-Refused : goal.returns-in-Refused
 returns-in-Refused c =
@@ -51,4 +60,6 @@ pub returns-else-is_misused : goal.returns-else-is_misused
 returns-else-is_misused c =
     let a = c.args in
     ap Done c.put_sheet.ensures
-    ∙ sym (write_done a.key a.size (part (goal.at.returns-else-is_misused c).Start) a.buffer.now c.requires c.in-Bytes.needed (known (goal.at.returns-else-is_misused c).In-Bytes) (omega (arith, c.if-buffer-needed.false)) (well (goal.at.returns-else-is_misused c).Else-is_misused))
+    ∙ sym (write_done a.key a.size (part (goal.at.returns-else-is_misused c).Start) a.buffer.now c.requires c.in-Bytes.needed
+    (known (goal.at.returns-else-is_misused c).In-Bytes) (omega (arith, c.if-buffer-needed.false))
+    (well (goal.at.returns-else-is_misused c).Else-is_misused))

@@ -29,7 +29,8 @@ loop-i-preserved c =
     let a = c.args in
     let l = c.loop-i in (
       omega arith,
-      going a.p c.requires.0.0 a.f a.part.now 0 l.i l.x l.invariant.1 a.n _ c.behind-x.result (omega arith) (value_in (goal.at.loop-i-preserved c).After-eight_at-eight)
+      going a.p c.requires.0.0 a.f a.part.now 0 l.i l.x l.invariant.1 a.n _ c.behind-x.result (omega arith)
+          (value_in (goal.at.loop-i-preserved c).After-eight_at-eight)
           c.behind-x.ensures,
     )
 

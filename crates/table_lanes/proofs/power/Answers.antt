@@ -51,13 +51,17 @@ pub loop-i-preserved-then-n-i-eq1 : goal.loop-i-preserved-then-n-i-eq1
 loop-i-preserved-then-n-i-eq1 c =
     let l = c.loop-i in
     let four = c.feed_four-x-then-n-i-eq1.ensures ∙ ap (rem (polynomial c.args.p)) (four-zeros c.square-x.result) in
-    let is = times_next (pos (goal.at.loop-i-preserved-then-n-i-eq1 c).Start) (2 ^ 32) c.args.n l.i l.x c.square-x.result (omega arith) l.invariant.1 c.square-x.ensures in
+    let is = times_next (pos (goal.at.loop-i-preserved-then-n-i-eq1 c).Start) (2 ^ 32) c.args.n l.i l.x c.square-x.result (omega arith) l.invariant.1
+    c.square-x.ensures in
     (omega arith, is _ four c.if-n-i-eq1.true)
 
 pub loop-i-preserved : goal.loop-i-preserved
 loop-i-preserved c =
-    let l = c.loop-i in
-    (omega arith, square-next (pos (goal.at.loop-i-preserved c).Start) (2 ^ 32) c.args.n l.i l.x _ (omega arith) l.invariant.1 c.square-x.ensures c.if-n-i-eq1.false)
+    let l = c.loop-i in (
+      omega arith,
+      square-next (pos (goal.at.loop-i-preserved c).Start) (2 ^ 32) c.args.n l.i l.x _ (omega arith) l.invariant.1 c.square-x.ensures
+          c.if-n-i-eq1.false,
+    )
 
 pub returns : goal.returns
 returns c =

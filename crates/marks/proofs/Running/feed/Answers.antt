@@ -32,7 +32,8 @@ unfolding feed_bits
 returns-in-Refused c =
     let key = c.args.self.key in
     let t = c.test in
-    sym (ap (fed_under key) (refused t.result key t.ensures (tests (goal.at.returns-in-Refused c).Start) (mark_in c.args.self) (value (goal.at.returns-in-Refused c).Start) _ c.in-Refused.is))
+    sym (ap (fed_under key) (refused t.result key t.ensures (tests (goal.at.returns-in-Refused c).Start) (mark_in c.args.self)
+    (value (goal.at.returns-in-Refused c).Start) _ c.in-Refused.is))
 
 pub feed_alone-requires : goal.feed_alone-requires
 feed_alone-requires c = key-opened c
@@ -41,4 +42,5 @@ pub returns-in-Accepted : goal.returns-in-Accepted
 unfolding feed_bits
 returns-in-Accepted c =
     c.feed_alone.ensures ∙ sym (ap (fed_under c.args.self.key)
-    (opened-first (key-opened (goal.at.returns-in-Accepted c).In-Accepted) (tests (goal.at.returns-in-Accepted c).Start) (mark_in c.args.self) (value (goal.at.returns-in-Accepted c).Start)))
+    (opened-first (key-opened (goal.at.returns-in-Accepted c).In-Accepted) (tests (goal.at.returns-in-Accepted c).Start) (mark_in c.args.self)
+    (value (goal.at.returns-in-Accepted c).Start)))

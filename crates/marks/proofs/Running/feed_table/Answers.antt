@@ -35,7 +35,8 @@ unfolding feed_table
 returns-in-Refused c =
     let key = c.args.self.key in
     let t = c.test in
-    sym (ap (fed_under key) (refused t.result key t.ensures (tests (goal.at.returns-in-Refused c).Start) (mark_in c.args.self) (value (goal.at.returns-in-Refused c).Start) _ c.in-Refused.is))
+    sym (ap (fed_under key) (refused t.result key t.ensures (tests (goal.at.returns-in-Refused c).Start) (mark_in c.args.self)
+    (value (goal.at.returns-in-Refused c).Start) _ c.in-Refused.is))
 
 pub feed_under-requires : goal.feed_under-requires
 feed_under-requires c = key-opened c
@@ -44,4 +45,5 @@ pub returns-in-Accepted : goal.returns-in-Accepted
 unfolding feed_table
 returns-in-Accepted c =
     c.feed_under.ensures ∙ sym (ap (fed_under c.args.self.key)
-    (opened-first (key-opened (goal.at.returns-in-Accepted c).In-Accepted) (tests (goal.at.returns-in-Accepted c).Start) (mark_in c.args.self) (value (goal.at.returns-in-Accepted c).Start)))
+    (opened-first (key-opened (goal.at.returns-in-Accepted c).In-Accepted) (tests (goal.at.returns-in-Accepted c).Start) (mark_in c.args.self)
+    (value (goal.at.returns-in-Accepted c).Start)))

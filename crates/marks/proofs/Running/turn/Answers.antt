@@ -31,7 +31,8 @@ unfolding turn
 returns-in-Refused c =
     let key = c.args.self.key in
     let t = c.test in
-    sym (ap (fed_under key) (refused t.result key t.ensures (tests (goal.at.returns-in-Refused c).Start) (mark_in c.args.self) (value (goal.at.returns-in-Refused c).Start) _ c.in-Refused.is))
+    sym (ap (fed_under key) (refused t.result key t.ensures (tests (goal.at.returns-in-Refused c).Start) (mark_in c.args.self)
+    (value (goal.at.returns-in-Refused c).Start) _ c.in-Refused.is))
 
 pub turn_under-requires : goal.turn_under-requires
 turn_under-requires c = key-opened c
@@ -40,4 +41,5 @@ pub returns-in-Accepted : goal.returns-in-Accepted
 unfolding turn
 returns-in-Accepted c =
     c.turn_under.ensures ∙ sym (ap (fed_under c.args.self.key)
-    (opened-first (key-opened (goal.at.returns-in-Accepted c).In-Accepted) (tests (goal.at.returns-in-Accepted c).Start) (mark_in c.args.self) (value (goal.at.returns-in-Accepted c).Start)))
+    (opened-first (key-opened (goal.at.returns-in-Accepted c).In-Accepted) (tests (goal.at.returns-in-Accepted c).Start) (mark_in c.args.self)
+    (value (goal.at.returns-in-Accepted c).Start)))
