@@ -51,7 +51,7 @@ pub extern "C" fn gfp_read_sheet(
     ensures { (result ≡ number_of (read_sheet sheet.now))
         × (◌≡◌ {A = Sheet}
         (record {
-          version = version.exit.now;
+          version = version.new;
           key = key_at degree.new word.new;
           length = bits.new;
           size = page_size.new;
@@ -60,7 +60,7 @@ pub extern "C" fn gfp_read_sheet(
         })
         (value_or
         (record {
-          version = version.entry.now;
+          version = version.old;
           key = key_at degree.old word.old;
           length = bits.old;
           size = page_size.old;
@@ -195,7 +195,7 @@ pub extern "C" fn gfp_search(
     alarms: &mut u32,
 ) -> u32
     ensures { (result ≡ number_of (search (key_at degree word) text.now pattern.now))
-        × (places.exit.now ≡ places_after (key_at degree word) text.now pattern.now places.entry.now)
+        × (places.new ≡ places_after (key_at degree word) text.now pattern.now places.old)
         × (◌≡◌ {A = Counts} (record { places = count.new; alarms = alarms.new })
         (value_or (record { places = count.old; alarms = alarms.old }) (search (key_at degree word) text.now pattern.now))) }
 {

@@ -82,11 +82,13 @@ module _ (c : After-step-y) where
   middle-at_after_step_y : let a = c.args in get_or a.words.now (a.at + n-at_after_step_y / 2) 0 ≡ rem key-at_after_step_y (n-at_after_step_y / 2 ⊗ a.x)
   middle-at_after_step_y = held-at_after_step_y c (n-at_after_step_y / 2) half_lt-at_after_step_y
 
+pos-at_after_step_y : (s : After-step-y) → 0 < polynomial s.args.p
+pos-at_after_step_y s = monic-pos s.args.p.degree s.args.p.low s.requires.0.2
+
 -- the multiples by n, 2 n and 4 n
 once_is : (c : After-step-y) → c.step-y.result ≡ rem (key-at_after_step_y c) (n-at_after_step_y c ⊗ c.args.x)
 once_is c =
-    multiple-step (pos c.before.before.before.before.before.before.before.before) c.args.x (n-at_after_step_y c / 2) _ c.step-y.result
-    (middle-at_after_step_y c) c.step-y.ensures
+    multiple-step (pos-at_after_step_y c) c.args.x (n-at_after_step_y c / 2) _ c.step-y.result (middle-at_after_step_y c) c.step-y.ensures
     ∙ ap (λ (m : ℕ). rem (key-at_after_step_y c) (m ⊗ c.args.x)) (half-at_after_step_y c)
 
 held-at_after_step_z : (c : After-step-z) → let a = c.args in Multiples (polynomial a.p) a.x a.at (2 ^ (a.width - 3)) a.words.now
@@ -117,16 +119,17 @@ module _ (c : After-step-z) where
   middle-at_after_step_z : let a = c.args in get_or a.words.now (a.at + n-at_after_step_z / 2) 0 ≡ rem key-at_after_step_z (n-at_after_step_z / 2 ⊗ a.x)
   middle-at_after_step_z = held-at_after_step_z c (n-at_after_step_z / 2) half_lt-at_after_step_z
 
+pos-at_after_step_z : (s : After-step-z) → 0 < polynomial s.args.p
+pos-at_after_step_z s = monic-pos s.args.p.degree s.args.p.low s.requires.0.2
+
 once_is-at_after_step_z : (c : After-step-z) → c.step-y.result ≡ rem (key-at_after_step_z c) (n-at_after_step_z c ⊗ c.args.x)
 once_is-at_after_step_z c =
-    multiple-step (pos c.before.before.before.before.before.before.before.before.before) c.args.x (n-at_after_step_z c / 2) _ c.step-y.result
-    (middle-at_after_step_z c) c.step-y.ensures
+    multiple-step (pos-at_after_step_z c) c.args.x (n-at_after_step_z c / 2) _ c.step-y.result (middle-at_after_step_z c) c.step-y.ensures
     ∙ ap (λ (m : ℕ). rem (key-at_after_step_z c) (m ⊗ c.args.x)) (half-at_after_step_z c)
 
 twice-is : (c : After-step-z) → c.step-z.result ≡ rem (key-at_after_step_z c) (n-at_after_step_z c * 2 ⊗ c.args.x)
 twice-is c =
-    multiple-step (pos c.before.before.before.before.before.before.before.before.before) c.args.x (n-at_after_step_z c) _ c.step-z.result
-    (once_is-at_after_step_z c) c.step-z.ensures
+    multiple-step (pos-at_after_step_z c) c.args.x (n-at_after_step_z c) _ c.step-z.result (once_is-at_after_step_z c) c.step-z.ensures
 
 held-at_after_step_v : (c : After-step-v) → let a = c.args in Multiples (polynomial a.p) a.x a.at (2 ^ (a.width - 3)) a.words.now
 held-at_after_step_v c = let f = c.first_holds-2 in f.ensures.0 (not-false f.result c.if-not-first_holds.false-raw)
@@ -156,21 +159,21 @@ module _ (c : After-step-v) where
   middle-at_after_step_v : let a = c.args in get_or a.words.now (a.at + n-at_after_step_v / 2) 0 ≡ rem key-at_after_step_v (n-at_after_step_v / 2 ⊗ a.x)
   middle-at_after_step_v = held-at_after_step_v c (n-at_after_step_v / 2) half_lt-at_after_step_v
 
+pos-at_after_step_v : (s : After-step-v) → 0 < polynomial s.args.p
+pos-at_after_step_v s = monic-pos s.args.p.degree s.args.p.low s.requires.0.2
+
 once_is-at_after_step_v : (c : After-step-v) → c.step-y.result ≡ rem (key-at_after_step_v c) (n-at_after_step_v c ⊗ c.args.x)
 once_is-at_after_step_v c =
-    multiple-step (pos c.before.before.before.before.before.before.before.before.before.before) c.args.x (n-at_after_step_v c / 2) _ c.step-y.result
-    (middle-at_after_step_v c) c.step-y.ensures
+    multiple-step (pos-at_after_step_v c) c.args.x (n-at_after_step_v c / 2) _ c.step-y.result (middle-at_after_step_v c) c.step-y.ensures
     ∙ ap (λ (m : ℕ). rem (key-at_after_step_v c) (m ⊗ c.args.x)) (half-at_after_step_v c)
 
 twice-is-at_after_step_v : (c : After-step-v) → c.step-z.result ≡ rem (key-at_after_step_v c) (n-at_after_step_v c * 2 ⊗ c.args.x)
 twice-is-at_after_step_v c =
-    multiple-step (pos c.before.before.before.before.before.before.before.before.before.before) c.args.x (n-at_after_step_v c) _ c.step-z.result
-    (once_is-at_after_step_v c) c.step-z.ensures
+    multiple-step (pos-at_after_step_v c) c.args.x (n-at_after_step_v c) _ c.step-z.result (once_is-at_after_step_v c) c.step-z.ensures
 
 thrice-is : (c : After-step-v) → c.step-v.result ≡ rem (key-at_after_step_v c) (n-at_after_step_v c * 2 * 2 ⊗ c.args.x)
 thrice-is c =
-    multiple-step (pos c.before.before.before.before.before.before.before.before.before.before) c.args.x (n-at_after_step_v c * 2) _ c.step-v.result
-    (twice-is-at_after_step_v c) c.step-v.ensures
+    multiple-step (pos-at_after_step_v c) c.args.x (n-at_after_step_v c * 2) _ c.step-v.result (twice-is-at_after_step_v c) c.step-v.ensures
 
 -- ---- the needs
 
@@ -208,11 +211,11 @@ step-y-requires c =
 
 pub step-z-requires : goal.step-z-requires
 step-z-requires c =
-    (c.requires.0, residue-below c.args.p c.requires.0 _ _ (once_is (goal.at.step-z-requires c).After-step-y), omega arith)
+    (c.requires.0, residue-below c.args.p c.requires.0 _ _ (once_is c), omega arith)
 
 pub step-v-requires : goal.step-v-requires
 step-v-requires c =
-    (c.requires.0, residue-below c.args.p c.requires.0 _ _ (twice-is (goal.at.step-v-requires c).After-step-z), omega arith)
+    (c.requires.0, residue-below c.args.p c.requires.0 _ _ (twice-is c), omega arith)
 
 pub returns : goal.returns
 returns c =
@@ -232,10 +235,10 @@ pub returns-then-width-lt4 : goal.returns-then-width-lt4
 returns-then-width-lt4 c = c.first_holds.ensures
 
 pub overflow_add-at : goal.overflow_add-at
-overflow_add-at c = omega (arith, within (goal.at.overflow_add-at c).After-row_size-n, half (goal.at.overflow_add-at c).After-row_size-n)
+overflow_add-at c = omega (arith, within c, half c)
 
 pub offset_bounds-words-at : goal.offset_bounds-words-at
-offset_bounds-words-at c = omega (arith, within (goal.at.offset_bounds-words-at c).After-row_size-n, half (goal.at.offset_bounds-words-at c).After-row_size-n)
+offset_bounds-words-at c = omega (arith, within c, half c)
 
 pub differences_of_eight-requires : goal.differences_of_eight-requires
 differences_of_eight-requires c = within (goal.at.differences_of_eight-requires c).After-row_size-n

@@ -64,76 +64,139 @@ total s = s.requires.4.total ∙ ap (sheet_length (layout s)) s.requires.4.count
 file : (s : Start) → s.args.file ≡ number_at (page_place (layout s) (count s)) 8 (sheet s)
 file s = s.requires.4.last ∙ ap (λ (m : ℕ). number_at (page_place (layout s) m) 8 (sheet s)) s.requires.4.counted
 
-part : (c : After-page_fields-fields) → c.page_fields-fields.result.now ≡ fingerprints_part (head c.before.before.before).version (sheet c.before.before.before)
-part c = c.page_fields-fields.ensures ∙ ap (λ (n : ℕ). drop n (sheet c.before.before.before)) (place_is c.before.before.before)
+abbrev head-at_after_page_fields_fields : After-page_fields-fields → Head
+head-at_after_page_fields_fields s = s.args.head
+
+abbrev sheet-at_after_page_fields_fields : After-page_fields-fields → List ℕ
+sheet-at_after_page_fields_fields s = s.args.sheet.now
+
+abbrev layout-at_after_page_fields_fields : After-page_fields-fields → Layout
+layout-at_after_page_fields_fields s = layout_of (head-at_after_page_fields_fields s).version
+
+place_is-at_after_page_fields_fields : (s : After-page_fields-fields)
+    → (head-at_after_page_fields_fields s).place ≡ page_place (layout-at_after_page_fields_fields s) 0
+place_is-at_after_page_fields_fields s = s.requires.0.place ∙ ap (λ (v : ℕ). page_place (layout_of v) 0) (sym s.requires.0.version)
+
+part : (c : After-page_fields-fields)
+    → c.page_fields-fields.result.now ≡ fingerprints_part (head-at_after_page_fields_fields c).version (sheet-at_after_page_fields_fields c)
+part c = c.page_fields-fields.ensures ∙ ap (λ (n : ℕ). drop n (sheet-at_after_page_fields_fields c)) (place_is-at_after_page_fields_fields c)
 
 abbrev pages : After-pages_joined-joined → List ℕ
 pages c = c.page_fields-fields.result.now
 
+abbrev head-at_after_pages_joined_joined : After-pages_joined-joined → Head
+head-at_after_pages_joined_joined s = s.args.head
+
+abbrev count-at_after_pages_joined_joined : After-pages_joined-joined → ℕ
+count-at_after_pages_joined_joined s = pages_for (head-at_after_pages_joined_joined s).size (head-at_after_pages_joined_joined s).length
+
 -- the pages joined, by the version and by as many pages as the head asks
-bits-joined : (c : After-pages_joined-joined) → BitsOf (numbers_at 0 8 (count c.before.before.before.before) (pages c)) c.pages_joined-joined.result.bits
+bits-joined : (c : After-pages_joined-joined) → BitsOf (numbers_at 0 8 (count-at_after_pages_joined_joined c) (pages c)) c.pages_joined-joined.result.bits
 bits-joined c =
     subst (λ (m : ℕ). BitsOf (numbers_at 0 8 m (pages c)) c.pages_joined-joined.result.bits) c.requires.4.counted c.pages_joined-joined.ensures.bits
 
+abbrev k-at_after_pages_joined_joined : After-pages_joined-joined → ℕ
+k-at_after_pages_joined_joined s = s.args.p.degree
+
+abbrev layout-at_after_pages_joined_joined : After-pages_joined-joined → Layout
+layout-at_after_pages_joined_joined s = layout_of (head-at_after_pages_joined_joined s).version
+
+filled-like-at_after_pages_joined_joined : (s : After-pages_joined-joined)
+    → (layout-at_after_pages_joined_joined s).filled ≡ (head-at_after_pages_joined_joined s).filled
+filled-like-at_after_pages_joined_joined s = ap (λ (v : ℕ). (layout_of v).filled) s.requires.0.version ∙ sym s.requires.0.filled
+
 mark-joined : (c : After-pages_joined-joined)
-    → some_unreduced (k c.before.before.before.before) (numbers_at 0 8 (count c.before.before.before.before) (pages c)) ≡ false
+    → some_unreduced (k-at_after_pages_joined_joined c) (numbers_at 0 8 (count-at_after_pages_joined_joined c) (pages c)) ≡ false
     → c.pages_joined-joined.result.mark
-    ≡ (joined_pages (layout c.before.before.before.before) (polynomial c.args.p) (8 * (head c.before.before.before.before).size)
-    (head c.before.before.before.before).length
-    (mark_of (polynomial c.args.p) []) (numbers_at 0 8 (count c.before.before.before.before) (pages c))
+    ≡ (joined_pages (layout-at_after_pages_joined_joined c) (polynomial c.args.p) (8 * (head-at_after_pages_joined_joined c).size)
+    (head-at_after_pages_joined_joined c).length
+    (mark_of (polynomial c.args.p) []) (numbers_at 0 8 (count-at_after_pages_joined_joined c) (pages c))
     ).fingerprint
 mark-joined c u =
     let key = polynomial c.args.p in
     let e = c.requires.4.counted in
     let fs = numbers_at 0 8 c.args.count (pages c) in
     let m = mark_of key [] in
-    let n = (head c.before.before.before.before).length in
-    c.pages_joined-joined.ensures.mark (ap (λ (i : ℕ). some_unreduced (k c.before.before.before.before) (numbers_at 0 8 i (pages c))) e ∙ u)
-    ∙ ap (λ (x : Mark). x.fingerprint) (sym (joined-filling (layout c.before.before.before.before) (head c.before.before.before.before).filled
-    (filled-like c.before.before.before.before) key (8 * (head c.before.before.before.before).size) n m fs))
-    ∙ ap (λ (i : ℕ). (joined_pages (layout c.before.before.before.before) key (8 * (head c.before.before.before.before).size) n m
+    let n = (head-at_after_pages_joined_joined c).length in
+    c.pages_joined-joined.ensures.mark (ap (λ (i : ℕ). some_unreduced (k-at_after_pages_joined_joined c) (numbers_at 0 8 i (pages c))) e ∙ u)
+    ∙ ap (λ (x : Mark). x.fingerprint) (sym (joined-filling (layout-at_after_pages_joined_joined c) (head-at_after_pages_joined_joined c).filled
+    (filled-like-at_after_pages_joined_joined c) key (8 * (head-at_after_pages_joined_joined c).size) n m fs))
+    ∙ ap (λ (i : ℕ). (joined_pages (layout-at_after_pages_joined_joined c) key (8 * (head-at_after_pages_joined_joined c).size) n m
     (numbers_at 0 8 i (pages c))).fingerprint) e
+
+abbrev k-at_after_is_residue : After-is_residue → ℕ
+k-at_after_is_residue s = s.args.p.degree
+
+abbrev head-at_after_is_residue : After-is_residue → Head
+head-at_after_is_residue s = s.args.head
+
+abbrev count-at_after_is_residue : After-is_residue → ℕ
+count-at_after_is_residue s = pages_for (head-at_after_is_residue s).size (head-at_after_is_residue s).length
+
+abbrev sheet-at_after_is_residue : After-is_residue → List ℕ
+sheet-at_after_is_residue s = s.args.sheet.now
+
+abbrev layout-at_after_is_residue : After-is_residue → Layout
+layout-at_after_is_residue s = layout_of (head-at_after_is_residue s).version
+
+abbrev all-at_after_is_residue : After-is_residue → List ℕ
+all-at_after_is_residue s = numbers_at 0 8 (count-at_after_is_residue s) (fingerprints_part (head-at_after_is_residue s).version (sheet-at_after_is_residue s))
+    ++ number_at (page_place (layout-at_after_is_residue s) (count-at_after_is_residue s)) 8 (sheet-at_after_is_residue s) ∷ []
 
 abbrev pages-at_after_is_residue : After-is_residue → List ℕ
 pages-at_after_is_residue c = c.page_fields-fields.result.now
 
+place_is-at_after_is_residue : (s : After-is_residue) → (head-at_after_is_residue s).place ≡ page_place (layout-at_after_is_residue s) 0
+place_is-at_after_is_residue s = s.requires.0.place ∙ ap (λ (v : ℕ). page_place (layout_of v) 0) (sym s.requires.0.version)
+
 part-at_after_is_residue : (c : After-is_residue)
-    → c.page_fields-fields.result.now ≡ fingerprints_part (head c.before.before.before.before.before.before).version
-    (sheet c.before.before.before.before.before.before)
-part-at_after_is_residue c = c.page_fields-fields.ensures ∙ ap (λ (n : ℕ). drop n (sheet c.before.before.before.before.before.before))
-    (place_is c.before.before.before.before.before.before)
+    → c.page_fields-fields.result.now ≡ fingerprints_part (head-at_after_is_residue c).version (sheet-at_after_is_residue c)
+part-at_after_is_residue c = c.page_fields-fields.ensures ∙ ap (λ (n : ℕ). drop n (sheet-at_after_is_residue c)) (place_is-at_after_is_residue c)
+
+file-at_after_is_residue : (s : After-is_residue)
+    → s.args.file ≡ number_at (page_place (layout-at_after_is_residue s) (count-at_after_is_residue s)) 8 (sheet-at_after_is_residue s)
+file-at_after_is_residue s = s.requires.4.last ∙ ap (λ (m : ℕ). number_at (page_place (layout-at_after_is_residue s) m) 8 (sheet-at_after_is_residue s))
+    s.requires.4.counted
 
 bits-joined-at_after_is_residue : (c : After-is_residue)
-    → BitsOf (numbers_at 0 8 (count c.before.before.before.before.before.before) (pages-at_after_is_residue c)) c.pages_joined-joined.result.bits
+    → BitsOf (numbers_at 0 8 (count-at_after_is_residue c) (pages-at_after_is_residue c)) c.pages_joined-joined.result.bits
 bits-joined-at_after_is_residue c =
     subst (λ (m : ℕ). BitsOf (numbers_at 0 8 m (pages-at_after_is_residue c)) c.pages_joined-joined.result.bits) c.requires.4.counted
     c.pages_joined-joined.ensures.bits
 
 -- the bits of all fields are tested
 bits : (c : After-is_residue)
-    → leb (2 ^ k c.before.before.before.before.before.before) (bit_or c.pages_joined-joined.result.bits c.args.file)
-    ≡ some_unreduced (degree (polynomial_of (head c.before.before.before.before.before.before).key)) (all c.before.before.before.before.before.before)
+    → leb (2 ^ k-at_after_is_residue c) (bit_or c.pages_joined-joined.result.bits c.args.file)
+    ≡ some_unreduced (degree (polynomial_of (head-at_after_is_residue c).key)) (all-at_after_is_residue c)
 bits c =
-    bits_are (sheet c.before.before.before.before.before.before) (head c.before.before.before.before.before.before) c.requires.0 c.requires.1 c.args.p
-    c.requires.3 c.pages_joined-joined.result.bits _ (pages-at_after_is_residue c)
-    (part-at_after_is_residue c) (file c.before.before.before.before.before.before) (bits-joined-at_after_is_residue c)
+    bits_are (sheet-at_after_is_residue c) (head-at_after_is_residue c) c.requires.0 c.requires.1 c.args.p c.requires.3 c.pages_joined-joined.result.bits _
+    (pages-at_after_is_residue c)
+    (part-at_after_is_residue c) (file-at_after_is_residue c) (bits-joined-at_after_is_residue c)
+
+abbrev k-at_else_not_is_residue : Else-not-is_residue → ℕ
+k-at_else_not_is_residue s = s.args.p.degree
+
+abbrev head-at_else_not_is_residue : Else-not-is_residue → Head
+head-at_else_not_is_residue s = s.args.head
+
+abbrev count-at_else_not_is_residue : Else-not-is_residue → ℕ
+count-at_else_not_is_residue s = pages_for (head-at_else_not_is_residue s).size (head-at_else_not_is_residue s).length
 
 abbrev pages-at_else_not_is_residue : Else-not-is_residue → List ℕ
 pages-at_else_not_is_residue c = c.page_fields-fields.result.now
 
 bits-joined-at_else_not_is_residue : (c : Else-not-is_residue)
-    → BitsOf (numbers_at 0 8 (count c.before.before.before.before.before.before.before) (pages-at_else_not_is_residue c)) c.pages_joined-joined.result.bits
+    → BitsOf (numbers_at 0 8 (count-at_else_not_is_residue c) (pages-at_else_not_is_residue c)) c.pages_joined-joined.result.bits
 bits-joined-at_else_not_is_residue c =
     subst (λ (m : ℕ). BitsOf (numbers_at 0 8 m (pages-at_else_not_is_residue c)) c.pages_joined-joined.result.bits) c.requires.4.counted
     c.pages_joined-joined.ensures.bits
 
 -- no bit stands too high: the pages' fields and the file's are reduced
 fields : (c : Else-not-is_residue)
-    → (some_unreduced (k c.before.before.before.before.before.before.before)
-    (numbers_at 0 8 (count c.before.before.before.before.before.before.before) (pages-at_else_not_is_residue c)) ≡ false)
-    × (c.args.file < 2 ^ k c.before.before.before.before.before.before.before)
+    → (some_unreduced (k-at_else_not_is_residue c) (numbers_at 0 8 (count-at_else_not_is_residue c) (pages-at_else_not_is_residue c)) ≡ false)
+    × (c.args.file < 2 ^ k-at_else_not_is_residue c)
 fields c =
-    let n = k c.before.before.before.before.before.before.before in
+    let n = k-at_else_not_is_residue c in
     let b = c.pages_joined-joined.result.bits in
     let f = c.args.file in
     let o = or-neither (leb (2 ^ n) b) (leb (2 ^ n) f) (sym (or_leb n b f) ∙ fails _ _ c.is_residue.ensures c.if-not-is_residue.false-raw) in

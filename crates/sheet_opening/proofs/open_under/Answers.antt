@@ -38,24 +38,34 @@ layout s = layout_of (head s).version
 abbrev size_in_sheet : Start → ℕ
 size_in_sheet s = size_in (layout_of (version_in (sheet s))) (sheet s)
 
+abbrev sheet-at_else_not_size_right : Else-not-size_right → List ℕ
+sheet-at_else_not_size_right s = s.args.sheet.now
+
+abbrev size_in_sheet-at_else_not_size_right : Else-not-size_right → ℕ
+size_in_sheet-at_else_not_size_right s = size_in (layout_of (version_in (sheet-at_else_not_size_right s))) (sheet-at_else_not_size_right s)
+
 -- the page size is right
-size-passed : (c : Else-not-size_right)
-    → (ltb (size_in_sheet c.before.before.before.before) 16 || ltb 4096 (size_in_sheet c.before.before.before.before)) ≡ false
+size-passed : (c : Else-not-size_right) → (ltb (size_in_sheet-at_else_not_size_right c) 16 || ltb 4096 (size_in_sheet-at_else_not_size_right c)) ≡ false
 size-passed c = rw (← c.requires.0.size) (fails _ _ c.size_right.ensures c.if-not-size_right.false-raw)
 
-size : (c : Else-not-size_right) → (16 ≤ (head c.before.before.before.before).size) × ((head c.before.before.before.before).size ≤ 4096)
-size c = size_bounds (head c.before.before.before.before).size (fails _ _ c.size_right.ensures c.if-not-size_right.false-raw)
+abbrev head-at_else_not_size_right : Else-not-size_right → Head
+head-at_else_not_size_right s = s.args.head
 
-size-at_after_pages_for_count : (c : After-pages_for-count)
-    → (16 ≤ (head c.before.before.before.before.before).size) × ((head c.before.before.before.before.before).size ≤ 4096)
-size-at_after_pages_for_count c = size_bounds (head c.before.before.before.before.before).size (fails _ _ c.size_right.ensures c.if-not-size_right.false-raw)
+size : (c : Else-not-size_right) → (16 ≤ (head-at_else_not_size_right c).size) × ((head-at_else_not_size_right c).size ≤ 4096)
+size c = size_bounds (head-at_else_not_size_right c).size (fails _ _ c.size_right.ensures c.if-not-size_right.false-raw)
+
+abbrev head-at_after_pages_for_count : After-pages_for-count → Head
+head-at_after_pages_for_count s = s.args.head
+
+size-at_after_pages_for_count : (c : After-pages_for-count) → (16 ≤ (head-at_after_pages_for_count c).size) × ((head-at_after_pages_for_count c).size ≤ 4096)
+size-at_after_pages_for_count c = size_bounds (head-at_after_pages_for_count c).size (fails _ _ c.size_right.ensures c.if-not-size_right.false-raw)
 
 few : (c : After-pages_for-count) → c.pages_for-count.result < 2 ^ 29
 few c =
     omega (
       arith,
       c.pages_for-count.ensures,
-      count_small (head c.before.before.before.before.before).size (head c.before.before.before.before.before).length
+      count_small (head-at_after_pages_for_count c).size (head-at_after_pages_for_count c).length
           (size-at_after_pages_for_count c).0 (size-at_after_pages_for_count c).1 c.requires.0.length-fits,
     )
 
@@ -63,62 +73,79 @@ few c =
 place_is : (s : Start) → (head s).place ≡ page_place (layout s) 0
 place_is s = s.requires.0.place ∙ ap (λ (v : ℕ). page_place (layout_of v) 0) (sym s.requires.0.version)
 
+abbrev head-at_after_sheet_length : After-sheet_length → Head
+head-at_after_sheet_length s = s.args.head
+
+abbrev layout-at_after_sheet_length : After-sheet_length → Layout
+layout-at_after_sheet_length s = layout_of (head-at_after_sheet_length s).version
+
+place_is-at_after_sheet_length : (s : After-sheet_length) → (head-at_after_sheet_length s).place ≡ page_place (layout-at_after_sheet_length s) 0
+place_is-at_after_sheet_length s = s.requires.0.place ∙ ap (λ (v : ℕ). page_place (layout_of v) 0) (sym s.requires.0.version)
+
 -- the bytes that the sheet should have
-asked : (c : After-sheet_length) → c.sheet_length.result ≡ sheet_length (layout c.before.before.before.before.before.before) c.pages_for-count.result
+asked : (c : After-sheet_length) → c.sheet_length.result ≡ sheet_length (layout-at_after_sheet_length c) c.pages_for-count.result
 asked c =
-    omega (
-      arith,
-      c.sheet_length.ensures,
-      place_is c.before.before.before.before.before.before,
-      length_from
-          (head c.before.before.before.before.before.before).version c.pages_for-count.result,
-    )
+    omega (arith, c.sheet_length.ensures, place_is-at_after_sheet_length c, length_from (head-at_after_sheet_length c).version c.pages_for-count.result)
+
+abbrev sheet-at_else_sheet_sheet_length : Else-sheet-sheet_length → List ℕ
+sheet-at_else_sheet_sheet_length s = s.args.sheet.now
+
+abbrev head-at_else_sheet_sheet_length : Else-sheet-sheet_length → Head
+head-at_else_sheet_sheet_length s = s.args.head
+
+abbrev layout-at_else_sheet_sheet_length : Else-sheet-sheet_length → Layout
+layout-at_else_sheet_sheet_length s = layout_of (head-at_else_sheet_sheet_length s).version
+
+place_is-at_else_sheet_sheet_length : (s : Else-sheet-sheet_length)
+    → (head-at_else_sheet_sheet_length s).place ≡ page_place (layout-at_else_sheet_sheet_length s) 0
+place_is-at_else_sheet_sheet_length s = s.requires.0.place ∙ ap (λ (v : ℕ). page_place (layout_of v) 0) (sym s.requires.0.version)
 
 asked-at_else_sheet_sheet_length : (c : Else-sheet-sheet_length)
-    → c.sheet_length.result ≡ sheet_length (layout c.before.before.before.before.before.before.before) c.pages_for-count.result
+    → c.sheet_length.result ≡ sheet_length (layout-at_else_sheet_sheet_length c) c.pages_for-count.result
 asked-at_else_sheet_sheet_length c =
     omega (
       arith,
       c.sheet_length.ensures,
-      place_is c.before.before.before.before.before.before.before,
-      length_from
-          (head c.before.before.before.before.before.before.before).version c.pages_for-count.result,
+      place_is-at_else_sheet_sheet_length c,
+      length_from (head-at_else_sheet_sheet_length c).version
+          c.pages_for-count.result,
     )
 
 -- it has them
 total : (c : Else-sheet-sheet_length)
-    → length (sheet c.before.before.before.before.before.before.before) ≡ sheet_length (layout c.before.before.before.before.before.before.before)
-    c.pages_for-count.result
+    → length (sheet-at_else_sheet_sheet_length c) ≡ sheet_length (layout-at_else_sheet_sheet_length c) c.pages_for-count.result
 total c = c.if-sheet-sheet_length.false ∙ asked-at_else_sheet_sheet_length c
 
-asked-at_after_eight_at_file : (c : After-eight_at-file)
-    → c.sheet_length.result ≡ sheet_length (layout c.before.before.before.before.before.before.before.before) c.pages_for-count.result
+abbrev sheet-at_after_eight_at_file : After-eight_at-file → List ℕ
+sheet-at_after_eight_at_file s = s.args.sheet.now
+
+abbrev head-at_after_eight_at_file : After-eight_at-file → Head
+head-at_after_eight_at_file s = s.args.head
+
+abbrev layout-at_after_eight_at_file : After-eight_at-file → Layout
+layout-at_after_eight_at_file s = layout_of (head-at_after_eight_at_file s).version
+
+place_is-at_after_eight_at_file : (s : After-eight_at-file) → (head-at_after_eight_at_file s).place ≡ page_place (layout-at_after_eight_at_file s) 0
+place_is-at_after_eight_at_file s = s.requires.0.place ∙ ap (λ (v : ℕ). page_place (layout_of v) 0) (sym s.requires.0.version)
+
+asked-at_after_eight_at_file : (c : After-eight_at-file) → c.sheet_length.result ≡ sheet_length (layout-at_after_eight_at_file c) c.pages_for-count.result
 asked-at_after_eight_at_file c =
-    omega (
-      arith,
-      c.sheet_length.ensures,
-      place_is c.before.before.before.before.before.before.before.before,
-      length_from
-          (head c.before.before.before.before.before.before.before.before).version c.pages_for-count.result,
-    )
+    omega (arith, c.sheet_length.ensures, place_is-at_after_eight_at_file c, length_from (head-at_after_eight_at_file c).version c.pages_for-count.result)
 
 total-at_after_eight_at_file : (c : After-eight_at-file)
-    → length (sheet c.before.before.before.before.before.before.before.before) ≡ sheet_length
-    (layout c.before.before.before.before.before.before.before.before) c.pages_for-count.result
+    → length (sheet-at_after_eight_at_file c) ≡ sheet_length (layout-at_after_eight_at_file c) c.pages_for-count.result
 total-at_after_eight_at_file c = c.if-sheet-sheet_length.false ∙ asked-at_after_eight_at_file c
 
-sized : (c : After-eight_at-file)
-    → Sized (sheet c.before.before.before.before.before.before.before.before) (head c.before.before.before.before.before.before.before.before)
-    c.pages_for-count.result c.eight_at-file.result
+sized : (c : After-eight_at-file) → Sized (sheet-at_after_eight_at_file c) (head-at_after_eight_at_file c) c.pages_for-count.result c.eight_at-file.result
 unfolding number_at
 sized c =
-    let at = ap (λ (m : ℕ). m + 8 * c.pages_for-count.result) (place_is c.before.before.before.before.before.before.before.before) ∙ sym
-    (place-from (head c.before.before.before.before.before.before.before.before).version c.pages_for-count.result) in
+    let at = ap (λ (m : ℕ). m + 8 * c.pages_for-count.result) (place_is-at_after_eight_at_file c) ∙ sym
+    (place-from (head-at_after_eight_at_file c).version c.pages_for-count.result) in
     record {
       counted = c.pages_for-count.ensures;
       total = total-at_after_eight_at_file c;
       last = c.eight_at-file.ensures ∙ ap
-          (λ (m : ℕ). number_at m 8 (sheet c.before.before.before.before.before.before.before.before)) at;
+          (λ (m : ℕ). number_at m 8 (sheet-at_after_eight_at_file c)) at;
     }
 
 pub returns-then-not-size_right : goal.returns-then-not-size_right

@@ -21,14 +21,20 @@ key s = polynomial s.args.x.p
 abbrev page : Start → Part
 page s = as_part s.args.page.now s.args.x.used
 
+abbrev page-at_after_part_length : After-part_length → Part
+page-at_after_part_length s = as_part s.args.page.now s.args.x.used
+
 -- the page's length is counted in full
-counted : (c : After-part_length) → c.part_length.result ≡ part_length (page c.before.before.before.before.before.before.before.before)
+counted : (c : After-part_length) → c.part_length.result ≡ part_length (page-at_after_part_length c)
 counted c =
-    c.part_length.ensures ∙ omega (arith, (part-range (page c.before.before.before.before.before.before.before.before)).0, c.requires.1, c.requires.2)
+    c.part_length.ensures ∙ omega (arith, (part-range (page-at_after_part_length c)).0, c.requires.1, c.requires.2)
+
+abbrev page-at_after_fed_last_own : After-fed_last-own → Part
+page-at_after_fed_last_own s = as_part s.args.page.now s.args.x.used
 
 residue : (c : After-fed_last-own) → c.fed_last-own.result < 2 ^ c.args.x.p.degree
 unfolding fingerprint_from
-residue c = residue-below c.args.x.p c.requires.0.proper _ (value (part_bits (page c.before.before.before.before.before))) c.fed_last-own.ensures
+residue c = residue-below c.args.x.p c.requires.0.proper _ (value (part_bits (page-at_after_fed_last_own c))) c.fed_last-own.ensures
 
 pub overflow_sub-bits : goal.overflow_sub-bits
 overflow_sub-bits c = omega (arith, counted c, (part-range (page (goal.at.overflow_sub-bits c).Start)).0, c.requires.1)

@@ -52,80 +52,102 @@ count s = page_count s.args.size (length s.args.file.now)
 abbrev fingerprints : Start → List ℕ
 fingerprints s = page_fingerprints v (key s) (size s) (count s) (file s)
 
+abbrev count-at_after_over_pages_count : After-over_pages-count → ℕ
+count-at_after_over_pages_count s = page_count s.args.size (length s.args.file.now)
+
+abbrev key-at_after_over_pages_count : After-over_pages-count → ℕ
+key-at_after_over_pages_count s = polynomial s.args.p
+
+abbrev size-at_after_over_pages_count : After-over_pages-count → ℕ
+size-at_after_over_pages_count s = 8 * s.args.size
+
+abbrev part-at_after_over_pages_count : After-over_pages-count → Part
+part-at_after_over_pages_count s = as_part s.args.file.now s.args.used
+
+abbrev file-at_after_over_pages_count : After-over_pages-count → List ℕ
+file-at_after_over_pages_count s = part_bits (part-at_after_over_pages_count s)
+
+abbrev fingerprints-at_after_over_pages_count : After-over_pages-count → List ℕ
+fingerprints-at_after_over_pages_count s = page_fingerprints v (key-at_after_over_pages_count s) (size-at_after_over_pages_count s)
+    (count-at_after_over_pages_count s) (file-at_after_over_pages_count s)
+
 -- as many as were passed
-passed : (c : After-over_pages-count) → c.over_pages-count.result ≡ count c.before.before.before.before.before.before
+passed : (c : After-over_pages-count) → c.over_pages-count.result ≡ count-at_after_over_pages_count c
 passed c =
-    pass_count (fingerprints c.before.before.before.before.before.before) c.args.fields.now _ c.over_pages-count.result c.over_pages-count.ensures ∙
-    length-pages v (key c.before.before.before.before.before.before) (count c.before.before.before.before.before.before)
-    (size c.before.before.before.before.before.before) (file c.before.before.before.before.before.before)
+    pass_count (fingerprints-at_after_over_pages_count c) c.args.fields.now _ c.over_pages-count.result c.over_pages-count.ensures ∙ length-pages v
+    (key-at_after_over_pages_count c) (count-at_after_over_pages_count c) (size-at_after_over_pages_count c) (file-at_after_over_pages_count c)
 
 pages-counted : (s : Start) → count s ≡ pages_for s.args.size s.args.n
 pages-counted s = sym (ap (pages_for s.args.size) s.requires.7 ∙ ap (page_count s.args.size) (part_bytes (part s)))
 
 -- the fields after all pages' fingerprints, and what they read as
-prints : (c : After-over_pages-count)
-    → c.over_pages-count.new.out ≡ sets c.args.fields.now 0 (fields_of 8 (fingerprints c.before.before.before.before.before.before))
-prints c = pass_all (fingerprints c.before.before.before.before.before.before) c.args.fields.now _ c.over_pages-count.result c.over_pages-count.ensures
+prints : (c : After-over_pages-count) → c.over_pages-count.new.out ≡ sets c.args.fields.now 0 (fields_of 8 (fingerprints-at_after_over_pages_count c))
+prints c = pass_all (fingerprints-at_after_over_pages_count c) c.args.fields.now _ c.over_pages-count.result c.over_pages-count.ensures
 
-read_back : (c : After-over_pages-count)
-    → numbers_at 0 8 c.over_pages-count.result c.over_pages-count.new.out ≡ fingerprints c.before.before.before.before.before.before
+read_back : (c : After-over_pages-count) → numbers_at 0 8 c.over_pages-count.result c.over_pages-count.new.out ≡ fingerprints-at_after_over_pages_count c
 read_back c =
     ap₂ (λ (m : ℕ) (b : List ℕ). numbers_at 0 8 m b) (passed c) (prints c)
-    ∙ pages-stored c.args.p c.requires.0 v (size c.before.before.before.before.before.before) (count c.before.before.before.before.before.before)
-    (file c.before.before.before.before.before.before) c.args.fields.now (omega (arith, c.requires.5))
+    ∙ pages-stored c.args.p c.requires.0 v (size-at_after_over_pages_count c) (count-at_after_over_pages_count c) (file-at_after_over_pages_count c)
+    c.args.fields.now (omega (arith, c.requires.5))
 
-passed-at_after_pages_joined_joined : (c : After-pages_joined-joined)
-    → c.over_pages-count.result ≡ count c.before.before.before.before.before.before.before.before.before
+abbrev key-at_after_pages_joined_joined : After-pages_joined-joined → ℕ
+key-at_after_pages_joined_joined s = polynomial s.args.p
+
+abbrev part-at_after_pages_joined_joined : After-pages_joined-joined → Part
+part-at_after_pages_joined_joined s = as_part s.args.file.now s.args.used
+
+abbrev file-at_after_pages_joined_joined : After-pages_joined-joined → List ℕ
+file-at_after_pages_joined_joined s = part_bits (part-at_after_pages_joined_joined s)
+
+abbrev count-at_after_pages_joined_joined : After-pages_joined-joined → ℕ
+count-at_after_pages_joined_joined s = page_count s.args.size (length s.args.file.now)
+
+abbrev size-at_after_pages_joined_joined : After-pages_joined-joined → ℕ
+size-at_after_pages_joined_joined s = 8 * s.args.size
+
+abbrev fingerprints-at_after_pages_joined_joined : After-pages_joined-joined → List ℕ
+fingerprints-at_after_pages_joined_joined s = page_fingerprints v (key-at_after_pages_joined_joined s) (size-at_after_pages_joined_joined s)
+    (count-at_after_pages_joined_joined s) (file-at_after_pages_joined_joined s)
+
+passed-at_after_pages_joined_joined : (c : After-pages_joined-joined) → c.over_pages-count.result ≡ count-at_after_pages_joined_joined c
 passed-at_after_pages_joined_joined c =
-    pass_count (fingerprints c.before.before.before.before.before.before.before.before.before) c.args.fields.now _ c.over_pages-count.result
-    c.over_pages-count.ensures ∙ length-pages v (key c.before.before.before.before.before.before.before.before.before)
-    (count c.before.before.before.before.before.before.before.before.before) (size c.before.before.before.before.before.before.before.before.before)
-    (file c.before.before.before.before.before.before.before.before.before)
+    pass_count (fingerprints-at_after_pages_joined_joined c) c.args.fields.now _ c.over_pages-count.result c.over_pages-count.ensures ∙ length-pages v
+    (key-at_after_pages_joined_joined c) (count-at_after_pages_joined_joined c) (size-at_after_pages_joined_joined c) (file-at_after_pages_joined_joined c)
 
 prints-at_after_pages_joined_joined : (c : After-pages_joined-joined)
-    → c.over_pages-count.new.out ≡ sets c.args.fields.now 0 (fields_of 8 (fingerprints c.before.before.before.before.before.before.before.before.before))
-prints-at_after_pages_joined_joined c = pass_all (fingerprints c.before.before.before.before.before.before.before.before.before) c.args.fields.now _
-    c.over_pages-count.result c.over_pages-count.ensures
+    → c.over_pages-count.new.out ≡ sets c.args.fields.now 0 (fields_of 8 (fingerprints-at_after_pages_joined_joined c))
+prints-at_after_pages_joined_joined c = pass_all (fingerprints-at_after_pages_joined_joined c) c.args.fields.now _ c.over_pages-count.result
+    c.over_pages-count.ensures
 
 read_back-at_after_pages_joined_joined : (c : After-pages_joined-joined)
-    → numbers_at 0 8 c.over_pages-count.result c.over_pages-count.new.out ≡ fingerprints c.before.before.before.before.before.before.before.before.before
+    → numbers_at 0 8 c.over_pages-count.result c.over_pages-count.new.out ≡ fingerprints-at_after_pages_joined_joined c
 read_back-at_after_pages_joined_joined c =
     ap₂ (λ (m : ℕ) (b : List ℕ). numbers_at 0 8 m b) (passed-at_after_pages_joined_joined c) (prints-at_after_pages_joined_joined c)
-    ∙ pages-stored c.args.p c.requires.0 v (size c.before.before.before.before.before.before.before.before.before)
-    (count c.before.before.before.before.before.before.before.before.before) (file c.before.before.before.before.before.before.before.before.before)
+    ∙ pages-stored c.args.p c.requires.0 v (size-at_after_pages_joined_joined c) (count-at_after_pages_joined_joined c) (file-at_after_pages_joined_joined c)
     c.args.fields.now (omega (arith, c.requires.5))
 
 -- the joined have the file's fingerprint
 joined : (c : After-pages_joined-joined)
-    → c.pages_joined-joined.result.mark ≡ fingerprint (key c.before.before.before.before.before.before.before.before.before)
-    (file c.before.before.before.before.before.before.before.before.before)
+    → c.pages_joined-joined.result.mark ≡ fingerprint (key-at_after_pages_joined_joined c) (file-at_after_pages_joined_joined c)
 unfolding mark_from
 joined c =
     let a = c.args in
     let pos = monic-pos a.p.degree a.p.low c.requires.0.2 in
-    let small = rw (monic-degree a.p.degree a.p.low c.requires.0.2) at (fingerprints-lt pos v
-    (count c.before.before.before.before.before.before.before.before.before) (size c.before.before.before.before.before.before.before.before.before)
-    (file c.before.before.before.before.before.before.before.before.before)) in
-    let all : count c.before.before.before.before.before.before.before.before.before ≡ page_count
-    (size c.before.before.before.before.before.before.before.before.before)
-    (length (file c.before.before.before.before.before.before.before.before.before)) =
-    sym (pages-held a.size (part c.before.before.before.before.before.before.before.before.before)) ∙ pages-count a.size
-    (length (file c.before.before.before.before.before.before.before.before.before)) (omega (arith, c.requires.2)) in
+    let small = rw (monic-degree a.p.degree a.p.low c.requires.0.2) at (fingerprints-lt pos v (count-at_after_pages_joined_joined c)
+    (size-at_after_pages_joined_joined c) (file-at_after_pages_joined_joined c)) in
+    let all : count-at_after_pages_joined_joined c ≡ page_count (size-at_after_pages_joined_joined c) (length (file-at_after_pages_joined_joined c)) =
+    sym (pages-held a.size (part-at_after_pages_joined_joined c)) ∙ pages-count a.size (length (file-at_after_pages_joined_joined c))
+    (omega (arith, c.requires.2)) in
     c.pages_joined-joined.ensures.mark (ap (some_unreduced a.p.degree) (read_back-at_after_pages_joined_joined c) ∙ list_reduced a.p.degree
-    (fingerprints c.before.before.before.before.before.before.before.before.before) small)
-    ∙ ap₂ (λ (n : ℕ) (fs : List ℕ). (joined_pages v (key c.before.before.before.before.before.before.before.before.before)
-    (size c.before.before.before.before.before.before.before.before.before) n
-    (mark_of (key c.before.before.before.before.before.before.before.before.before) []) fs).fingerprint)
-    (c.requires.7 ∙ sym (part-length (part c.before.before.before.before.before.before.before.before.before))) (read_back-at_after_pages_joined_joined c)
-    ∙ ap (λ (m : ℕ). (joined_pages v (key c.before.before.before.before.before.before.before.before.before)
-    (size c.before.before.before.before.before.before.before.before.before)
-    (length (file c.before.before.before.before.before.before.before.before.before))
-    (mark_of (key c.before.before.before.before.before.before.before.before.before) [])
-    (page_fingerprints v (key c.before.before.before.before.before.before.before.before.before)
-    (size c.before.before.before.before.before.before.before.before.before) m
-    (file c.before.before.before.before.before.before.before.before.before))).fingerprint) all
-    ∙ ap (λ (m : Mark). m.fingerprint) (own-joined pos v refl (size c.before.before.before.before.before.before.before.before.before)
-    (file c.before.before.before.before.before.before.before.before.before) (omega (arith, c.requires.2)))
+    (fingerprints-at_after_pages_joined_joined c) small)
+    ∙ ap₂ (λ (n : ℕ) (fs : List ℕ). (joined_pages v (key-at_after_pages_joined_joined c) (size-at_after_pages_joined_joined c) n
+    (mark_of (key-at_after_pages_joined_joined c) []) fs).fingerprint) (c.requires.7 ∙ sym (part-length (part-at_after_pages_joined_joined c)))
+    (read_back-at_after_pages_joined_joined c)
+    ∙ ap (λ (m : ℕ). (joined_pages v (key-at_after_pages_joined_joined c) (size-at_after_pages_joined_joined c) (length (file-at_after_pages_joined_joined c))
+    (mark_of (key-at_after_pages_joined_joined c) []) (page_fingerprints v (key-at_after_pages_joined_joined c) (size-at_after_pages_joined_joined c) m
+    (file-at_after_pages_joined_joined c))).fingerprint) all
+    ∙ ap (λ (m : Mark). m.fingerprint) (own-joined pos v refl (size-at_after_pages_joined_joined c) (file-at_after_pages_joined_joined c)
+    (omega (arith, c.requires.2)))
 
 pub over_pages-count-requires : goal.over_pages-count-requires
 over_pages-count-requires c = (

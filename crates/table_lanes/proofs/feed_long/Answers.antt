@@ -37,6 +37,9 @@ power-is-at_after_join_abcd c =
     let e : 32 * (length a.part.now / 16) ≡ 8 * lane a.part.now = omega arith in
     c.power-t.ensures ∙ ap (λ (n : ℕ). rem (polynomial a.p) (2 ^ n)) e
 
+pos-at_after_join_abcd : (s : After-join-abcd) → 0 < polynomial s.args.p
+pos-at_after_join_abcd s = monic-pos s.args.p.degree s.args.p.low s.requires.0.0.2
+
 -- the four lanes are joined one after the other
 four_lanes_lem : (c : After-join-abcd) → let a = c.args in
     c.join-abcd.result ≡ rem (polynomial a.p) (value_from a.f (bits (take (4 * lane a.part.now) a.part.now)))
@@ -46,7 +49,7 @@ four_lanes_lem c =
     let x = c.feed_lanes-x in
     let t = c.power-t.result in
     let is = power-is-at_after_join_abcd c in
-    let next = lane-joined (pos c.before.before.before.before.before.before) a.f a.part.now in
+    let next = lane-joined (pos-at_after_join_abcd c) a.f a.part.now in
     let ab = behind a.p t x.result.a x.result.b in
     let abc = behind a.p t ab x.result.c in
     let two = next n (2 * n) n x.result.a x.result.b t ab (omega arith) (omega arith) x.ensures.0 x.ensures.1 is refl in

@@ -17,10 +17,13 @@ use Rattle.windows.proofs.four_lanes.Goals.{In-loop-j, Start}
 abbrev Lane : Start → ℕ → ℕ → Type 0
 Lane s i x = ResidueAt s.args.s s.args.text.now i x
 
+abbrev Lane-at_in_loop_j : In-loop-j → ℕ → ℕ → Type 0
+Lane-at_in_loop_j s i x = ResidueAt s.args.s s.args.text.now i x
+
 -- it can be rolled
 rolls : (c : In-loop-j) (n x : ℕ) → n ≤ 768
-    → let a = c.args in let j = c.loop-j.j in Lane c.before.before.before.before.before.before (a.from + (j + n)) x
-    → Ready a.s a.reduce.now a.outgoing.now × (a.from + j + n + a.s.m < length a.text.now) × Lane c.before.before.before.before.before.before (a.from + j + n) x
+    → let a = c.args in let j = c.loop-j.j in Lane-at_in_loop_j c (a.from + (j + n)) x
+    → Ready a.s a.reduce.now a.outgoing.now × (a.from + j + n + a.s.m < length a.text.now) × Lane-at_in_loop_j c (a.from + j + n) x
 rolls c n x l h =
     let a = c.args in
     let j = c.loop-j.j in
