@@ -56,7 +56,7 @@ fn multiples(p: Modulus, a: u64) -> [u64; 64]
 }
 
 // The powers 1, e, e^2, .. as the rows of a matrix: that of the map which takes a polynomial to its value at e. Multiplication by e goes to the
-// lent array.
+// lent array. What that holds then is left open.
 fn powers(p: Modulus, e: u64, times_e: &mut [u64; 64]) -> [u64; 64]
     requires { Proper p × (e < 2 ^ p.degree) }
     ensures { Matrix (λ q. at (polynomial p) q e) result }

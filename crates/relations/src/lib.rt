@@ -51,7 +51,7 @@ pub fn relation(rows: [u64; 64], k: u32) -> u64
     relation_by(rows, k, &mut sums)
 }
 
-// The same, with the sums in a lent array: a caller that has one lends it, and takes less stack.
+// The same, with the sums in a lent array: a caller that has one lends it, and takes less stack. What the array then holds is left open.
 pub fn relation_by(rows: [u64; 64], k: u32, sums: &mut [u64; 64]) -> u64
     requires { (k < 64) × NoRelation k rows × (NoRelation (k + 1) rows → ⊥) }
     ensures { Degree result k × (sum_of result rows ≡ 0) }

@@ -10,7 +10,7 @@ use Rattle.key_lines.proofs.Laws.{digits-next}
 use Rattle.key_lines.proofs.all_digits.Goals as goal
 use Rattle.key_lines.proofs.all_digits.Goals.{At-loop-i}
 
--- the line, and the that a place belongs to
+-- the line
 abbrev line_at : At-loop-i → List ℕ
 line_at l = l.args.line.now
 

@@ -6,7 +6,7 @@ use Rattle.relations.proofs.Relations.{kept-start, pivot, kept-turn, relation_fo
 use Rattle.relations.proofs.relation_by.Goals as goal
 use Rattle.relations.proofs.relation_by.Goals.{In-loop-i}
 
--- what the arithmetic of a rests on
+-- what the arithmetic of a turn rests on
 in-turn : (c : In-loop-i) → (c.loop-i.i < c.args.k) × (c.args.k < 64)
 in-turn c = (c.loop-i-test.true, c.requires.0)
 

@@ -8,7 +8,7 @@ use Rattle.basis.proofs.Sums.{sum-next, sum_done}
 use Rattle.relations.proofs.sum_of.Goals as goal
 use Rattle.relations.proofs.sum_of.Goals.{At-loop-j}
 
--- the rows, and the that a place belongs to
+-- the rows
 abbrev rows_at : At-loop-j → List ℕ
 rows_at l = l.args.rows.now
 

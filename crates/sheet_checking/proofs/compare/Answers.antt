@@ -109,7 +109,7 @@ sheet-at_else_part_length_y s = s.args.sheet.now
 total : (c : Else-part_length-y) → sheet_length (layout-at_else_part_length_y c) (count-at_else_part_length_y c) ≡ length (sheet-at_else_part_length_y c)
 total c = pages-there (sheet-at_else_part_length_y c) c.requires.0 (file-at_else_part_length_y c) (as_long c)
 
--- the fingerprints where the version says
+-- the fingerprints begin where the version says
 place_is : (s : Start) → s.args.x.place ≡ page_place (layout s) 0
 place_is s = s.requires.1.place
 

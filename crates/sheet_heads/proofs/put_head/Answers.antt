@@ -19,7 +19,7 @@ paired = ap (λ (v : Layout). v.paired) newest-is
 wide : (c : After-fields_of-v) → c.fields_of-v.result.key ≡ 9
 wide c = let h = c.fields_of-v.ensures in key-wide h true (sym h.paired ∙ paired)
 
--- all are inside the buffer
+-- all fields are inside the buffer
 room : (c : After-fields_of-v)
     → 5 + c.fields_of-v.result.key + c.fields_of-v.result.length + c.fields_of-v.result.size ≤ length c.args.buffer.now
 room c = omega (arith, place_laid c.fields_of-v.ensures, c.requires)

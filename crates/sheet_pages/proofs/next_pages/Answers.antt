@@ -30,7 +30,7 @@ size-at_after_block_n s = s.args.x.size
 abbrev rest-at_after_block_n : After-block-n → Part
 rest-at_after_block_n s = as_part s.args.rest.now s.args.x.used
 
--- the pages of the are in the bytes,
+-- the whole pages of the block are in the whole bytes,
 inside : (c : After-block-n) → c.block-n.result * size-at_after_block_n c ≤ whole_bytes (rest-at_after_block_n c)
 inside c =
     let w = c.whole_bytes-w in
@@ -60,7 +60,7 @@ inside-at_after_slice_known_2_1 c =
     let few : c.block-n.result ≤ w.result / size-at_after_slice_known_2_1 c = omega arith in
     omega (arith, mul-le-mul_right (size-at_after_slice_known_2_1 c) few, whole-fits (size-at_after_slice_known_2_1 c) w.result, w.ensures.0)
 
--- the fingerprints of the pages, as a layout takes them
+-- the fingerprints of the whole pages, as a layout takes them
 prints : (c : After-slice_known-2-1) (v : Layout)
     → take c.block-n.result c.whole_marks.new.marks
     ≡ page_fingerprints v (polynomial c.args.x.p) (8 * size-at_after_slice_known_2_1 c) c.block-n.result (part_bits (rest-at_after_slice_known_2_1 c))
@@ -75,7 +75,7 @@ rest-at_else_rest_n s = as_part s.args.rest.now s.args.x.used
 abbrev size-at_else_rest_n : Else-rest-n → ℕ
 size-at_else_rest_n s = s.args.x.size
 
--- all pages are in the block, and at most the bytes of one are left
+-- all whole pages are in the block, and at most the bytes of one are left
 short : (c : Else-rest-n)
     → length (rest-at_else_rest_n c).bytes ≤ c.block-n.result * size-at_else_rest_n c + size-at_else_rest_n c
 short c =

@@ -126,7 +126,7 @@ read_back-at_after_pages_joined_joined c =
     ∙ pages-stored c.args.p c.requires.0 v (size-at_after_pages_joined_joined c) (count-at_after_pages_joined_joined c) (file-at_after_pages_joined_joined c)
     c.args.fields.now (omega (arith, c.requires.5))
 
--- the joined have the file's fingerprint
+-- the pages joined have the file's fingerprint
 joined : (c : After-pages_joined-joined)
     → c.pages_joined-joined.result.mark ≡ fingerprint (key-at_after_pages_joined_joined c) (file-at_after_pages_joined_joined c)
 unfolding mark_from
