@@ -1,12 +1,10 @@
 // What the functions for C share: a mark in two lent places.
 #![tactic(auto)]
 
-ghost use Rattle.std.specs.Prelude.{◌≡◌};
-ghost use Rattle.refusals.specs.Refusals.{number_of};
-ghost use Rattle.refusals.specs.Answers.{told};
-ghost use Rattle.marks.specs.Answers.{running};
+ghost use Rattle.std.specs.Prelude.{◌≡◌, MatchResult};
+ghost use Rattle.refusals.specs.Refusals.{number};
+ghost use Rattle.marks.specs.Answers.{mark_in, running};
 ghost use Rattle.c_interface.specs.Interface.{key_at, mark_at};
-ghost use Rattle.c_interface.specs.Storing.{mark_or};
 
 use acceptance::Key;
 use marks::Running;
@@ -24,9 +22,13 @@ pub fn running(degree: u32, word: u64, fingerprint: u64, length: u64) -> Running
 }
 
 // The mark of an answer to the two places, and 0; or the refusal's number, and nothing is written.
-pub fn store(answer: Result<Running, Refusal>, fingerprint: &mut u64, length: &mut u64) -> u32
-    ensures { (result ≡ number_of (told answer))
-        × (mark_at fingerprint.new length.new ≡ mark_or (mark_at fingerprint.old length.old) (told answer)) }
+pub fn store<E: Into<Refusal>>(
+    answer: Result<Running, E>,
+    fingerprint: &mut u64,
+    length: &mut u64,
+) -> u32
+    ensures { MatchResult answer (λ m. (result ≡ 0) × (mark_at fingerprint.new length.new ≡ mark_in m))
+        (λ e. (r : Refusal) × E.converts e r × (result ≡ number r) × (mark_at fingerprint.new length.new ≡ mark_at fingerprint.old length.old)) }
 {
     match answer {
         Ok(m) => {
@@ -34,6 +36,6 @@ pub fn store(answer: Result<Running, Refusal>, fingerprint: &mut u64, length: &m
             *length = m.length;
             0
         }
-        Err(r) => refusals::number(r),
+        Err(e) => refusals::number(e.into()),
     }
 }

@@ -1,5 +1,4 @@
 -- `feed_looked` meets its contract: what `judge` refuses, and the residue of the part behind the fingerprint.
-use mathlib.Core.Path.{sym}
 use Rattle.std.proofs.Common.{rules}
 use Rattle.gf2.specs.Moduli.{polynomial}
 use Rattle.acceptance.proofs.Opened.{opened-whole, opened-proper, opened-eight}

@@ -5,6 +5,6 @@ use Rattle.acceptance.proofs.Opened.{opened-whole}
 use Rattle.marks.proofs.feed_under.Goals as goal
 
 pub feed_looked-requires : goal.feed_looked-requires
-feed_looked-requires c = 
+feed_looked-requires c =
     let f = opened-whole c.requires in
-   (c.requires, table-clear c.args.words.now _ (search rules))
+    (c.requires, table-clear c.args.words.now _ (search rules))

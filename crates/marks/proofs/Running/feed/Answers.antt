@@ -1,5 +1,4 @@
 -- `Running::feed` meets its contract: the tests of the key, and then those of `feed_alone`.
-use mathlib.Core.Path.{sym, ap, ◌∙◌}
 use Rattle.std.proofs.Common.{rules}
 use Rattle.marks.specs.Feeding.{feed_bits}
 use Rattle.marks.proofs.Laws.{opened, still-refused}

@@ -1,11 +1,6 @@
 -- `Running::turn` meets its contract: the tests of the key, and then those of `turn_under`.
-use mathlib.Core.Path.{sym, ap, ◌∙◌}
 use Rattle.std.proofs.Common.{rules}
-use Rattle.acceptance.specs.Keys.{polynomial_of}
-use Rattle.acceptance.proofs.Opened.{opened-first}
-use Rattle.files.specs.PlainMarks.{turned}
-use Rattle.marks.specs.PlainMarks.{turn, turn_tests}
-use Rattle.marks.specs.Answers.{mark_in, fed_under}
+use Rattle.marks.specs.PlainMarks.{turn}
 use Rattle.marks.proofs.Laws.{opened, still-refused}
 use Rattle.marks.proofs.Running.turn.Goals as goal
 
