@@ -77,19 +77,6 @@ residue-below p h x z e = rw e (residue-lt p.degree p.low h.2 z)
 pub less_one : (j : ℕ) → suc j - 1 ≡ j
 less_one j = omega arith
 
--- ---- a residue, told by one shift that is right for degree 64 too
-
-pub residue_test : (k f : ℕ) → 0 < k → ltb (f / 2 ^ (k - 1)) 2 ≡ not (leb (2 ^ k) f)
-residue_test zero f h = absurd (omega arith)
-residue_test (suc j) f h = rw less_one (go (dec_lt f (2 ^ suc j)))
-  where
-    go : Dec (f < 2 ^ suc j) → ltb (f / 2 ^ j) 2 ≡ not (leb (2 ^ suc j) f)
-    go (yes l) = rw (lt-leb (2 ^ suc j) f l) (lt-ltb (f / 2 ^ j) 2 ((div-lt_iff_lt-mul (pow_pos j)).1 (rw pow-succ' at l)))
-    go (no l) = rw (le-leb (2 ^ suc j) f (omega arith)) (le-ltb (f / 2 ^ j) 2 ((le-div_iff_mul-le (pow_pos j)).1 (rw pow-succ' at le)))
-      where
-        le : 2 ^ suc j ≤ f
-        le = omega arith
-
 -- ---- one bit behind a residue
 
 -- the coefficient that falls out is a bit, and the others have room for one more
