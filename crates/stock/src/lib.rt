@@ -18,7 +18,7 @@ const STOCK: [u64; 57] = [
     0x11, 0x63, 0x7b, 0x3, 0x27, 0x69, 0x3, 0x1b, // degree 64
 ];
 
-// The word of the stock key of a degree 8 to 64; 0 for every other number, as document 01 has it for C: so this is no Option.
+// The word of the stock key of a degree 8 to 64; 0, and not a None, for every other number: that is what C gets from gfp_stock_key.
 pub fn stock_word(degree: u32) -> u64
     ensures { result ≡ stock_word degree }
 {
