@@ -13,7 +13,7 @@ fn chosen_from(x: u64, c: u32, v: u64) -> u64
     ensures { result ≡ x / 2 ^ c % 2 * v }
 {
     let bit: u64 = 1 << c;
-    v & std::num::wrapping_sub_u64(0, x & bit)
+    v & (x & bit).wrapping_neg()
 }
 
 // A row with column c cleared by v.
@@ -29,8 +29,8 @@ fn clear_columns(rows: &mut [u64], v: u64, c: u32, w: u64, d: u32)
     requires { (c < 64) × (v % 2 ^ c ≡ 0) × (d < 64) × (w % 2 ^ d ≡ 0) }
     ensures { rows.new ≡ map (clear d w) (map (clear c v) rows.old) }
 {
-    for i in 0..rows.len() {
-        rows[i] = cleared(cleared(rows[i], v, c), w, d);
+    for r in rows.iter_mut() {
+        *r = cleared(cleared(*r, v, c), w, d);
     }
 }
 
@@ -39,7 +39,7 @@ pub fn lowest_one(v: u64) -> u32
     requires { 0 < v }
     ensures { (result < 64) × (v % 2 ^ result ≡ 0) × (v / 2 ^ result % 2 ≡ 1) }
 {
-    u64::trailing_zeros(v)
+    v.trailing_zeros()
 }
 
 // Are the rows independent? By elimination in place: each row, from the last, clears the column of its lowest 1 from the rows before it; two
@@ -62,8 +62,5 @@ pub fn independent(rows: &mut [u64]) -> bool
         let d = lowest_one(w);
         clear_columns(&mut rows[..n], v, c, w, d);
     }
-    if n == 0 {
-        return true;
-    }
-    0 < rows[0]
+    n == 0 || 0 < rows[0]
 }

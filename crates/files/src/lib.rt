@@ -22,55 +22,45 @@ pub struct Mark {
 fn used_bits(used: u32) -> u64
     ensures { (result ≡ used_bits used) × (result ≤ 8) }
 {
-    if used < 1 {
-        return 8;
+    match used {
+        1..=8 => u64::from(used),
+        _ => 8,
     }
-    if 8 < used {
-        return 8;
-    }
-    used as u64
 }
 
 // The length of a part in bits, counted up to 2^36: more than 2^33 bytes are longer.
 pub fn part_length(part: &[u8], used: u32) -> u64
     ensures { result ≡ counted_length (as_part part.now used) }
 {
-    let n = part.len() as u64;
-    if n == 0 {
-        return 0;
+    match part.len() as u64 {
+        0 => 0,
+        n @ 1..=0x2_0000_0000 => 8 * (n - 1) + used_bits(used),
+        _ => 0x10_0000_0000,
     }
-    if 8589934592 < n {
-        return 68719476736;
-    }
-    8 * (n - 1) + used_bits(used)
 }
 
 // Does number 19 apply to a part?
 pub fn is_misused(part: &[u8], used: u32) -> bool
     ensures { result ≡ misused (as_part part.now used) }
 {
-    let n = part.len();
-    if used < 1 {
+    if used < 1 || 8 < used {
         return true;
     }
-    if 8 < used {
-        return true;
+    match part.last() {
+        Some(last) => gf2::low_bits(u64::from(*last), 8 - used) != 0,
+        None => used != 8,
     }
-    if n == 0 {
-        return used != 8;
-    }
-    gf2::low_bits(part[n - 1] as u64, 8 - used) != 0
 }
 
 // How many bytes of a part are used whole: all, or all but the final one.
 pub fn whole_bytes(part: &[u8], used: u32) -> usize
     ensures { (result ≡ whole_bytes (as_part part.now used)) × (result ≤ length part.now) }
 {
-    let n = part.len();
     if used == 8 {
-        return n;
+        part.len()
+    } else {
+        part.len().saturating_sub(1)
     }
-    if n == 0 { 0 } else { n - 1 }
 }
 
 // The n low bits of a byte behind a residue, the highest first.
@@ -79,11 +69,9 @@ fn feed_low(p: Modulus, f: u64, b: u8, n: u32) -> u64
     ensures { result ≡ rem (polynomial p) (value_from f (low_bits n b)) }
 {
     let mut x = f;
-    let mut left = n;
-    while 0 < left {
-        left -= 1;
-        let bit = (b >> left) % 2;
-        x = gf2::step(p, x, bit as u64);
+    for i in (0..n).rev() {
+        let bit = (b >> i) % 2;
+        x = gf2::step(p, x, u64::from(bit));
     }
     x
 }
@@ -102,10 +90,8 @@ pub fn feed_bytes(p: Modulus, f: u64, part: &[u8]) -> u64
     ensures { result ≡ rem (polynomial p) (value_from f (bits part.now)) }
 {
     let mut x = f;
-    let mut i = 0;
-    while i < part.len() {
-        x = feed_byte(p, x, part[i]);
-        i += 1;
+    for b in part {
+        x = feed_byte(p, x, *b);
     }
     x
 }
@@ -152,10 +138,8 @@ pub fn difference(p: Modulus, old: &[u8], new: &[u8]) -> u64
     ensures { result ≡ rem (polynomial p) (value_from 0 (bits old.now) ⊕ value_from 0 (bits new.now)) }
 {
     let mut x: u64 = 0;
-    let mut i = 0;
-    while i < old.len() {
-        x = feed_byte(p, x, old[i] ^ new[i]);
-        i += 1;
+    for (a, b) in old.iter().zip(new) {
+        x = feed_byte(p, x, a ^ b);
     }
     x
 }

@@ -148,7 +148,3 @@ pub ⊗_shl : (k a b : ℕ) → a ⊗ (b * 2 ^ k) ≡ a ⊗ b * 2 ^ k
 
 pub ⊗-pow : (k a : ℕ) → a ⊗ 2 ^ k ≡ a * 2 ^ k
 ⊗-pow k a = ap (λ (x : ℕ). a ⊗ x) (sym (one-mul (2 ^ k))) ∙ ⊗_shl k a 1 ∙ ap (λ (x : ℕ). x * 2 ^ k) (⊗-one a)
-
--- `by_low` with a product by t
-pub by_digits : (a : ℕ) → a / 2 ⊗ 2 ⊕ a % 2 ≡ a
-by_digits a = ap (λ (x : ℕ). x ⊕ a % 2) (⊗-pow 1 (a / 2)) ∙ by_low a

@@ -1,18 +1,18 @@
 -- What the code computes modulo t^k with the coefficients `low` below it: one bit behind a residue, a product and a power bit by bit.
 use mathlib.Core.Path.{◌≡◌, sym, ap, ap₂, ◌∙◌}
-use mathlib.Core.Bool.{◌||◌, not}
+use mathlib.Core.Bool.{◌||◌}
 use mathlib.Core.Logic.{◌⊎◌, inl, inr}
 use Prim.Native.Nat.{ℕ, zero, suc, ◌+◌, ◌-◌, ◌*◌, ◌/◌, ◌%◌, ◌^◌, ◌≤◌, ◌<◌, zero-le}
 use native.Mathlib.Nat.{le_refl, lt_of_lt_of_le, div-eq_of_lt, one-mul, zero-mul, mul-one, mul-zero, mod-lt}
-use native.Mathlib.Nat.{pow-suc, pow-succ', add-zero, div-lt_iff_lt-mul, le-div_iff_mul-le, div-div-eq-div-mul}
+use native.Mathlib.Nat.{pow-suc, pow-succ', add-zero, div-lt_iff_lt-mul, div-div-eq-div-mul}
 use native.Mathlib.Numerals.{add-one, one-add}
 use native.Mathlib.Decide.{dec_lt}
 use native.Mathlib.Omega.{arith}
 use lib.Bits.{bit_or, or_lt, or_add_and, and_le_l, and_le_r}
-use lib.Dec.{leb, ltb, lit<}
+use lib.Dec.{leb, lit<}
 use lib.Count.{count_leading_zeros, leading_length}
 use lib.Pow.{pow_pos, pow_mono, pow-lt, split, shl_exact, high, low, mod-pow-add}
-use borrow.Author.Tests.{le-leb, lt-leb, lt-ltb, le-ltb}
+use borrow.Author.Tests.{le-leb, lt-leb}
 use Rattle.gf2.specs.Polynomials.{◌⊕◌, monic, rem, ◌⊗◌, StepIs}
 use Rattle.gf2.specs.Powers.{◌⊗^◌}
 use Rattle.gf2.specs.Moduli.{polynomial, Proper}
@@ -76,19 +76,6 @@ residue-below p h x z e = rw e (residue-lt p.degree p.low h.2 z)
 
 pub less_one : (j : ℕ) → suc j - 1 ≡ j
 less_one j = omega arith
-
--- ---- a residue, told by one shift that is right for degree 64 too
-
-pub residue_test : (k f : ℕ) → 0 < k → ltb (f / 2 ^ (k - 1)) 2 ≡ not (leb (2 ^ k) f)
-residue_test zero f h = absurd (omega arith)
-residue_test (suc j) f h = rw less_one (go (dec_lt f (2 ^ suc j)))
-  where
-    go : Dec (f < 2 ^ suc j) → ltb (f / 2 ^ j) 2 ≡ not (leb (2 ^ suc j) f)
-    go (yes l) = rw (lt-leb (2 ^ suc j) f l) (lt-ltb (f / 2 ^ j) 2 ((div-lt_iff_lt-mul (pow_pos j)).1 (rw pow-succ' at l)))
-    go (no l) = rw (le-leb (2 ^ suc j) f (omega arith)) (le-ltb (f / 2 ^ j) 2 ((le-div_iff_mul-le (pow_pos j)).1 (rw pow-succ' at le)))
-      where
-        le : 2 ^ suc j ≤ f
-        le = omega arith
 
 -- ---- one bit behind a residue
 

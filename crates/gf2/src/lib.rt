@@ -18,7 +18,7 @@ pub fn degree(p: u64) -> u32
     requires { 0 < p }
     ensures { result ≡ degree p }
 {
-    63 - u64::leading_zeros(p)
+    p.ilog2()
 }
 
 // The coefficients below t^n.
@@ -55,15 +55,12 @@ pub fn product(p: Modulus, a: u64, b: u64) -> u64
     requires { Proper p × (a < 2 ^ p.degree) × (b < 2 ^ p.degree) }
     ensures { result ≡ rem (polynomial p) (a ⊗ b) }
 {
-    let k = p.degree;
     let mut sum: u64 = 0;
     let mut shifted = a;
-    let mut i: u32 = 0;
-    while i < k {
+    for i in 0..p.degree {
         let bit = (b >> i) % 2;
-        sum = sum ^ (shifted * bit);
+        sum ^= shifted * bit;
         shifted = step(p, shifted, 0);
-        i += 1;
     }
     sum
 }
@@ -85,14 +82,12 @@ fn low_places(k: u32, n: u64) -> u32
     requires { 0 < k }
     ensures { (result ≤ 64) × (n / 2 ^ result < k) }
 {
-    let mut i = 64 - u64::leading_zeros(n);
-    while 0 < i {
-        if k as u64 <= n >> (i - 1) {
-            return i;
+    for i in (0..64 - n.leading_zeros()).rev() {
+        if k as u64 <= n >> i {
+            return i + 1;
         }
-        i -= 1;
     }
-    i
+    0
 }
 
 // The power of t that the bits of n from place i on name: no division is needed yet.
@@ -112,10 +107,9 @@ pub fn power_of_t(p: Modulus, n: u64) -> u64
     requires { Proper p }
     ensures { result ≡ rem (polynomial p) (2 ^ n) }
 {
-    let mut i = low_places(p.degree, n);
-    let mut x = first_power(n, i);
-    while 0 < i {
-        i -= 1;
+    let places = low_places(p.degree, n);
+    let mut x = first_power(n, places);
+    for i in (0..places).rev() {
         x = product(p, x, x);
         if (n >> i) % 2 == 1 {
             x = step(p, x, 0);

@@ -35,22 +35,15 @@ fn next(h: u64, x: Pairs) -> Pairs
     let half = x.r / 2;
     let r = half ^ (x.s * bit);
     let u = over_t(h, x.u ^ (x.v * bit));
-    if bit == 1 {
-        if half < x.s {
-            return Pairs {
-                r: r,
-                u: u,
-                s: half,
-                v: x.u,
-            };
-        }
+    if bit == 1 && half < x.s {
+        return Pairs {
+            r,
+            u,
+            s: half,
+            v: x.u,
+        };
     }
-    Pairs {
-        r: r,
-        u: u,
-        s: x.s,
-        v: x.v,
-    }
+    Pairs { r, u, ..x }
 }
 
 // The inverse of t, where p is odd: p without its lowest coefficient, divided by t.

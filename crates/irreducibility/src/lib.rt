@@ -2,7 +2,7 @@
 // caller proves.
 #![tactic(auto)]
 
-ghost use Rattle.std.specs.Prelude.{◌≡◌, true, not, ◌↔◌, ◌+◌, ◌-◌, ◌/◌, ◌^◌, ◌≤◌, length, get_or};
+ghost use Rattle.std.specs.Prelude.{ℕ, ◌≡◌, true, not, ◌↔◌, ◌+◌, ◌-◌, ◌/◌, ◌^◌, ◌<◌, length, get_or};
 ghost use Rattle.gf2.specs.Polynomials.{◌⊕◌};
 ghost use Rattle.gf2.specs.Moduli.{polynomial, Proper};
 ghost use Rattle.lists.specs.Lists.{list_from};
@@ -21,9 +21,9 @@ fn square_rows(p: Modulus, rows: &mut [u64])
     let k = p.degree;
     let h = k - k / 2;
     let mut w: u64 = 1 << (2 * h - 2);
-    for i in 0..rows.len() {
+    for row in rows.iter_mut() {
         w = gf2::step(p, gf2::step(p, w, 0), 0);
-        rows[i] = w;
+        *row = w;
     }
 }
 
@@ -52,35 +52,22 @@ fn fold(x: u64) -> u64
 {
     let mut rest = x;
     let mut sum: u64 = 0;
-    let mut n: u32 = 6;
-    while 0 < n {
-        n -= 1;
-        sum = sum ^ odd_part(rest);
+    for _ in 0..6u32 {
+        sum ^= odd_part(rest);
         rest = even_root(rest);
     }
     sum ^ rest
 }
 
-// Are the rows independent modulo all squares? What is left of them is free.
-fn independent_squares(rows: &mut [u64]) -> bool
-    ensures { ((result ≡ true) ↔ Independent (list_from (λ i. odd_part (get_or rows.old i 0)) 0 (length rows.old)))
+// Are the rows independent, each put through a function of its place and value? What is left of them is free.
+fn independent_values<F: Fn(usize, u64) -> u64>(rows: &mut [u64], value: F) -> bool
+    requires { (i x : ℕ) → i < length rows.old → x < 2 ^ 64 → F.pre value i x }
+    ensures { ((v : ℕ → ℕ → ℕ) → ((i x y : ℕ) → i < length rows.old → x < 2 ^ 64 → F.post value i x y → y ≡ v i x)
+        → (result ≡ true) ↔ Independent (list_from (λ i. v i (get_or rows.old i 0)) 0 (length rows.old)))
         × Scratch rows.old rows.new }
 {
-    for i in 0..rows.len() {
-        rows[i] = odd_part(rows[i]);
-    }
-    basis::independent(rows)
-}
-
-// Are the rows, each less its power of t, from t^h on, independent modulo all l² ⊕ l? What is left of them is free.
-fn independent_differences(rows: &mut [u64], h: usize) -> bool
-    requires { h + length rows.old ≤ 64 }
-    ensures { ((result ≡ true) ↔ Independent (list_from (λ i. folded 6 (get_or rows.old i 0 ⊕ 2 ^ (h + i))) 0 (length rows.old)))
-        × Scratch rows.old rows.new }
-{
-    for i in 0..rows.len() {
-        let power: u64 = 1 << (h + i);
-        rows[i] = fold(rows[i] ^ power);
+    for (i, row) in rows.iter_mut().enumerate() {
+        *row = value(i, *row);
     }
     basis::independent(rows)
 }
@@ -98,8 +85,7 @@ pub fn irreducible(p: Modulus) -> bool
     let mut squares: [u64; 32] = [0; 32];
     square_rows(p, &mut squares[..n]);
     let mut rows = squares;
-    if !independent_squares(&mut rows[..thirds]) {
-        return false;
-    }
-    independent_differences(&mut squares[..n], h)
+    // Independent modulo all squares, and, each less its power of t, from t^h on, modulo all l² ⊕ l.
+    independent_values(&mut rows[..thirds], |_, row| odd_part(row))
+        && independent_values(&mut squares[..n], |i, row| fold(row ^ (1 << (h + i))))
 }

@@ -17,10 +17,8 @@ fn double(words: &mut [u64], at: usize, n: usize, y: u64)
         × SameFrom (at + n + n) words.old words.new }
 {
     let next = at + n;
-    let mut i: usize = 0;
-    while i < n {
+    for i in 0..n {
         words[next + i] = words[at + i] ^ y;
-        i += 1;
     }
 }
 
@@ -34,12 +32,10 @@ pub fn fill_row(words: &mut [u64], at: usize, width: u32, p: Modulus, x: u64)
     words[at] = 0;
     let mut n: usize = 1;
     let mut y = x;
-    let mut b: u32 = 0;
-    while b < width {
+    for _ in 0..width {
         double(words, at, n, y);
         y = gf2::step(p, y, 0);
-        n = n * 2;
-        b += 1;
+        n *= 2;
     }
 }
 
@@ -59,11 +55,9 @@ pub fn fill_rows(words: &mut [u64], width: u32, rows: usize, p: Modulus, x: u64)
 {
     let size = row_size(width);
     let mut y = x;
-    let mut j: usize = 0;
-    while j < rows {
+    for j in 0..rows {
         let at = j * size;
         fill_row(words, at, width, p, y);
         y = gf2::step(p, words[at + size / 2], 0);
-        j += 1;
     }
 }

@@ -18,23 +18,12 @@ const STOCK: [u64; 57] = [
     0x11, 0x63, 0x7b, 0x3, 0x27, 0x69, 0x3, 0x1b, // degree 64
 ];
 
-// The entry of a degree on the list.
-fn entry(degree: u32) -> u64
-    requires { (8 ≤ degree) × (degree ≤ 64) }
-    ensures { result ≡ stock_word degree }
-{
-    STOCK[(degree - 8) as usize]
-}
-
-// The word of the stock key of a degree 8 to 64; 0 for every other number.
+// The word of the stock key of a degree 8 to 64; 0, and not a None, for every other number: that is what C gets from gfp_stock_key.
 pub fn stock_word(degree: u32) -> u64
     ensures { result ≡ stock_word degree }
 {
-    if degree < 8 {
-        return 0;
+    match degree {
+        8..=64 => STOCK[(degree - 8) as usize],
+        _ => 0,
     }
-    if 64 < degree {
-        return 0;
-    }
-    entry(degree)
 }

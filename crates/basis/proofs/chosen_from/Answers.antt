@@ -7,4 +7,4 @@ pub returns : goal.returns
 returns c =
     let a = c.args in
     let p = c.requires in
-    masked-from a.c a.v a.x c.wrapping_sub_u64.result p.0 (search rules) p.1 (search rules) c.wrapping_sub_u64.ensures.value
+    masked-from a.c a.v a.x c.wrapping_neg.result p.0 (search rules) p.1 (search rules) c.wrapping_neg.ensures

@@ -8,6 +8,3 @@ use Rattle.basis.proofs.cleared.Goals as goal
 pub returns : goal.returns
 unfolding clear ◌⊕◌
 returns c = ap (λ (x : ℕ). bit_xor x c.args.r) c.chosen_from.ensures
-
-pub chosen_from-requires : goal.chosen_from-requires
-chosen_from-requires c = c.requires

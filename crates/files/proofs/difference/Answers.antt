@@ -1,9 +1,11 @@
--- `files::difference` meets its contract: what is left of both pages, the old one behind x, gives what the whole pages give.
-use mathlib.Core.Path.{refl, sym, ap, ◌∙◌}
+-- What is left of both pages, the old one behind x, gives what the whole pages give.
+use mathlib.Core.Path.{sym, ap, ◌∙◌}
 use Prim.Native.Nat.{◌<◌}
 use native.Mathlib.Omega.{arith}
-use lib.ListN.{get_or, drop_of_length-le}
-use lib.Pow.{pow_pos}
+use Rattle.std.proofs.Common.{rules}
+use lib.ListN.{length, get_or, drop_of_length-le}
+use Rattle.std.proofs.lemmas.List.{length_push}
+use Rattle.std.proofs.lemmas.Slice.Zip.{zip_turn, zip_end}
 use Rattle.gf2.specs.Polynomials.{◌⊕◌, rem}
 use Rattle.gf2.specs.Moduli.{polynomial}
 use Rattle.gf2.proofs.Sums.{⊕-zero}
@@ -13,37 +15,30 @@ use Rattle.files.specs.Files.{bits, value_from}
 use Rattle.files.proofs.Computing.{pages-next}
 use Rattle.files.proofs.difference.Goals as goal
 
-pub loop-i-init : goal.loop-i-init
-loop-i-init c =
-    (omega arith, pow_pos c.args.p.degree, refl)
-
-pub feed_byte-x-requires : goal.feed_byte-x-requires
-feed_byte-x-requires c = (c.requires.0, c.loop-i.invariant.1)
-
-pub loop-i-preserved : goal.loop-i-preserved
+pub loop-a-preserved : goal.loop-a-preserved
 unfolding ◌⊕◌
-loop-i-preserved c =
-    let l = c.loop-i in
-    let s = c in
-    let a = s.args in
-    let m = s.requires.0 in
-    let pos = monic-pos a.p.degree a.p.low m.2 in
-    let old-byte : get_or a.old.now l.i 0 < 256 = omega (arith, c.shared_slice_known-in-loop-i-1.given l.i) in
-    let new-byte : get_or a.new.now l.i 0 < 256 = omega (arith, c.shared_slice_known-in-loop-i-2-1.given l.i) in
-    let next = pages-next pos a.old.now a.new.now s.requires.1 l.x l.i (omega arith) old-byte new-byte in (
-      omega arith,
-      rw c.feed_byte-x.ensures (residue-lt a.p.degree a.p.low m.2 _),
-      rw c.feed_byte-x.ensures (next ∙ l.invariant.2),
-    )
+loop-a-preserved c =
+    let a = c.args in
+    let m = c.requires.0 in
+    let l = c.loop-a in
+    let at = zip_turn a.old.now a.new.now l.yielded c.into_iter-a-iterator.result l.a-iterator c.next.new.self c.next.result (search rules) (search rules) l.yielded_by
+    (c.in-Some.a, c.in-Some.b) c.in-Some.is c.next.ensures.steps in
+    let n = length l.yielded in
+    let byte-old : get_or a.old.now n 0 < 256 = (c.type_inv.old n).fits in
+    let byte-new : get_or a.new.now n 0 < 256 = (c.type_inv.new n).fits in
+    let next = pages-next (monic-pos a.p.degree a.p.low m.2) a.old.now a.new.now c.requires.1 l.x n at.0 byte-old byte-new in
+    let fed = rw (at.2 0, at.3 0) at c.feed_byte-x.ensures in
+    (rw fed (residue-lt a.p.degree a.p.low m.2 _), rw (length_push, fed) (next ∙ l.invariant.1))
 
 pub returns : goal.returns
 unfolding value_from bits
 returns c =
-    let s = c in
-    let a = s.args in
-    let m = s.requires.0 in
-    let l = c.loop-i in
+    let a = c.args in
+    let m = c.requires.0 in
+    let l = c.loop-a in
     let p = polynomial a.p in
-    let old-end = drop_of_length-le a.old.now {i = l.i} (omega arith) in
-    let new-end = drop_of_length-le a.new.now {i = l.i} (omega (arith, s.requires.1)) in
-    sym (residue-small a.p.degree a.p.low m.2 l.x l.invariant.1) ∙ sym (ap (rem p) (⊕-zero l.x)) ∙ (rw (old-end, new-end) at l.invariant.2)
+    let n = length l.yielded in
+    let end = zip_end a.old.now a.new.now l.yielded c.into_iter-a-iterator.result l.a-iterator c.next.new.self c.next.result (search rules) (search rules) l.yielded_by c.in-None.is c.next.ensures.steps in
+    let old-end = drop_of_length-le a.old.now {i = n} (omega (arith, end, c.requires.1)) in
+    let new-end = drop_of_length-le a.new.now {i = n} (omega (arith, end, c.requires.1)) in
+    sym (residue-small a.p.degree a.p.low m.2 l.x l.invariant.0) ∙ sym (ap (rem p) (⊕-zero l.x)) ∙ (rw (old-end, new-end) at l.invariant.1)

@@ -45,9 +45,6 @@ returns-then-used-eq8 c =
     let a = c.args in
     c.requires.4 ∙ pages-whole (monic-pos a.p.degree a.p.low c.requires.0.2) a.old.now a.new.now a.used c.requires.1 c.if-used-eq8.true
 
-pub whole_bytes-w-requires : goal.whole_bytes-w-requires
-whole_bytes-w-requires c = tt
-
 pub bounds-old-w : goal.bounds-old-w
 bounds-old-w c = final (goal.at.bounds-old-w c).After-whole_bytes-w
 
@@ -56,9 +53,6 @@ bounds-new-w c = omega (arith, c.requires.1, final (goal.at.bounds-new-w c).Afte
 
 pub overflow_sub-used : goal.overflow_sub-used
 overflow_sub-used c = (old-used (goal.at.overflow_sub-used c).Start).to
-
-pub overflow_cast-used : goal.overflow_cast-used
-overflow_cast-used c = omega arith
 
 pub overflow_shr-old : goal.overflow_shr-old
 overflow_shr-old c = omega (arith, (old-used (goal.at.overflow_shr-old c).Start).from)

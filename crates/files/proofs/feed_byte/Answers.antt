@@ -6,9 +6,6 @@ use Rattle.gf2.specs.Moduli.{polynomial}
 use Rattle.files.proofs.Computing.{low-behind}
 use Rattle.files.proofs.feed_byte.Goals as goal
 
-pub feed_low-requires : goal.feed_low-requires
-feed_low-requires c = (c.requires.0, c.requires.1, omega arith)
-
 pub returns : goal.returns
 returns c =
     let a = c.args in

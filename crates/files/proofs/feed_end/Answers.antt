@@ -33,9 +33,6 @@ bounds-part-part c = omega (arith, some_bytes (part_at (goal.at.bounds-part-part
 pub overflow_sub-used : goal.overflow_sub-used
 overflow_sub-used c = (well (goal.at.overflow_sub-used c).Start).to
 
-pub overflow_cast-used : goal.overflow_cast-used
-overflow_cast-used c = omega arith
-
 pub overflow_shr-last : goal.overflow_shr-last
 overflow_shr-last c = omega (arith, (well (goal.at.overflow_shr-last c).Start).from)
 

@@ -1,4 +1,3 @@
--- `files::part_length` meets its contract.
 use mathlib.Core.Path.{ap, ◌∙◌}
 use Prim.Native.Nat.{ℕ, ◌+◌, ◌-◌, ◌*◌}
 use native.Mathlib.Omega.{arith}
@@ -7,15 +6,13 @@ use Rattle.files.specs.Files.{as_part}
 use Rattle.files.proofs.Parts.{counted_none, counted-many, counted-some}
 use Rattle.files.proofs.part_length.Goals as goal
 
-pub returns-then-n-eq0 : goal.returns-then-n-eq0
-returns-then-n-eq0 c = let a = c.args in counted_none (as_part a.part.now a.used) (omega arith)
+pub returns-in-0 : goal.returns-in-0
+returns-in-0 c = counted_none (as_part c.args.part.now c.args.used) (omega arith)
 
-pub returns-then-n-gt8589934592 : goal.returns-then-n-gt8589934592
-returns-then-n-gt8589934592 c = let a = c.args in counted-many (as_part a.part.now a.used) (omega arith)
-
-pub returns : goal.returns
-returns c =
+pub returns-in-1-to-8589934592 : goal.returns-in-1-to-8589934592
+returns-in-1-to-8589934592 c =
     let a = c.args in
-    let part = as_part a.part.now a.used in
-    ap (λ (n : ℕ). 8 * (length a.part.now - 1) + n) c.used_bits.ensures.0
-    ∙ counted-some part (omega (arith, c.if-n-eq0.false)) (omega (arith, c.if-n-gt8589934592.false))
+    ap (λ (n : ℕ). 8 * (length a.part.now - 1) + n) c.used_bits.ensures.0 ∙ counted-some (as_part a.part.now a.used) (omega arith) (omega arith)
+
+pub returns-in_default : goal.returns-in_default
+returns-in_default c = counted-many (as_part c.args.part.now c.args.used) (omega arith)

@@ -5,9 +5,6 @@ use Rattle.gf2.specs.Polynomials.{◌⊕◌}
 use Rattle.files.proofs.Computing.{turned-is}
 use Rattle.files.proofs.turned_residue.Goals as goal
 
-pub power_of_t-requires : goal.power_of_t-requires
-power_of_t-requires c = c.requires.0
-
 pub returns : goal.returns
 unfolding ◌⊕◌
 returns c =

@@ -1,15 +1,14 @@
--- `files::used_bits` meets its contract.
-use mathlib.Core.Path.{sym}
+use mathlib.Core.Path.{sym, ◌∙◌}
 use mathlib.Core.Logic.{inl, inr}
 use native.Mathlib.Omega.{arith}
 use Rattle.files.proofs.Parts.{used-is, used-outside}
 use Rattle.files.proofs.used_bits.Goals as goal
 
-pub returns-then-used-lt1 : goal.returns-then-used-lt1
-returns-then-used-lt1 c = (sym (used-outside _ (inl c.if-used-lt1.true)), omega arith)
+pub returns-in-1-to-8 : goal.returns-in-1-to-8
+returns-in-1-to-8 c = (c.from.ensures ∙ sym (used-is c.args.used (omega arith) (omega arith)), omega (arith, c.from.ensures))
 
-pub returns-then-used-gt8 : goal.returns-then-used-gt8
-returns-then-used-gt8 c = (sym (used-outside _ (inr c.if-used-gt8.true)), omega arith)
+pub returns-in_default : goal.returns-in_default
+returns-in_default c = (sym (used-outside c.args.used (inl (omega arith))), omega arith)
 
-pub returns : goal.returns
-returns c = (sym (used-is _ c.if-used-lt1.false c.if-used-gt8.false), c.if-used-gt8.false)
+pub returns-in_default-2 : goal.returns-in_default-2
+returns-in_default-2 c = (sym (used-outside c.args.used (inr (omega arith))), omega arith)

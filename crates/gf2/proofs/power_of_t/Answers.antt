@@ -1,4 +1,4 @@
--- `gf2::power_of_t` meets its contract. The loop's invariant: x is the power by the bits of n from place i on. The measure is i.
+-- x is the power by the bits of n from place i on.
 use mathlib.Core.Path.{◌≡◌, sym, ap, ◌∙◌}
 use Prim.Native.Nat.{ℕ, ◌+◌, ◌*◌, ◌/◌, ◌^◌}
 use native.Mathlib.Nat.{add-zero, div-one}
@@ -16,24 +16,16 @@ use Rattle.gf2.proofs.power_of_t.Goals as goal
 double : (x : ℕ) → x * 2 + 0 ≡ x ⊗ 2
 double x = add-zero (x * 2) ∙ sym (⊗-pow 1 x)
 
-pub low_places-i-requires : goal.low_places-i-requires
-low_places-i-requires c = c.requires.0
-
-pub first_power-x-requires : goal.first_power-x-requires
-first_power-x-requires c = let e = c.low_places-i.ensures in (e.0, omega (arith, e.1, c.requires.1))
-
 pub loop-i-init : goal.loop-i-init
 loop-i-init c =
-    let e = c.low_places-i.ensures in (
-      e.0,
-      c.first_power-x.ensures ∙ sym (ap (rem (polynomial c.args.p)) (pow-t (c.args.n / 2 ^ c.low_places-i.result))
-          ∙ residue-small c.args.p.degree c.args.p.low c.requires.2 (2 ^ (c.args.n / 2 ^ c.low_places-i.result)) (pow-lt e.1)),
-    )
+    let e = c.low_places-places.ensures in
+    c.first_power-x.ensures ∙ sym (ap (rem (polynomial c.args.p)) (pow-t (c.args.n / 2 ^ c.low_places-places.result))
+    ∙ residue-small c.args.p.degree c.args.p.low c.requires.2 (2 ^ (c.args.n / 2 ^ c.low_places-places.result)) (pow-lt e.1))
 
 pub product-x-requires : goal.product-x-requires
 product-x-requires c =
     let l = c.loop-i in
-    let h = rw (← l.invariant.1) at (residue-lt c.args.p.degree c.args.p.low c.requires.2 (2 ⊗^ (c.args.n / 2 ^ l.i))) in
+    let h = rw (← l.invariant) at (residue-lt c.args.p.degree c.args.p.low c.requires.2 (2 ⊗^ (c.args.n / 2 ^ l.i))) in
     (c.requires, h, h)
 
 pub step-x-requires : goal.step-x-requires
@@ -43,23 +35,19 @@ step-x-requires c =
 
 pub loop-i-preserved-then-n-i-eq1 : goal.loop-i-preserved-then-n-i-eq1
 loop-i-preserved-then-n-i-eq1 c =
-    let s = c in
-    let a = s.args in
+    let a = c.args in
     let l = c.loop-i in
     let y = c.product-x in
-    let pos = monic-pos a.p.degree a.p.low s.requires.2 in
-    let twice = c.step-x.ensures ∙ ap (rem (polynomial a.p)) (double y.result) in (
-      omega arith,
-      times_next pos 2 a.n l.i l.x y.result (omega arith) l.invariant.1 y.ensures _ twice c.if-n-i-eq1.true,
-    )
+    let pos = monic-pos a.p.degree a.p.low c.requires.2 in
+    let twice = c.step-x.ensures ∙ ap (rem (polynomial a.p)) (double y.result) in
+    times_next pos 2 a.n l.i l.x y.result (omega arith) l.invariant y.ensures _ twice c.if-n-i-eq1.true
 
 pub loop-i-preserved : goal.loop-i-preserved
 loop-i-preserved c =
-    let s = c in
-    let a = s.args in
+    let a = c.args in
     let l = c.loop-i in
-    let pos = monic-pos a.p.degree a.p.low s.requires.2 in
-    (omega arith, square-next pos 2 a.n l.i l.x _ (omega arith) l.invariant.1 c.product-x.ensures c.if-n-i-eq1.false)
+    let pos = monic-pos a.p.degree a.p.low c.requires.2 in
+    square-next pos 2 a.n l.i l.x _ (omega arith) l.invariant c.product-x.ensures c.if-n-i-eq1.false
 
 pub returns : goal.returns
 returns c =
@@ -67,7 +55,7 @@ returns c =
     let p = polynomial a.p in
     let l = c.loop-i in
     let e : l.i ≡ 0 = omega arith in
-    l.invariant.1
+    l.invariant
     ∙ ap (λ (i : ℕ). rem p (2 ⊗^ (a.n / 2 ^ i))) e
     ∙ ap (λ (m : ℕ). rem p (2 ⊗^ m)) (div-one a.n)
     ∙ ap (rem p) (pow-t a.n)

@@ -1,4 +1,3 @@
--- `even_root` meets its contract.
 use Rattle.gf2.specs.Polynomials.{◌⊕◌}
 use Rattle.irreducibility.proofs.Folding.{closed-root}
 use Rattle.irreducibility.proofs.even_root.Goals as goal

@@ -1,4 +1,3 @@
--- `odd_part` meets its contract.
 use mathlib.Core.Path.{refl}
 use Rattle.irreducibility.specs.Squares.{odd_part}
 use Rattle.irreducibility.proofs.odd_part.Goals as goal

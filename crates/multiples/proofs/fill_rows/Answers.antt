@@ -1,29 +1,19 @@
--- `fill_rows` meets its contract: after j turns there are j rows, and y is the start of the next one.
-use mathlib.Core.Path.{◌≡◌, refl, ◌∙◌}
-use Prim.Native.Nat.{◌+◌, ◌*◌, ◌/◌, ◌^◌, ◌≤◌, ◌<◌}
+-- After j turns there are j rows, and y is the start of the next one.
+use mathlib.Core.Path.{refl, ◌∙◌}
+use Prim.Native.Nat.{◌*◌, ◌^◌, ◌≤◌}
 use native.Mathlib.Nat.{le_refl}
 use native.Mathlib.Omega.{arith}
 use lib.ListN.{length}
 use Rattle.gf2.proofs.Steps.{residue-below}
-use Rattle.multiples.proofs.Following.{Row, row-le, middle_in, start_first, rows_more, middle-lt, start-next}
+use Rattle.multiples.proofs.Following.{Row, row-le, start_first, rows_more, middle-lt, start-next}
 use Rattle.multiples.proofs.fill_rows.Goals as goal
 use Rattle.multiples.proofs.fill_rows.Goals.{After-fill_row, In-loop-j}
 
 -- ---- what is known at the places
 
--- row j and the word in its middle are among the words
+-- row j is among the words
 within : (c : In-loop-j) → c.args.rows * 2 ^ c.args.width ≤ length c.loop-j.words
-within c = rw c.loop-j.invariant.1 c.requires.4
-
-middle-within : (c : After-fill_row)
-    → let n = c.row_size-size.result in c.loop-j.j * n + n / 2 < length c.fill_row.new.words
-middle-within c =
-    let s = c.args in
-    let l = c.loop-j in
-    let n = c.row_size-size in
-    let m = middle_in s.width l.j s.rows n.result (length l.words) n.ensures c.loop-j-test.true
-    (within c.before.before) in
-    omega (arith, m, c.fill_row.auto.words)
+within c = rw c.loop-j.auto.words c.requires.4
 
 -- row j is made
 row : (c : After-fill_row) → let a = c.args in let l = c.loop-j in
@@ -33,25 +23,15 @@ row c =
       proper = c.requires.0;
       some = c.requires.2;
       whole = c.row_size-size.ensures;
-      start = c.loop-j.invariant.2;
+      start = c.loop-j.invariant.0;
       row = c.fill_row.ensures.0;
     }
 
 -- ---- the needs
 
-pub row_size-size-requires : goal.row_size-size-requires
-row_size-size-requires c = c.requires.3
-
 pub loop-j-init : goal.loop-j-init
 loop-j-init c =
-    (omega arith, refl, start_first c.args.p c.requires.0 c.args.width c.args.x c.requires.1, λ j l. absurd (omega arith), λ i l. refl)
-
-pub overflow_mul-at : goal.overflow_mul-at
-overflow_mul-at c =
-    let s = c.args in
-    let l = c.loop-j in
-    let n = c.row_size-size in
-    omega (arith, row-le s.width l.j s.rows n.result (length l.words) n.ensures c.loop-j-test.true (within (goal.at.overflow_mul-at c).In-loop-j))
+    (start_first c.args.p c.requires.0 c.args.width c.args.x c.requires.1, λ j l. absurd (omega arith), λ i l. refl)
 
 pub fill_row-requires : goal.fill_row-requires
 fill_row-requires c =
@@ -59,18 +39,9 @@ fill_row-requires c =
     let l = c.loop-j in
     let n = c.row_size-size in (
       c.requires.0,
-      residue-below a.p c.requires.0 l.y _ l.invariant.2,
+      residue-below a.p c.requires.0 l.y _ l.invariant.0,
       row-le a.width l.j a.rows n.result (length l.words) n.ensures c.loop-j-test.true (within (goal.at.fill_row-requires c).In-loop-j),
     )
-
-pub overflow_add-at : goal.overflow_add-at
-overflow_add-at c = omega (arith, middle-within (goal.at.overflow_add-at c).After-fill_row)
-
-pub offset_bounds-words-at : goal.offset_bounds-words-at
-offset_bounds-words-at c = omega (arith, middle-within (goal.at.offset_bounds-words-at c).After-fill_row)
-
-pub bounds-words-at : goal.bounds-words-at
-bounds-words-at c = middle-within (goal.at.bounds-words-at c).After-fill_row
 
 pub step-y-requires : goal.step-y-requires
 step-y-requires c = (c.requires.0, middle-lt (row (goal.at.step-y-requires c).After-fill_row), omega arith)
@@ -84,18 +55,7 @@ loop-j-preserved c =
     let n = c.row_size-size in
     let room = row-le s.width l.j s.rows n.result (s.rows * 2 ^ s.width) n.ensures
     c.loop-j-test.true (le_refl (s.rows * 2 ^ s.width)) in (
-      omega arith,
-      r.auto.words ∙ l.invariant.1,
       start-next t _ c.step-y.ensures,
-      rows_more t l.words l.invariant.3 r.ensures.1,
-      λ i h. r.ensures.2 i (omega (arith, room, h)) ∙ l.invariant.4 i h,
+      rows_more t l.words l.invariant.1 r.ensures.1,
+      λ i h. r.ensures.2 i (omega (arith, room, h)) ∙ l.invariant.2 i h,
     )
-
-pub shape_of-words : goal.shape_of-words
-shape_of-words c = c.loop-j.invariant.1
-
-pub returns : goal.returns
-returns c =
-    let l = c.loop-j in
-    let e : l.j ≡ c.args.rows = omega arith in
-    (λ j h. l.invariant.3 j (omega (arith, e, h)), l.invariant.4)
