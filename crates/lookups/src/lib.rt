@@ -2,7 +2,7 @@
 // caller proves.
 #![tactic(auto)]
 
-ghost use Rattle.std.specs.Prelude.{◌≡◌, ◌+◌, ◌*◌, ◌%◌, ◌^◌, ◌≤◌, ◌<◌, length, drop, not};
+ghost use Rattle.std.specs.Prelude.{◌≡◌, ◌+◌, ◌*◌, ◌%◌, ◌^◌, ◌≤◌, ◌<◌, length, not};
 ghost use Rattle.gf2.specs.Polynomials.{◌⊕◌, rem};
 ghost use Rattle.gf2.specs.Moduli.{polynomial, Proper};
 ghost use Rattle.files.specs.Files.{bits, value_from};
@@ -126,16 +126,14 @@ pub fn residue(words: &[u64], p: Modulus, x: u64) -> u64
     feed_four(words, p, f, rest)
 }
 
-// The bytes from place `from` on, one at a time.
-fn feed_tail(words: &[u64], p: Modulus, f: u64, part: &[u8], from: usize) -> u64
-    requires { TableOf p words.now × (f < 2 ^ p.degree) × (from ≤ length part.now) }
-    ensures { result ≡ rem (polynomial p) (value_from f (bits (drop from part.now))) }
+// Bytes one at a time.
+fn feed_tail(words: &[u64], p: Modulus, f: u64, tail: &[u8]) -> u64
+    requires { TableOf p words.now × (f < 2 ^ p.degree) }
+    ensures { result ≡ rem (polynomial p) (value_from f (bits tail.now)) }
 {
     let mut x = f;
-    let mut i = from;
-    while i < part.len() {
-        x = feed_one(words, p, x, part[i]);
-        i += 1;
+    for b in tail {
+        x = feed_one(words, p, x, *b);
     }
     x
 }
@@ -146,10 +144,9 @@ pub fn feed_lane(words: &[u64], p: Modulus, f: u64, part: &[u8]) -> u64
     ensures { result ≡ rem (polynomial p) (value_from f (bits part.now)) }
 {
     let mut x = f;
-    let mut i: usize = 0;
-    while 4 <= part.len() - i {
-        x = append(words, p, x, big_endian::four_at(part, i));
-        i += 4;
+    let (groups, tail) = part.as_chunks::<4>();
+    for group in groups {
+        x = append(words, p, x, big_endian::four_at(group, 0));
     }
-    feed_tail(words, p, below(p, x), part, i)
+    feed_tail(words, p, below(p, x), tail)
 }

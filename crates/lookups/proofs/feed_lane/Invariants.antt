@@ -1,11 +1,7 @@
--- `feed_lane` meets its contract: x stands for f and the bytes before i.
-use Prim.Native.Nat.{◌-◌, ◌%◌, ◌^◌, ◌≤◌}
-use lib.ListN.{length}
+-- `feed_lane` meets its contract: x stands for f and the groups before this one.
+use Prim.Native.Nat.{◌*◌, ◌%◌, ◌^◌}
 use Rattle.big_endian.proofs.Pieces.{Going}
 use Rattle.lookups.proofs.feed_lane.Given as goal
 
-abbrev pub invariant-loop-i : goal.invariant-loop-i
-invariant-loop-i l = (l.i ≤ length l.part) × Going l.p l.f l.part 0 l.i (l.x % 2 ^ l.p.degree)
-
-abbrev pub decreases-loop-i : goal.decreases-loop-i
-decreases-loop-i l = length l.part - l.i
+abbrev pub invariant-loop-group : goal.invariant-loop-group
+invariant-loop-group l = Going l.p l.f l.part 0 (l.group-index * 4) (l.x % 2 ^ l.p.degree)

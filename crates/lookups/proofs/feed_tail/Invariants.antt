@@ -1,11 +1,6 @@
--- `feed_tail` meets its contract: x stands for f and the bytes from `from` to i.
-use Prim.Native.Nat.{◌-◌, ◌≤◌}
-use lib.ListN.{length}
+-- `feed_tail` meets its contract: x stands for f and the bytes before b.
 use Rattle.big_endian.proofs.Pieces.{Going}
 use Rattle.lookups.proofs.feed_tail.Given as goal
 
-abbrev pub invariant-loop-i : goal.invariant-loop-i
-invariant-loop-i l = (l.i ≤ length l.part) × Going l.p l.f l.part l.from l.i l.x
-
-abbrev pub decreases-loop-i : goal.decreases-loop-i
-decreases-loop-i l = length l.part - l.i
+abbrev pub invariant-loop-b : goal.invariant-loop-b
+invariant-loop-b l = Going l.p l.f l.tail 0 l.b-index l.x
