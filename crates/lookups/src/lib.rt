@@ -47,36 +47,19 @@ fn look_up(words: &[u64], below: u64, above: u64) -> u64
 }
 
 // Four bytes behind a residue. Of x the coefficients below t^k are the residue; those above are left over from the step before and count for
-// nothing, here as in the result: so no step has to clear them. Where the degree is below 32, some of the new bits reach t^k themselves.
-pub fn append_low(words: &[u64], p: Modulus, x: u64, v: u32) -> u64
-    requires { TableOf p words.now × (p.degree < 32) }
-    ensures { Appended p x v result }
-{
-    let y = x % 4294967296 * 4294967296 + v as u64;
-    look_up(words, y, y >> p.degree)
-}
-
-// The same where the degree is at least 32: what reaches t^k is known before the new bits are.
-pub fn append_high(words: &[u64], p: Modulus, x: u64, v: u32) -> u64
-    requires { TableOf p words.now × (32 ≤ p.degree) }
-    ensures { Appended p x v result }
-{
-    look_up(
-        words,
-        x % 4294967296 * 4294967296 + v as u64,
-        x >> (p.degree - 32),
-    )
-}
-
-// The same for every degree. In a loop of one lane the compiler takes the branch, which is on the degree alone, out of it.
-fn append(words: &[u64], p: Modulus, x: u64, v: u32) -> u64
+// nothing, here as in the result: so no step has to clear them. Where the degree is below 32, some of the new bits reach t^k themselves; else
+// what reaches t^k is known before the new bits are. In a loop the compiler takes the branch, which is on the degree alone, out of it.
+pub fn append(words: &[u64], p: Modulus, x: u64, v: u32) -> u64
     requires { TableOf p words.now }
     ensures { Appended p x v result }
 {
-    if p.degree < 32 {
-        return append_low(words, p, x, v);
-    }
-    append_high(words, p, x, v)
+    let y = x % 4294967296 * 4294967296 + u64::from(v);
+    let above = if p.degree < 32 {
+        y >> p.degree
+    } else {
+        x >> (p.degree - 32)
+    };
+    look_up(words, y, above)
 }
 
 // The coefficients below t^k.
@@ -104,7 +87,7 @@ pub fn feed_one(words: &[u64], p: Modulus, f: u64, b: u8) -> u64
     let cut = p.degree - 8;
     let rest = gf2::low_bits(f, cut);
     let top = (f >> cut) as usize;
-    (rest * 256 + b as u64) ^ words[top]
+    (rest * 256 + u64::from(b)) ^ words[top]
 }
 
 // The residue of a number of 64 bits: its last byte, or its last four, behind the bytes in front, which are a residue already where the

@@ -59,10 +59,8 @@ fn feed_lanes(words: &[u64], p: Modulus, f: u64, part: &[u8], n: usize) -> Lanes
         c: 0,
         d: 0,
     };
-    let mut i: usize = 0;
-    while i < n {
+    for i in (0..n).step_by(4) {
         x = feed_turn(words, p, x, part, n, i);
-        i += 4;
     }
     Lanes {
         a: lookups::below(p, x.a),
@@ -97,10 +95,8 @@ fn power(words: &[u64], p: Modulus, n: u64) -> u64
     requires { TableOf p words.now × (0 < n) }
     ensures { result ≡ rem (polynomial p) (2 ^ (32 * n)) }
 {
-    let mut i = gf2::degree(n);
     let mut x = lookups::feed_four(words, p, 1, 0);
-    while 0 < i {
-        i -= 1;
+    for i in (0..gf2::degree(n)).rev() {
         x = square(words, p, x);
         if (n >> i) % 2 == 1 {
             x = lookups::feed_four(words, p, x, 0);
@@ -115,10 +111,8 @@ fn times(words: &[u64], p: Modulus, rows: &[u64], x: u64) -> u64
     ensures { result ≡ rem (polynomial p) (x ⊗ get_or rows.now 1 0) }
 {
     let mut sum: u64 = 0;
-    let mut i: u32 = 64;
-    while 0 < i {
-        i -= 8;
-        let b = ((x >> i) % 256) as usize;
+    for byte in x.to_be_bytes() {
+        let b = byte as usize;
         sum = lookups::feed_one(words, p, sum, 0) ^ rows[b % 16] ^ rows[16 + b / 16];
     }
     sum

@@ -11,6 +11,3 @@ invariant-loop-i l =
     × Going l.p l.f (take l.n (drop 0 l.part)) 0 l.i (l.x.a % 2 ^ l.p.degree) × Going l.p 0 (take l.n (drop l.n l.part)) 0 l.i (l.x.b % 2 ^ l.p.degree)
     × Going l.p 0 (take l.n (drop (2 * l.n) l.part)) 0 l.i (l.x.c % 2 ^ l.p.degree) × Going l.p 0 (take l.n (drop (3 * l.n) l.part)) 0 l.i
     (l.x.d % 2 ^ l.p.degree)
-
-abbrev pub decreases-loop-i : goal.decreases-loop-i
-decreases-loop-i l = l.n - l.i

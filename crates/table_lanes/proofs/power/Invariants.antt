@@ -8,6 +8,3 @@ use Rattle.table_lanes.proofs.power.Given as goal
 
 abbrev pub invariant-loop-i : goal.invariant-loop-i
 invariant-loop-i l = (l.i ≤ 63) × (l.x ≡ rem (polynomial l.p) ((2 ^ 32) ⊗^ (l.n / 2 ^ l.i)))
-
-abbrev pub decreases-loop-i : goal.decreases-loop-i
-decreases-loop-i l = l.i
