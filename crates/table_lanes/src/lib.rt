@@ -2,16 +2,16 @@
 // what they require, every caller proves.
 #![tactic(auto)]
 
-ghost use Rattle.std.specs.Prelude.{◌≡◌, ◌+◌, ◌*◌, ◌%◌, ◌^◌, ◌≤◌, ◌<◌, length, get_or};
+ghost use Rattle.std.specs.Prelude.{◌≡◌, [], ◌∷◌, ◌+◌, ◌*◌, ◌%◌, ◌^◌, ◌≤◌, ◌<◌, length, get_or};
 ghost use Rattle.gf2.specs.Polynomials.{◌⊕◌, ◌⊗◌, rem};
 ghost use Rattle.gf2.specs.Moduli.{polynomial, Proper};
 ghost use Rattle.files.specs.Files.{bits, value_from};
 ghost use Rattle.lookups.specs.Groups.{TableOf, ReducesByte};
-ghost use Rattle.table_lanes.specs.Lanes.{FourMore, FedLane, TwoRows, behind};
+ghost use Rattle.table_lanes.specs.Lanes.{EachLane, FourMore, FedLane, TwoRows, behind};
 
 use gf2::Modulus;
 
-// Four lanes: a residue each.
+// Four lanes of windows, a residue each, in the crates rolling and windows.
 #[derive(Clone, Copy)]
 pub struct Lanes {
     pub a: u64,
@@ -20,54 +20,37 @@ pub struct Lanes {
     pub d: u64,
 }
 
-// Four bytes more in each of four lanes of n bytes. The branch stands once before the four steps, so that the compiler takes it out of the loop,
-// and the bytes are read before it, so that it knows four of them as one load.
-fn feed_turn(words: &[u64], p: Modulus, x: Lanes, part: &[u8], n: usize, i: usize) -> Lanes
+// Four bytes more in each of four lanes of n bytes: four chains of look-ups that do not wait for each other.
+fn feed_turn(words: &[u64], p: Modulus, x: &mut [u64; 4], part: &[u8], n: usize, i: usize)
     requires { TableOf p words.now × (i + 4 ≤ n) × (4 * n ≤ length part.now) }
-    ensures { FourMore p part.now i x.a result.a × FourMore p part.now (i + n) x.b result.b
-        × FourMore p part.now (i + n + n) x.c result.c × FourMore p part.now (i + n + n + n) x.d result.d }
+    ensures { EachLane (λ j. FourMore p part.now (i + j * n) (get_or x.old j 0) (get_or x.new j 0)) }
 {
-    let a = big_endian::four_at(part, i);
-    let b = big_endian::four_at(part, i + n);
-    let c = big_endian::four_at(part, i + n + n);
-    let d = big_endian::four_at(part, i + n + n + n);
-    if p.degree < 32 {
-        return Lanes {
-            a: lookups::append_low(words, p, x.a, a),
-            b: lookups::append_low(words, p, x.b, b),
-            c: lookups::append_low(words, p, x.c, c),
-            d: lookups::append_low(words, p, x.d, d),
-        };
-    }
-    Lanes {
-        a: lookups::append_high(words, p, x.a, a),
-        b: lookups::append_high(words, p, x.b, b),
-        c: lookups::append_high(words, p, x.c, c),
-        d: lookups::append_high(words, p, x.d, d),
+    for (j, y) in x.iter_mut().enumerate() {
+        *y = lookups::append(words, p, *y, big_endian::four_at(part, i + j * n));
     }
 }
 
-// Four lanes of n bytes side by side, the first behind f, the others behind nothing: four chains of look-ups that do not wait for each other.
-fn feed_lanes(words: &[u64], p: Modulus, f: u64, part: &[u8], n: usize) -> Lanes
-    requires { TableOf p words.now × (f < 2 ^ p.degree) × (n % 4 ≡ 0) × (4 * n ≤ length part.now) }
-    ensures { FedLane p f part.now 0 n result.a × FedLane p 0 part.now n n result.b
-        × FedLane p 0 part.now (2 * n) n result.c × FedLane p 0 part.now (3 * n) n result.d }
+// Of each lane the coefficients below t^k.
+fn clear(p: Modulus, x: &mut [u64; 4])
+    requires { Proper p }
+    ensures { EachLane (λ j. get_or x.new j 0 ≡ get_or x.old j 0 % 2 ^ p.degree) }
 {
-    let mut x = Lanes {
-        a: f,
-        b: 0,
-        c: 0,
-        d: 0,
-    };
+    for y in x.iter_mut() {
+        *y = lookups::below(p, *y);
+    }
+}
+
+// Four lanes of n bytes side by side, the first behind f, the others behind nothing.
+fn feed_lanes(words: &[u64], p: Modulus, f: u64, part: &[u8], n: usize) -> [u64; 4]
+    requires { TableOf p words.now × (f < 2 ^ p.degree) × (n % 4 ≡ 0) × (4 * n ≤ length part.now) }
+    ensures { EachLane (λ j. FedLane p (get_or (f ∷ []) j 0) part.now (j * n) n (get_or result j 0)) }
+{
+    let mut x = [f, 0, 0, 0];
     for i in (0..n).step_by(4) {
-        x = feed_turn(words, p, x, part, n, i);
+        feed_turn(words, p, &mut x, part, n, i);
     }
-    Lanes {
-        a: lookups::below(p, x.a),
-        b: lookups::below(p, x.b),
-        c: lookups::below(p, x.c),
-        d: lookups::below(p, x.d),
-    }
+    clear(p, &mut x);
+    x
 }
 
 // x·t + y: a lane with the residue y behind what has the residue x, where t is the power of t by the bits of the lane.
@@ -119,15 +102,16 @@ fn times(words: &[u64], p: Modulus, rows: &[u64], x: u64) -> u64
 }
 
 // Four lanes joined, one behind the other, where t is the power of t by the bits of a lane.
-fn join(words: &[u64], p: Modulus, t: u64, x: Lanes) -> u64
+fn join(words: &[u64], p: Modulus, t: u64, x: [u64; 4]) -> u64
     requires { ReducesByte p words.now × (t < 2 ^ p.degree) }
-    ensures { result ≡ behind p t (behind p t (behind p t x.a x.b) x.c) x.d }
+    ensures { result ≡ behind p t (behind p t (behind p t (get_or x 0 0) (get_or x 1 0)) (get_or x 2 0)) (get_or x 3 0) }
 {
+    let [a, b, c, d] = x;
     let mut rows: [u64; 32] = [0; 32];
     multiples::fill_rows(&mut rows, 4, 2, p, t);
-    let ab = times(words, p, &rows, x.a) ^ x.b;
-    let abc = times(words, p, &rows, ab) ^ x.c;
-    times(words, p, &rows, abc) ^ x.d
+    let ab = times(words, p, &rows, a) ^ b;
+    let abc = times(words, p, &rows, ab) ^ c;
+    times(words, p, &rows, abc) ^ d
 }
 
 // A long part: four lanes of n times four bytes, joined by t^(32n), and what is left behind them.

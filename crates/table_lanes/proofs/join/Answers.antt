@@ -28,5 +28,5 @@ pub returns : goal.returns
 unfolding ◌⊕◌
 returns c =
     let a = c.args in
-    joined a.p a.t (get_or c.fill_rows.new.words 1 0) a.x.a a.x.b a.x.c a.x.d c.times.result c.times-2.result
+    joined a.p a.t (get_or c.fill_rows.new.words 1 0) (get_or a.x 0 0) (get_or a.x 1 0) (get_or a.x 2 0) (get_or a.x 3 0) c.times.result c.times-2.result
     c.times-3.result (made (goal.at.returns c).After-fill_rows).0 c.times.ensures c.times-2.ensures c.times-3.ensures

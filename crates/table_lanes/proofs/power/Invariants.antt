@@ -1,7 +1,7 @@
 -- `power` meets its contract. The loop's invariant: x is the power of t^32 by the bits of n from place i on. The measure is i.
 use mathlib.Core.Path.{◌≡◌}
 use Prim.Native.Nat.{◌/◌, ◌^◌, ◌≤◌}
-use Rattle.gf2.specs.Polynomials.{◌⊗◌, rem}
+use Rattle.gf2.specs.Polynomials.{rem}
 use Rattle.gf2.specs.Powers.{◌⊗^◌}
 use Rattle.gf2.specs.Moduli.{polynomial}
 use Rattle.table_lanes.proofs.power.Given as goal
