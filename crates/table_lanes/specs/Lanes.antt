@@ -27,3 +27,7 @@ TwoRows p rows = (length rows ≡ 32) × Rows 4 (polynomial p) (get_or rows 1 0)
 -- y behind x, where t is the power of t by the bits of y
 abbrev pub behind : Modulus → ℕ → ℕ → ℕ → ℕ
 behind p t x y = rem (polynomial p) (x ⊗ t) ⊕ y
+
+-- four lanes one behind the other
+abbrev pub all_behind : Modulus → ℕ → List ℕ → ℕ
+all_behind p t x = behind p t (behind p t (behind p t (get_or x 0 0) (get_or x 1 0)) (get_or x 2 0)) (get_or x 3 0)

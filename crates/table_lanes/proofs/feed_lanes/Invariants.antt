@@ -5,4 +5,4 @@ use Rattle.table_lanes.proofs.Joining.{LanesGoing}
 use Rattle.table_lanes.proofs.feed_lanes.Given as goal
 
 abbrev pub invariant-loop-i : goal.invariant-loop-i
-invariant-loop-i l = (l.i ≤ l.n) × (l.i % 4 ≡ 0) × LanesGoing l.p l.f l.part l.n l.i l.x
+invariant-loop-i l = (l.i ≤ l.n) × (l.i % 4 ≡ 0) × LanesGoing l.table.p l.f l.part l.n l.i l.x

@@ -9,7 +9,6 @@ use Rattle.gf2.specs.Moduli.{polynomial}
 use Rattle.gf2.proofs.Monics.{monic-pos}
 use Rattle.gf2.proofs.Steps.{residue-below}
 use Rattle.files.specs.Files.{bits, value_from}
-use Rattle.lookups.proofs.Rule.{first-row}
 use Rattle.table_lanes.proofs.Joining.{four-joined, lane-rest}
 use Rattle.table_lanes.proofs.feed_long.Goals as goal
 use Rattle.table_lanes.proofs.feed_long.Goals.{After-join-abcd, Start}
@@ -20,35 +19,34 @@ use Rattle.table_lanes.proofs.feed_long.Goals.{After-join-abcd, Start}
 abbrev lane : List ℕ → ℕ
 lane part = 4 * (length part / 16)
 
-pos : (s : Start) → 0 < polynomial s.args.p
-pos s = monic-pos s.args.p.degree s.args.p.low s.requires.0.0.2
+pos : (s : Start) → 0 < polynomial s.args.table.p
+pos s = monic-pos s.args.table.p.degree s.args.table.p.low s.args.table.holds.0.2
 
 -- the four lanes are joined one after the other
 four-lanes : (c : After-join-abcd) → let a = c.args in
-    c.join-abcd.result ≡ rem (polynomial a.p) (value_from a.f (bits (take (4 * lane a.part.now) a.part.now)))
+    c.join-abcd.result ≡ rem (polynomial a.table.p) (value_from a.f (bits (take (4 * lane a.part.now) a.part.now)))
 four-lanes c =
     let a = c.args in
     let n = lane a.part.now in
     let e : 32 * (length a.part.now / 16) ≡ 8 * n = omega arith in
-    four-joined (monic-pos a.p.degree a.p.low c.requires.0.0.2) a.f a.part.now n c.power-t.result c.join-abcd.result c.feed_lanes-x.result (omega arith)
-    c.feed_lanes-x.ensures (c.power-t.ensures ∙ ap (λ (m : ℕ). rem (polynomial a.p) (2 ^ m)) e) c.join-abcd.ensures
+    four-joined (monic-pos a.table.p.degree a.table.p.low c.args.table.holds.0.2) a.f a.part.now n c.power-t.result c.join-abcd.result c.feed_lanes-x.result (omega arith)
+    c.feed_lanes-x.ensures (c.power-t.ensures ∙ ap (λ (m : ℕ). rem (polynomial a.table.p) (2 ^ m)) e) c.join-abcd.ensures
 
 -- ---- the needs
 
 pub feed_lanes-x-requires : goal.feed_lanes-x-requires
-feed_lanes-x-requires c = (c.requires.0, c.requires.1, omega arith, omega arith)
+feed_lanes-x-requires c = (c.requires.0, omega arith, omega arith)
 
 pub power-t-requires : goal.power-t-requires
-power-t-requires c = (c.requires.0, omega (arith, c.requires.2))
+power-t-requires c = omega (arith, c.requires.1)
 
 pub join-abcd-requires : goal.join-abcd-requires
 join-abcd-requires c =
-    let p = c.args.p in
-    (first-row p c.args.words.now c.requires.0, residue-below p c.requires.0.0 c.power-t.result _ c.power-t.ensures)
+    residue-below c.args.table.p c.args.table.holds.0 c.power-t.result _ c.power-t.ensures
 
 pub feed_lane-requires : goal.feed_lane-requires
 feed_lane-requires c =
-    (c.requires.0, residue-below c.args.p c.requires.0.0 c.join-abcd.result _ (four-lanes (goal.at.feed_lane-requires c).After-join-abcd))
+    residue-below c.args.table.p c.args.table.holds.0 c.join-abcd.result _ (four-lanes (goal.at.feed_lane-requires c).After-join-abcd)
 
 pub returns : goal.returns
 returns c =

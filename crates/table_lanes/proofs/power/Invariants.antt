@@ -7,4 +7,4 @@ use Rattle.gf2.specs.Moduli.{polynomial}
 use Rattle.table_lanes.proofs.power.Given as goal
 
 abbrev pub invariant-loop-i : goal.invariant-loop-i
-invariant-loop-i l = (l.i ≤ 63) × (l.x ≡ rem (polynomial l.p) ((2 ^ 32) ⊗^ (l.n / 2 ^ l.i)))
+invariant-loop-i l = (l.i ≤ 63) × (l.x ≡ rem (polynomial l.table.p) ((2 ^ 32) ⊗^ (l.n / 2 ^ l.i)))
