@@ -3,7 +3,7 @@
 // caller proves.
 #![tactic(auto)]
 
-ghost use Rattle.std.specs.Prelude.{◌≡◌, ◌+◌, ◌*◌, ◌^◌, ◌≤◌, ◌<◌, length, drop};
+ghost use Rattle.std.specs.Prelude.{◌≡◌, ◌+◌, ◌*◌, ◌^◌, ◌≤◌, ◌<◌, length, drop, IfSome};
 ghost use Rattle.gf2.specs.Polynomials.{◌⊕◌, ◌⊗◌, rem};
 ghost use Rattle.gf2.specs.Moduli.{polynomial, Proper};
 ghost use Rattle.files.specs.Files.{bits, value_from};
@@ -112,17 +112,14 @@ pub fn difference(p: Modulus, n: u32, old: &[u8], new: &[u8]) -> u64
     difference_ones(p, x, old, new, i)
 }
 
-// How many bytes come in at a time, at most seven: 0 where the coefficients are not few and low enough for one.
-pub fn bytes_at_once(p: Modulus) -> u32
+// How many bytes come in at a time, at most seven: none where the coefficients are not few and low enough for one.
+pub fn bytes_at_once(p: Modulus) -> Option<u32>
     requires { Proper p }
-    ensures { 0 < result → Sparse p result }
+    ensures { IfSome result (λ n. Sparse p n) }
 {
-    if 256 <= p.low {
-        return 0;
-    }
-    if p.low == 0 {
-        return 0;
+    if p.low == 0 || 256 <= p.low {
+        return None;
     }
     let n = (p.degree - gf2::degree(p.low)) / 8;
-    if n < 8 { n } else { 7 }
+    if n == 0 { None } else { Some(n.min(7)) }
 }

@@ -1,6 +1,5 @@
 -- `difference_ones` meets its contract: x stands for f and the difference of the bytes from `from` to i.
 use mathlib.Core.Path.{refl}
-use Prim.Native.Nat.{◌-◌}
 use native.Mathlib.Omega.{arith}
 use Rattle.gf2.specs.Polynomials.{◌⊕◌}
 use Rattle.gf2.proofs.Sums.{⊕-lt}

@@ -1,6 +1,5 @@
 -- `feed_ones` meets its contract: x stands for f and the bytes from `from` to i.
 use mathlib.Core.Path.{refl}
-use Prim.Native.Nat.{◌-◌}
 use native.Mathlib.Omega.{arith}
 use Rattle.big_endian.proofs.Pieces.{piece-lt, going, going-all}
 use Rattle.sparse.proofs.feed_ones.Goals as goal
