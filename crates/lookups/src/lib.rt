@@ -2,7 +2,7 @@
 // caller proves.
 #![tactic(auto)]
 
-ghost use Rattle.std.specs.Prelude.{◌≡◌, ◌+◌, ◌*◌, ◌%◌, ◌^◌, ◌≤◌, ◌<◌, length, drop, not};
+ghost use Rattle.std.specs.Prelude.{◌≡◌, ◌+◌, ◌*◌, ◌%◌, ◌^◌, ◌≤◌, ◌<◌, length, not};
 ghost use Rattle.gf2.specs.Polynomials.{◌⊕◌, rem};
 ghost use Rattle.gf2.specs.Moduli.{polynomial, Proper};
 ghost use Rattle.files.specs.Files.{bits, value_from};
@@ -27,58 +27,6 @@ pub fn table_holds(words: &[u64], p: Modulus) -> bool
     row_tests::rows_hold(words, 8, 4, p, p.low)
 }
 
-// The words of two bytes of h, the low one looked up in the given row, added up.
-fn look_two(words: &[u64], row: usize, h: u64) -> u64
-    requires { (row + 2 ≤ 4) × (length words.now ≡ 1024) }
-    ensures { result ≡ looked 8 words.now 2 row h }
-{
-    let at = row * 256;
-    let a = (h % 256) as usize;
-    let b = (h / 256 % 256) as usize;
-    words[at + a] ^ words[at + 256 + b]
-}
-
-// The words of the four bytes of `above`, added to `below`.
-fn look_up(words: &[u64], below: u64, above: u64) -> u64
-    requires { length words.now ≡ 1024 }
-    ensures { result ≡ below ⊕ looked 8 words.now 4 0 above }
-{
-    below ^ look_two(words, 0, above) ^ look_two(words, 2, above / 65536)
-}
-
-// Four bytes behind a residue. Of x the coefficients below t^k are the residue; those above are left over from the step before and count for
-// nothing, here as in the result: so no step has to clear them. Where the degree is below 32, some of the new bits reach t^k themselves.
-pub fn append_low(words: &[u64], p: Modulus, x: u64, v: u32) -> u64
-    requires { TableOf p words.now × (p.degree < 32) }
-    ensures { Appended p x v result }
-{
-    let y = x % 4294967296 * 4294967296 + v as u64;
-    look_up(words, y, y >> p.degree)
-}
-
-// The same where the degree is at least 32: what reaches t^k is known before the new bits are.
-pub fn append_high(words: &[u64], p: Modulus, x: u64, v: u32) -> u64
-    requires { TableOf p words.now × (32 ≤ p.degree) }
-    ensures { Appended p x v result }
-{
-    look_up(
-        words,
-        x % 4294967296 * 4294967296 + v as u64,
-        x >> (p.degree - 32),
-    )
-}
-
-// The same for every degree. In a loop of one lane the compiler takes the branch, which is on the degree alone, out of it.
-fn append(words: &[u64], p: Modulus, x: u64, v: u32) -> u64
-    requires { TableOf p words.now }
-    ensures { Appended p x v result }
-{
-    if p.degree < 32 {
-        return append_low(words, p, x, v);
-    }
-    append_high(words, p, x, v)
-}
-
 // The coefficients below t^k.
 pub fn below(p: Modulus, x: u64) -> u64
     requires { Proper p }
@@ -88,15 +36,7 @@ pub fn below(p: Modulus, x: u64) -> u64
     (x << above) >> above
 }
 
-// Four bytes behind a residue, cleared.
-pub fn feed_four(words: &[u64], p: Modulus, f: u64, v: u64) -> u64
-    requires { TableOf p words.now × (f < 2 ^ p.degree) × (v < 2 ^ 32) }
-    ensures { result ≡ rem (polynomial p) (f * 2 ^ 32 + v) }
-{
-    below(p, append(words, p, f, v as u32))
-}
-
-// One byte behind a residue.
+// One byte behind a residue, by the first row alone.
 pub fn feed_one(words: &[u64], p: Modulus, f: u64, b: u8) -> u64
     requires { ReducesByte p words.now × (f < 2 ^ p.degree) }
     ensures { result ≡ rem (polynomial p) (f * 2 ^ 8 + b) }
@@ -104,52 +44,108 @@ pub fn feed_one(words: &[u64], p: Modulus, f: u64, b: u8) -> u64
     let cut = p.degree - 8;
     let rest = gf2::low_bits(f, cut);
     let top = (f >> cut) as usize;
-    (rest * 256 + b as u64) ^ words[top]
+    (rest * 256 + u64::from(b)) ^ words[top]
 }
 
-// The residue of a number of 64 bits: its last byte, or its last four, behind the bytes in front, which are a residue already where the
-// degree is large enough.
-pub fn residue(words: &[u64], p: Modulus, x: u64) -> u64
-    requires { TableOf p words.now }
-    ensures { result ≡ rem (polynomial p) x }
-{
-    let k = p.degree;
-    if 56 <= k {
-        return feed_one(words, p, x / 256, (x % 256) as u8);
-    }
-    let high = x / 4294967296;
-    let rest = x % 4294967296;
-    if 32 <= k {
-        return feed_four(words, p, high, rest);
-    }
-    let f = feed_four(words, p, 0, high);
-    feed_four(words, p, f, rest)
+// The table of a modulus, lent.
+#[derive(Clone, Copy)]
+pub struct KeyTable<'a> {
+    pub words: &'a [u64],
+    pub p: Modulus,
+    pub ghost holds: { TableOf p words.now },
 }
 
-// The bytes from place `from` on, one at a time.
-fn feed_tail(words: &[u64], p: Modulus, f: u64, part: &[u8], from: usize) -> u64
-    requires { TableOf p words.now × (f < 2 ^ p.degree) × (from ≤ length part.now) }
-    ensures { result ≡ rem (polynomial p) (value_from f (bits (drop from part.now))) }
-{
-    let mut x = f;
-    let mut i = from;
-    while i < part.len() {
-        x = feed_one(words, p, x, part[i]);
-        i += 1;
+impl KeyTable<'_> {
+    // The words of two bytes of h, the low one looked up in the given row, added up.
+    fn look_two(self, row: usize, h: u64) -> u64
+        requires { row + 2 ≤ 4 }
+        ensures { result ≡ looked 8 self.entry.words.now 2 row h }
+    {
+        let at = row * 256;
+        let a = (h % 256) as usize;
+        let b = (h / 256 % 256) as usize;
+        self.words[at + a] ^ self.words[at + 256 + b]
     }
-    x
-}
 
-// One lane: four bytes at a time, and the last ones one at a time.
-pub fn feed_lane(words: &[u64], p: Modulus, f: u64, part: &[u8]) -> u64
-    requires { TableOf p words.now × (f < 2 ^ p.degree) }
-    ensures { result ≡ rem (polynomial p) (value_from f (bits part.now)) }
-{
-    let mut x = f;
-    let mut i: usize = 0;
-    while 4 <= part.len() - i {
-        x = append(words, p, x, big_endian::four_at(part, i));
-        i += 4;
+    // The words of the four bytes of `above`, added to `below`.
+    fn look_up(self, below: u64, above: u64) -> u64
+        ensures { result ≡ below ⊕ looked 8 self.entry.words.now 4 0 above }
+    {
+        below ^ self.look_two(0, above) ^ self.look_two(2, above / 65536)
     }
-    feed_tail(words, p, below(p, x), part, i)
+
+    // Four bytes behind a residue. Of x the coefficients below t^k are the residue; those above are left over from the step before and count
+    // for nothing, here as in the result: so no step has to clear them. Where the degree is below 32, some of the new bits reach t^k
+    // themselves; else what reaches t^k is known before the new bits are. In a loop the compiler takes the branch, which is on the degree
+    // alone, out of it.
+    pub fn append(self, x: u64, v: u32) -> u64
+        ensures { Appended self.entry.p x v result }
+    {
+        let y = x % 4294967296 * 4294967296 + u64::from(v);
+        let above = if self.p.degree < 32 {
+            y >> self.p.degree
+        } else {
+            x >> (self.p.degree - 32)
+        };
+        self.look_up(y, above)
+    }
+
+    // Four bytes behind a residue, cleared.
+    pub fn feed_four(self, f: u64, v: u64) -> u64
+        requires { (f < 2 ^ self.p.degree) × (v < 2 ^ 32) }
+        ensures { result ≡ rem (polynomial self.entry.p) (f * 2 ^ 32 + v) }
+    {
+        below(self.p, self.append(f, v as u32))
+    }
+
+    // One byte behind a residue.
+    pub fn feed_byte(self, f: u64, b: u8) -> u64
+        requires { f < 2 ^ self.p.degree }
+        ensures { result ≡ rem (polynomial self.entry.p) (f * 2 ^ 8 + b) }
+    {
+        feed_one(self.words, self.p, f, b)
+    }
+
+    // The residue of a number of 64 bits: its last byte, or its last four, behind the bytes in front, which are a residue already where the
+    // degree is large enough.
+    pub fn residue(self, x: u64) -> u64
+        ensures { result ≡ rem (polynomial self.entry.p) x }
+    {
+        let k = self.p.degree;
+        if 56 <= k {
+            return self.feed_byte(x / 256, (x % 256) as u8);
+        }
+        let high = x / 4294967296;
+        let rest = x % 4294967296;
+        if 32 <= k {
+            return self.feed_four(high, rest);
+        }
+        let f = self.feed_four(0, high);
+        self.feed_four(f, rest)
+    }
+
+    // Bytes one at a time.
+    fn feed_tail(self, f: u64, tail: &[u8]) -> u64
+        requires { f < 2 ^ self.p.degree }
+        ensures { result ≡ rem (polynomial self.entry.p) (value_from f (bits tail.now)) }
+    {
+        let mut x = f;
+        for b in tail {
+            x = self.feed_byte(x, *b);
+        }
+        x
+    }
+
+    // One lane: four bytes at a time, and the last ones one at a time.
+    pub fn feed_lane(self, f: u64, part: &[u8]) -> u64
+        requires { f < 2 ^ self.p.degree }
+        ensures { result ≡ rem (polynomial self.entry.p) (value_from f (bits part.now)) }
+    {
+        let mut x = f;
+        let (groups, tail) = part.as_chunks::<4>();
+        for group in groups {
+            x = self.append(x, big_endian::four_at(group, 0));
+        }
+        self.feed_tail(below(self.p, x), tail)
+    }
 }

@@ -4,7 +4,7 @@ use mathlib.Core.List.{List, ◌++◌}
 use Prim.Native.Nat.{ℕ, ◌+◌, ◌-◌, ◌*◌, ◌≤◌, ◌<◌}
 use native.Mathlib.Nat.{mul-le-mul_right, suc-mul}
 use native.Mathlib.Omega.{arith}
-use lib.ListN.{length, get_or, set, take, drop, length-set}
+use lib.ListN.{length, set, take, drop}
 use lib.Seq.{drop-drop, take-add}
 use Rattle.gf2.specs.Polynomials.{rem}
 use Rattle.lists.proofs.Lists.{stored}
@@ -16,24 +16,10 @@ use Rattle.page_marks.specs.Marks.{page_front, Begun, Reduced, Finished}
 -- ---- one page more, or two
 
 module _ (key s w : ℕ) (pages marks : List ℕ) (i : ℕ) where
-  -- two pages more, the second the next one or the same
-  pub begun-two : (j x y : ℕ) → i ≤ j → j ≤ i + 1 → j < length marks → Begun key s w i pages marks
-      → rem key x ≡ rem key (value_from 1 (bits (page_front s w pages i)))
-      → rem key y ≡ rem key (value_from 1 (bits (page_front s w pages j)))
-      → Begun key s w (j + 1) pages (set (set marks i x) j y)
-  begun-two j x y lo hi l f ex ey m b =
-      let P : ℕ → ℕ → Type 0 = λ n z. rem key z ≡ rem key (value_from 1 (bits (page_front s w pages n))) in
-      stored 0 P (set marks i x) j y (simp length-set l) ey m (λ d. stored 0 P marks i x (omega arith) ex m (λ e. f m (omega (arith, d, e))))
-
   -- one page more
   pub finished_more : (v : ℕ) → i < length marks → Finished key s i pages marks → v ≡ fingerprint key (bits (page_front s s pages i))
       → Finished key s (i + 1) pages (set marks i v)
   finished_more v l f e m b = stored 0 (λ n z. z ≡ fingerprint key (bits (page_front s s pages n))) marks i v l e m (λ d. f m (omega (arith, d)))
-
--- one number more is a residue
-pub reduced-more : (key : ℕ) (before marks : List ℕ) (i v : ℕ) → i < length marks → Reduced key i before marks → v ≡ rem key (get_or before i 0)
-    → Reduced key (i + 1) before (set marks i v)
-reduced-more key before marks i v l f e m b = stored 0 (λ n z. z ≡ rem key (get_or before n 0)) marks i v l e m (λ d. f m (omega (arith, d)))
 
 -- whole pages that are begun, and reduced
 pub cut_finished : (key s w n : ℕ) (pages before marks : List ℕ) → w ≡ s → Begun key s w n pages before → Reduced key n before marks

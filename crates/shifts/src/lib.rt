@@ -26,11 +26,9 @@ fn times(words: &[u64], f: u64) -> u64
 {
     let mut sum: u64 = 0;
     let mut rest = f;
-    let mut j: usize = 0;
-    while j < 8 {
-        sum = sum ^ words[j * 256 + (rest % 256) as usize];
-        rest = rest / 256;
-        j += 1;
+    for j in 0..8 {
+        sum ^= words[j * 256 + (rest % 256) as usize];
+        rest /= 256;
     }
     sum
 }
@@ -43,26 +41,17 @@ pub fn join(words: &[u64], f: u64, g: u64) -> u64
     times(words, f) ^ g ^ words[1]
 }
 
-// Two lanes: a number congruent to a residue each.
-#[derive(Clone, Copy)]
-pub struct TwoLanes {
-    pub a: u64,
-    pub b: u64,
-}
-
 // Two parts of one length side by side, each in groups of eight bytes behind a leading 1, by the table for the shift by eight bytes under a
 // key: the values are congruent to the residues, and may reach the key's degree. The words say all of the key that is needed.
-pub fn feed_eights(words: &[u64], q: &[u8], r: &[u8]) -> TwoLanes
+pub fn feed_eights(words: &[u64], q: &[u8], r: &[u8]) -> (u64, u64)
     requires { (length words.now ≡ 2048) × (8 ≤ length q.now) × (length q.now % 8 ≡ 0) × (length r.now ≡ length q.now) }
-    ensures { FedEights words.now q.now result.a × FedEights words.now r.now result.b }
+    ensures { FedEights words.now q.now result.0 × FedEights words.now r.now result.1 }
 {
     let mut a = words[1] ^ big_endian::eight_at(q, 0);
     let mut b = words[1] ^ big_endian::eight_at(r, 0);
-    let mut i: usize = 8;
-    while i < q.len() {
+    for i in (8..q.len()).step_by(8) {
         a = times(words, a) ^ big_endian::eight_at(q, i);
         b = times(words, b) ^ big_endian::eight_at(r, i);
-        i += 8;
     }
-    TwoLanes { a, b }
+    (a, b)
 }

@@ -1,10 +1,11 @@
 -- Laws of lanes of a part: each fed for itself, and joined.
-use mathlib.Core.Path.{◌≡◌, sym, ap, ap₂, ◌∙◌}
-use mathlib.Core.List.{List, ◌++◌}
-use Prim.Native.Nat.{ℕ, ◌+◌, ◌-◌, ◌*◌, ◌%◌, ◌^◌, ◌≤◌, ◌<◌}
-use native.Mathlib.Nat.{le_refl}
+use mathlib.Core.Path.{◌≡◌, refl, sym, ap, ap₂, ◌∙◌}
+use mathlib.Core.List.{List, [], ◌∷◌, ◌++◌}
+use Prim.Native.Nat.{ℕ, zero, suc, ◌+◌, ◌-◌, ◌*◌, ◌%◌, ◌^◌, ◌≤◌, ◌<◌}
+use native.Mathlib.Nat.{le_refl, add_comm, zero-mul, one-mul, suc-mul, mul-le-mul_right}
 use native.Mathlib.Omega.{arith}
-use lib.ListN.{length, take, drop, take-append-drop, length-drop}
+use lib.ListN.{length, get_or, take, drop, take-append-drop, length-drop}
+use lib.Pow.{pow_pos}
 use lib.Seq.{drop-drop, drop_at, length-take-le, take-add, take_all, take-take}
 use Rattle.gf2.specs.Polynomials.{◌⊕◌, ◌⊗◌, rem}
 use Rattle.gf2.specs.Moduli.{Proper}
@@ -14,8 +15,8 @@ use Rattle.gf2.proofs.Residues.{rem-⊕}
 use Rattle.gf2.proofs.Powers.{rem_shl, rem-⊗-right}
 use Rattle.files.specs.Files.{bits, value_from}
 use Rattle.files.proofs.Values.{value-append, value-⊕, length-bits, bits-append, rem-from}
-use Rattle.big_endian.proofs.Pieces.{Going, going-four, going-all}
-use Rattle.table_lanes.specs.Lanes.{FourMore, FedLane}
+use Rattle.big_endian.proofs.Pieces.{Going, going-first, going-four, going-all}
+use Rattle.table_lanes.specs.Lanes.{EachLane, FourMore, FedLane}
 
 -- the length of a lane
 pub lane-length : (p : List ℕ) (a b n : ℕ) → b ≡ a + n → b ≤ length p → length (take (b - a) (drop a p)) ≡ n
@@ -55,6 +56,34 @@ module _ (p : Modulus) (proper : Proper p) (f : ℕ) (part : List ℕ) (a n : �
   pub lane-fed : (i x r : ℕ) → n ≤ i → Going p f (take n (drop a part)) 0 i (x % 2 ^ p.degree) → r ≡ x % 2 ^ p.degree → FedLane p f part a n r
   lane-fed i x r h g e = e ∙ going-all p proper f lane 0 i (x % 2 ^ p.degree) g (rw length-lane h)
 
+-- ---- four lanes of n bytes, the first behind f, the others behind nothing: x stands for each lane's start and its bytes before i
+
+abbrev pub LanesGoing : Modulus → ℕ → List ℕ → ℕ → ℕ → List ℕ → Type 0
+LanesGoing p f part n i x = EachLane (λ j. Going p (get_or (f ∷ []) j 0) (take n (drop (j * n) part)) 0 i (get_or x j 0 % 2 ^ p.degree))
+
+pub lanes-first : (p : Modulus) (f : ℕ) (part : List ℕ) (n : ℕ) → f < 2 ^ p.degree → LanesGoing p f part n 0 (f ∷ 0 ∷ 0 ∷ 0 ∷ [])
+lanes-first p f part n l j h = lane j h
+  where
+    lane : EachLane (λ j. Going p (get_or (f ∷ []) j 0) (take n (drop (j * n) part)) 0 0 (get_or (f ∷ 0 ∷ 0 ∷ 0 ∷ []) j 0 % 2 ^ p.degree))
+    lane zero b = going-first p f (take n (drop (0 * n) part)) l
+    lane (suc zero) b = going-first p 0 (take n (drop (1 * n) part)) (pow_pos p.degree)
+    lane (suc (suc zero)) b = going-first p 0 (take n (drop (2 * n) part)) (pow_pos p.degree)
+    lane (suc (suc (suc zero))) b = going-first p 0 (take n (drop (3 * n) part)) (pow_pos p.degree)
+    lane (suc (suc (suc (suc j)))) b = absurd (omega arith)
+
+module _ (p : Modulus) (proper : Proper p) (f : ℕ) (part : List ℕ) (n : ℕ) (l : 4 * n ≤ length part) where
+  inside : EachLane (λ j. j * n + n ≤ length part)
+  inside j h = omega (arith, suc-mul j n, mul-le-mul_right n h, l)
+
+  pub lanes-more : (i : ℕ) (x y : List ℕ) → i + 4 ≤ n → LanesGoing p f part n i x → EachLane (λ j. FourMore p part (i + j * n) (get_or x j 0) (get_or y j 0))
+      → LanesGoing p f part n (i + 4) y
+  lanes-more i x y h g m j b =
+      lane-more p proper (get_or (f ∷ []) j 0) part (j * n) n (inside j b) i (i + j * n) (get_or x j 0) (get_or y j 0) h (add_comm i (j * n)) (g j b) (m j b)
+
+  pub lanes-fed : (i : ℕ) (x y : List ℕ) → n ≤ i → LanesGoing p f part n i x → EachLane (λ j. get_or y j 0 ≡ get_or x j 0 % 2 ^ p.degree)
+      → EachLane (λ j. FedLane p (get_or (f ∷ []) j 0) part (j * n) n (get_or y j 0))
+  lanes-fed i x y h g e j b = lane-fed p proper (get_or (f ∷ []) j 0) part (j * n) n (inside j b) i (get_or x j 0) _ h (g j b) (e j b)
+
 -- ---- lanes, each fed for itself, all but the first from 0
 
 lanes-join : {key : ℕ} (pos : 0 < key) (f : ℕ) (p q : List ℕ)
@@ -85,6 +114,23 @@ module _ {key : ℕ} (pos : 0 < key) (f : ℕ) (p : List ℕ) where
       ∙ ap₂ (λ (u v : ℕ). u ⊕ v) (ap₂ (λ (u v : ℕ). rem key (u ⊗ v)) ex (et ∙ ap (λ (u : ℕ). rem key (2 ^ (8 * u))) (sym long))) ey
       ∙ lanes-join pos f (take a p) (take n (drop a p))
       ∙ ap (λ (w : List ℕ). rem key (value_from f (bits w))) (sym (take-add a n p) ∙ ap (λ (u : ℕ). take u p) (sym e))
+
+  -- four lanes of n bytes joined one after the other
+  pub four-joined : (n t r : ℕ) (x : List ℕ) → 4 * n ≤ length p
+      → EachLane (λ j. get_or x j 0 ≡ rem key (value_from (get_or (f ∷ []) j 0) (bits (take n (drop (j * n) p)))))
+      → t ≡ rem key (2 ^ (8 * n))
+      → (let join : ℕ → ℕ → ℕ = λ u v. rem key (u ⊗ t) ⊕ v in r ≡ join (join (join (get_or x 0 0) (get_or x 1 0)) (get_or x 2 0)) (get_or x 3 0))
+      → r ≡ rem key (value_from f (bits (take (4 * n) p)))
+  four-joined n t r x l e et er =
+      let join : ℕ → ℕ → ℕ = λ u v. rem key (u ⊗ t) ⊕ v in
+      let ab = join (get_or x 0 0) (get_or x 1 0) in
+      let abc = join ab (get_or x 2 0) in
+      let start : rem key (value_from f (bits (take n (drop (0 * n) p)))) ≡ rem key (value_from f (bits (take (1 * n) p))) =
+      ap₂ (λ (k m : ℕ). rem key (value_from f (bits (take m (drop k p))))) (zero-mul n) (sym (one-mul n)) in
+      let two = lane-joined (1 * n) (2 * n) n (get_or x 0 0) (get_or x 1 0) t ab (omega arith) (omega (arith, l))
+      (e 0 (omega arith) ∙ start) (e 1 (omega arith)) et refl in
+      let three = lane-joined (2 * n) (3 * n) n ab (get_or x 2 0) t abc (omega arith) (omega (arith, l)) two (e 2 (omega arith)) et refl in
+      lane-joined (3 * n) (4 * n) n abc (get_or x 3 0) t r (omega arith) l three (e 3 (omega arith)) et er
 
   -- and what is left behind them
   pub lane-rest : (b x r : ℕ) → x ≡ rem key (value_from f (bits (take b p))) → r ≡ rem key (value_from x (bits (take (length p - b) (drop b p))))

@@ -1,12 +1,13 @@
 -- Laws of squares and products by look-ups.
-use mathlib.Core.Path.{◌≡◌, sym, ap, ap₂, ◌∙◌}
+use mathlib.Core.Path.{◌≡◌, refl, sym, ap, ap₂, ◌∙◌}
 use mathlib.Core.List.{List}
-use Prim.Native.Nat.{ℕ, suc, ◌+◌, ◌-◌, ◌*◌, ◌/◌, ◌%◌, ◌^◌, ◌≤◌, ◌<◌}
-use native.Mathlib.Nat.{lt_of_lt_of_le, add-zero, mod-lt, div-eq_of_lt}
+use Prim.Native.Nat.{ℕ, zero, suc, ◌+◌, ◌-◌, ◌*◌, ◌/◌, ◌%◌, ◌^◌, ◌≤◌, ◌<◌}
+use native.Mathlib.Nat.{lt_of_lt_of_le, add-zero, mod-lt, mul-suc, pow-succ', div-one, div-eq_of_lt}
 use native.Mathlib.Decide.{dec_lt}
 use native.Mathlib.Omega.{arith}
 use lib.ListN.{length, get_or}
-use lib.Pow.{pow_pos, pow_mono, shr_lt, shr-shr, split}
+use lib.Pow.{pow-add, pow_pos, pow_mono, shr_lt, shr-shr, split}
+use Rattle.std.specs.Int.{byte_at, bytes_high_first}
 use Rattle.gf2.specs.Polynomials.{◌⊕◌, ◌⊗◌, rem}
 use Rattle.gf2.specs.Moduli.{polynomial, Proper}
 use Rattle.gf2.specs.declared.Modulus.{Modulus}
@@ -90,6 +91,22 @@ look_halves rows f b l =
     let e : b / 16 % 16 ≡ b / 16 = omega arith in
     let z : 0 * 16 + b % 16 ≡ b % 16 = omega arith in
     rw (z, e, ⊕-zero) (⊕_assoc f (get_or rows (b % 16) 0) (get_or rows (16 + b / 16) 0))
+
+-- byte i of k, the highest first, is what stands from its place on
+bytes-pow : (k : ℕ) → 256 ^ k ≡ 2 ^ (8 * k)
+bytes-pow zero = refl
+bytes-pow (suc k) =
+    let e : 8 * suc k ≡ 8 + 8 * k = omega (arith, mul-suc 8 k) in
+    pow-succ' 256 k ∙ ap (λ (m : ℕ). 256 * m) (bytes-pow k) ∙ sym (ap (λ (n : ℕ). 2 ^ n) e ∙ pow-add 2 8 (8 * k))
+
+low-byte : (k n : ℕ) → byte_at k n ≡ n / 2 ^ (8 * k) % 256
+low-byte zero n = ap (λ (m : ℕ). m % 256) (sym (div-one n))
+low-byte (suc k) n = ap (λ (m : ℕ). n / m % 256) (bytes-pow (suc k))
+
+pub high-byte : (k n i : ℕ) → i < k → get_or (bytes_high_first k n) i 0 ≡ n / 2 ^ (8 * k - 8 * i - 8) % 256
+high-byte zero n i l = absurd (omega arith)
+high-byte (suc k) n zero l = low-byte k n ∙ ap (λ (m : ℕ). n / 2 ^ m % 256) (omega (arith, mul-suc 8 k))
+high-byte (suc k) n (suc i) l = high-byte k n i (omega arith) ∙ ap (λ (m : ℕ). n / 2 ^ m % 256) (omega (arith, mul-suc 8 k, mul-suc 8 i))
 
 -- ---- lanes joined by two rows of multiples
 

@@ -2,16 +2,16 @@
 // what they require, every caller proves.
 #![tactic(auto)]
 
-ghost use Rattle.std.specs.Prelude.{◌≡◌, ◌+◌, ◌*◌, ◌%◌, ◌^◌, ◌≤◌, ◌<◌, length, get_or};
+ghost use Rattle.std.specs.Prelude.{◌≡◌, [], ◌∷◌, ◌+◌, ◌*◌, ◌%◌, ◌^◌, ◌≤◌, ◌<◌, length, get_or};
 ghost use Rattle.gf2.specs.Polynomials.{◌⊕◌, ◌⊗◌, rem};
 ghost use Rattle.gf2.specs.Moduli.{polynomial, Proper};
 ghost use Rattle.files.specs.Files.{bits, value_from};
-ghost use Rattle.lookups.specs.Groups.{TableOf, ReducesByte};
-ghost use Rattle.table_lanes.specs.Lanes.{FourMore, FedLane, TwoRows, behind};
+ghost use Rattle.table_lanes.specs.Lanes.{EachLane, FourMore, FedLane, TwoRows, all_behind};
 
 use gf2::Modulus;
+use lookups::KeyTable;
 
-// Four lanes: a residue each.
+// Four lanes of windows, a residue each, in the crates rolling and windows.
 #[derive(Clone, Copy)]
 pub struct Lanes {
     pub a: u64,
@@ -20,56 +20,37 @@ pub struct Lanes {
     pub d: u64,
 }
 
-// Four bytes more in each of four lanes of n bytes. The branch stands once before the four steps, so that the compiler takes it out of the loop,
-// and the bytes are read before it, so that it knows four of them as one load.
-fn feed_turn(words: &[u64], p: Modulus, x: Lanes, part: &[u8], n: usize, i: usize) -> Lanes
-    requires { TableOf p words.now × (i + 4 ≤ n) × (4 * n ≤ length part.now) }
-    ensures { FourMore p part.now i x.a result.a × FourMore p part.now (i + n) x.b result.b
-        × FourMore p part.now (i + n + n) x.c result.c × FourMore p part.now (i + n + n + n) x.d result.d }
+// Four bytes more in each of four lanes of n bytes: four chains of look-ups that do not wait for each other.
+fn feed_turn(table: KeyTable<'_>, x: &mut [u64; 4], part: &[u8], n: usize, i: usize)
+    requires { (i + 4 ≤ n) × (4 * n ≤ length part.now) }
+    ensures { EachLane (λ j. FourMore table.entry.p part.now (i + j * n) (get_or x.old j 0) (get_or x.new j 0)) }
 {
-    let a = big_endian::four_at(part, i);
-    let b = big_endian::four_at(part, i + n);
-    let c = big_endian::four_at(part, i + n + n);
-    let d = big_endian::four_at(part, i + n + n + n);
-    if p.degree < 32 {
-        return Lanes {
-            a: lookups::append_low(words, p, x.a, a),
-            b: lookups::append_low(words, p, x.b, b),
-            c: lookups::append_low(words, p, x.c, c),
-            d: lookups::append_low(words, p, x.d, d),
-        };
-    }
-    Lanes {
-        a: lookups::append_high(words, p, x.a, a),
-        b: lookups::append_high(words, p, x.b, b),
-        c: lookups::append_high(words, p, x.c, c),
-        d: lookups::append_high(words, p, x.d, d),
+    for (j, y) in x.iter_mut().enumerate() {
+        *y = table.append(*y, big_endian::four_at(part, i + j * n));
     }
 }
 
-// Four lanes of n bytes side by side, the first behind f, the others behind nothing: four chains of look-ups that do not wait for each other.
-fn feed_lanes(words: &[u64], p: Modulus, f: u64, part: &[u8], n: usize) -> Lanes
-    requires { TableOf p words.now × (f < 2 ^ p.degree) × (n % 4 ≡ 0) × (4 * n ≤ length part.now) }
-    ensures { FedLane p f part.now 0 n result.a × FedLane p 0 part.now n n result.b
-        × FedLane p 0 part.now (2 * n) n result.c × FedLane p 0 part.now (3 * n) n result.d }
+// Of each lane the coefficients below t^k.
+fn clear(p: Modulus, x: &mut [u64; 4])
+    requires { Proper p }
+    ensures { EachLane (λ j. get_or x.new j 0 ≡ get_or x.old j 0 % 2 ^ p.degree) }
 {
-    let mut x = Lanes {
-        a: f,
-        b: 0,
-        c: 0,
-        d: 0,
-    };
-    let mut i: usize = 0;
-    while i < n {
-        x = feed_turn(words, p, x, part, n, i);
-        i += 4;
+    for y in x.iter_mut() {
+        *y = lookups::below(p, *y);
     }
-    Lanes {
-        a: lookups::below(p, x.a),
-        b: lookups::below(p, x.b),
-        c: lookups::below(p, x.c),
-        d: lookups::below(p, x.d),
+}
+
+// Four lanes of n bytes side by side, the first behind f, the others behind nothing.
+fn feed_lanes(table: KeyTable<'_>, f: u64, part: &[u8], n: usize) -> [u64; 4]
+    requires { (f < 2 ^ table.p.degree) × (n % 4 ≡ 0) × (4 * n ≤ length part.now) }
+    ensures { EachLane (λ j. FedLane table.entry.p (get_or (f ∷ []) j 0) part.now (j * n) n (get_or result j 0)) }
+{
+    let mut x = [f, 0, 0, 0];
+    for i in (0..n).step_by(4) {
+        feed_turn(table, &mut x, part, n, i);
     }
+    clear(table.p, &mut x);
+    x
 }
 
 // x·t + y: a lane with the residue y behind what has the residue x, where t is the power of t by the bits of the lane.
@@ -82,82 +63,79 @@ pub fn times_plus(p: Modulus, x: u64, t: u64, y: u64) -> u64
 
 // The square of a residue: the squares of its halves, the low one reduced four bytes at a time behind the high one, which is a residue already
 // since the degree is at most 64.
-fn square(words: &[u64], p: Modulus, x: u64) -> u64
-    requires { TableOf p words.now × (x < 2 ^ p.degree) }
-    ensures { result ≡ rem (polynomial p) (x ⊗ x) }
+fn square(table: KeyTable<'_>, x: u64) -> u64
+    requires { x < 2 ^ table.p.degree }
+    ensures { result ≡ rem (polynomial table.entry.p) (x ⊗ x) }
 {
     let high = gf2::square(x / 4294967296);
     let low = gf2::square(x % 4294967296);
-    let f = lookups::feed_four(words, p, high, low / 4294967296);
-    lookups::feed_four(words, p, f, low % 4294967296)
+    let f = table.feed_four(high, low / 4294967296);
+    table.feed_four(f, low % 4294967296)
 }
 
 // The power t^(32n), by the bits of n from the highest: a square for each, and four bytes of zeros where the bit is one.
-fn power(words: &[u64], p: Modulus, n: u64) -> u64
-    requires { TableOf p words.now × (0 < n) }
-    ensures { result ≡ rem (polynomial p) (2 ^ (32 * n)) }
+fn power(table: KeyTable<'_>, n: u64) -> u64
+    requires { 0 < n }
+    ensures { result ≡ rem (polynomial table.entry.p) (2 ^ (32 * n)) }
 {
-    let mut i = gf2::degree(n);
-    let mut x = lookups::feed_four(words, p, 1, 0);
-    while 0 < i {
-        i -= 1;
-        x = square(words, p, x);
+    let mut x = table.feed_four(1, 0);
+    for i in (0..gf2::degree(n)).rev() {
+        x = square(table, x);
         if (n >> i) % 2 == 1 {
-            x = lookups::feed_four(words, p, x, 0);
+            x = table.feed_four(x, 0);
         }
     }
     x
 }
 
 // The product of x and the residue whose multiples the rows have, which is their word 1: by the bytes of x from the highest.
-fn times(words: &[u64], p: Modulus, rows: &[u64], x: u64) -> u64
-    requires { ReducesByte p words.now × TwoRows p rows.now }
-    ensures { result ≡ rem (polynomial p) (x ⊗ get_or rows.now 1 0) }
+fn times(table: KeyTable<'_>, rows: &[u64], x: u64) -> u64
+    requires { TwoRows table.p rows.now }
+    ensures { result ≡ rem (polynomial table.entry.p) (x ⊗ get_or rows.now 1 0) }
 {
     let mut sum: u64 = 0;
-    let mut i: u32 = 64;
-    while 0 < i {
-        i -= 8;
-        let b = ((x >> i) % 256) as usize;
-        sum = lookups::feed_one(words, p, sum, 0) ^ rows[b % 16] ^ rows[16 + b / 16];
+    for byte in x.to_be_bytes() {
+        let b = byte as usize;
+        sum = table.feed_byte(sum, 0) ^ rows[b % 16] ^ rows[16 + b / 16];
     }
     sum
 }
 
 // Four lanes joined, one behind the other, where t is the power of t by the bits of a lane.
-fn join(words: &[u64], p: Modulus, t: u64, x: Lanes) -> u64
-    requires { ReducesByte p words.now × (t < 2 ^ p.degree) }
-    ensures { result ≡ behind p t (behind p t (behind p t x.a x.b) x.c) x.d }
+fn join(table: KeyTable<'_>, t: u64, x: [u64; 4]) -> u64
+    requires { t < 2 ^ table.p.degree }
+    ensures { result ≡ all_behind table.entry.p t x }
 {
+    let [a, b, c, d] = x;
     let mut rows: [u64; 32] = [0; 32];
-    multiples::fill_rows(&mut rows, 4, 2, p, t);
-    let ab = times(words, p, &rows, x.a) ^ x.b;
-    let abc = times(words, p, &rows, ab) ^ x.c;
-    times(words, p, &rows, abc) ^ x.d
+    multiples::fill_rows(&mut rows, 4, 2, table.p, t);
+    let ab = times(table, &rows, a) ^ b;
+    let abc = times(table, &rows, ab) ^ c;
+    times(table, &rows, abc) ^ d
 }
 
 // A long part: four lanes of n times four bytes, joined by t^(32n), and what is left behind them.
-fn feed_long(words: &[u64], p: Modulus, f: u64, part: &[u8]) -> u64
-    requires { TableOf p words.now × (f < 2 ^ p.degree) × (16 ≤ length part.now) }
-    ensures { result ≡ rem (polynomial p) (value_from f (bits part.now)) }
+fn feed_long(table: KeyTable<'_>, f: u64, part: &[u8]) -> u64
+    requires { (f < 2 ^ table.p.degree) × (16 ≤ length part.now) }
+    ensures { result ≡ rem (polynomial table.entry.p) (value_from f (bits part.now)) }
 {
     let n = part.len() / 16;
     let lane = 4 * n;
     let four = 4 * lane;
-    let x = feed_lanes(words, p, f, part, lane);
-    let t = power(words, p, n as u64);
-    let abcd = join(words, p, t, x);
-    lookups::feed_lane(words, p, abcd, &part[four..])
+    let x = feed_lanes(table, f, part, lane);
+    let t = power(table, n as u64);
+    let abcd = join(table, t, x);
+    table.feed_lane(abcd, &part[four..])
 }
 
 // A part behind a residue. Four lanes pay off from about 300 bytes on: they cost the power of t and three products, about 150 ns for a part of
 // 1,024 bytes, and feed a byte in two fifths of the time that one lane takes (measured under degrees 61, 31 and 16).
-pub fn fed(words: &[u64], p: Modulus, f: u64, part: &[u8]) -> u64
-    requires { TableOf p words.now × (f < 2 ^ p.degree) }
-    ensures { result ≡ rem (polynomial p) (value_from f (bits part.now)) }
+pub fn fed(table: KeyTable<'_>, f: u64, part: &[u8]) -> u64
+    requires { f < 2 ^ table.p.degree }
+    ensures { result ≡ rem (polynomial table.entry.p) (value_from f (bits part.now)) }
 {
     if part.len() < 320 {
-        return lookups::feed_lane(words, p, f, part);
+        return table.feed_lane(f, part);
     }
-    feed_long(words, p, f, part)
+    feed_long(table, f, part)
 }

@@ -1,9 +1,11 @@
 -- `finished` meets its contract: a residue stands for the number.
-use mathlib.Core.Path.{◌≡◌, ap, ◌∙◌}
+use mathlib.Core.Path.{◌≡◌, sym, ap, ◌∙◌}
 use mathlib.Core.List.{List}
 use Prim.Native.Nat.{ℕ, ◌<◌}
 use native.Mathlib.Omega.{arith}
+use lib.ListN.{length}
 use lib.Seq.{take_all}
+use borrow.Author.Tests.{eqb-true}
 use Rattle.gf2.specs.Polynomials.{rem}
 use Rattle.gf2.specs.Moduli.{polynomial}
 use Rattle.gf2.proofs.Monics.{monic-pos}
@@ -19,12 +21,12 @@ key s = polynomial s.args.p
 pub residue-f-requires : goal.residue-f-requires
 residue-f-requires c = c.requires
 
-pub returns-then-rest-eq0 : goal.returns-then-rest-eq0
+pub returns-then-is_empty : goal.returns-then-is_empty
 unfolding value_from bits
-returns-then-rest-eq0 c =
+returns-then-is_empty c =
     c.residue-f.ensures
-    ∙ ap (λ (q : List ℕ). rem (key (goal.at.returns-then-rest-eq0 c).Start) (value_from c.args.x (bits q)))
-    (take_all 0 c.args.rest.now (omega (arith, c.if-rest-eq0.true)))
+    ∙ ap (λ (q : List ℕ). rem (key (goal.at.returns-then-is_empty c).Start) (value_from c.args.x (bits q)))
+    (take_all 0 c.args.rest.now (omega (arith, eqb-true (length c.args.rest.now) 0 (sym c.is_empty.ensures ∙ c.if-is_empty.true))))
 
 pub fed-requires : goal.fed-requires
 fed-requires c =

@@ -7,6 +7,3 @@ use Rattle.shifts.proofs.times.Given as goal
 
 abbrev pub invariant-loop-j : goal.invariant-loop-j
 invariant-loop-j l = (l.j ≤ 8) × (l.sum ⊕ looked 8 l.words (8 - l.j) l.j l.rest ≡ looked 8 l.words 8 0 l.f)
-
-abbrev pub decreases-loop-j : goal.decreases-loop-j
-decreases-loop-j l = 8 - l.j

@@ -3,4 +3,4 @@ use native.Mathlib.Omega.{arith}
 use Rattle.table_lanes.proofs.fed.Goals as goal
 
 pub feed_long-requires : goal.feed_long-requires
-feed_long-requires c = let p = c.requires in (p.0, p.1, omega (arith, c.if-part-lt320.false))
+feed_long-requires c = (c.requires, omega (arith, c.if-part-lt320.false))
