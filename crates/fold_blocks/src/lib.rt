@@ -42,13 +42,13 @@ fn divide_block(q: &mut [u8], s: usize, src: &[u8])
     ensures { rem house_key (folded exponents s (drop (length src.now) q.new) 0)
         ≡ rem house_key (value_from (folded exponents s q.old 0) (bits src.now)) }
 {
-    let mut i: usize = 0;
-    while 64 <= src.len() - i {
-        let end = i + 64;
-        divide_piece(&mut q[i..], s, &src[i..end]);
-        i = end;
+    let pieces = src.len() / 64;
+    for i in 0..pieces {
+        let at = 64 * i;
+        divide_piece(&mut q[at..], s, &src[at..at + 64]);
     }
-    divide_piece(&mut q[i..], s, &src[i..]);
+    let at = 64 * pieces;
+    divide_piece(&mut q[at..], s, &src[at..]);
 }
 
 // A block behind what the 61 words in front stand for.
