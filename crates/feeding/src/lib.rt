@@ -8,17 +8,18 @@
 // functions are for the project's own crates: what they require, every caller proves.
 #![tactic(auto)]
 
-ghost use Rattle.std.specs.Prelude.{◌≡◌, true, false, ◌^◌, ◌<◌, length};
+ghost use Rattle.std.specs.Prelude.{◌≡◌, true, false, List, ℕ, ◌^◌, ◌<◌, length};
 ghost use Rattle.gf2.specs.Polynomials.{◌⊕◌, rem};
 ghost use Rattle.gf2.specs.Moduli.{polynomial, Proper};
 ghost use Rattle.files.specs.Files.{bits, value_from, fingerprint, as_part, part_bits, misused};
-ghost use Rattle.lookups.specs.Groups.{TableOf};
+ghost use Rattle.std.specs.Fn.{FnReturnsAt};
 ghost use Rattle.house.specs.House.{house_key};
 
 use gf2::Modulus;
+use lookups::KeyTable;
 
 // Whole bytes behind a residue, with no table: folded, sparse or by bits.
-pub fn bytes_alone(p: Modulus, f: u64, part: &[u8]) -> u64
+fn bytes_alone(p: Modulus, f: u64, part: &[u8]) -> u64
     requires { Proper p × (f < 2 ^ p.degree) }
     ensures { result ≡ rem (polynomial p) (value_from f (bits part.now)) }
 {
@@ -32,41 +33,52 @@ pub fn bytes_alone(p: Modulus, f: u64, part: &[u8]) -> u64
 }
 
 // Whole bytes behind a residue, by the table of the key: folded or by table.
-pub fn bytes_by_table(words: &[u64], p: Modulus, f: u64, part: &[u8]) -> u64
-    requires { TableOf p words.now × (f < 2 ^ p.degree) }
-    ensures { result ≡ rem (polynomial p) (value_from f (bits part.now)) }
+fn bytes_by_table(table: KeyTable<'_>, f: u64, part: &[u8]) -> u64
+    requires { f < 2 ^ table.p.degree }
+    ensures { result ≡ rem (polynomial table.entry.p) (value_from f (bits part.now)) }
 {
-    if house::is_house(p) {
+    if house::is_house(table.p) {
         return folds::fed_house(f, part);
     }
-    table_lanes::fed(words, p, f, part)
+    table_lanes::fed(table, f, part)
 }
 
-// A part behind a residue, with no table: its whole bytes, and the used bits behind them. A part with no unfinished byte is fed by a call of its own: called
-// from two places, `bytes_alone` stays a function of its own, and is faster so.
+// A part behind a residue: its whole bytes by `bytes`, and the used bits behind them. A part with no unfinished byte is fed by a call of its own: what is
+// called from two places stays a function of its own, and is faster so.
+fn part_by<F: Fn(&[u8]) -> u64>(p: Modulus, f: u64, part: &[u8], used: u32, bytes: F) -> u64
+    requires given { Proper p × (f < 2 ^ p.degree) × (misused (as_part part.now used) ≡ false) }
+    requires callable { F.IsAlwaysCallable bytes }
+    requires feeds { (whole : List ℕ) (r : ℕ) → FnReturnsAt F.Fn bytes whole r → r ≡ rem (polynomial p) (value_from f (bits whole)) }
+    ensures { result ≡ rem (polynomial p) (value_from f (part_bits (as_part part.now used))) }
+{
+    if used == 8 {
+        return bytes(part);
+    }
+    let whole = files::whole_bytes(part, used);
+    let x = bytes(&part[..whole]);
+    files::feed_end(p, x, part, used)
+}
+
+// A part behind a residue, with no table.
 pub fn part_alone(p: Modulus, f: u64, part: &[u8], used: u32) -> u64
     requires { Proper p × (f < 2 ^ p.degree) × (misused (as_part part.now used) ≡ false) }
     ensures { result ≡ rem (polynomial p) (value_from f (part_bits (as_part part.now used))) }
 {
-    if used == 8 {
-        return bytes_alone(p, f, part);
-    }
-    let w = files::whole_bytes(part, used);
-    let x = bytes_alone(p, f, &part[..w]);
-    files::feed_end(p, x, part, used)
+    part_by(p, f, part, used, |whole| bytes_alone(p, f, whole))
 }
 
 // The same by the key's table.
-pub fn part_by_table(words: &[u64], p: Modulus, f: u64, part: &[u8], used: u32) -> u64
-    requires { TableOf p words.now × (f < 2 ^ p.degree) × (misused (as_part part.now used) ≡ false) }
-    ensures { result ≡ rem (polynomial p) (value_from f (part_bits (as_part part.now used))) }
+pub fn part_by_table(table: KeyTable<'_>, f: u64, part: &[u8], used: u32) -> u64
+    requires { (f < 2 ^ table.p.degree) × (misused (as_part part.now used) ≡ false) }
+    ensures { result ≡ rem (polynomial table.entry.p) (value_from f (part_bits (as_part part.now used))) }
 {
-    if used == 8 {
-        return bytes_by_table(words, p, f, part);
-    }
-    let whole = files::whole_bytes(part, used);
-    let looked = bytes_by_table(words, p, f, &part[..whole]);
-    files::feed_end(p, looked, part, used)
+    part_by(
+        table.p,
+        f,
+        part,
+        used,
+        |whole| bytes_by_table(table, f, whole),
+    )
 }
 
 // The residue of the difference of two lists of bytes, which are equally many, with no table: sparse or by bits. The house key's is sparse too: folding
@@ -97,19 +109,15 @@ pub fn page_difference(p: Modulus, old: &[u8], new: &[u8], used: u32) -> u64
 pub fn pages_folded(p: Modulus, size: usize) -> bool
     ensures { result ≡ true → polynomial p ≡ house_key }
 {
-    if size < 512 {
-        return false;
-    }
-    house::is_house(p)
+    512 <= size && house::is_house(p)
 }
 
 // The whole bytes of a page behind the leading 1, by the table of the key: folded, as a page is, or by table.
-pub fn page_by_table(words: &[u64], p: Modulus, page: &[u8]) -> u64
-    requires { TableOf p words.now }
-    ensures { result ≡ rem (polynomial p) (value_from 1 (bits page.now)) }
+pub fn page_by_table(table: KeyTable<'_>, page: &[u8]) -> u64
+    ensures { result ≡ rem (polynomial table.entry.p) (value_from 1 (bits page.now)) }
 {
-    if house::is_house(p) {
+    if house::is_house(table.p) {
         return folds::fed_page(1, page);
     }
-    table_lanes::fed(words, p, 1, page)
+    table_lanes::fed(table, 1, page)
 }

@@ -7,7 +7,7 @@ use Rattle.feeding.proofs.bytes_by_table.Goals as goal
 
 pub fed_house-requires : goal.fed_house-requires
 fed_house-requires c =
-    subst (λ (k : ℕ). c.args.f < 2 ^ k) (c.is_house.ensures c.if-is_house.true).0 c.requires.1
+    subst (λ (k : ℕ). c.args.f < 2 ^ k) (c.is_house.ensures c.if-is_house.true).0 c.requires
 
 pub returns-then-is_house : goal.returns-then-is_house
 returns-then-is_house c =

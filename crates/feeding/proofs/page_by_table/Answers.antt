@@ -13,4 +13,4 @@ returns-then-is_house c =
 
 -- the leading 1 is a residue
 pub fed-requires : goal.fed-requires
-fed-requires c = (c.requires, pow-lt {i = 0} {j = c.args.p.degree} c.requires.0.0)
+fed-requires c = pow-lt {i = 0} {j = c.args.table.p.degree} c.args.table.holds.0.0

@@ -14,10 +14,10 @@ loop-i-preserved c =
     let l = c.loop-i in
     let a = c.args in
     let x = c.finished in
-    let key = polynomial a.p in
-    let begun = ap (rem key) (l.invariant.2 l.i (omega arith)) ∙ c.requires.3 l.i (omega arith) in (
+    let key = polynomial a.table.p in
+    let begun = ap (rem key) (l.invariant.2 l.i (omega arith)) ∙ c.requires.2 l.i (omega arith) in (
       simp length-set l.invariant.0,
       finished_more key a.size a.whole a.pages.now l.marks l.i x.result (omega arith) l.invariant.1
-          (page_finished (monic-pos a.p.degree a.p.low c.requires.0.0.2) a.size a.whole l.i a.pages.now _ x.result c.requires.1 begun x.ensures),
+          (page_finished (monic-pos a.table.p.degree a.table.p.low a.table.holds.0.2) a.size a.whole l.i a.pages.now _ x.result c.requires.0 begun x.ensures),
       λ j b. get_or-set_other l.marks l.i j x.result 0 (λ e. omega (arith, e, b)) ∙ l.invariant.2 j (omega (arith, b)),
     )

@@ -16,10 +16,7 @@ use Rattle.page_marks.proofs.finished.Goals as goal
 use Rattle.page_marks.proofs.finished.Goals.{Start}
 
 abbrev key : Start → ℕ
-key s = polynomial s.args.p
-
-pub residue-f-requires : goal.residue-f-requires
-residue-f-requires c = c.requires
+key s = polynomial s.args.table.p
 
 pub returns-then-is_empty : goal.returns-then-is_empty
 unfolding value_from bits
@@ -30,7 +27,7 @@ returns-then-is_empty c =
 
 pub fed-requires : goal.fed-requires
 fed-requires c =
-    (c.requires, below c.residue-f.ensures (residue-lt c.args.p.degree c.args.p.low c.requires.0.2 c.args.x))
+    below c.residue-f.ensures (residue-lt c.args.table.p.degree c.args.table.p.low c.args.table.holds.0.2 c.args.x)
   where
     below : {x y b : ℕ} → x ≡ y → y < b → x < b
     below e h = rw e h
@@ -39,4 +36,4 @@ pub returns : goal.returns
 returns c =
     c.fed.ensures
     ∙ ap (λ (y : ℕ). rem (key (goal.at.returns c).Start) (value_from y (bits c.args.rest.now))) c.residue-f.ensures
-    ∙ rem-from (monic-pos c.args.p.degree c.args.p.low c.requires.0.2) c.args.x (bits c.args.rest.now)
+    ∙ rem-from (monic-pos c.args.table.p.degree c.args.table.p.low c.args.table.holds.0.2) c.args.x (bits c.args.rest.now)
