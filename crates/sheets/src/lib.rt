@@ -1,5 +1,6 @@
 // Page sheets: the numbers of a sheet, and what a check finds. The definitions are in specs/, their laws in proofs/; the layout in code is in the crate
-// sheet_layout, and the calls are in the crates sheet_writing, sheet_reading and sheet_checking.
+// sheet_layout, and the calls are in the crates sheet_writing, sheet_reading and sheet_checking. `Comparison::map` is for the project's own crates: what
+// it requires, every caller proves.
 #![tactic(auto)]
 
 ghost use Rattle.sheets.specs.Comparisons.{ForPage, PageMapped};
