@@ -1,16 +1,15 @@
 -- Joining true marks, and a page change with true old bits: the claims of specs/Composing.antt, proved.
-use mathlib.Core.Path.{◌≡◌, sym, ◌∙◌}
+use mathlib.Core.Path.{sym, ◌∙◌}
 use mathlib.Core.List.{◌++◌}
-use Prim.Native.Nat.{ℕ, ◌+◌, ◌*◌, ◌<◌}
+use Prim.Native.Nat.{◌+◌, ◌*◌, ◌<◌}
 use native.Mathlib.Omega.{arith}
-use lib.Dec.{ltb, eqb}
+use lib.Dec.{eqb}
 use lib.Pow.{pow_pos}
 use borrow.Author.Tests.{eqb-true, not-false, ltb-false}
 use Rattle.gf2.specs.Polynomials.{monic}
 use Rattle.refusals.proofs.Laws.{done-clear}
 use Rattle.acceptance.specs.declared.Key.{Key}
 use Rattle.acceptance.specs.Keys.{polynomial_of, key_tests}
-use Rattle.files.specs.declared.Mark.{Mark}
 use Rattle.files.specs.Files.{mark_from, part_length, joined_from, replaced}
 use Rattle.files.proofs.Marks.{join, page}
 use Rattle.compose.specs.Composing.{join_tests, join_behind_from, join_in_front_from, page_tests, replace_page, BehindTrue, InFrontTrue, PageTrue}

@@ -11,56 +11,41 @@ ghost use Rattle.compose.specs.Composing.{marks_tests, join_tests, join_behind_f
 ghost use Rattle.compose.specs.Composing.{page_tests, replace_page};
 ghost use Rattle.compose.specs.PlainMarks.{join_plain_behind, join_plain_in_front};
 
-use acceptance::Key;
 use files::Mark;
 use gf2::Modulus;
-use keys::Tested;
-use marks::{Fed, Running};
+use marks::{RefusedMark, Running};
 use refusals::Refusal;
 
-// Two marks joined, after the test of the key. The running mark m goes back where they are refused. A key is copied field by field, as in `marks`.
-fn join_under(p: Modulus, start: u64, m: Running, first: Mark, second: Mark) -> Fed
+// Two marks joined, after the test of the key. The running mark m goes back where they are refused.
+fn join_under(
+    p: Modulus,
+    start: u64,
+    m: Running,
+    first: Mark,
+    second: Mark,
+) -> Result<Running, RefusedMark>
     requires { Opened m.key p × (start < 2) }
     ensures { fed result ≡ fed_under m.key (first_of (marks_tests (polynomial_of m.key) first second) (mark_in m)
         (joined_from start (polynomial_of m.key) first second)) }
 {
-    let key = Key {
-        degree: m.key.degree,
-        word: m.key.word,
-    };
     let f = first.fingerprint;
     let g = second.fingerprint;
-    let a = first.length;
-    let b = second.length;
-    if !refusals::fits(a, b) {
-        return Fed::Refused(Refusal::TooLong, m);
+    if !refusals::fits(first.length, second.length) {
+        return Err(m.refused(Refusal::TooLong));
     }
-    if !gf2::is_residue(p, f) {
-        return Fed::Refused(Refusal::MarkNotReduced, m);
+    if !gf2::is_residue(p, f) || !gf2::is_residue(p, g) {
+        return Err(m.refused(Refusal::MarkNotReduced));
     }
-    if !gf2::is_residue(p, g) {
-        return Fed::Refused(Refusal::MarkNotReduced, m);
-    }
-    Fed::Next(Running {
-        key: key,
-        fingerprint: files::joined_residue(p, start, f, g, b),
-        length: a + b,
-    })
+    let joined = files::joined_residue(p, start, f, g, second.length);
+    Ok(m.with_mark(joined, first.length + second.length))
 }
 
 // Two marks joined.
-fn join(start: u64, m: Running, first: Mark, second: Mark) -> Fed
+fn join(start: u64, m: Running, first: Mark, second: Mark) -> Result<Running, RefusedMark>
     requires { start < 2 }
     ensures { fed result ≡ fed_under m.key (first_of (join_tests m.key first second) (mark_in m) (joined_from start (polynomial_of m.key) first second)) }
 {
-    let key = Key {
-        degree: m.key.degree,
-        word: m.key.word,
-    };
-    match keys::test(key) {
-        Tested::Refused(r) => Fed::Refused(r, m),
-        Tested::Accepted(p) => join_under(p, start, m, first, second),
-    }
+    join_under(m.opened()?, start, m, first, second)
 }
 
 // Number 10 does not apply to a page of n bits, from the byte at a place on, in a file of so many bits. The page's end is not made: it might not
@@ -84,41 +69,37 @@ fn replace(
     old_used: u32,
     new: &[u8],
     new_used: u32,
-) -> Fed
+) -> Result<Running, RefusedMark>
     requires { Opened m.key p }
     ensures { fed result ≡ fed_under m.key (first_of (page_tests (polynomial_of m.key) (mark_in m) place (as_part old.now old_used)
         (as_part new.now new_used)) (mark_in m)
         (replaced (polynomial_of m.key) (mark_in m) place (as_part old.now old_used) (as_part new.now new_used))) }
 {
-    let key = m.key;
-    let length = m.length;
     let n = files::part_length(old, old_used);
     let other = files::part_length(new, new_used);
-    if !refusals::within(length, n, other) {
-        return Fed::Refused(Refusal::TooLong, m);
+    if !refusals::within(m.length, n, other) {
+        return Err(m.refused(Refusal::TooLong));
     }
     if !gf2::is_residue(p, m.fingerprint) {
-        return Fed::Refused(Refusal::MarkNotReduced, m);
+        return Err(m.refused(Refusal::MarkNotReduced));
     }
     if n != other {
-        return Fed::Refused(Refusal::PageLengthsDiffer, m);
+        return Err(m.refused(Refusal::PageLengthsDiffer));
     }
-    if !page_within(length, place, n) {
-        return Fed::Refused(Refusal::PagePastEnd, m);
+    if !page_within(m.length, place, n) {
+        return Err(m.refused(Refusal::PagePastEnd));
     }
-    if files::is_misused(old, old_used) | files::is_misused(new, new_used) {
-        return Fed::Refused(Refusal::FinalByte, m);
+    if files::is_misused(old, old_used) || files::is_misused(new, new_used) {
+        return Err(m.refused(Refusal::FinalByte));
     }
     let change = feeding::page_difference(p, old, new, old_used);
-    Fed::Next(Running {
-        key: key,
-        fingerprint: files::replaced_residue(p, m.fingerprint, change, length - n - 8 * place),
-        length: length,
-    })
+    let behind = m.length - n - 8 * place;
+    let replaced = files::replaced_residue(p, m.fingerprint, change, behind);
+    Ok(m.with_mark(replaced, m.length))
 }
 
 // The other mark's file goes behind the running mark's, both with one start.
-fn join_behind_from(start: u64, m: Running, other: Mark) -> Fed
+fn join_behind_from(start: u64, m: Running, other: Mark) -> Result<Running, RefusedMark>
     requires { start < 2 }
     ensures { fed result ≡ fed_under m.key (join_behind_from start m.key (mark_in m) other) }
 {
@@ -126,7 +107,7 @@ fn join_behind_from(start: u64, m: Running, other: Mark) -> Fed
 }
 
 // The other mark's file goes in front of the running mark's, both with one start.
-fn join_in_front_from(start: u64, m: Running, other: Mark) -> Fed
+fn join_in_front_from(start: u64, m: Running, other: Mark) -> Result<Running, RefusedMark>
     requires { start < 2 }
     ensures { fed result ≡ fed_under m.key (join_in_front_from start m.key (mark_in m) other) }
 {
@@ -134,28 +115,28 @@ fn join_in_front_from(start: u64, m: Running, other: Mark) -> Fed
 }
 
 // The other mark's file goes behind the running mark's. Numbers 1, 2, 7, 8.
-pub fn join_behind(m: Running, other: Mark) -> Fed
+pub fn join_behind(m: Running, other: Mark) -> Result<Running, RefusedMark>
     ensures { fed result ≡ fed_under m.key (join_behind m.key (mark_in m) other) }
 {
     join_behind_from(1, m, other)
 }
 
 // The other mark's file goes in front of the running mark's. Numbers 1, 2, 7, 8.
-pub fn join_in_front(m: Running, other: Mark) -> Fed
+pub fn join_in_front(m: Running, other: Mark) -> Result<Running, RefusedMark>
     ensures { fed result ≡ fed_under m.key (join_in_front m.key (mark_in m) other) }
 {
     join_in_front_from(1, m, other)
 }
 
 // The same of plain marks: the other mark's file goes behind. Numbers 1, 2, 7, 8.
-pub fn join_plain_behind(m: Running, other: Mark) -> Fed
+pub fn join_plain_behind(m: Running, other: Mark) -> Result<Running, RefusedMark>
     ensures { fed result ≡ fed_under m.key (join_plain_behind m.key (mark_in m) other) }
 {
     join_behind_from(0, m, other)
 }
 
 // The same of plain marks: the other mark's file goes in front. Numbers 1, 2, 7, 8.
-pub fn join_plain_in_front(m: Running, other: Mark) -> Fed
+pub fn join_plain_in_front(m: Running, other: Mark) -> Result<Running, RefusedMark>
     ensures { fed result ≡ fed_under m.key (join_plain_in_front m.key (mark_in m) other) }
 {
     join_in_front_from(0, m, other)
@@ -170,12 +151,9 @@ pub fn replace_page(
     old_used: u32,
     new: &[u8],
     new_used: u32,
-) -> Fed
+) -> Result<Running, RefusedMark>
     ensures { fed result ≡ fed_under m.key (replace_page m.key (mark_in m) place (as_part old.now old_used)
         (as_part new.now new_used)) }
 {
-    match keys::test(m.key) {
-        Tested::Refused(r) => Fed::Refused(r, m),
-        Tested::Accepted(p) => replace(p, m, place, old, old_used, new, new_used),
-    }
+    replace(m.opened()?, m, place, old, old_used, new, new_used)
 }

@@ -9,9 +9,7 @@ ghost use Rattle.c_interface.specs.Interface.{key_at, mark_at};
 ghost use Rattle.compose.specs.Composing.{join_behind, join_in_front, replace_page};
 ghost use Rattle.compose.specs.PlainMarks.{join_plain_behind, join_plain_in_front};
 
-use acceptance::Key;
 use files::Mark;
-use marks::Running;
 
 // The file of the mark (other_fingerprint, other_bits) goes behind the file of the mark in the two places; lengths are in bits.
 // Numbers 1, 2, 7, 8.
@@ -27,12 +25,7 @@ pub extern "C" fn gfp_join_behind(
     ensures { (result ≡ number_of (join_behind (key_at degree word) (mark_at fingerprint.old bits.old) (mark_at other_fingerprint other_bits)))
         × (mark_at fingerprint.new bits.new ≡ state_of (join_behind (key_at degree word) (mark_at fingerprint.old bits.old) (mark_at other_fingerprint other_bits))) }
 {
-    let key = Key { degree, word };
-    let m = Running {
-        key: key,
-        fingerprint: *fingerprint,
-        length: *bits,
-    };
+    let m = c_interface::running(degree, word, *fingerprint, *bits);
     let behind = Mark {
         fingerprint: other_fingerprint,
         length: other_bits,
@@ -53,12 +46,7 @@ pub extern "C" fn gfp_join_in_front(
     ensures { (result ≡ number_of (join_in_front (key_at degree word) (mark_at fingerprint.old bits.old) (mark_at other_fingerprint other_bits)))
         × (mark_at fingerprint.new bits.new ≡ state_of (join_in_front (key_at degree word) (mark_at fingerprint.old bits.old) (mark_at other_fingerprint other_bits))) }
 {
-    let key = Key { degree, word };
-    let m = Running {
-        key: key,
-        fingerprint: *fingerprint,
-        length: *bits,
-    };
+    let m = c_interface::running(degree, word, *fingerprint, *bits);
     let front = Mark {
         fingerprint: other_fingerprint,
         length: other_bits,
@@ -79,12 +67,7 @@ pub extern "C" fn gfp_join_plain_behind(
     ensures { (result ≡ number_of (join_plain_behind (key_at degree word) (mark_at fingerprint.old bits.old) (mark_at other_fingerprint other_bits)))
         × (mark_at fingerprint.new bits.new ≡ state_of (join_plain_behind (key_at degree word) (mark_at fingerprint.old bits.old) (mark_at other_fingerprint other_bits))) }
 {
-    let key = Key { degree, word };
-    let m = Running {
-        key: key,
-        fingerprint: *fingerprint,
-        length: *bits,
-    };
+    let m = c_interface::running(degree, word, *fingerprint, *bits);
     let other = Mark {
         fingerprint: other_fingerprint,
         length: other_bits,
@@ -105,12 +88,7 @@ pub extern "C" fn gfp_join_plain_in_front(
     ensures { (result ≡ number_of (join_plain_in_front (key_at degree word) (mark_at fingerprint.old bits.old) (mark_at other_fingerprint other_bits)))
         × (mark_at fingerprint.new bits.new ≡ state_of (join_plain_in_front (key_at degree word) (mark_at fingerprint.old bits.old) (mark_at other_fingerprint other_bits))) }
 {
-    let key = Key { degree, word };
-    let m = Running {
-        key: key,
-        fingerprint: *fingerprint,
-        length: *bits,
-    };
+    let m = c_interface::running(degree, word, *fingerprint, *bits);
     let other = Mark {
         fingerprint: other_fingerprint,
         length: other_bits,
@@ -137,12 +115,7 @@ pub extern "C" fn gfp_replace_page(
         × (mark_at fingerprint.new bits.new ≡ state_of (replace_page (key_at degree word) (mark_at fingerprint.old bits.old) place
         (as_part old_page.now old_used) (as_part new_page.now new_used))) }
 {
-    let key = Key { degree, word };
-    let m = Running {
-        key: key,
-        fingerprint: *fingerprint,
-        length: *bits,
-    };
+    let m = c_interface::running(degree, word, *fingerprint, *bits);
     c_interface::store(
         compose::replace_page(m, place, old_page, old_used, new_page, new_used),
         fingerprint,

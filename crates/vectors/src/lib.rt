@@ -4,7 +4,7 @@
 ghost use Rattle.std.specs.Prelude.{◌≡◌, ◌+◌, ◌%◌, ◌^◌, if◌then◌else◌};
 
 use acceptance::Key;
-use marks::{Fed, Running};
+use marks::{RefusedMark, Running};
 use std::io;
 use std::io::Print;
 
@@ -12,10 +12,7 @@ use std::io::Print;
 pub fn key(degree: u32, word: u64) -> Key
     ensures { result ≡ record { degree = degree; word = word } }
 {
-    Key {
-        degree: degree,
-        word: word,
-    }
+    Key { degree, word }
 }
 
 pub fn text(rt: &impl Print, bytes: &[u8]) -> io::Result<()> {
@@ -36,7 +33,7 @@ pub fn hex(rt: &impl Print, label: &[u8], n: u64) -> io::Result<()> {
 
 // A refusal's number.
 pub fn refused(rt: &impl Print, number: u32) -> io::Result<()> {
-    decimal(rt, b"refused ", number as u64)
+    decimal(rt, b"refused ", u64::from(number))
 }
 
 // A mark: its fingerprint, and its length in bits.
@@ -47,13 +44,13 @@ pub fn mark(rt: &impl Print, m: Running) -> io::Result<()> {
 }
 
 // A mark, or the refusal's number with the mark that went back.
-pub fn fed_or_refused(rt: &impl Print, answer: Fed) -> io::Result<()> {
+pub fn fed_or_refused(rt: &impl Print, answer: Result<Running, RefusedMark>) -> io::Result<()> {
     match answer {
-        Fed::Next(m) => mark(rt, m),
-        Fed::Refused(r, m) => {
-            refused(rt, refusals::number(r))?;
+        Ok(m) => mark(rt, m),
+        Err(refused_mark) => {
+            refused(rt, refusals::number(refused_mark.refusal))?;
             text(rt, b", mark ")?;
-            mark(rt, m)
+            mark(rt, refused_mark.mark)
         }
     }
 }
@@ -62,8 +59,5 @@ pub fn fed_or_refused(rt: &impl Print, answer: Fed) -> io::Result<()> {
 pub fn counted(count: u64, so: bool) -> u64
     ensures { result ≡ (if so then (count + 1) % 2 ^ 64 else count) }
 {
-    if so {
-        return std::num::wrapping_add_u64(count, 1);
-    }
-    count
+    count.wrapping_add(u64::from(so))
 }

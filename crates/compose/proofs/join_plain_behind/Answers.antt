@@ -1,5 +1,0 @@
--- `compose::join_plain_behind` meets its contract: that of `join_behind_from` with the start 0.
-use Rattle.compose.proofs.join_plain_behind.Goals as goal
-
-pub returns : goal.returns
-returns c = c.join_behind_from.ensures
