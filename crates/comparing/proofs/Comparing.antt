@@ -1,14 +1,14 @@
 -- Laws of comparing two lists byte by byte, and of flagged windows.
-use mathlib.Core.Path.{◌≡◌, refl, ap}
-use mathlib.Core.Bool.{Bool, true, false, not, ◌||◌}
+use mathlib.Core.Path.{◌≡◌, refl, sym, ap, ◌∙◌}
+use mathlib.Core.Bool.{Bool, true, false, true≢false, not, ◌||◌}
 use mathlib.Core.List.{List, [], ◌∷◌}
 use Prim.Native.Nat.{ℕ, ◌+◌, ◌-◌, ◌≤◌, ◌<◌}
 use native.Mathlib.Decide.{dec_lt}
-use native.Mathlib.Numerals.{add-one}
 use native.Mathlib.Omega.{arith}
-use borrow.Author.Tests.{eq-eqb, ne_eqb}
-use lib.ListN.{length, drop, get_or, drop_of_length-le}
-use lib.Seq.{drop-cons}
+use borrow.Author.Tests.{eq-eqb}
+use lib.ListN.{length, take, drop, get_or}
+use Rattle.std.specs.Prelude.{Option, Some, None}
+use Rattle.std.specs.Bool.{Decides}
 use Rattle.lists.specs.Lists.{same}
 use Rattle.lists.proofs.Lists.{same-eq}
 use Rattle.lists.proofs.Truth.{or-neither}
@@ -25,19 +25,22 @@ unfolding same
 same_refl [] = refl
 same_refl (x ∷ a) = rw (eq-eqb x x refl) (same_refl a)
 
-module _ (a b : List ℕ) where
-  module _ (j : ℕ) (h : j < length a) (g : j < length b) where
-    pub same_step : get_or a j 0 ≡ get_or b j 0 → same (drop j a) (drop j b) ≡ same (drop (j + 1) a) (drop (j + 1) b)
-    unfolding same
-    same_step e = rw (add-one j, drop-cons a j 0 h, drop-cons b j 0 g, eq-eqb (get_or a j 0) (get_or b j 0) e)
+false-unless : (b : Bool) → (b ≡ true → ⊥) → b ≡ false
+false-unless true n = absurd (n refl)
+false-unless false n = refl
 
-    pub same_differs : (get_or a j 0 ≡ get_or b j 0 → ⊥) → same (drop j a) (drop j b) ≡ false
-    unfolding same
-    same_differs e = rw (drop-cons a j 0 h, drop-cons b j 0 g, ne_eqb (get_or a j 0) (get_or b j 0) e)
+-- the slice that the code compares is the window
+cut : (text : List ℕ) (at m : ℕ) → take (at + m - at) (drop at text) ≡ window m text at
+unfolding window
+cut text at m = let e : at + m - at ≡ m = omega arith in ap (λ (n : ℕ). take n (drop at text)) e
 
-  pub same_end : (j : ℕ) → length a ≤ j → length b ≤ j → same (drop j a) (drop j b) ≡ true
-  unfolding same
-  same_end j h g = rw (drop_of_length-le a {i = j} h, drop_of_length-le b {i = j} g)
+-- what a comparison of it with the pattern says
+pub compared : (text pattern : List ℕ) (at : ℕ) (b : Bool) → Decides b (take (at + length pattern - at) (drop at text) ≡ pattern)
+    → same (window (length pattern) text at) pattern ≡ b
+compared text pattern at true d = ap (λ (x : List ℕ). same x pattern) (sym (cut text at (length pattern)) ∙ d.0 refl) ∙ same_refl pattern
+compared text pattern at false d =
+    false-unless (same (window (length pattern) text at) pattern)
+    (λ t. true≢false (sym (d.1 (cut text at (length pattern) ∙ same-is (window (length pattern) text at) pattern t))))
 
 -- ---- flagged windows
 
@@ -53,9 +56,11 @@ module _ (flags : List Bool) where
   none_more first i next s before last = none-join first i next before (λ j l h. let e : j ≡ i = omega arith in rw e last)
 
   -- windows in front without a flag
-  pub next-further : (first i size next : ℕ) → first ≤ i → NoneFlagged flags first i → NextFlagged flags i size next → NextFlagged flags first size next
-  next-further first i size next s before f =
-      record { low = omega (arith, f.low); high = f.high; none = none-join first i next before f.none; flagged = f.flagged }
+  pub next-further : (first i size : ℕ) (next : Option ℕ) → first ≤ i → NoneFlagged flags first i → NextFlagged flags i size next
+      → NextFlagged flags first size next
+  next-further first i size None s before f = none-join first i size before f
+  next-further first i size (Some n) s before f =
+      record { low = omega (arith, f.low); high = f.high; none = none-join first i n before f.none; flagged = f.flagged }
 
   abbrev flag : ℕ → Bool
   flag i = get_or flags i false

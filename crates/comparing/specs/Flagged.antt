@@ -1,5 +1,5 @@
 -- For inner functions: a reader of the promises need not read this page. What the comparison of flagged windows with the pattern finds.
-use Rattle.std.specs.Prelude.{◌≡◌, Bool, true, false, ◌&&◌, not, List, ℕ, ◌-◌, ◌≤◌, ◌<◌, length, get_or}
+use Rattle.std.specs.Prelude.{◌≡◌, Bool, true, false, ◌&&◌, not, List, ℕ, ◌-◌, ◌≤◌, ◌<◌, length, get_or, Option, MatchOption}
 use Rattle.lists.specs.Lists.{passing, same}
 use Rattle.rolling.specs.Rolling.{window}
 
@@ -7,12 +7,16 @@ use Rattle.rolling.specs.Rolling.{window}
 abbrev pub NoneFlagged : List Bool → ℕ → ℕ → Type 0
 NoneFlagged flags first next = (j : ℕ) → first ≤ j → j < next → get_or flags j false ≡ false
 
--- the first flagged window from `first` on, or `size` where there is none
-pub record NextFlagged (flags : List Bool) (first size next : ℕ) : Type 0 where
-  pub low : first ≤ next
-  pub high : next ≤ size
-  pub none : NoneFlagged flags first next
-  pub flagged : next < size → get_or flags next false ≡ true
+-- i is the first flagged window of those from `first` to `size`
+pub record FirstFlagged (flags : List Bool) (first size i : ℕ) : Type 0 where
+  pub low : first ≤ i
+  pub high : i < size
+  pub none : NoneFlagged flags first i
+  pub flagged : get_or flags i false ≡ true
+
+-- the first flagged window from `first` on, if there is one below `size`
+abbrev pub NextFlagged : List Bool → ℕ → ℕ → Option ℕ → Type 0
+NextFlagged flags first size next = MatchOption next (NoneFlagged flags first size) (λ i. FirstFlagged flags first size i)
 
 -- a flagged window with the pattern's bytes, and one with other bytes
 unfoldable pub flagged_place : List Bool → List ℕ → List ℕ → ℕ → ℕ → Bool

@@ -6,9 +6,9 @@ ghost use Rattle.std.proofs.lemmas.List.Edits.{sets};
 ghost use Rattle.refusals.specs.Refusals.{longest};
 ghost use Rattle.comparing.specs.Flagged.{NoneFlagged, NextFlagged, flagged_places, flagged_alarms};
 
-// How many places and how many false alarms were found so far.
+// The number of places, and the number of false alarms.
 #[derive(Clone, Copy)]
-pub struct Tally {
+pub struct Counts {
     pub places: u32,
     pub alarms: u32,
 }
@@ -29,31 +29,26 @@ fn one_of_eight(flags: &[bool; 1024], i: usize) -> bool
     one_of_four(flags, i) | one_of_four(flags, i + 4)
 }
 
-// The first flagged window from the given one on, or `size` where there is none.
-fn flagged_from(flags: &[bool; 1024], first: usize, size: usize) -> usize
+// The first flagged window from the given one on, if there is one.
+fn flagged_from(flags: &[bool; 1024], first: usize, size: usize) -> Option<usize>
     requires { (first ≤ size) × (size ≤ 1024) }
     ensures { NextFlagged flags.now first size result }
 {
-    let mut i = first;
-    while i < size {
+    for i in first..size {
         if flags[i] {
-            return i;
+            return Some(i);
         }
-        i += 1;
     }
-    i
+    None
 }
 
 // The same, eight windows at a time as long as none of them is flagged.
-fn next_flagged(flags: &[bool; 1024], first: usize, size: usize) -> usize
+fn next_flagged(flags: &[bool; 1024], first: usize, size: usize) -> Option<usize>
     requires { (first ≤ size) × (size ≤ 1024) }
     ensures { NextFlagged flags.now first size result }
 {
     let mut i = first;
-    while 8 <= size - i {
-        if one_of_eight(flags, i) {
-            return flagged_from(flags, i, size);
-        }
+    while 8 <= size - i && !one_of_eight(flags, i) {
         i += 8;
     }
     flagged_from(flags, i, size)
@@ -67,9 +62,9 @@ pub fn compare(
     flags: &[bool; 1024],
     from: usize,
     size: usize,
-    found: Tally,
+    found: Counts,
     places: &mut [u32],
-) -> Tally
+) -> Counts
     requires { (size ≤ 1024)
         × (from + size + length pattern.now ≤ length text.now + 1)
         × (0 < length pattern.now)
@@ -82,28 +77,20 @@ pub fn compare(
         (flagged_places flags.now text.now pattern.now from size)) }
 {
     let m = pattern.len();
-    let mut count = found.places;
-    let mut alarms = found.alarms;
-    let mut i = next_flagged(flags, 0, size);
-    'windows: while i < size {
+    let mut counts = found;
+    let mut next = next_flagged(flags, 0, size);
+    while let Some(i) = next {
         let at = from + i;
-        i = next_flagged(flags, i + 1, size);
-        let mut j: usize = 0;
-        while j < m {
-            if text[at + j] != pattern[j] {
-                alarms += 1;
-                continue 'windows;
+        if &text[at..at + m] == pattern {
+            let n = counts.places as usize;
+            if n < places.len() {
+                places[n] = at as u32;
             }
-            j += 1;
+            counts.places += 1;
+        } else {
+            counts.alarms += 1;
         }
-        let n = count as usize;
-        if n < places.len() {
-            places[n] = at as u32;
-        }
-        count += 1;
+        next = next_flagged(flags, i + 1, size);
     }
-    Tally {
-        places: count,
-        alarms,
-    }
+    counts
 }

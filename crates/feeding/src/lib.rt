@@ -25,8 +25,7 @@ pub fn bytes_alone(p: Modulus, f: u64, part: &[u8]) -> u64
     if house::is_house(p) {
         return folds::fed_house(f, part);
     }
-    let n = sparse::bytes_at_once(p);
-    if 0 < n {
+    if let Some(n) = sparse::bytes_at_once(p) {
         return sparse::fed(p, n, f, part);
     }
     files::feed_bytes(p, f, part)
@@ -76,8 +75,7 @@ fn bytes_difference(p: Modulus, old: &[u8], new: &[u8]) -> u64
     requires { Proper p × (length old.now ≡ length new.now) }
     ensures { result ≡ rem (polynomial p) (value_from 0 (bits old.now) ⊕ value_from 0 (bits new.now)) }
 {
-    let n = sparse::bytes_at_once(p);
-    if 0 < n {
+    if let Some(n) = sparse::bytes_at_once(p) {
         return sparse::difference(p, n, old, new);
     }
     files::difference(p, old, new)

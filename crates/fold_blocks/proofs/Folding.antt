@@ -2,11 +2,11 @@
 use mathlib.Core.Path.{◌≡◌, refl, sym, ap, ap₂, ◌∙◌}
 use mathlib.Core.List.{List, [], ◌∷◌, ◌++◌}
 use Prim.Native.Nat.{ℕ, suc, ◌+◌, ◌-◌, ◌*◌, ◌^◌, ◌≤◌, ◌<◌}
-use native.Mathlib.Nat.{le_refl, zero-add, add_comm, mul_assoc, mul_comm, mul-le-mul_right, mul-lt-mul_of_pos_right}
-use native.Mathlib.Numerals.{add-one}
+use native.Mathlib.Nat.{le_refl, zero-add, mul_assoc, mul_comm, mul-le-mul_right, mul-lt-mul_of_pos_right}
 use native.Mathlib.Omega.{arith}
 use lib.ListN.{length, get_or, set, take, drop, take-append-drop, length-drop, length-set, drop_of_length-le}
-use lib.Seq.{drop-drop, length-take-le, take-add, take_all, take-suc, take-take, take-set-le, take-suc-set, drop-set-lt, get_or-drop, get_or-set_same}
+use lib.Seq.{paste, drop-drop, length-take-le, take-add, take_all, take-take, take-set-le, get_or-set_same}
+use Rattle.std.proofs.lemmas.List.Edits.{take-paste}
 use Rattle.gf2.specs.Polynomials.{◌⊕◌, ◌⊗◌, rem}
 use Rattle.gf2.proofs.Sums.{⊕_shl, ⊕-lt, ⊕_swap, xor}
 use Rattle.gf2.proofs.Products.{⊗-zero}
@@ -154,26 +154,14 @@ folding k s pos q src i start b h l byte es low inv =
 
 -- ---- the last bytes come to the front
 
-module _ (q₀ q : List ℕ) (n i : ℕ) (h : i + n < length q₀) (l : i < length q) (e : drop i q ≡ drop i q₀) where
-  read : get_or q (i + n) 0 ≡ get_or (drop n q₀) i 0
-  read =
-      sym (get_or-drop i q n 0) ∙ ap (λ (r : List ℕ). get_or r n 0) e ∙ get_or-drop i q₀ n 0
-      ∙ ap (λ (j : ℕ). get_or q₀ j 0) (add_comm i n)
-      ∙ sym (get_or-drop n q₀ i 0)
-
-  pub kept_next : take i q ≡ take i (drop n q₀) → take (i + 1) (set q i (get_or q (i + n) 0)) ≡ take (i + 1) (drop n q₀)
-  kept_next t =
-      rw add-one
-      (take-suc-set q i (get_or q (i + n) 0) l
-      ∙ ap₂ (λ (r : List ℕ) (x : ℕ). r ++ (x ∷ [])) t read
-      ∙ sym (take-suc (drop n q₀) i 0 (rw length-drop (omega arith))))
-
-  pub rest-next : drop (i + 1) (set q i (get_or q (i + n) 0)) ≡ drop (i + 1) q₀
-  rest-next =
-      drop-set-lt (i + 1) q i (get_or q (i + n) 0) (omega arith)
-      ∙ sym (drop-drop 1 i q)
-      ∙ ap (drop 1) e
-      ∙ drop-drop 1 i q₀
+pub kept_last : (q : List ℕ) (n k : ℕ) → n + k ≤ length q → take k (paste q 0 (drop n q) (n + k - n)) ≡ take k (drop n q)
+kept_last q n k h =
+    ap (λ (j : ℕ). take k (paste q 0 (drop n q) j)) e
+    ∙ ap (λ (j : ℕ). take j (paste q 0 (drop n q) k)) (sym (zero-add k))
+    ∙ take-paste q 0 (drop n q) k (omega arith) (rw length-drop (omega arith))
+  where
+    e : n + k - n ≡ k
+    e = omega arith
 
 -- ---- a part in blocks
 
@@ -202,3 +190,17 @@ module _ {key : ℕ} (pos : 0 < key) where
     where
       end : b ≡ i + (b - i)
       end = omega arith
+
+  -- y stands for x and a block, with the rest behind it
+  pub block_before : (p block rest : List ℕ) (x y : ℕ) → p ≡ block ++ rest → rem key y ≡ rem key (value_from x (bits block))
+      → rem key (value_from y (bits rest)) ≡ rem key (value_from x (bits p))
+  block_before p block rest x y e h =
+      same_start (value_from x (bits block)) y (bits rest) h
+      ∙ ap (rem key)
+      (sym (value-append x (bits block) (bits rest)) ∙ ap (value_from x) (sym (bits-append block rest)) ∙ ap (λ (r : List ℕ). value_from x (bits r)) (sym e))
+
+-- nothing is left
+pub nothing_behind : (key x : ℕ) (p : List ℕ) → length p ≡ 0 → rem key (value_from x (bits p)) ≡ rem key x
+unfolding value_from bits
+nothing_behind key x [] e = refl
+nothing_behind key x (b ∷ p) e = absurd (omega arith)

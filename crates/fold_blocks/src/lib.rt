@@ -3,7 +3,7 @@
 // functions are for the project's own crates: what they require, every caller proves.
 #![tactic(auto)]
 
-ghost use Rattle.std.specs.Prelude.{◌≡◌, ◌+◌, ◌-◌, ◌*◌, ◌≤◌, ◌<◌, length, take, drop};
+ghost use Rattle.std.specs.Prelude.{◌≡◌, ◌+◌, ◌*◌, ◌≤◌, ◌<◌, length, drop};
 ghost use Rattle.gf2.specs.Polynomials.{rem};
 ghost use Rattle.files.specs.Files.{bits, value_from};
 ghost use Rattle.house.specs.House.{house_key};
@@ -18,10 +18,8 @@ fn divide(q: &mut [u8], s: usize, src: &[u8])
     let two = 2 * s;
     let five = 5 * s;
     let all = house::DEGREE as usize * s;
-    let mut i: usize = 0;
-    while i < src.len() {
+    for i in 0..src.len() {
         q[i + all] = src[i] ^ q[i + five] ^ q[i + two] ^ q[i + s] ^ q[i];
-        i += 1;
     }
 }
 
@@ -44,25 +42,13 @@ fn divide_block(q: &mut [u8], s: usize, src: &[u8])
     ensures { rem house_key (folded exponents s (drop (length src.now) q.new) 0)
         ≡ rem house_key (value_from (folded exponents s q.old 0) (bits src.now)) }
 {
-    let mut i: usize = 0;
-    while 64 <= src.len() - i {
-        let end = i + 64;
-        divide_piece(&mut q[i..], s, &src[i..end]);
-        i = end;
+    let pieces = src.len() / 64;
+    for i in 0..pieces {
+        let at = 64 * i;
+        divide_piece(&mut q[at..], s, &src[at..at + 64]);
     }
-    divide_piece(&mut q[i..], s, &src[i..]);
-}
-
-// The k bytes from place n on come to the front.
-fn keep_last(q: &mut [u8], n: usize, k: usize)
-    requires { n + k ≤ length q.old }
-    ensures { take k q.new ≡ take k (drop n q.old) }
-{
-    let mut i: usize = 0;
-    while i < k {
-        q[i] = q[i + n];
-        i += 1;
-    }
+    let at = 64 * pieces;
+    divide_piece(&mut q[at..], s, &src[at..]);
 }
 
 // A block behind what the 61 words in front stand for.
@@ -72,15 +58,8 @@ fn turn(q: &mut [u8], s: usize, src: &[u8])
         ≡ rem house_key (value_from (folded exponents s q.old 0) (bits src.now)) }
 {
     divide_block(q, s, src);
-    keep_last(q, src.len(), house::DEGREE as usize * s);
-}
-
-// Where the block from place `at` on ends, of n bytes.
-fn block_end(at: usize, size: usize, n: usize) -> usize
-    requires { (0 < size) × (at < n) }
-    ensures { (at < result) × (result ≤ n) × (result - at ≤ size) }
-{
-    if n - at < size { n } else { at + size }
+    let n = src.len();
+    q.copy_within(n..n + house::DEGREE as usize * s, 0);
 }
 
 // A part behind what the 61 words in front stand for, a block a turn.
@@ -89,10 +68,7 @@ pub fn fold(q: &mut [u8], s: usize, size: usize, part: &[u8])
     ensures { rem house_key (folded exponents s q.new 0)
         ≡ rem house_key (value_from (folded exponents s q.old 0) (bits part.now)) }
 {
-    let mut at: usize = 0;
-    while at < part.len() {
-        let end = block_end(at, size, part.len());
-        turn(q, s, &part[at..end]);
-        at = end;
+    for block in part.chunks(size) {
+        turn(q, s, block);
     }
 }

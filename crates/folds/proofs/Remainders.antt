@@ -6,6 +6,7 @@ use native.Mathlib.Nat.{add-zero}
 use native.Mathlib.Omega.{arith}
 use lib.ListN.{length, get_or, set, take, drop, replicate, length-set}
 use lib.Seq.{drop-drop, take-set-le, drop-set-lt, get_or-drop, get_or-take, get_or-set_same}
+use Rattle.std.specs.Int.{w64, to_be_bytes}
 use Rattle.gf2.specs.Polynomials.{◌⊕◌}
 use Rattle.gf2.proofs.Sums.{⊕_shl, ⊕-lt, ⊕_swap, xor}
 use Rattle.files.specs.Files.{bits, value_from}
@@ -73,31 +74,34 @@ module _ (q₀ q : List ℕ) (b : Bytes q) (at n i : ℕ) (few : n ≤ at) (l : 
 
 -- ---- the start
 
-push : (x : ℕ) (file : List ℕ) → value_from (x / 256) (bits (x % 256 ∷ file)) ≡ value_from x (bits file)
-push x file = value-byte (x / 256) (x % 256) file ∙ ap (λ (y : ℕ). value_from y (bits file)) (omega arith)
+-- the bytes of f from t^n on are those from t^m on and one more
+push : (f n m : ℕ) (file : List ℕ) → f / n / 256 ≡ f / m → value_from (f / m) (bits (f / n % 256 ∷ file)) ≡ value_from (f / n) (bits file)
+push f n m file e =
+    value-byte (f / m) (f / n % 256) file ∙ ap (λ (y : ℕ). value_from y (bits file)) (omega arith)
 
-first : (x : ℕ) (file : List ℕ) → x < 256 → value_from 0 (bits (x ∷ file)) ≡ value_from x (bits file)
-first x file h = value-byte 0 x file ∙ ap (λ (y : ℕ). value_from y (bits file)) (omega arith)
-
-done : (x : ℕ) → value_from x (bits []) ≡ x
+none : (f : ℕ) → value_from f (bits []) ≡ f
 unfolding bits value_from
-done x = refl
+none f = refl
 
--- the eight digits of a number to the base 256
-pub value-digits : (f : ℕ) → f / 256 / 256 / 256 / 256 / 256 / 256 / 256 < 256
-    → value_from 0 (bits (f / 256 / 256 / 256 / 256 / 256 / 256 / 256 ∷ f / 256 / 256 / 256 / 256 / 256 / 256 % 256
-    ∷ f / 256 / 256 / 256 / 256 / 256 % 256 ∷ f / 256 / 256 / 256 / 256 % 256 ∷ f / 256 / 256 / 256 % 256
-    ∷ f / 256 / 256 % 256 ∷ f / 256 % 256 ∷ f % 256 ∷ [])) ≡ f
+-- the eight bytes of a number, the highest first
+pub value-digits : (f : ℕ) → f < 2 ^ 64 → value_from 0 (bits (to_be_bytes w64 f)) ≡ f
 value-digits f small =
-    first (f / 256 / 256 / 256 / 256 / 256 / 256 / 256) _ small
-    ∙ push (f / 256 / 256 / 256 / 256 / 256 / 256) _
-    ∙ push (f / 256 / 256 / 256 / 256 / 256) _
-    ∙ push (f / 256 / 256 / 256 / 256) _
-    ∙ push (f / 256 / 256 / 256) _
-    ∙ push (f / 256 / 256) _
-    ∙ push (f / 256) _
-    ∙ push (f) _
-    ∙ done f
+    ap (λ (x : ℕ). value_from x (bits (to_be_bytes w64 f))) zero-left
+    ∙ push f 72057594037927936 18446744073709551616 _ (omega arith)
+    ∙ push f 281474976710656 72057594037927936 _ (omega arith)
+    ∙ push f 1099511627776 281474976710656 _ (omega arith)
+    ∙ push f 4294967296 1099511627776 _ (omega arith)
+    ∙ push f 16777216 4294967296 _ (omega arith)
+    ∙ push f 65536 16777216 _ (omega arith)
+    ∙ push f 256 65536 _ (omega arith)
+    ∙ last
+    ∙ none f
+  where
+    zero-left : 0 ≡ f / 18446744073709551616
+    zero-left = omega arith
+
+    last : value_from (f / 256) (bits (f % 256 ∷ [])) ≡ value_from f (bits [])
+    last = value-byte (f / 256) (f % 256) [] ∙ ap (λ (y : ℕ). value_from y (bits [])) (omega arith)
 
 front-zeros : (n k : ℕ) → front (replicate n 0) k ≡ 0
 unfolding front bits value_from

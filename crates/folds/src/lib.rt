@@ -29,10 +29,8 @@ fn add_front(q: &mut [u8], at: usize, n: usize)
     ensures { (front q.new (at + n) ≡ front q.old (at + n) ⊕ front q.old n)
         × (take at q.new ≡ take at q.old) }
 {
-    let mut i: usize = 0;
-    while i < n {
-        q[at + i] = q[at + i] ^ q[i];
-        i += 1;
+    for i in 0..n {
+        q[at + i] ^= q[i];
     }
 }
 
@@ -46,36 +44,12 @@ fn flatten(q: &mut [u8], s: usize)
     add_front(q, 60 * s, s);
 }
 
-// The eight bytes of a number, the highest first.
-fn eight(f: u64) -> [u8; 8]
-    ensures { value_from 0 (bits result) ≡ f }
-{
-    let a = f / 256;
-    let b = a / 256;
-    let c = b / 256;
-    let d = c / 256;
-    let e = d / 256;
-    let g = e / 256;
-    let h = g / 256;
-    [
-        h as u8,
-        (g % 256) as u8,
-        (e % 256) as u8,
-        (d % 256) as u8,
-        (c % 256) as u8,
-        (b % 256) as u8,
-        (a % 256) as u8,
-        (f % 256) as u8,
-    ]
-}
-
 // A part behind a residue, which comes first as a block of its own: what is left are the bytes of 61 words, from place 8 on.
 fn fold_from(q: &mut [u8], s: usize, size: usize, f: u64, part: &[u8])
     requires { Word s × (0 < size) × (8 + size + 61 * s ≤ length q.old) × (q.old ≡ replicate (length q.old) 0) }
     ensures { rem house_key (front (drop 8 q.new) (61 * s)) ≡ rem house_key (value_from f (bits part.now)) }
 {
-    let start = eight(f);
-    fold_blocks::divide_piece(q, s, &start);
+    fold_blocks::divide_piece(q, s, &f.to_be_bytes());
     fold_blocks::fold(&mut q[8..], s, size, part);
     flatten(&mut q[8..], s);
 }

@@ -38,12 +38,10 @@ pub fn read_first(p: Modulus, reduce: &[u64], text: &[u8], pattern: &[u8]) -> St
     let mut first: u64 = 0;
     let mut wanted: u64 = 0;
     let mut shift: u64 = 1;
-    let mut i: usize = 0;
-    while i < pattern.len() {
+    for i in 0..pattern.len() {
         first = lookups::feed_one(reduce, p, first, text[i]);
         wanted = lookups::feed_one(reduce, p, wanted, pattern[i]);
         shift = lookups::feed_one(reduce, p, shift, 0);
-        i += 1;
     }
     Start {
         first,
@@ -76,13 +74,11 @@ pub fn start_lanes(s: Setup, reduce: &[u64], text: &[u8], from: usize, g: u64) -
     let mut b: u64 = 0;
     let mut c: u64 = 0;
     let mut d: u64 = 0;
-    let mut j: usize = 0;
-    while j < s.m {
+    for j in 0..s.m {
         let i = from + j;
         b = lookups::feed_one(reduce, s.modulus, b, text[i + 256]);
         c = lookups::feed_one(reduce, s.modulus, c, text[i + 512]);
         d = lookups::feed_one(reduce, s.modulus, d, text[i + 768]);
-        j += 1;
     }
     Lanes { a: g, b, c, d }
 }

@@ -12,8 +12,7 @@ use lib.Seq.{sets}
 use Rattle.lists.specs.Lists.{passing, overlay}
 use Rattle.lists.proofs.Lent.{overlay_sets}
 use Rattle.files.specs.Files.{bits, fingerprint}
-use Rattle.comparing.specs.declared.Tally.{Tally}
-use Rattle.search.specs.declared.Counts.{Counts}
+use Rattle.comparing.specs.declared.Counts.{Counts}
 use Rattle.rolling.specs.declared.Setup.{Setup}
 use Rattle.search.specs.Searching.{windows, is_place, is_alarm, places, alarms, counts}
 use Rattle.rolling.specs.Rolling.{window, residue, key_of}
@@ -67,11 +66,11 @@ module _ (s : Setup) (text pattern : List ℕ) (from size : ℕ) (flags : List B
       (λ i l h. ap (λ (b : Bool). b && not (is_place text pattern i)) (flag-alike i l h)))
 
 -- what was found of all windows is what the call answers
-pub all_found : (p : ℕ) (text pattern words₀ words : List ℕ) (found : Tally) (n : ℕ) → n ≡ windows text pattern
+pub all_found : (p : ℕ) (text pattern words₀ words : List ℕ) (found : Counts) (n : ℕ) → n ≡ windows text pattern
     → (found.places ≡ 0 + length (passing (is_place text pattern) 0 n))
     × (found.alarms ≡ 0 + length (passing (is_alarm p text pattern) 0 n))
     × (words ≡ sets words₀ 0 (passing (is_place text pattern) 0 n))
-    → (record { places = found.places; alarms = found.alarms } ≡ counts p text pattern) × (words ≡ overlay (places text pattern) words₀)
+    → (found ≡ counts p text pattern) × (words ≡ overlay (places text pattern) words₀)
 unfolding counts places alarms
 all_found p text pattern words₀ words found n e (ep, ea, ew) = (
   ap₂ {C = Counts} (λ (x y : ℕ). record { places = x; alarms = y })

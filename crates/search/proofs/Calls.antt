@@ -11,7 +11,7 @@ use Rattle.lists.specs.Lists.{passing, overlay}
 use Rattle.lists.proofs.Lent.{overlay-none}
 use Rattle.refusals.specs.declared.Refusal.TheVariants.{TooLong, EmptyPattern}
 use Rattle.refusals.specs.Refusals.{Answer, Done, Refused, state_of, first_of, longest, passes}
-use Rattle.search.specs.declared.Counts.{Counts}
+use Rattle.comparing.specs.declared.Counts.{Counts}
 use Rattle.search.specs.Searching.{windows, is_place, places, alarms, counts, text_tests}
 
 -- number 7, as the code finds it of both lengths

@@ -6,7 +6,7 @@ use Rattle.refusals.specs.Refusals.{Answer, state_of, Test, ◌⇒◌, first_of,
 use Rattle.acceptance.specs.declared.Key.{Key}
 use Rattle.acceptance.specs.Keys.{polynomial_of, key_tests}
 use Rattle.files.specs.Files.{bits, fingerprint}
-use Rattle.search.specs.declared.Counts.{Counts}
+use Rattle.comparing.specs.declared.Counts.{Counts}
 
 -- how many windows as long as the pattern the text has: none where the pattern is longer
 unfoldable pub windows : List ℕ → List ℕ → ℕ

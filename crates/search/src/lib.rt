@@ -4,31 +4,16 @@
 ghost use Rattle.std.specs.Prelude.{◌≡◌, ◌*◌, ◌≤◌, ◌<◌, length};
 ghost use Rattle.lists.specs.Lists.{overlay};
 ghost use Rattle.gf2.specs.Moduli.{polynomial, Proper};
+ghost use Rattle.refusals.specs.Answers.{told};
 ghost use Rattle.refusals.specs.Refusals.{first_of, state_of, longest};
 ghost use Rattle.rolling.specs.Rolling.{residue, key_of, ResidueAt, Ready};
 ghost use Rattle.search.specs.Searching.{places as places_of, counts, text_tests, search, places_after};
-ghost use Rattle.search.specs.Answers.{searched};
 
 use acceptance::Key;
-use comparing::Tally;
+pub use comparing::Counts;
 use gf2::Modulus;
-use keys::Tested;
 use refusals::Refusal;
 use rolling::Setup;
-
-// The number of places, and the number of false alarms.
-#[derive(Clone, Copy)]
-pub struct Counts {
-    pub places: u32,
-    pub alarms: u32,
-}
-
-// The answer to a search.
-#[derive(Clone, Copy)]
-pub enum Searched {
-    Found(Counts),
-    Refused(Refusal),
-}
 
 // Block by block: which windows have the pattern's residue, and then which of these have its bytes.
 fn search_blocks(
@@ -51,7 +36,7 @@ fn search_blocks(
 {
     let mut flags: [bool; 1024] = [false; 1024];
     let windows = text.len() - pattern.len() + 1;
-    let mut found = Tally {
+    let mut found = Counts {
         places: 0,
         alarms: 0,
     };
@@ -63,10 +48,7 @@ fn search_blocks(
         from += b.size;
         g = b.next;
     }
-    Counts {
-        places: found.places,
-        alarms: found.alarms,
-    }
+    found
 }
 
 // The search proper, under a modulus: its tables, and the residues to begin with.
@@ -89,37 +71,40 @@ fn search_text(p: Modulus, text: &[u8], pattern: &[u8], places: &mut [u32]) -> C
 }
 
 // The search under an opened key. Numbers 7, 11.
-fn search_under(p: Modulus, text: &[u8], pattern: &[u8], places: &mut [u32]) -> Searched
+fn search_under(
+    p: Modulus,
+    text: &[u8],
+    pattern: &[u8],
+    places: &mut [u32],
+) -> Result<Counts, Refusal>
     requires { Proper p × (8 ≤ p.degree) }
-    ensures { (searched result ≡ first_of (text_tests text.now pattern.now) tt
+    ensures { (told result ≡ first_of (text_tests text.now pattern.now) tt
         (counts (polynomial p) text.now pattern.now))
         × (places.new ≡ state_of (first_of (text_tests text.now pattern.now) places.old
         (overlay (places_of text.now pattern.now) places.old))) }
 {
     let fit = refusals::bytes_fit(text.len() as u64) & refusals::bytes_fit(pattern.len() as u64);
     if !fit {
-        return Searched::Refused(Refusal::TooLong);
+        return Err(Refusal::TooLong);
     }
     if pattern.len() == 0 {
-        return Searched::Refused(Refusal::EmptyPattern);
+        return Err(Refusal::EmptyPattern);
     }
     if text.len() < pattern.len() {
-        return Searched::Found(Counts {
+        return Ok(Counts {
             places: 0,
             alarms: 0,
         });
     }
-    Searched::Found(search_text(p, text, pattern, places))
+    Ok(search_text(p, text, pattern, places))
 }
 
 // All places of the pattern in the text, rising, overlaps included: the first ones into the lent places, as far as they reach.
 // Numbers 1, 2, 7, 11.
-pub fn search(key: Key, text: &[u8], pattern: &[u8], places: &mut [u32]) -> Searched
-    ensures { (searched result ≡ search key text.now pattern.now)
+pub fn search(key: Key, text: &[u8], pattern: &[u8], places: &mut [u32]) -> Result<Counts, Refusal>
+    ensures { (told result ≡ search key text.now pattern.now)
         × (places.new ≡ places_after key text.now pattern.now places.old) }
 {
-    match keys::test(key) {
-        Tested::Refused(r) => Searched::Refused(r),
-        Tested::Accepted(p) => search_under(p, text, pattern, places),
-    }
+    let p = keys::test(key)?;
+    search_under(p, text, pattern, places)
 }

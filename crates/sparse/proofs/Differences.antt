@@ -1,10 +1,11 @@
 -- Laws of a loop over two parts of one length, whose difference is fed by pieces.
-use mathlib.Core.Path.{◌≡◌, sym, ap, ap₂, ◌∙◌}
+use mathlib.Core.Path.{◌≡◌, refl, sym, ap, ap₂, ◌∙◌}
 use mathlib.Core.List.{List}
-use Prim.Native.Nat.{ℕ, ◌+◌, ◌*◌, ◌^◌, ◌≤◌, ◌<◌}
-use native.Mathlib.Nat.{zero-add, zero-mul}
+use Prim.Native.Nat.{ℕ, ◌+◌, ◌-◌, ◌*◌, ◌^◌, ◌≤◌, ◌<◌}
+use native.Mathlib.Nat.{le_refl, zero-add, zero-mul}
 use native.Mathlib.Omega.{arith}
-use lib.ListN.{length, take, drop, length-drop, drop_of_length-le}
+use lib.ListN.{length, take, drop, length-take, length-drop, drop_of_length-le}
+use lib.Seq.{take_all}
 use Rattle.gf2.specs.Polynomials.{◌⊕◌, rem}
 use Rattle.gf2.specs.Moduli.{polynomial, Proper}
 use Rattle.gf2.specs.declared.Modulus.{Modulus}
@@ -89,3 +90,29 @@ module _ (p : Modulus) (proper : Proper p) (f : ℕ) (old new : List ℕ) (same 
       sym (residue-small p.degree p.low proper.2 x g.0)
       ∙ sym (ap (rem (polynomial p)) (⊕-zero x))
       ∙ (rw (drop_of_length-le old {i = i} l, drop_of_length-le new {i = i} (omega (arith, same, l))) at g.1)
+
+-- ---- a loop over both parts: x, with what is left of them behind it, stands for f and their difference
+
+abbrev pub StandsApart : Modulus → ℕ → List ℕ → List ℕ → ℕ → List ℕ → List ℕ → Type 0
+StandsApart p f old new x olds news =
+    (x < 2 ^ p.degree)
+    × (rem (polynomial p) (value_from x (bits olds) ⊕ value_from 0 (bits news)) ≡ rem (polynomial p) (value_from f (bits old) ⊕ value_from 0 (bits new)))
+
+-- c bytes of either more
+pub stands_apart-next : (p : Modulus) → Proper p → (f : ℕ) (old new : List ℕ) (x : ℕ) (olds news : List ℕ) → length olds ≡ length news
+    → StandsApart p f old new x olds news → (c v w y : ℕ) → c ≤ length olds → v ≡ value_from 0 (bits (take c olds)) → w ≡ value_from 0 (bits (take c news))
+    → y ≡ rem (polynomial p) (x * 2 ^ (8 * c) + (v ⊕ w))
+    → StandsApart p f old new y (take (length olds - c) (drop c olds)) (take (length news - c) (drop c news))
+stands_apart-next p proper f old new x olds news same s c v w y l ev ew ey =
+    rw (
+      take_all (length olds - c) (drop c olds) (rw length-drop (le_refl (length olds - c))),
+      take_all (length news - c) (drop c news) (rw length-drop (le_refl (length news - c))),
+    ) (g.0, g.1 ∙ s.1)
+  where
+    g : Apart p x olds news 0 c y
+    g = rw zero-add at (apart p proper x olds news same 0 0 x (s.0, refl) c v w y (omega arith) ev ew ey)
+
+pub cut_same : (olds news : List ℕ) (c : ℕ) → length olds ≡ length news
+    → length (take (length olds - c) (drop c olds)) ≡ length (take (length news - c) (drop c news))
+cut_same olds news c same =
+    omega (arith, length-take (length olds - c) (drop c olds), length-take (length news - c) (drop c news), length-drop c olds, length-drop c news, same)

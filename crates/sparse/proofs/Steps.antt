@@ -2,13 +2,14 @@
 use mathlib.Core.Path.{◌≡◌, refl, sym, ap, ap₂, ◌∙◌}
 use mathlib.Core.List.{List}
 use Prim.Native.Nat.{ℕ, ◌+◌, ◌-◌, ◌*◌, ◌/◌, ◌%◌, ◌^◌, ◌≤◌, ◌<◌}
-use native.Mathlib.Nat.{lt_of_lt_of_le}
+use native.Mathlib.Nat.{le_refl, zero-add, lt_of_lt_of_le}
 use native.Mathlib.Numerals.{add-one}
 use native.Mathlib.Omega.{arith}
-use lib.ListN.{length, take, drop}
+use lib.ListN.{length, take, drop, length-drop}
 use lib.Pow.{high, pow_mono}
+use lib.Seq.{take_all}
 use Rattle.gf2.specs.Polynomials.{◌⊕◌, ◌⊗◌, rem}
-use Rattle.gf2.specs.Moduli.{polynomial}
+use Rattle.gf2.specs.Moduli.{polynomial, Proper}
 use Rattle.gf2.specs.declared.Modulus.{Modulus}
 use Rattle.gf2.proofs.Sums.{⊕-append, ⊕_assoc}
 use Rattle.gf2.proofs.Products.{⊗-pow}
@@ -18,7 +19,7 @@ use Rattle.gf2.proofs.Monics.{monic-pos}
 use Rattle.gf2.proofs.Steps.{residue-split, residue-top, residue-small}
 use Rattle.files.specs.Files.{bits, value_from}
 use Rattle.lookups.proofs.Cut.{above, below, top_lt}
-use Rattle.big_endian.proofs.Pieces.{value-piece-lt, value-join}
+use Rattle.big_endian.proofs.Pieces.{value-piece-lt, value-join, Going, going}
 use Rattle.sparse.specs.Sparse.{Sparse}
 
 -- what holds for n bytes holds for one
@@ -80,3 +81,16 @@ module _ (p : Modulus) (n : ℕ) (s : Sparse p n) (f v : ℕ) (hf : f < 2 ^ p.de
       (sym reduced ∙ ap (λ (x : ℕ). rem (polynomial p) (x * 2 ^ k)) (sym (above f v (8 * n) j hv) ∙ ap (λ (m : ℕ). (f * 2 ^ (8 * n) + v) / 2 ^ m) (sym whole)))
       (⊕-append (f % 2 ^ j) (8 * n) v hv ∙ sym (below f v (8 * n) j hv) ∙ ap (λ (m : ℕ). (f * 2 ^ (8 * n) + v) % 2 ^ m) (sym whole))
       ∙ sym (residue-split k p.low s.0.2 (f * 2 ^ (8 * n) + v))
+
+-- ---- a loop over a part: x, with the rest of the part behind it, stands for f and the part
+
+abbrev pub Stands : Modulus → ℕ → List ℕ → ℕ → List ℕ → Type 0
+Stands p f part x rest = (x < 2 ^ p.degree) × (rem (polynomial p) (value_from x (bits rest)) ≡ rem (polynomial p) (value_from f (bits part)))
+
+-- n bytes more
+pub stands-next : (p : Modulus) → Proper p → (f : ℕ) (part : List ℕ) (x : ℕ) (rest : List ℕ) → Stands p f part x rest → (n v y : ℕ) → n ≤ length rest
+    → v ≡ value_from 0 (bits (take n rest)) → y ≡ rem (polynomial p) (x * 2 ^ (8 * n) + v) → Stands p f part y (take (length rest - n) (drop n rest))
+stands-next p proper f part x rest s n v y l ev ey = rw (take_all (length rest - n) (drop n rest) (rw length-drop (le_refl (length rest - n)))) (g.0, g.1 ∙ s.1)
+  where
+    g : Going p x rest 0 n y
+    g = rw zero-add at (going p proper x rest 0 0 x (s.0, refl) n v y (omega arith) ev ey)

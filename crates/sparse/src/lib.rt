@@ -3,7 +3,7 @@
 // caller proves.
 #![tactic(auto)]
 
-ghost use Rattle.std.specs.Prelude.{◌≡◌, ◌+◌, ◌*◌, ◌^◌, ◌≤◌, ◌<◌, length, drop};
+ghost use Rattle.std.specs.Prelude.{◌≡◌, ◌+◌, ◌*◌, ◌^◌, ◌<◌, length, IfSome};
 ghost use Rattle.gf2.specs.Polynomials.{◌⊕◌, ◌⊗◌, rem};
 ghost use Rattle.gf2.specs.Moduli.{polynomial, Proper};
 ghost use Rattle.files.specs.Files.{bits, value_from};
@@ -17,11 +17,9 @@ fn times_bits(h: u64, low: u64) -> u64
     ensures { result ≡ h ⊗ low }
 {
     let mut sum: u64 = 0;
-    let mut i: u32 = 0;
-    while i < 8 {
+    for i in 0u32..8 {
         let bit = (low >> i) % 2;
-        sum = sum ^ ((h << i) * bit);
-        i += 1;
+        sum ^= (h << i) * bit;
     }
     sum
 }
@@ -47,16 +45,14 @@ fn behind(p: Modulus, n: u32, f: u64, v: u64) -> u64
     times(f >> cut, p.low) ^ (rest << (8 * n)) ^ v
 }
 
-// The bytes from place `from` on, one at a time.
-fn feed_ones(p: Modulus, f: u64, part: &[u8], from: usize) -> u64
-    requires { Sparse p 1 × (f < 2 ^ p.degree) × (from ≤ length part.now) }
-    ensures { result ≡ rem (polynomial p) (value_from f (bits (drop from part.now))) }
+// Bytes behind a residue, one at a time.
+fn feed_ones(p: Modulus, f: u64, part: &[u8]) -> u64
+    requires { Sparse p 1 × (f < 2 ^ p.degree) }
+    ensures { result ≡ rem (polynomial p) (value_from f (bits part.now)) }
 {
     let mut x = f;
-    let mut i = from;
-    while i < part.len() {
-        x = behind(p, 1, x, big_endian::byte_at(part, i) as u64);
-        i += 1;
+    for byte in part {
+        x = behind(p, 1, x, u64::from(*byte));
     }
     x
 }
@@ -69,27 +65,23 @@ pub fn fed(p: Modulus, n: u32, f: u64, part: &[u8]) -> u64
     let bytes = n as usize;
     let spare = 64 - 8 * n;
     let mut x = f;
-    let mut i: usize = 0;
-    while 8 <= part.len() - i {
-        let eight = big_endian::eight_at(part, i);
+    let mut rest = part;
+    while 8 <= rest.len() {
+        let eight = big_endian::eight_at(rest, 0);
         x = behind(p, n, x, eight >> spare);
-        i += bytes;
+        rest = &rest[bytes..];
     }
-    feed_ones(p, x, part, i)
+    feed_ones(p, x, rest)
 }
 
-// The bytes of two parts of one length from place `from` on, added to each other, one at a time.
-fn difference_ones(p: Modulus, f: u64, old: &[u8], new: &[u8], from: usize) -> u64
-    requires { Sparse p 1 × (f < 2 ^ p.degree) × (length old.now ≡ length new.now) × (from ≤ length old.now) }
-    ensures { result ≡ rem (polynomial p) (value_from f (bits (drop from old.now)) ⊕ value_from 0 (bits (drop from new.now))) }
+// The bytes of two parts of one length behind a residue, added to each other, one at a time.
+fn difference_ones(p: Modulus, f: u64, old: &[u8], new: &[u8]) -> u64
+    requires { Sparse p 1 × (f < 2 ^ p.degree) × (length old.now ≡ length new.now) }
+    ensures { result ≡ rem (polynomial p) (value_from f (bits old.now) ⊕ value_from 0 (bits new.now)) }
 {
     let mut x = f;
-    let mut i = from;
-    while i < old.len() {
-        let a = big_endian::byte_at(old, i) as u64;
-        let b = big_endian::byte_at(new, i) as u64;
-        x = behind(p, 1, x, a ^ b);
-        i += 1;
+    for i in 0..old.len() {
+        x = behind(p, 1, x, u64::from(old[i] ^ new[i]));
     }
     x
 }
@@ -102,27 +94,26 @@ pub fn difference(p: Modulus, n: u32, old: &[u8], new: &[u8]) -> u64
     let width = n as usize;
     let spare = 64 - 8 * n;
     let mut x: u64 = 0;
-    let mut i: usize = 0;
-    while 8 <= old.len() - i {
-        let a = big_endian::eight_at(old, i);
-        let b = big_endian::eight_at(new, i);
+    let mut olds = old;
+    let mut news = new;
+    while 8 <= olds.len() {
+        let a = big_endian::eight_at(olds, 0);
+        let b = big_endian::eight_at(news, 0);
         x = behind(p, n, x, (a ^ b) >> spare);
-        i += width;
+        olds = &olds[width..];
+        news = &news[width..];
     }
-    difference_ones(p, x, old, new, i)
+    difference_ones(p, x, olds, news)
 }
 
-// How many bytes come in at a time, at most seven: 0 where the coefficients are not few and low enough for one.
-pub fn bytes_at_once(p: Modulus) -> u32
+// How many bytes come in at a time, at most seven: none where the coefficients are not few and low enough for one.
+pub fn bytes_at_once(p: Modulus) -> Option<u32>
     requires { Proper p }
-    ensures { 0 < result → Sparse p result }
+    ensures { IfSome result (λ n. Sparse p n) }
 {
-    if 256 <= p.low {
-        return 0;
-    }
-    if p.low == 0 {
-        return 0;
+    if p.low == 0 || 256 <= p.low {
+        return None;
     }
     let n = (p.degree - gf2::degree(p.low)) / 8;
-    if n < 8 { n } else { 7 }
+    if n == 0 { None } else { Some(n.min(7)) }
 }

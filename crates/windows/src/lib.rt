@@ -39,8 +39,7 @@ fn four_lanes(
     let mut b = starts.b;
     let mut c = starts.c;
     let mut d = starts.d;
-    let mut j: usize = 0;
-    while j < 256 {
+    for j in 0..256 {
         flags[j] = a == s.wanted;
         flags[j + 256] = b == s.wanted;
         flags[j + 512] = c == s.wanted;
@@ -50,7 +49,6 @@ fn four_lanes(
         b = rolling::roll(s, reduce, outgoing, text, i + 256, b);
         c = rolling::roll(s, reduce, outgoing, text, i + 512, c);
         d = rolling::roll(s, reduce, outgoing, text, i + 768, d);
-        j += 1;
     }
     d
 }
@@ -74,22 +72,14 @@ fn one_by_one(
     ensures { Flagged s text.now from size result flags.old flags.new × (length flags.new ≡ 1024) }
 {
     let mut a = g;
-    let mut j: usize = 0;
-    while j < size {
+    for j in 0..size {
         flags[j] = a == s.wanted;
         let i = from + j;
         if i + s.m < text.len() {
             a = rolling::roll(s, reduce, outgoing, text, i, a);
         }
-        j += 1;
     }
     a
-}
-
-fn least(a: usize, b: usize) -> usize
-    ensures { (result ≤ a) × (result ≤ b) × (result < b → result ≡ a) × (0 < a → 0 < b → 0 < result) }
-{
-    if a < b { a } else { b }
 }
 
 // The next 1,024 windows, or all that are left. Four lanes pay off where the windows that three of them start with are not too long to read.
@@ -120,7 +110,7 @@ pub fn flag_block(
             return Block { size: 1024, next };
         }
     }
-    let size = least(left, 1024);
+    let size = left.min(1024);
     let next = one_by_one(s, reduce, outgoing, text, from, size, g, flags);
     Block { size, next }
 }

@@ -1,7 +1,6 @@
 -- `bytes_alone` meets its contract, by each of the three ways.
 use mathlib.Core.Path.{sym, ap, subst, ◌∙◌}
 use Prim.Native.Nat.{ℕ, ◌^◌, ◌<◌}
-use native.Mathlib.Omega.{arith}
 use Rattle.gf2.specs.Polynomials.{rem}
 use Rattle.files.specs.Files.{bits, value_from}
 use Rattle.feeding.proofs.bytes_alone.Goals as goal
@@ -15,6 +14,3 @@ returns-then-is_house c =
     let a = c.args in
     let e = (c.is_house.ensures c.if-is_house.true).2 in
     c.fed_house.ensures ∙ ap (λ (p : ℕ). rem p (value_from a.f (bits a.part.now))) (sym e)
-
-pub fed-requires : goal.fed-requires
-fed-requires c = (c.bytes_at_once-n.ensures (omega arith), c.requires.1)

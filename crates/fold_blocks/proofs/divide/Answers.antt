@@ -1,7 +1,7 @@
 -- `divide` meets its contract: after i bytes the quotient's bytes stand for the start and those i bytes.
 use mathlib.Core.Path.{◌≡◌, refl, ap, ◌∙◌}
 use mathlib.Core.List.{List}
-use Prim.Native.Nat.{ℕ, ◌+◌, ◌-◌, ◌*◌, ◌<◌}
+use Prim.Native.Nat.{ℕ, ◌+◌, ◌*◌, ◌<◌}
 use native.Mathlib.Nat.{zero-mul, one-mul, add-zero}
 use native.Mathlib.Omega.{arith}
 use lib.ListN.{length, get_or, set, take, length-set}
@@ -29,20 +29,19 @@ next s pos q src i start b h l byte inv =
 
 pub loop-i-init : goal.loop-i-init
 unfolding bits value_from
-loop-i-init c = (omega arith, refl, refl)
+loop-i-init c = (refl, refl)
 
 pub loop-i-preserved : goal.loop-i-preserved
 unfolding ◌⊕◌
 loop-i-preserved c =
     let a = c.args in
     let l = c.loop-i in (
-      omega arith,
-      simp length-set l.invariant.1,
+      simp length-set l.invariant.0,
       next a.s c.requires.0 l.q a.src.now l.i (folded exponents a.s a.q.now 0) (λ j. (c.slice_known-in-loop-i-3-1.given j).fits)
           (omega arith)
           (omega arith)
           (c.shared_slice_known-1.given l.i).fits
-          l.invariant.2,
+          l.invariant.1,
     )
 
 pub returns : goal.returns
@@ -50,4 +49,4 @@ returns c =
     let a = c.args in
     let l = c.loop-i in
     let e : l.i ≡ length a.src.now = omega arith in
-    rw (e, take-length) at l.invariant.2
+    rw (e, take-length) at l.invariant.1

@@ -1,7 +1,8 @@
--- `divide_block` meets its contract: what the words from place i on stand for, with the bytes from place i on behind it, has the residue of the whole.
+-- `divide_block` meets its contract: what the words from the i-th piece on stand for, with the bytes from there on behind it,
+-- has the residue of the whole.
 use mathlib.Core.Path.{◌≡◌, refl, sym, ap, ◌∙◌}
 use mathlib.Core.List.{List}
-use Prim.Native.Nat.{ℕ, ◌+◌, ◌-◌, ◌*◌, ◌≤◌}
+use Prim.Native.Nat.{ℕ, ◌+◌, ◌-◌, ◌*◌, ◌/◌, ◌≤◌}
 use native.Mathlib.Omega.{arith}
 use lib.ListN.{length, take, drop, length-drop}
 use lib.Seq.{drop-drop, length-take-le}
@@ -47,31 +48,36 @@ lengths q src s i b l m h =
     rw (length-take-le (b - i) (drop i src) (rw length-drop (omega arith)), rest_all q i, length-drop) (omega arith)
 
 pub loop-i-init : goal.loop-i-init
-loop-i-init c = (omega arith, refl, refl)
+loop-i-init c = (refl, refl)
 
 pub divide_piece-requires : goal.divide_piece-requires
 divide_piece-requires c =
     let l = c.loop-i in
-    (c.requires.0, lengths l.q c.args.src.now c.args.s l.i (l.i + 64) (omega arith) (omega arith) (omega (arith, l.invariant.1, c.requires.1)))
+    let n = length c.args.src.now in
+    let h : 64 * l.i + 64 ≤ n = omega arith in
+    (c.requires.0, lengths l.q c.args.src.now c.args.s (64 * l.i) (64 * l.i + 64) (omega arith) (omega arith) (omega (arith, l.invariant.0, c.requires.1)))
 
 pub loop-i-preserved : goal.loop-i-preserved
 loop-i-preserved c =
     let a = c.args in
     let l = c.loop-i in
-    let d = c.divide_piece in (
-      omega arith,
-      same_len_mid l.i (length l.q - l.i) l.q d.new.q d.auto.q ∙ l.invariant.1,
-      piece a.s c.requires.0 l.q a.src.now d.new.q l.i (l.i + 64) (omega arith) (omega arith) (omega (arith, l.invariant.1, c.requires.1))
+    let d = c.divide_piece in
+    let at = 64 * l.i in
+    let n = length a.src.now in
+    let h : at + 64 ≤ n = omega arith in
+    let e : at + 64 ≡ 64 * (l.i + 1) = omega arith in (
+      same_len_mid at (length l.q - at) l.q d.new.q d.auto.q ∙ l.invariant.0,
+      rw e at (piece a.s c.requires.0 l.q a.src.now d.new.q at (at + 64) (omega arith) (omega arith) (omega (arith, l.invariant.0, c.requires.1))
           d.auto.q
-          d.ensures
-          ∙ l.invariant.2,
+          d.ensures)
+          ∙ l.invariant.1,
     )
 
 pub divide_piece-requires-2 : goal.divide_piece-requires-2
 divide_piece-requires-2 c =
     let l = c.loop-i in
     let n = length c.args.src.now in
-    (c.requires.0, lengths l.q c.args.src.now c.args.s l.i n (omega arith) (omega arith) (omega (arith, l.invariant.1, c.requires.1)))
+    (c.requires.0, lengths l.q c.args.src.now c.args.s (64 * (n / 64)) n (omega arith) (omega arith) (omega (arith, l.invariant.0, c.requires.1)))
 
 pub returns : goal.returns
 returns c =
@@ -79,7 +85,9 @@ returns c =
     let l = c.loop-i in
     let d = c.divide_piece-2 in
     let n = length a.src.now in
-    sym (nothing_left house_key (folded exponents a.s (drop n (put_mid l.i (length l.q - l.i) l.q d.new.q)) 0) a.src.now n (omega arith))
-    ∙ piece a.s c.requires.0 l.q a.src.now d.new.q l.i n (omega arith) (omega arith) (omega (arith, l.invariant.1, c.requires.1)) d.auto.q
+    let at = 64 * (n / 64) in
+    let e : l.i ≡ n / 64 = omega arith in
+    sym (nothing_left house_key (folded exponents a.s (drop n (put_mid at (length l.q - at) l.q d.new.q)) 0) a.src.now n (omega arith))
+    ∙ piece a.s c.requires.0 l.q a.src.now d.new.q at n (omega arith) (omega arith) (omega (arith, l.invariant.0, c.requires.1)) d.auto.q
     d.ensures
-    ∙ l.invariant.2
+    ∙ (rw e at l.invariant.1)

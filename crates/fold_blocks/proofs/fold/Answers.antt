@@ -1,25 +1,28 @@
--- `fold` meets its contract: what the words in front stand for, with the bytes from place `at` on behind it, has the residue of the whole.
-use mathlib.Core.Path.{refl, sym, ◌∙◌}
-use Prim.Native.Nat.{◌-◌}
+-- `fold` meets its contract: what the words in front stand for, with the rest of the part behind it, has the residue of the whole.
+use mathlib.Core.Path.{sym, ◌∙◌}
 use native.Mathlib.Omega.{arith}
 use Rattle.house.specs.House.{house_key}
 use Rattle.fold_blocks.specs.Folds.{exponents, folded}
-use Rattle.fold_blocks.proofs.Folding.{block-fed, nothing_left}
+use Rattle.fold_blocks.proofs.Folding.{block_before, nothing_behind}
 use Rattle.fold_blocks.proofs.House.{house-pos}
 use Rattle.fold_blocks.proofs.fold.Goals as goal
 
-pub loop-at-init : goal.loop-at-init
-loop-at-init c = (omega arith, refl, refl)
+pub turn-requires : goal.turn-requires
+turn-requires c =
+    let l = c.loop-block.invariant in
+    let e = c.in-Some.ensures.steps in
+    (c.requires.0, omega (arith, e.1.1, l.0, l.1, c.requires.2))
 
-pub loop-at-preserved : goal.loop-at-preserved
-loop-at-preserved c =
+pub loop-block-preserved : goal.loop-block-preserved
+loop-block-preserved c =
     let a = c.args in
-    let l = c.loop-at in
-    let b = c.block_end-end in
-    let t = c.turn in (
-      omega (arith, b.ensures.1),
+    let l = c.loop-block in
+    let t = c.turn in
+    let e = c.in-Some.ensures.steps in (
+      e.0 ∙ l.invariant.0,
       t.auto.q ∙ l.invariant.1,
-      block-fed house-pos a.part.now l.at b.result (folded exponents a.s l.q 0) (folded exponents a.s t.new.q 0) (omega arith)
+      block_before house-pos l.block-iterator.rest.now c.in-Some.block.now c.next.new.self.rest.now (folded exponents a.s l.q 0) (folded exponents a.s t.new.q 0)
+          e.1.0
           t.ensures
           ∙ l.invariant.2,
     )
@@ -27,5 +30,5 @@ loop-at-preserved c =
 pub returns : goal.returns
 returns c =
     let a = c.args in
-    let l = c.loop-at in
-    sym (nothing_left house_key (folded exponents a.s l.q 0) a.part.now l.at (omega arith)) ∙ l.invariant.2
+    let l = c.loop-block in
+    sym (nothing_behind house_key (folded exponents a.s l.q 0) l.block-iterator.rest.now c.in-None.ensures.steps.1.0) ∙ l.invariant.2

@@ -1,6 +1,6 @@
 -- `add_front` meets its contract: i bytes are added, and neither those before place `at` nor those behind have changed.
 use mathlib.Core.Path.{◌≡◌, refl, sym, ap, ◌∙◌}
-use Prim.Native.Nat.{ℕ, ◌+◌, ◌-◌}
+use Prim.Native.Nat.{ℕ, ◌+◌}
 use native.Mathlib.Omega.{arith}
 use lib.ListN.{length-set}
 use Rattle.gf2.specs.Polynomials.{◌⊕◌}
@@ -13,7 +13,7 @@ use Rattle.folds.proofs.add_front.Goals as goal
 pub loop-i-init : goal.loop-i-init
 loop-i-init c =
     let a = c.args in
-    (omega arith, refl, refl, refl, sym (ap (λ (x : ℕ). front a.q.now (a.at + 0) ⊕ x) (front-zero a.q.now) ∙ ⊕-zero (front a.q.now (a.at + 0))))
+    (refl, refl, refl, sym (ap (λ (x : ℕ). front a.q.now (a.at + 0) ⊕ x) (front-zero a.q.now) ∙ ⊕-zero (front a.q.now (a.at + 0))))
 
 pub loop-i-preserved : goal.loop-i-preserved
 unfolding ◌⊕◌
@@ -22,11 +22,10 @@ loop-i-preserved c =
     let l = c.loop-i in
     let i = l.invariant in
     let bytes : Bytes l.q = λ j. (c.slice_known-in-loop-i-1.given j).fits in (
-      omega arith,
-      simp length-set i.1,
-      added-before a.q.now l.q bytes a.at a.n l.i c.requires.0 (omega arith) i.1 c.requires.1 i.2 i.3,
-      added-behind a.q.now l.q bytes a.at a.n l.i c.requires.0 (omega arith) i.1 c.requires.1 i.2 i.3,
-      added_next a.q.now l.q bytes a.at a.n l.i c.requires.0 (omega arith) i.1 c.requires.1 i.2 i.3 i.4,
+      simp length-set i.0,
+      added-before a.q.now l.q bytes a.at a.n l.i c.requires.0 (omega arith) i.0 c.requires.1 i.1 i.2,
+      added-behind a.q.now l.q bytes a.at a.n l.i c.requires.0 (omega arith) i.0 c.requires.1 i.1 i.2,
+      added_next a.q.now l.q bytes a.at a.n l.i c.requires.0 (omega arith) i.0 c.requires.1 i.1 i.2 i.3,
     )
 
 pub returns : goal.returns
@@ -34,4 +33,4 @@ returns c =
     let a = c.args in
     let l = c.loop-i in
     let e : l.i ≡ a.n = omega arith in
-    (ap (λ (j : ℕ). front l.q (a.at + j)) (sym e) ∙ l.invariant.4 ∙ ap (λ (j : ℕ). front a.q.now (a.at + j) ⊕ front a.q.now j) e, l.invariant.2)
+    (ap (λ (j : ℕ). front l.q (a.at + j)) (sym e) ∙ l.invariant.3 ∙ ap (λ (j : ℕ). front a.q.now (a.at + j) ⊕ front a.q.now j) e, l.invariant.1)

@@ -11,7 +11,7 @@ use Rattle.files.specs.Files.{bits, value_from}
 use Rattle.house.specs.House.{house_key}
 use Rattle.fold_blocks.specs.Folds.{exponents, front, folded, Word}
 use Rattle.fold_blocks.proofs.Folding.{same_start, rest_all}
-use Rattle.folds.proofs.Remainders.{folded-zeros}
+use Rattle.folds.proofs.Remainders.{folded-zeros, value-digits}
 use Rattle.fold_blocks.proofs.House.{house-pos, house-last, word_most}
 use Rattle.folds.proofs.fold_from.Goals as goal
 
@@ -56,9 +56,10 @@ flatten-requires c =
 pub returns : goal.returns
 returns c =
     let a = c.args in
-    let b = c.eight-start in
+    let b = c.to_be_bytes in
     let d = c.divide_piece in
     let g = c.fold in
     let h = c.flatten in
     behind-start a.s c.requires.0 d.new.q g.new.q h.new.q a.part.now g.auto.q (omega arith) h.ensures g.ensures
-    ∙ started a.s c.requires.0 a.q.now d.new.q a.f b.result a.part.now (omega arith) (omega arith) c.requires.3 b.ensures d.ensures
+    ∙ started a.s c.requires.0 a.q.now d.new.q a.f b.result a.part.now (ap length b.ensures) (omega arith) c.requires.3
+    (ap (λ (x : List ℕ). value_from 0 (bits x)) b.ensures ∙ value-digits a.f (omega arith)) d.ensures

@@ -1,6 +1,6 @@
 -- `rolling::read_first` meets its contract. The loop's invariant: i bytes of each were read.
 use mathlib.Core.Path.{◌≡◌, sym, ap, ◌∙◌}
-use Prim.Native.Nat.{ℕ, ◌-◌, ◌*◌, ◌^◌}
+use Prim.Native.Nat.{ℕ, ◌*◌, ◌^◌}
 use native.Mathlib.Nat.{zero-add}
 use native.Mathlib.Omega.{arith}
 use lib.ListN.{length}
@@ -16,25 +16,25 @@ use Rattle.rolling.proofs.read_first.Goals as goal
 pub loop-i-init : goal.loop-i-init
 loop-i-init c =
     let none = read_none c.args.p c.requires.0.0 in
-    (omega arith, none c.args.text.now 0, none c.args.pattern.now 0, sym (residue-one c.args.p c.requires.0.0))
+    (none c.args.text.now 0, none c.args.pattern.now 0, sym (residue-one c.args.p c.requires.0.0))
 
 pub feed_one-first-requires : goal.feed_one-first-requires
 feed_one-first-requires c =
     let a = c.args in
     let l = c.loop-i in
-    (c.requires.0, read_below a.p c.requires.0.0 a.text.now 0 l.i l.first l.invariant.1)
+    (c.requires.0, read_below a.p c.requires.0.0 a.text.now 0 l.i l.first l.invariant.0)
 
 pub feed_one-wanted-requires : goal.feed_one-wanted-requires
 feed_one-wanted-requires c =
     let a = c.args in
     let l = c.loop-i in
-    (c.requires.0, read_below a.p c.requires.0.0 a.pattern.now 0 l.i l.wanted l.invariant.2)
+    (c.requires.0, read_below a.p c.requires.0.0 a.pattern.now 0 l.i l.wanted l.invariant.1)
 
 pub feed_one-shift-requires : goal.feed_one-shift-requires
 feed_one-shift-requires c =
     let a = c.args in
     let l = c.loop-i in
-    (c.requires.0, residue-below a.p c.requires.0.0 l.shift (2 ^ (8 * l.i)) l.invariant.3)
+    (c.requires.0, residue-below a.p c.requires.0.0 l.shift (2 ^ (8 * l.i)) l.invariant.2)
 
 pub loop-i-preserved : goal.loop-i-preserved
 loop-i-preserved c =
@@ -43,11 +43,10 @@ loop-i-preserved c =
     let more = read_more a.p c.requires.0.0 in
     let byte = c.shared_slice_known-in-loop-i-1.given l.i in
     let byte₂ = c.shared_slice_known-in-loop-i-2-1.given l.i in (
-      omega arith,
-      more a.text.now 0 l.i l.i l.first _ (zero-add l.i) (omega arith) (omega (arith, byte)) l.invariant.1
+      more a.text.now 0 l.i l.i l.first _ (zero-add l.i) (omega arith) (omega (arith, byte)) l.invariant.0
           c.feed_one-first.ensures,
-      more a.pattern.now 0 l.i l.i l.wanted _ (zero-add l.i) (omega arith) (omega (arith, byte₂)) l.invariant.2 c.feed_one-wanted.ensures,
-      shift-more (monic-pos a.p.degree a.p.low c.requires.0.0.2) l.i l.shift _ l.invariant.3 c.feed_one-shift.ensures,
+      more a.pattern.now 0 l.i l.i l.wanted _ (zero-add l.i) (omega arith) (omega (arith, byte₂)) l.invariant.1 c.feed_one-wanted.ensures,
+      shift-more (monic-pos a.p.degree a.p.low c.requires.0.0.2) l.i l.shift _ l.invariant.2 c.feed_one-shift.ensures,
     )
 
 pub returns : goal.returns
@@ -57,7 +56,7 @@ returns c =
     let n = length a.pattern.now in
     let e : l.i ≡ n = omega arith in
     let all = read_all a.p c.requires.0.0 in (
-      all a.text.now 0 l.i n l.first e l.invariant.1,
-      all a.pattern.now 0 l.i n l.wanted e l.invariant.2 ∙ ap (residue (polynomial a.p)) (window-whole a.pattern.now),
-      l.invariant.3 ∙ ap (λ (i : ℕ). rem (polynomial a.p) (2 ^ (8 * i))) e,
+      all a.text.now 0 l.i n l.first e l.invariant.0,
+      all a.pattern.now 0 l.i n l.wanted e l.invariant.1 ∙ ap (residue (polynomial a.p)) (window-whole a.pattern.now),
+      l.invariant.2 ∙ ap (λ (i : ℕ). rem (polynomial a.p) (2 ^ (8 * i))) e,
     )

@@ -1,7 +1,6 @@
 -- `rolling::read_first` meets its contract. The loop's invariant: i bytes of each were read.
 use mathlib.Core.Path.{◌≡◌}
-use Prim.Native.Nat.{◌-◌, ◌*◌, ◌^◌, ◌≤◌}
-use lib.ListN.{length}
+use Prim.Native.Nat.{◌*◌, ◌^◌}
 use Rattle.gf2.specs.Polynomials.{rem}
 use Rattle.gf2.specs.Moduli.{polynomial}
 use Rattle.rolling.specs.Rolling.{window, residue}
@@ -9,10 +8,6 @@ use Rattle.rolling.proofs.read_first.Given as goal
 
 abbrev pub invariant-loop-i : goal.invariant-loop-i
 invariant-loop-i l =
-    (l.i ≤ length l.pattern)
-    × (l.first ≡ residue (polynomial l.p) (window l.i l.text 0))
+    (l.first ≡ residue (polynomial l.p) (window l.i l.text 0))
     × (l.wanted ≡ residue (polynomial l.p) (window l.i l.pattern 0))
     × (l.shift ≡ rem (polynomial l.p) (2 ^ (8 * l.i)))
-
-abbrev pub decreases-loop-i : goal.decreases-loop-i
-decreases-loop-i l = length l.pattern - l.i

@@ -1,6 +1,6 @@
 -- `rolling::start_lanes` meets its contract. The loop's invariant: j bytes of each were read.
 use mathlib.Core.Path.{◌≡◌}
-use Prim.Native.Nat.{ℕ, ◌+◌, ◌-◌, ◌*◌, ◌^◌, ◌≤◌, ◌<◌}
+use Prim.Native.Nat.{ℕ, ◌+◌, ◌*◌, ◌^◌, ◌≤◌, ◌<◌}
 use native.Mathlib.Omega.{arith}
 use lib.ListN.{get_or}
 use Rattle.gf2.specs.Polynomials.{rem}
@@ -34,27 +34,26 @@ pub loop-j-init : goal.loop-j-init
 loop-j-init c =
     let a = c.args in
     let none = read_none a.s.modulus c.requires.0.0 a.text.now in
-    (omega arith, none (a.from + 256), none (a.from + 512), none (a.from + 768))
+    (none (a.from + 256), none (a.from + 512), none (a.from + 768))
 
 pub feed_one-b-requires : goal.feed_one-b-requires
-feed_one-b-requires c = let l = c.loop-j in feeds (goal.at.feed_one-b-requires c).Start 256 l.j l.b l.invariant.1
+feed_one-b-requires c = let l = c.loop-j in feeds (goal.at.feed_one-b-requires c).Start 256 l.j l.b l.invariant.0
 
 pub feed_one-c-requires : goal.feed_one-c-requires
-feed_one-c-requires c = let l = c.loop-j in feeds (goal.at.feed_one-c-requires c).Start 512 l.j l.c l.invariant.2
+feed_one-c-requires c = let l = c.loop-j in feeds (goal.at.feed_one-c-requires c).Start 512 l.j l.c l.invariant.1
 
 pub feed_one-d-requires : goal.feed_one-d-requires
-feed_one-d-requires c = let l = c.loop-j in feeds (goal.at.feed_one-d-requires c).Start 768 l.j l.d l.invariant.3
+feed_one-d-requires c = let l = c.loop-j in feeds (goal.at.feed_one-d-requires c).Start 768 l.j l.d l.invariant.2
 
 pub loop-j-preserved : goal.loop-j-preserved
 loop-j-preserved c =
     let l = c.loop-j in
     let byte = c.shared_slice_known-in-loop-j-3-1.given in
     let at = c.args.from + l.j in
-    let more = fed (goal.at.loop-j-preserved c).Start l.j c.loop-j-test.true in (
-      omega arith,
-      more 256 l.b _ (omega arith) (omega (arith, byte (at + 256))) l.invariant.1 c.feed_one-b.ensures,
-      more 512 l.c _ (omega arith) (omega (arith, byte (at + 512))) l.invariant.2 c.feed_one-c.ensures,
-      more 768 l.d _ (omega arith) (omega (arith, byte (at + 768))) l.invariant.3 c.feed_one-d.ensures,
+    let more = fed (goal.at.loop-j-preserved c).Start l.j (omega arith) in (
+      more 256 l.b _ (omega arith) (omega (arith, byte (at + 256))) l.invariant.0 c.feed_one-b.ensures,
+      more 512 l.c _ (omega arith) (omega (arith, byte (at + 512))) l.invariant.1 c.feed_one-c.ensures,
+      more 768 l.d _ (omega arith) (omega (arith, byte (at + 768))) l.invariant.2 c.feed_one-d.ensures,
     )
 
 pub returns : goal.returns
@@ -64,7 +63,7 @@ returns c =
     let e : l.j ≡ a.s.m = omega arith in
     let all = read_all a.s.modulus c.requires.0.0 a.text.now in (
       same_place a.s a.text.now a.from (a.from + 0) a.g (omega arith) c.requires.2,
-      all (a.from + 256) l.j a.s.m l.b e l.invariant.1,
-      all (a.from + 512) l.j a.s.m l.c e l.invariant.2,
-      all (a.from + 768) l.j a.s.m l.d e l.invariant.3,
+      all (a.from + 256) l.j a.s.m l.b e l.invariant.0,
+      all (a.from + 512) l.j a.s.m l.c e l.invariant.1,
+      all (a.from + 768) l.j a.s.m l.d e l.invariant.2,
     )

@@ -3,7 +3,7 @@
 use mathlib.Core.Path.{◌≡◌}
 use Prim.Native.Nat.{◌-◌, ◌≤◌, ◌<◌}
 use lib.ListN.{length}
-use Rattle.search.specs.Searching.{windows, is_place, is_alarm}
+use Rattle.search.specs.Searching.{is_place, is_alarm}
 use Rattle.rolling.specs.Rolling.{key_of, ResidueAt}
 use Rattle.comparing.proofs.Numbers.{Tally}
 use Rattle.search.proofs.search_blocks.Given as goal

@@ -30,10 +30,6 @@ pub overflow_sub-n : goal.overflow_sub-n
 overflow_sub-n c =
     omega (arith, c.degree.ensures, low-degree c.args.p c.requires (omega arith))
 
-pub returns-then-n-lt8 : goal.returns-then-n-lt8
-returns-then-n-lt8 c pos =
-    enough c.args.p c.requires (omega arith) (omega arith) _ (omega arith) (omega (arith, c.degree.ensures)) pos
-
-pub returns-else-n-lt8 : goal.returns-else-n-lt8
-returns-else-n-lt8 c pos =
-    enough c.args.p c.requires (omega arith) (omega arith) 7 (omega arith) (omega (arith, c.degree.ensures)) pos
+pub returns-else-n-eq0 : goal.returns-else-n-eq0
+returns-else-n-eq0 c =
+    enough c.args.p c.requires (omega arith) (omega arith) c.min.result (omega arith) (omega (arith, c.degree.ensures)) (omega arith)

@@ -1,11 +1,11 @@
--- `difference` meets its contract: x stands for the difference of the bytes before i.
-use Prim.Native.Nat.{◌-◌, ◌≤◌}
+-- `difference` meets its contract: x, with what is left of the two parts behind it, stands for their difference.
+use mathlib.Core.Path.{◌≡◌}
 use lib.ListN.{length}
-use Rattle.sparse.proofs.Differences.{Apart}
+use Rattle.sparse.proofs.Differences.{StandsApart}
 use Rattle.sparse.proofs.difference.Given as goal
 
-abbrev pub invariant-loop-i : goal.invariant-loop-i
-invariant-loop-i l = (l.i ≤ length l.old) × Apart l.p 0 l.old l.new 0 l.i l.x
+abbrev pub invariant-loop-olds : goal.invariant-loop-olds
+invariant-loop-olds l = (length l.olds ≡ length l.news) × StandsApart l.p 0 l.old l.new l.x l.olds l.news
 
-abbrev pub decreases-loop-i : goal.decreases-loop-i
-decreases-loop-i l = length l.old - l.i
+abbrev pub decreases-loop-olds : goal.decreases-loop-olds
+decreases-loop-olds l = length l.olds

@@ -1,11 +1,10 @@
--- `fed` meets its contract: x stands for f and the bytes before i.
-use Prim.Native.Nat.{◌-◌, ◌≤◌}
+-- `fed` meets its contract: x, with the rest behind it, stands for f and the part.
 use lib.ListN.{length}
-use Rattle.big_endian.proofs.Pieces.{Going}
+use Rattle.sparse.proofs.Steps.{Stands}
 use Rattle.sparse.proofs.fed.Given as goal
 
-abbrev pub invariant-loop-i : goal.invariant-loop-i
-invariant-loop-i l = (l.i ≤ length l.part) × Going l.p l.f l.part 0 l.i l.x
+abbrev pub invariant-loop-rest : goal.invariant-loop-rest
+invariant-loop-rest l = Stands l.p l.f l.part l.x l.rest
 
-abbrev pub decreases-loop-i : goal.decreases-loop-i
-decreases-loop-i l = length l.part - l.i
+abbrev pub decreases-loop-rest : goal.decreases-loop-rest
+decreases-loop-rest l = length l.rest

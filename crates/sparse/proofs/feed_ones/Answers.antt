@@ -1,30 +1,21 @@
--- `feed_ones` meets its contract: x stands for f and the bytes from `from` to i.
-use mathlib.Core.Path.{refl}
-use Prim.Native.Nat.{◌-◌}
+-- `feed_ones` meets its contract: x stands for f and the bytes that were fed.
+use mathlib.Core.Path.{ap, ◌∙◌}
+use Prim.Native.Nat.{ℕ, ◌+◌, ◌*◌}
 use native.Mathlib.Omega.{arith}
-use Rattle.big_endian.proofs.Pieces.{piece-lt, going, going-all}
+use Rattle.gf2.specs.Polynomials.{rem}
+use Rattle.gf2.specs.Moduli.{polynomial}
+use Rattle.big_endian.proofs.Pieces.{going-one, going-all}
 use Rattle.sparse.proofs.feed_ones.Goals as goal
 
-pub loop-i-init : goal.loop-i-init
-loop-i-init c = let p = c.requires in (p.2, (p.1, refl))
-
-pub behind-x-requires : goal.behind-x-requires
-behind-x-requires c =
-    let l = c.loop-i in
-    (c.requires.0, l.invariant.1.0, piece-lt c.args.part.now l.i 1 c.byte_at.result (omega arith) c.byte_at.ensures)
-
-pub loop-i-preserved : goal.loop-i-preserved
-loop-i-preserved c =
+pub loop-byte-preserved : goal.loop-byte-preserved
+loop-byte-preserved c =
     let a = c.args in
-    let l = c.loop-i in
-    let v = c.byte_at in (
-      omega arith,
-      going a.p c.requires.0.0 a.f a.part.now a.from l.i l.x l.invariant.1 1 v.result c.behind-x.result (omega arith) v.ensures
-          c.behind-x.ensures,
-    )
+    let l = c.loop-byte in
+    going-one a.p c.requires.0.0 a.f a.part.now 0 l.byte-index l.x l.invariant c.behind-x.result (omega arith) (omega arith)
+    (c.behind-x.ensures ∙ ap (λ (v : ℕ). rem (polynomial a.p) (l.x * 256 + v)) c.from.ensures)
 
 pub returns : goal.returns
 returns c =
     let a = c.args in
-    let l = c.loop-i in
-    going-all a.p c.requires.0.0 a.f a.part.now a.from l.i l.x l.invariant.1 (omega arith)
+    let l = c.loop-byte in
+    going-all a.p c.requires.0.0 a.f a.part.now 0 l.byte-index l.x l.invariant (omega arith)

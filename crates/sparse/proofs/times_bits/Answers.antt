@@ -1,6 +1,6 @@
 -- `times_bits` meets its contract: the sum is the product with the i low bits.
 use mathlib.Core.Path.{◌≡◌, sym, ap, ap₂, ◌∙◌}
-use Prim.Native.Nat.{ℕ, ◌+◌, ◌-◌, ◌*◌, ◌/◌, ◌%◌, ◌^◌, ◌<◌}
+use Prim.Native.Nat.{ℕ, ◌+◌, ◌*◌, ◌/◌, ◌%◌, ◌^◌, ◌<◌}
 use native.Mathlib.Nat.{mod-one, mod-eq_of_lt, mod-lt, lt_of_le_of_lt}
 use native.Mathlib.Numerals.{add-one}
 use native.Mathlib.Omega.{arith}
@@ -18,7 +18,7 @@ sum-next h low sum i b l e =
     ∙ ap (λ (n : ℕ). h ⊗ (low % 2 ^ n)) (sym (add-one i))
 
 pub loop-i-init : goal.loop-i-init
-loop-i-init c = (omega arith, sym (ap (λ (x : ℕ). c.args.h ⊗ x) (mod-one c.args.low) ∙ ⊗-zero c.args.h))
+loop-i-init c = sym (ap (λ (x : ℕ). c.args.h ⊗ x) (mod-one c.args.low) ∙ ⊗-zero c.args.h)
 
 pub overflow_mul-sum : goal.overflow_mul-sum
 overflow_mul-sum c = record { fits = lt_of_le_of_lt (bit-mul-le _ _ (mod_2 _)) (mod-lt (c.args.h * 2 ^ c.loop-i.i) (pow_pos 64)) }
@@ -27,10 +27,10 @@ pub loop-i-preserved : goal.loop-i-preserved
 unfolding ◌⊕◌
 loop-i-preserved c =
     let l = c.loop-i in
-    (omega arith, sum-next c.args.h c.args.low l.sum l.i c.requires.0 (omega arith) l.invariant.1)
+    sum-next c.args.h c.args.low l.sum l.i c.requires.0 (omega arith) l.invariant
 
 pub returns : goal.returns
 returns c =
     let l = c.loop-i in
     let e : l.i ≡ 8 = omega arith in
-    l.invariant.1 ∙ ap (λ (n : ℕ). c.args.h ⊗ (c.args.low % 2 ^ n)) e ∙ ap (λ (x : ℕ). c.args.h ⊗ x) (mod-eq_of_lt c.requires.1)
+    l.invariant ∙ ap (λ (n : ℕ). c.args.h ⊗ (c.args.low % 2 ^ n)) e ∙ ap (λ (x : ℕ). c.args.h ⊗ x) (mod-eq_of_lt c.requires.1)

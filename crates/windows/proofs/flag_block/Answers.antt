@@ -9,8 +9,7 @@ four_lanes-next-requires c = let p = c.requires in (p.0, p.1, omega (arith, p.2,
 pub one_by_one-next-requires : goal.one_by_one-next-requires
 one_by_one-next-requires c =
     let p = c.requires in
-    let l = c.least-size.ensures in
-    (p.0, p.1, omega (arith, p.2, l.0), l.1, p.3)
+    (p.0, p.1, omega (arith, p.2), omega arith, p.3)
 
 pub returns-then-left-gt1024 : goal.returns-then-left-gt1024
 returns-then-left-gt1024 c =
@@ -26,9 +25,8 @@ returns-then-left-gt1024 c =
 
 pub returns : goal.returns
 returns c =
-    let l = c.least-size.ensures in
     let marked = c.one_by_one-next.ensures in
-    (l.3 (omega arith) (omega arith), l.1, omega arith, (λ h. omega (arith, l.2 h, c.requires.2)), marked.0, marked.1)
+    (omega arith, omega arith, omega arith, (λ h. omega (arith, c.requires.2)), marked.0, marked.1)
 
 pub overflow_sub-left : goal.overflow_sub-left
 overflow_sub-left c = omega (arith, c.requires.2)

@@ -1,7 +1,8 @@
 -- `windows::four_lanes` meets its contract. The loop's invariant: j windows of each lane have their flags, and the four residues are
 -- those of the next ones.
+use mathlib.Core.Path.{◌≡◌}
 use mathlib.Core.Bool.{false}
-use Prim.Native.Nat.{ℕ, ◌+◌, ◌-◌, ◌≤◌, ◌<◌}
+use Prim.Native.Nat.{ℕ, ◌+◌, ◌≤◌, ◌<◌}
 use native.Mathlib.Omega.{arith}
 use lib.ListN.{length}
 use Rattle.rolling.specs.Rolling.{ResidueAt, Ready}
@@ -42,23 +43,23 @@ pub loop-j-init : goal.loop-j-init
 loop-j-init c =
     let a = c.args in
     let z = c.start_lanes-starts.ensures in
-    (omega arith, z.0, z.1, z.2, z.3, lanes-begin false (hit a.s a.text.now a.from) a.flags.now c.requires.1)
+    (z.0, z.1, z.2, z.3, lanes-begin false (hit a.s a.text.now a.from) a.flags.now c.requires.1)
 
 pub roll-a-requires : goal.roll-a-requires
 roll-a-requires c =
     let l = c.loop-j in
     let a = c.args in
-    let r = rolls (goal.at.roll-a-requires c).In-loop-j 0 l.a (omega arith) l.invariant.1 in
+    let r = rolls (goal.at.roll-a-requires c).In-loop-j 0 l.a (omega arith) l.invariant.0 in
     (r.0, omega (arith, r.1), same_place a.s a.text.now (a.from + l.j + 0) (a.from + l.j) l.a (omega arith) r.2)
 
 pub roll-b-requires : goal.roll-b-requires
-roll-b-requires c = let l = c.loop-j in rolls (goal.at.roll-b-requires c).In-loop-j 256 l.b (omega arith) l.invariant.2
+roll-b-requires c = let l = c.loop-j in rolls (goal.at.roll-b-requires c).In-loop-j 256 l.b (omega arith) l.invariant.1
 
 pub roll-c-requires : goal.roll-c-requires
-roll-c-requires c = let l = c.loop-j in rolls (goal.at.roll-c-requires c).In-loop-j 512 l.c (omega arith) l.invariant.3
+roll-c-requires c = let l = c.loop-j in rolls (goal.at.roll-c-requires c).In-loop-j 512 l.c (omega arith) l.invariant.2
 
 pub roll-d-requires : goal.roll-d-requires
-roll-d-requires c = let l = c.loop-j in rolls (goal.at.roll-d-requires c).In-loop-j 768 l.d (omega arith) l.invariant.4
+roll-d-requires c = let l = c.loop-j in rolls (goal.at.roll-d-requires c).In-loop-j 768 l.d (omega arith) l.invariant.3
 
 pub loop-j-preserved : goal.loop-j-preserved
 loop-j-preserved c =
@@ -67,52 +68,23 @@ loop-j-preserved c =
     let on = rolled (goal.at.loop-j-preserved c).Start l.j in
     let flag = hit-is a.s a.text.now a.from in
     let h = c.loop-j-test.true in (
-      omega arith,
       same_place a.s a.text.now (a.from + l.j + 1) (a.from + (l.j + 1 + 0)) _ (omega arith) c.roll-a.ensures,
       on 256 _ c.roll-b.ensures,
       on 512 _ c.roll-c.ensures,
       on 768 _ c.roll-d.ensures,
-      lanes-more false (hit a.s a.text.now a.from) l.j l.flags _ _ _ _ (omega arith) l.invariant.5
-          (flag l.j l.a (same_place a.s a.text.now (a.from + (l.j + 0)) (a.from + l.j) l.a (omega arith) l.invariant.1))
-          (flag (l.j + 256) l.b l.invariant.2)
-          (flag (l.j + 512) l.c l.invariant.3)
-          (flag (l.j + 768) l.d l.invariant.4),
+      lanes-more false (hit a.s a.text.now a.from) l.j l.flags _ _ _ _ (omega arith) l.invariant.4
+          (flag l.j l.a (same_place a.s a.text.now (a.from + (l.j + 0)) (a.from + l.j) l.a (omega arith) l.invariant.0))
+          (flag (l.j + 256) l.b l.invariant.1)
+          (flag (l.j + 512) l.c l.invariant.2)
+          (flag (l.j + 768) l.d l.invariant.3),
     )
 
 pub returns : goal.returns
 returns c =
     let a = c.args in
     let l = c.loop-j in
-    let most = l.invariant.0 in
-    let left = c.loop-j-test.false in (
-      same_place a.s a.text.now (a.from + (l.j + 768)) (a.from + 1024) l.d (omega arith) l.invariant.4,
-      lanes_end false (hit a.s a.text.now a.from) l.j l.flags (omega arith) l.invariant.5,
-      l.invariant.5.0,
+    let e : l.j ≡ 256 = omega arith in (
+      same_place a.s a.text.now (a.from + (l.j + 768)) (a.from + 1024) l.d (omega arith) l.invariant.3,
+      lanes_end false (hit a.s a.text.now a.from) l.j l.flags (omega arith) l.invariant.4,
+      l.invariant.4.0,
     )
-
-pub bounds-flags-j : goal.bounds-flags-j
-bounds-flags-j c = omega (arith, c.loop-j-test.true)
-
-pub overflow_add-flags : goal.overflow_add-flags
-overflow_add-flags c = omega (arith, c.loop-j-test.true)
-
-pub bounds-flags-j-in-loop-j : goal.bounds-flags-j-in-loop-j
-bounds-flags-j-in-loop-j c = omega (arith, c.loop-j-test.true)
-
-pub overflow_add-flags-in-loop-j : goal.overflow_add-flags-in-loop-j
-overflow_add-flags-in-loop-j c = omega (arith, c.loop-j-test.true)
-
-pub bounds-flags-j-in-loop-j-2 : goal.bounds-flags-j-in-loop-j-2
-bounds-flags-j-in-loop-j-2 c = omega (arith, c.loop-j-test.true)
-
-pub overflow_add-flags-in-loop-j-2 : goal.overflow_add-flags-in-loop-j-2
-overflow_add-flags-in-loop-j-2 c = omega (arith, c.loop-j-test.true)
-
-pub bounds-flags-j-in-loop-j-3 : goal.bounds-flags-j-in-loop-j-3
-bounds-flags-j-in-loop-j-3 c = omega (arith, c.loop-j-test.true)
-
-pub overflow_add-j : goal.overflow_add-j
-overflow_add-j c = omega (arith, c.loop-j-test.true)
-
-pub loop-j-smaller : goal.loop-j-smaller
-loop-j-smaller c = omega (arith, c.loop-j-test.true)

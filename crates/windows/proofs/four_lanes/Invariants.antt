@@ -1,7 +1,7 @@
 -- `windows::four_lanes` meets its contract. The loop's invariant: j windows of each lane have their flags, and the four residues are
 -- those of the next ones.
 use mathlib.Core.Bool.{false}
-use Prim.Native.Nat.{◌+◌, ◌-◌, ◌≤◌}
+use Prim.Native.Nat.{◌+◌}
 use Rattle.rolling.specs.Rolling.{ResidueAt}
 use Rattle.windows.specs.Flags.{hit}
 use Rattle.windows.proofs.Filling.{LanesFilled}
@@ -9,12 +9,8 @@ use Rattle.windows.proofs.four_lanes.Given as goal
 
 abbrev pub invariant-loop-j : goal.invariant-loop-j
 invariant-loop-j l =
-    (l.j ≤ 256)
-    × ResidueAt l.s l.text (l.from + (l.j + 0)) l.a
+    ResidueAt l.s l.text (l.from + (l.j + 0)) l.a
     × ResidueAt l.s l.text (l.from + (l.j + 256)) l.b
     × ResidueAt l.s l.text (l.from + (l.j + 512)) l.c
     × ResidueAt l.s l.text (l.from + (l.j + 768)) l.d
     × LanesFilled false (hit l.s l.text l.from) l.j l.flags
-
-abbrev pub decreases-loop-j : goal.decreases-loop-j
-decreases-loop-j l = 256 - l.j

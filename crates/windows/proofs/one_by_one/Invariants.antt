@@ -2,7 +2,7 @@
 -- residue is that of the next window, if there is one.
 use mathlib.Core.Path.{◌≡◌}
 use mathlib.Core.Bool.{false}
-use Prim.Native.Nat.{◌+◌, ◌-◌, ◌≤◌}
+use Prim.Native.Nat.{◌+◌, ◌≤◌}
 use lib.ListN.{length, get_or}
 use Rattle.rolling.specs.Rolling.{ResidueAt}
 use Rattle.windows.specs.Flags.{Filled, hit}
@@ -10,11 +10,7 @@ use Rattle.windows.proofs.one_by_one.Given as goal
 
 abbrev pub invariant-loop-j : goal.invariant-loop-j
 invariant-loop-j l =
-    (l.j ≤ l.size)
-    × (length l.flags ≡ 1024)
+    (length l.flags ≡ 1024)
     × (l.from + l.j + l.s.m ≤ length l.text → ResidueAt l.s l.text (l.from + l.j) l.a)
     × Filled false (hit l.s l.text l.from) 0 l.j l.flags
     × Filled false (λ i. get_or l.initial.flags i false) l.size 1024 l.flags
-
-abbrev pub decreases-loop-j : goal.decreases-loop-j
-decreases-loop-j l = l.size - l.j
