@@ -3,17 +3,18 @@ use mathlib.Core.Path.{◌≡◌, refl, sym, ap, ap₂, ◌∙◌}
 use mathlib.Core.List.{List, [], ◌∷◌, ◌++◌, zip_with, flatten, append_assoc}
 use Prim.Native.Nat.{ℕ, zero, suc, ◌+◌, ◌-◌, ◌*◌, ◌/◌, ◌%◌, ◌^◌, ◌≤◌, ◌<◌}
 use native.Mathlib.Nat.{suc-add, add-suc, mul-one, zero-mul, mul-zero, mul_assoc, zero-add, mul-add-div_right, mul-add-mod_self_right, add-zero, mod-one}
-use native.Mathlib.Nat.{div-one, mod-mod, mod-eq_of_lt, mul-suc, add_assoc, add_comm, mul_comm}
+use native.Mathlib.Nat.{div-one, mod-mod, mod-eq_of_lt, mul-suc, add_assoc, add_comm}
 use native.Mathlib.Numerals.{add-one}
 use native.Mathlib.Omega.{arith}
-use lib.Arith.{digits_lt, digits_div}
+use borrow.Rule.Slice.PartMut.{put_mid}
+use lib.Arith.{digits_div}
 use lib.ListN.{length, get_or, set, take, drop, length-append, length-drop}
 use lib.Pow.{pow_pos, mod-pow-add, pow-add}
-use lib.Seq.{sets, sets-eq, drop-cons, take_at, drop_at, take-add, drop-drop, length-take-le}
+use lib.Seq.{sets, sets-eq, drop-cons, take_at, drop_at, take-add, take-suc, drop-drop, length-take-le}
 use Rattle.lists.specs.Lists.{All}
 use Rattle.lists.proofs.Lists.{all_take, all_drop}
 use Rattle.files.specs.Files.{bits, value_from, Bytes}
-use Rattle.files.proofs.Values.{value-byte, value-split, value-lt, length-bits}
+use Rattle.files.proofs.Values.{value-append, value-byte, value-split, value-lt, length-bits, bits-append}
 use Rattle.big_endian.specs.Numbers.{bytes_of, fields_of, number_at, numbers_at, bytes_in}
 
 -- ---- lengths
@@ -151,33 +152,40 @@ number-first place w l h =
     ∙ value-split (0 * 256 + b % 256) (bits r)
     ∙ ap₂ (λ (x n : ℕ). x * 2 ^ n + value_from 0 (bits r)) (sym (value-byte 0 b [])) (length-bits r ∙ ap (λ (n : ℕ). 8 * n) long))
 
--- ---- as the code goes: one byte a turn
+-- ---- as the code goes
 
-pub store_next : (l : List ℕ) (i x w : ℕ) → 0 < w → sets l i (bytes_of w x) ≡ sets (set l i (x / 2 ^ (8 * (w - 1)) % 256)) (i + 1) (bytes_of (w - 1) x)
-unfolding bytes_of
-store_next l i x zero h = absurd (omega arith)
-store_next l i x (suc w) h = let e : suc w - 1 ≡ w = omega arith in rw (e, add-one i)
-
-pub store_done : (l : List ℕ) (i x w : ℕ) → w ≡ 0 → sets l i (bytes_of w x) ≡ l
-unfolding bytes_of
-store_done l i x w e = rw e
-
--- m bytes are left, the next at place i
-pub load_next : (l : List ℕ) (i x m : ℕ) → 0 < m → i < length l → get_or l i 0 < 256
-    → value_from x (bits (take m (drop i l))) ≡ value_from (x * 256 + get_or l i 0) (bits (take (m - 1) (drop (i + 1) l)))
-load_next l i x zero p h b = absurd (omega arith)
-load_next l i x (suc m) p h b =
-    let e : suc m - 1 ≡ m = omega arith in
-    rw (drop-cons l i 0 h, e, add-one i)
-    (value-byte x (get_or l i 0) (take m (drop (suc i) l)) ∙ ap (λ (y : ℕ). value_from (x * 256 + y) (bits (take m (drop (suc i) l)))) (mod-eq_of_lt b))
-
-pub load_done : (l : List ℕ) (i x m : ℕ) → m ≡ 0 → value_from x (bits (take m (drop i l))) ≡ x
+none-behind : (x : ℕ) → value_from x (bits []) ≡ x
 unfolding value_from bits
-load_done l i x m e = rw e
+none-behind x = refl
 
--- one byte more is below 256 times the bound
-pub load_lt : (n x b : ℕ) → x < 2 ^ (8 * n) → b < 256 → x * 256 + b < 2 ^ (8 * (n + 1))
-load_lt n x b h l = rw (add-one n, pow-next n) (rw (mul_comm 256 (2 ^ (8 * n))) (digits_lt {m = 2 ^ (8 * n)} h l))
+-- one byte more
+pub value-more : (i : ℕ) (l : List ℕ) → i < length l → get_or l i 0 < 256
+    → value_from 0 (bits (take (i + 1) l)) ≡ value_from 0 (bits (take i l)) * 256 + get_or l i 0
+value-more i l h b =
+    let x = value_from 0 (bits (take i l)) in
+    let more = get_or l i 0 ∷ [] in
+    ap (λ (q : List ℕ). value_from 0 (bits q)) (ap (λ (n : ℕ). take n l) (add-one i) ∙ take-suc l i 0 h)
+    ∙ ap (value_from 0) (bits-append (take i l) more)
+    ∙ value-append 0 (bits (take i l)) (bits more)
+    ∙ value-byte x (get_or l i 0) []
+    ∙ none-behind (x * 256 + get_or l i 0 % 256)
+    ∙ ap (λ (y : ℕ). x * 256 + y) (mod-eq_of_lt b)
+
+pub value-front-lt : (i : ℕ) (l : List ℕ) → i ≤ length l → value_from 0 (bits (take i l)) < 2 ^ (8 * i)
+value-front-lt i l h = rw (length-take-le i l h) at (value-bound (take i l))
+
+-- the last of the bytes that a number has
+pub last-bytes : (k w x : ℕ) → drop k (bytes_of (k + w) x) ≡ bytes_of w x
+unfolding bytes_of
+last-bytes zero w x = ap (λ (n : ℕ). bytes_of n x) (zero-add w)
+last-bytes (suc k) w x = ap (λ (n : ℕ). drop (suc k) (bytes_of n x)) (suc-add k w) ∙ last-bytes k w x
+
+-- a part of a slice that bytes are copied to
+pub put-bytes : (l vs : List ℕ) (a k : ℕ) → k ≡ length vs → a + k ≤ length l → put_mid a k l vs ≡ sets l a vs
+put-bytes l vs a k e h =
+    ap (λ (r : List ℕ). take a l ++ (vs ++ r)) (drop-drop k a l ∙ ap (λ (n : ℕ). drop (a + n) l) e)
+    ∙ sym (append_assoc (take a l) vs (drop (a + length vs) l))
+    ∙ sym (sets-eq vs l a (rw (← e) h))
 
 pub numbers-next : (place w n : ℕ) (l : List ℕ) → 0 < n → numbers_at place w n l ≡ number_at place w l ∷ numbers_at (place + w) w (n - 1) l
 unfolding numbers_at

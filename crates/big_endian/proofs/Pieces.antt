@@ -1,11 +1,12 @@
 -- Laws of some bytes of a part as one number, and of feeding a part by such pieces.
 use mathlib.Core.Path.{◌≡◌, refl, sym, ap, ap₂, ◌∙◌}
-use mathlib.Core.List.{List, [], ◌++◌}
+use mathlib.Core.List.{List, [], ◌∷◌, ◌++◌}
 use Prim.Native.Nat.{ℕ, ◌+◌, ◌*◌, ◌%◌, ◌^◌, ◌≤◌, ◌<◌}
 use native.Mathlib.Nat.{mod-eq_of_lt}
 use native.Mathlib.Omega.{arith}
 use lib.ListN.{length, get_or, take, drop, take-append-drop, length-drop, drop_of_length-le}
 use lib.Seq.{drop-cons, drop-drop, length-take-le, take-add}
+use Rattle.std.specs.Int.{from_be_bytes, w32}
 use Rattle.gf2.specs.Polynomials.{degree, rem}
 use Rattle.gf2.specs.Moduli.{polynomial, Proper}
 use Rattle.gf2.specs.declared.Modulus.{Modulus}
@@ -67,16 +68,17 @@ value-join p i a b v w l ev ew =
     ∙ ap (λ (n : ℕ). value_from 0 (bits front) * 2 ^ n + value_from 0 (bits back)) (length-piece p (i + a) b l))
 
 -- four bytes, one behind the other
-pub value-four : (p : List ℕ) (i a b c d : ℕ) → i + 4 ≤ length p
-    → a ≡ value_from 0 (bits (take 1 (drop i p)))
-    → b ≡ value_from 0 (bits (take 1 (drop (i + 1) p)))
-    → c ≡ value_from 0 (bits (take 1 (drop (i + 2) p)))
-    → d ≡ value_from 0 (bits (take 1 (drop (i + 3) p)))
-    → ((a * 256 + b) * 256 + c) * 256 + d ≡ value_from 0 (bits (take 4 (drop i p)))
-value-four p i a b c d l ea eb ec ed =
-    let two = value-join p i 1 1 a b (omega arith) ea eb in
-    let three = value-join p i 2 1 (a * 256 + b) c (omega arith) two ec in
-    value-join p i 3 1 ((a * 256 + b) * 256 + c) d (omega arith) three ed
+pub value-four : (p : List ℕ) (i : ℕ) → i + 4 ≤ length p → ((j : ℕ) → get_or p j 0 < 256)
+    → from_be_bytes w32 (get_or p i 0 ∷ get_or p (i + 1) 0 ∷ get_or p (i + 2) 0 ∷ get_or p (i + 3) 0 ∷ []) ≡ value_from 0 (bits (take 4 (drop i p)))
+value-four p i l f =
+    let two = value-join p i 1 1 (get_or p i 0) (get_or p (i + 1) 0) (omega arith) (one i (omega arith)) (one (i + 1) (omega arith)) in
+    let three = value-join p i 2 1 (get_or p i 0 * 256 + get_or p (i + 1) 0) (get_or p (i + 2) 0) (omega arith) two (one (i + 2) (omega arith)) in
+    let four = value-join p i 3 1 ((get_or p i 0 * 256 + get_or p (i + 1) 0) * 256 + get_or p (i + 2) 0) (get_or p (i + 3) 0) (omega arith) three
+    (one (i + 3) (omega arith)) in
+    omega (arith, four)
+  where
+    one : (j : ℕ) → j < length p → get_or p j 0 ≡ value_from 0 (bits (take 1 (drop j p)))
+    one j h = value-one p j h (f j)
 
 pub join-lt : (p : List ℕ) (i a b v w : ℕ) → i + a + b ≤ length p → v ≡ value_from 0 (bits (take a (drop i p)))
     → w ≡ value_from 0 (bits (take b (drop (i + a) p)))

@@ -1,33 +1,20 @@
--- `eight_at` meets its contract: four bytes, and four behind them.
-use Prim.Native.Nat.{◌+◌, ◌^◌, ◌<◌}
+-- Four bytes, and four behind them.
+use mathlib.Core.Path.{refl, ap₂, ◌∙◌}
+use Prim.Native.Nat.{ℕ, ◌+◌, ◌*◌, ◌%◌, ◌^◌, ◌<◌}
 use native.Mathlib.Omega.{arith}
+use Rattle.std.specs.Int.RustNames.{bit_or}
+use Rattle.std.proofs.lemmas.Grind.{or_after_shift}
 use Rattle.big_endian.proofs.Pieces.{piece-lt, value-join, join-lt}
 use Rattle.big_endian.proofs.eight_at.Goals as goal
-use Rattle.big_endian.proofs.eight_at.Goals.{After-four_at, After-four_at-2}
-
--- four bytes are a number of 32 bits
-four-lt : (c : After-four_at) → c.four_at.result < 2 ^ 32
-four-lt c = piece-lt c.args.part.now c.args.i 4 c.four_at.result (omega arith) c.four_at.ensures
-
-four-lt-2 : (c : After-four_at-2) → c.four_at-2.result < 2 ^ 32
-four-lt-2 c =
-    piece-lt c.args.part.now (c.args.i + 4) 4 c.four_at-2.result (omega arith) c.four_at-2.ensures
-
-pub overflow_add-result : goal.overflow_add-result
-overflow_add-result c =
-    let front = c.four_at in
-    omega (arith, join-lt c.args.part.now c.args.i 4 4 front.result c.four_at-2.result (omega arith) front.ensures c.four_at-2.ensures)
 
 pub returns : goal.returns
 returns c =
-    let front = c.four_at in
-    value-join c.args.part.now c.args.i 4 4 front.result c.four_at-2.result (omega arith) front.ensures c.four_at-2.ensures
-
-pub overflow_cast-result : goal.overflow_cast-result
-overflow_cast-result c = omega (arith, four-lt (goal.at.overflow_cast-result c).After-four_at)
-
-pub overflow_mul-result : goal.overflow_mul-result
-overflow_mul-result c = omega (arith, four-lt (goal.at.overflow_mul-result c).After-four_at)
-
-pub overflow_cast-result-2 : goal.overflow_cast-result-2
-overflow_cast-result-2 c = omega (arith, four-lt-2 (goal.at.overflow_cast-result-2 c).After-four_at-2)
+    let p = c.args.part.now in
+    let i = c.args.i in
+    let a = c.four_at.result in
+    let b = c.four_at-2.result in
+    let low : b < 2 ^ 32 = piece-lt p (i + 4) 4 b (omega arith) c.four_at-2.ensures in
+    let all : a * 2 ^ 32 + b < 2 ^ 64 = join-lt p i 4 4 a b (omega arith) c.four_at.ensures c.four_at-2.ensures in
+    ap₂ (λ (x y : ℕ). bit_or (x * 4294967296 % 2 ^ 64) y) c.from.ensures c.from-2.ensures
+    ∙ or_after_shift a 4294967296 (2 ^ 64) b refl low (omega (arith, all))
+    ∙ value-join p i 4 4 a b (omega arith) c.four_at.ensures c.four_at-2.ensures
