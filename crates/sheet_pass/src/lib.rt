@@ -14,7 +14,7 @@ ghost use Rattle.sheet_pages.specs.Blocks.{FedBy};
 ghost use Rattle.sheet_pass.specs.Passes.{Room, expected, Passed};
 
 use gf2::Modulus;
-use sheet_pages::Paging;
+use sheet_pages::{PageTables, Paging};
 
 // How many of the fingerprints, from the first on, are those in the known fields from a place on: all of them where nothing is known.
 fn agreeing(known: &[u8], from: usize, marks: &[u64]) -> usize
@@ -57,12 +57,11 @@ fn put_fields(out: &mut [u8], from: usize, marks: &[u64])
 fn over_blocks(
     out: &mut [u8],
     known: &[u8],
-    words: &[u64],
-    eights: &[u64],
+    tables: Option<PageTables<'_>>,
     x: Paging,
     file: &[u8],
 ) -> usize
-    requires { FedBy x.p words.now eights.now × (16 ≤ x.size) × (x.size ≤ 4096) × (length file.now < 2 ^ 32)
+    requires { FedBy x.p tables × (16 ≤ x.size) × (x.size ≤ 4096) × (length file.now < 2 ^ 32)
         × Room (8 * page_count x.size (length file.now)) out.old × Room (8 * page_count x.size (length file.now)) known.now
         × (misused (as_part file.now x.used) ≡ false) }
     ensures { Passed
@@ -75,7 +74,7 @@ fn over_blocks(
     let mut page: usize = 0;
     while page * size < file.len() {
         let at = page * size;
-        let n = sheet_pages::next_pages(&mut marks, words, eights, x, &file[at..]);
+        let n = sheet_pages::next_pages(&mut marks, tables, x, &file[at..]);
         let same = agreeing(known, 8 * page, &marks[..n]);
         put_fields(out, 8 * page, &marks[..same]);
         page += same;
@@ -108,12 +107,12 @@ pub fn over_pages(
 {
     let mut words = [0u64; 1024];
     let mut eights = [0u64; 2048];
-    let made = sheet_pages::make_tables(&mut words, &mut eights, p, size);
+    let tables = sheet_pages::make_tables(&mut words, &mut eights, p, size);
     let x = Paging {
         p: p,
         size: size,
         used: used,
         filled: filled,
     };
-    over_blocks(out, known, &words[..made], &eights, x, file)
+    over_blocks(out, known, tables, x, file)
 }
