@@ -14,7 +14,6 @@ ghost use Rattle.stock.specs.Stock.{stock_word};
 ghost use Rattle.c_interface.specs.Interface.{key_at, mark_at};
 
 use acceptance::Key;
-use keys::Tested;
 use marks::Running;
 
 // Is the key accepted? Numbers 1, 2.
@@ -23,10 +22,7 @@ pub extern "C" fn gfp_test_key(degree: u32, word: u64) -> u32
     ensures { result ≡ number_of (test_key (key_at degree word)) }
 {
     let key = Key { degree, word };
-    match keys::test(key) {
-        Tested::Accepted(_) => 0,
-        Tested::Refused(r) => refusals::number(r),
-    }
+    refusals::number_of(keys::test(key).map(|_| ()))
 }
 
 // The word of the stock key of a degree 8 to 64: the smallest accepted key of that degree; 0 for every other number. No numbers.
@@ -44,7 +40,7 @@ pub extern "C" fn gfp_begin(degree: u32, word: u64, fingerprint: &mut u64, bits:
         × (mark_at fingerprint.new bits.new ≡ value_or (mark_at fingerprint.old bits.old) (begin (key_at degree word))) }
 {
     let key = Key { degree, word };
-    c_interface::store_begun(Running::begin(key), fingerprint, bits)
+    c_interface::store(Running::begin(key), fingerprint, bits)
 }
 
 // The plain mark of the empty file. Numbers 1, 2.
@@ -59,7 +55,7 @@ pub extern "C" fn gfp_begin_plain(
         × (mark_at fingerprint.new bits.new ≡ value_or (mark_at fingerprint.old bits.old) (begin_plain (key_at degree word))) }
 {
     let key = Key { degree, word };
-    c_interface::store_begun(Running::begin_plain(key), fingerprint, bits)
+    c_interface::store(Running::begin_plain(key), fingerprint, bits)
 }
 
 // A plain mark turned into a mark with the leading 1, or such a mark into a plain mark. Numbers 1, 2, 7, 8.
@@ -68,12 +64,7 @@ pub extern "C" fn gfp_turn(degree: u32, word: u64, fingerprint: &mut u64, bits: 
     ensures { (result ≡ number_of (turn (key_at degree word) (mark_at fingerprint.old bits.old)))
         × (mark_at fingerprint.new bits.new ≡ state_of (turn (key_at degree word) (mark_at fingerprint.old bits.old))) }
 {
-    let key = Key { degree, word };
-    let m = Running {
-        key: key,
-        fingerprint: *fingerprint,
-        length: *bits,
-    };
+    let m = c_interface::running(degree, word, *fingerprint, *bits);
     c_interface::store(m.turn(), fingerprint, bits)
 }
 
@@ -91,12 +82,7 @@ pub extern "C" fn gfp_feed(
         × (mark_at fingerprint.new bits.new
         ≡ state_of (feed_bits (key_at degree word) (mark_at fingerprint.old bits.old) (as_part part.now used))) }
 {
-    let key = Key { degree, word };
-    let m = Running {
-        key: key,
-        fingerprint: *fingerprint,
-        length: *bits,
-    };
+    let m = c_interface::running(degree, word, *fingerprint, *bits);
     c_interface::store(m.feed(part, used), fingerprint, bits)
 }
 
@@ -134,12 +120,7 @@ pub extern "C" fn gfp_feed_table(
         × (mark_at fingerprint.new bits.new
         ≡ state_of (feed_table (key_at degree word) (mark_at fingerprint.old bits.old) words.now (as_part part.now used))) }
 {
-    let key = Key { degree, word };
-    let m = Running {
-        key: key,
-        fingerprint: *fingerprint,
-        length: *bits,
-    };
+    let m = c_interface::running(degree, word, *fingerprint, *bits);
     c_interface::store(m.feed_table(words, part, used), fingerprint, bits)
 }
 
@@ -157,11 +138,6 @@ pub extern "C" fn gfp_feed_house(
         × (mark_at fingerprint.new bits.new
         ≡ state_of (feed_house (key_at degree word) (mark_at fingerprint.old bits.old) (as_part part.now used))) }
 {
-    let key = Key { degree, word };
-    let m = Running {
-        key: key,
-        fingerprint: *fingerprint,
-        length: *bits,
-    };
+    let m = c_interface::running(degree, word, *fingerprint, *bits);
     c_interface::store(m.feed_house(part, used), fingerprint, bits)
 }

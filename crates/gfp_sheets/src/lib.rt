@@ -7,15 +7,14 @@ ghost use Rattle.refusals.specs.Refusals.{number_of, state_of, value_or, mapped}
 ghost use Rattle.files.specs.Files.{as_part};
 ghost use Rattle.c_interface.specs.Interface.{key_at};
 ghost use Rattle.search.specs.Searching.{search, places_after};
-ghost use Rattle.search.specs.declared.Counts.{Counts};
+ghost use Rattle.comparing.specs.declared.Counts.{Counts};
 ghost use Rattle.sheets.specs.Layout.{contents_in};
 ghost use Rattle.sheets.specs.Sheets.{write_sheet, read_sheet, read_pages, check_sheet, length_for};
 ghost use Rattle.sheets.specs.Outputs.{numbers_of, outcome_in, range_in};
 ghost use Rattle.sheets.specs.declared.Sheet.{Sheet};
 
 use acceptance::Key;
-use search::Searched;
-use sheets::{Changed, Checked, Reading, SheetLength};
+use sheets::Comparison;
 
 // The sheet of a file, with pages of the given size, into the lent bytes; further bytes keep their value. The file comes with the used bits of
 // its final byte. Numbers 1, 2, 7, 12, 13, 19.
@@ -70,18 +69,17 @@ pub extern "C" fn gfp_read_sheet(
         (mapped numbers_of (read_sheet sheet.now)))) }
 {
     match sheet_reading::read(sheet) {
-        Reading::Sheet(x) => {
-            let key = x.key;
+        Ok(x) => {
             *version = x.version as u32;
-            *degree = key.degree;
-            *word = key.word;
+            *degree = x.key.degree;
+            *word = x.key.word;
             *bits = x.length;
             *page_size = x.size;
             *pages = x.pages;
             *fingerprint = x.fingerprint;
             0
         }
-        Reading::Refused(r) => refusals::number(r),
+        Err(r) => refusals::number(r),
     }
 }
 
@@ -109,22 +107,24 @@ pub extern "C" fn gfp_check_file(
         × (outcome.new ∷ page.new ∷ []
         ≡ value_or (outcome.old ∷ page.old ∷ []) (mapped outcome_in (check_sheet sheet.now (as_part file.now used)))) }
 {
-    let answer = sheet_checking::check(sheet, file, used);
-    let Checked::Page(i) = answer else {
-        if let Checked::Refused(r) = answer {
-            return refusals::number(r);
-        }
-        *page = 0;
-        if let Checked::Same = answer {
+    match sheet_checking::check(sheet, file, used) {
+        Ok(Comparison::Same) => {
             *outcome = 0;
-            return 0;
+            *page = 0;
+            0
         }
-        *outcome = 2;
-        return 0;
-    };
-    *outcome = 1;
-    *page = i;
-    0
+        Ok(Comparison::Page(i)) => {
+            *outcome = 1;
+            *page = i;
+            0
+        }
+        Ok(Comparison::OtherLength) => {
+            *outcome = 2;
+            *page = 0;
+            0
+        }
+        Err(r) => refusals::number(r),
+    }
 }
 
 // The bytes of the first changed page of a file, from the first to before the last: outcome 0 for same, 1 for a page, 2 for another length;
@@ -144,25 +144,25 @@ pub extern "C" fn gfp_changed_range(
         (mapped (range_in (contents_in sheet.now)) (check_sheet sheet.now (as_part file.now used)))) }
 {
     match sheet_checking::first_changed_range(sheet, file, used) {
-        Changed::Same => {
+        Ok(Comparison::Same) => {
             *outcome = 0;
             *from = 0;
             *to = 0;
             0
         }
-        Changed::Bytes(a, b) => {
+        Ok(Comparison::Page(bytes)) => {
             *outcome = 1;
-            *from = a;
-            *to = b;
+            *from = bytes.start;
+            *to = bytes.end;
             0
         }
-        Changed::OtherLength => {
+        Ok(Comparison::OtherLength) => {
             *outcome = 2;
             *from = 0;
             *to = 0;
             0
         }
-        Changed::Refused(r) => refusals::number(r),
+        Err(r) => refusals::number(r),
     }
 }
 
@@ -174,11 +174,11 @@ pub extern "C" fn gfp_sheet_length(file_length: u64, page_size: u64, sheet_lengt
         × (sheet_length.new ≡ value_or sheet_length.old (length_for file_length page_size)) }
 {
     match sheet_writing::length(file_length, page_size) {
-        SheetLength::Bytes(n) => {
+        Ok(n) => {
             *sheet_length = n;
             0
         }
-        SheetLength::Refused(r) => refusals::number(r),
+        Err(r) => refusals::number(r),
     }
 }
 
@@ -201,11 +201,11 @@ pub extern "C" fn gfp_search(
 {
     let key = Key { degree, word };
     match search::search(key, text, pattern, places) {
-        Searched::Found(c) => {
-            *count = c.places;
-            *alarms = c.alarms;
+        Ok(found) => {
+            *count = found.places;
+            *alarms = found.alarms;
             0
         }
-        Searched::Refused(r) => refusals::number(r),
+        Err(r) => refusals::number(r),
     }
 }

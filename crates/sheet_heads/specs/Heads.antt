@@ -1,11 +1,9 @@
 -- For inner functions: a reader of the promises need not read this page. The head of a sheet as the code has it.
-use Rattle.std.specs.Prelude.{◌≡◌, Bool, true, false, List, [], ℕ, ◌^◌, ◌≤◌, ◌<◌, length}
+use Rattle.std.specs.Prelude.{◌≡◌, Bool, true, false, List, [], ℕ, ◌^◌, ◌≤◌, ◌<◌, Option, Some, None}
 use Rattle.refusals.specs.Refusals.{longest}
 use Rattle.acceptance.specs.declared.Key.{Key}
 use Rattle.sheets.specs.Layout.{version_in, newest, layout_of, page_place, Contents, size_in, key_in, length_in}
 use Rattle.sheet_heads.specs.declared.Head.{Head}
-use Rattle.sheet_heads.specs.declared.Header.{Header}
-use Rattle.sheet_heads.specs.declared.Header.TheVariants as cases
 
 -- the numbers in front of a sheet's fingerprints, as the code reads them
 pub record HeadOf (sheet : List ℕ) (head : Head) : Type 0 where
@@ -20,9 +18,9 @@ pub record HeadOf (sheet : List ℕ) (head : Head) : Type 0 where
   pub place-fits : head.place < 32
 
 -- the head is wrong, or these are its numbers
-abbrev pub HeaderOf : List ℕ → Bool → Header → Type 0
-HeaderOf sheet wrong cases.Wrong = wrong ≡ true
-HeaderOf sheet wrong (cases.Right head) = (wrong ≡ false) × HeadOf sheet head
+abbrev pub HeaderOf : List ℕ → Bool → Option Head → Type 0
+HeaderOf sheet wrong None = wrong ≡ true
+HeaderOf sheet wrong (Some head) = (wrong ≡ false) × HeadOf sheet head
 
 -- what stands in front of the fingerprints, as the code writes it
 abbrev pub head_only : Key → ℕ → ℕ → Contents

@@ -8,9 +8,11 @@ ghost use Rattle.refusals.specs.Refusals.{longest};
 ghost use Rattle.big_endian.specs.Numbers.{number_at, bytes_in};
 ghost use Rattle.sheets.specs.Layout.{version_in, newest, layouts, layout_of, field_widths, page_place, sheet_length, key_from, head_of, length_in};
 ghost use Rattle.sheets.specs.Sheets.{head_wrong};
+ghost use Rattle.sheet_layout.specs.Laid.{LaidOut};
 ghost use Rattle.sheet_heads.specs.Heads.{HeaderOf, head_only};
 
 use acceptance::Key;
+use sheet_layout::Fields;
 
 // The letters GFP.
 const LETTERS: u64 = 0x474650;
@@ -28,13 +30,6 @@ pub struct Head {
     pub size: u64,
     pub place: usize,
     pub filled: bool,
-}
-
-// The answer to opening a head: wrong, or its numbers.
-#[derive(Clone, Copy)]
-pub enum Header {
-    Wrong,
-    Right(Head),
 }
 
 // The key, as a pair or as a number.
@@ -56,52 +51,50 @@ fn key_in(sheet: &[u8], paired: bool) -> Key
 }
 
 // The numbers in the fields of a version, where its least size and the limit of lengths are right.
-fn head_in(sheet: &[u8], version: u64) -> Header
-    requires { version ≡ version_in sheet.now }
+fn head_in(sheet: &[u8], version: u64, v: Fields) -> Option<Head>
+    requires { (version ≡ version_in sheet.now) × LaidOut (layout_of version) v }
     ensures { HeaderOf sheet.now
         (ltb (length sheet.now) (sheet_length (layout_of version) 0) || ltb longest (length_in (layout_of version) sheet.now)) result }
 {
-    let v = sheet_layout::fields_of(version);
     let length_place = sheet_layout::KEY_PLACE + v.key;
     let size_place = length_place + v.length;
     let place = size_place + v.size;
     if sheet.len() < place + 8 {
-        return Header::Wrong;
+        return None;
     }
-    let unit = v.unit;
-    let n = unit * big_endian::number_at(sheet, length_place, v.length);
-    if refusals::LONGEST < n {
-        return Header::Wrong;
+    let length = v.unit * big_endian::number_at(sheet, length_place, v.length);
+    if refusals::LONGEST < length {
+        return None;
     }
-    Header::Right(Head {
-        version: version,
-        key: key_in(sheet, v.paired),
-        length: n,
-        size: big_endian::number_at(sheet, size_place, v.size),
-        place: place,
+    let key = key_in(sheet, v.paired);
+    let size = big_endian::number_at(sheet, size_place, v.size);
+    Some(Head {
+        version,
+        key,
+        length,
+        size,
+        place,
         filled: v.filled,
     })
 }
 
-// The head of a sheet, where size, letters, version, the version's least size and the limit of lengths are right.
-pub fn open_head(sheet: &[u8]) -> Header
+// The head of a sheet, where size, letters, version, the version's least size and the limit of lengths are right; else none.
+pub fn open_head(sheet: &[u8]) -> Option<Head>
     ensures { HeaderOf sheet.now (head_wrong layouts sheet.now) result }
 {
     if sheet.len() < LEAST {
-        return Header::Wrong;
+        return None;
     }
     if big_endian::number_at(sheet, 0, sheet_layout::LETTERS_WIDTH) != LETTERS {
-        return Header::Wrong;
+        return None;
     }
     let version = big_endian::number_at(
         sheet,
         sheet_layout::LETTERS_WIDTH,
         sheet_layout::VERSION_WIDTH,
     );
-    if !sheet_layout::is_known(version) {
-        return Header::Wrong;
-    }
-    head_in(sheet, version)
+    let v = sheet_layout::fields_of(version)?;
+    head_in(sheet, version, v)
 }
 
 // Writes what stands in front of the fingerprints, in the fields of the newest version, which holds the key as a pair.
@@ -109,7 +102,7 @@ pub fn put_head(buffer: &mut [u8], key: Key, n: u64, size: u64)
     requires { page_place (layout_of newest.version) 0 ≤ length buffer.old }
     ensures { buffer.new ≡ sets buffer.old 0 (bytes_in (field_widths (layout_of newest.version)) (head_of (head_only key n size))) }
 {
-    let v = sheet_layout::fields_of(sheet_layout::NEWEST);
+    let v = sheet_layout::newest();
     let counted = n / v.unit;
     let degree_place = sheet_layout::KEY_PLACE;
     let word_place = sheet_layout::WORD_PLACE;
@@ -126,7 +119,7 @@ pub fn put_head(buffer: &mut [u8], key: Key, n: u64, size: u64)
         buffer,
         degree_place,
         sheet_layout::DEGREE_WIDTH,
-        key.degree as u64,
+        u64::from(key.degree),
     );
     big_endian::put(buffer, word_place, 8, key.word);
     big_endian::put(buffer, length_place, v.length, counted);

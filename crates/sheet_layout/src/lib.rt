@@ -4,8 +4,8 @@
 
 ghost use Rattle.std.specs.Prelude.{◌≡◌, false, ◌||◌, not, ◌+◌, ◌*◌, ◌≤◌, ◌<◌, ◌^◌, ltb, length, drop};
 ghost use Rattle.refusals.specs.Refusals.{longest};
-ghost use Rattle.sheets.specs.Layout.{newest, layouts, known, layout_of, page_place, page_count, pages_for};
-ghost use Rattle.sheet_layout.specs.Laid.{LaidOut};
+ghost use Rattle.sheets.specs.Layout.{newest, layout_of, page_place, page_count, pages_for};
+ghost use Rattle.sheet_layout.specs.Laid.{LaidOut, FieldsOf};
 
 // The letters GFP and the version's number stand in front of every sheet: their widths, and where the key begins.
 pub const LETTERS_WIDTH: usize = 3;
@@ -34,64 +34,58 @@ pub struct Fields {
     pub filled: bool,
 }
 
-// The fields of a version that holds the key as a number: the width of its length, the bits that this counts as one, and whether it fills up.
-fn numbered(length: usize, unit: u64, filled: bool) -> Fields
-    ensures { result ≡ record { key = 8; paired = false; length = length; size = 2; unit = unit; filled = filled } }
+// The fields of each version: what it changes of the one before.
+const VERSION_1: Fields = Fields {
+    key: 8,
+    paired: false,
+    length: 4,
+    size: 2,
+    unit: 8,
+    filled: true,
+};
+
+const VERSION_2: Fields = Fields {
+    filled: false,
+    ..VERSION_1
+};
+
+const VERSION_3: Fields = Fields {
+    length: 8,
+    unit: 1,
+    ..VERSION_2
+};
+
+const VERSION_4: Fields = Fields {
+    key: 9,
+    paired: true,
+    ..VERSION_3
+};
+
+// The fields of the version that is written.
+pub fn newest() -> Fields
+    ensures { LaidOut (layout_of newest.version) result }
 {
-    Fields {
-        key: 8,
-        paired: false,
-        length: length,
-        size: 2,
-        unit: unit,
-        filled: filled,
-    }
+    VERSION_4
 }
 
-// The fields of a version; those of the newest where there is no such version.
-pub fn fields_of(version: u64) -> Fields
-    ensures { LaidOut (layout_of version) result }
+// The fields of a version, if there is such a version.
+pub fn fields_of(version: u64) -> Option<Fields>
+    ensures { FieldsOf version result }
 {
-    if version == 1 {
-        return numbered(4, 8, true);
+    match version {
+        1 => Some(VERSION_1),
+        2 => Some(VERSION_2),
+        3 => Some(VERSION_3),
+        NEWEST => Some(newest()),
+        _ => None,
     }
-    if version == 2 {
-        return numbered(4, 8, false);
-    }
-    if version == 3 {
-        return numbered(8, 1, false);
-    }
-    Fields {
-        key: 9,
-        paired: true,
-        length: 8,
-        size: 2,
-        unit: 1,
-        filled: false,
-    }
-}
-
-// Is there such a version?
-pub fn is_known(version: u64) -> bool
-    ensures { result ≡ known layouts version }
-{
-    if version == NEWEST {
-        return true;
-    }
-    if version == 3 {
-        return true;
-    }
-    if version == 2 {
-        return true;
-    }
-    version == 1
 }
 
 // Where the fingerprints begin in the newest version.
 pub fn pages_place() -> usize
     ensures { (result ≡ page_place (layout_of newest.version) 0) × (result < 32) }
 {
-    let v = fields_of(NEWEST);
+    let v = newest();
     KEY_PLACE + v.key + v.length + v.size
 }
 
@@ -116,7 +110,7 @@ pub fn page_count(s: u64, n: u64) -> u64
     requires { (0 < s) × (s ≤ 4096) × (n < 2 ^ 32) }
     ensures { result ≡ page_count s n }
 {
-    (n + s - 1) / s
+    n.div_ceil(s)
 }
 
 // How many pages of s bytes a file of n bits has: an unfinished byte counts as one.
@@ -124,18 +118,12 @@ pub fn pages_for(s: u64, n: u64) -> u64
     requires { (0 < s) × (s ≤ 4096) × (n ≤ longest) }
     ensures { result ≡ pages_for s n }
 {
-    page_count(s, (n + 7) / 8)
+    page_count(s, n.div_ceil(8))
 }
 
 // Is the page size within 16 to 4,096?
 pub fn size_right(s: u64) -> bool
     ensures { result ≡ not (ltb s 16 || ltb 4096 s) }
 {
-    if s < 16 {
-        return false;
-    }
-    if 4096 < s {
-        return false;
-    }
-    true
+    (16..=4096).contains(&s)
 }

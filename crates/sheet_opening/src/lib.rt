@@ -5,18 +5,19 @@
 ghost use Rattle.std.specs.Prelude.{◌≡◌, false, cond, not, ◌-◌, ◌*◌, ◌^◌, ◌≤◌, ◌<◌, length};
 ghost use Rattle.gf2.specs.Polynomials.{rem};
 ghost use Rattle.gf2.specs.Moduli.{polynomial, Proper};
+ghost use Rattle.refusals.specs.Refusals.{mapped};
+ghost use Rattle.refusals.specs.Answers.{told};
 ghost use Rattle.acceptance.specs.Opened.{Opened};
-ghost use Rattle.sheets.specs.Layout.{layouts, contents_in};
-ghost use Rattle.sheets.specs.Sheets.{head_wrong, body_wrong, read_sheet};
+ghost use Rattle.sheets.specs.Layout.{layout_of, page_place, contents_in};
+ghost use Rattle.sheets.specs.Sheets.{body_wrong, read_sheet};
 ghost use Rattle.sheets.specs.Answers.{sheet_read};
 ghost use Rattle.sheets.specs.Inner.{read_body};
 ghost use Rattle.sheet_heads.specs.Heads.{HeadOf};
-ghost use Rattle.sheet_opening.specs.Opening.{opening, Kept, Sized};
+ghost use Rattle.sheet_opening.specs.Opening.{Sized};
 
 use gf2::Modulus;
-use keys::Tested;
 use refusals::Refusal;
-use sheet_heads::{Head, Header};
+use sheet_heads::Head;
 use sheets::Sheet;
 
 // A sheet that was read: its numbers, its opened key, where its fingerprints begin, and whether a last page is filled up.
@@ -26,13 +27,9 @@ pub struct OpenSheet {
     pub p: Modulus,
     pub place: usize,
     pub filled: bool,
-}
-
-// The answer to opening a sheet.
-#[derive(Clone, Copy)]
-pub enum Opening {
-    Opened(OpenSheet),
-    Refused(Refusal),
+    ghost opened: { Opened numbers.key p },
+    ghost placed: { place ≡ page_place (layout_of numbers.version) 0 },
+    ghost fills: { filled ≡ (layout_of numbers.version).filled },
 }
 
 // The file's fingerprint as the pages joined have to give it: with zeros behind it where they are filled up. `all` are the bits of the pages.
@@ -63,57 +60,43 @@ fn body_right(sheet: &[u8], head: Head, p: Modulus, count: u64, file: u64) -> bo
 }
 
 // What stands behind a head that is right, under its opened key. Numbers 12, 14 (total, fingerprints, joining).
-fn open_under(p: Modulus, sheet: &[u8], head: Head) -> Opening
+fn open_under(p: Modulus, sheet: &[u8], head: Head) -> Result<OpenSheet, Refusal>
     requires { HeadOf sheet.now head × Opened head.key p }
-    ensures { (opening result ≡ sheet_read (read_body sheet.now)) × Kept result }
+    ensures { mapped (λ x. x.numbers) (told result) ≡ sheet_read (read_body sheet.now) }
 {
     if !sheet_layout::size_right(head.size) {
-        return Opening::Refused(Refusal::PageSize);
+        return Err(Refusal::PageSize);
     }
     let place = head.place;
     let count = sheet_layout::pages_for(head.size, head.length);
     if sheet.len() as u64 != sheet_layout::sheet_length(place, count) {
-        return Opening::Refused(Refusal::SheetMalformed);
+        return Err(Refusal::SheetMalformed);
     }
     let file = big_endian::eight_at(sheet, place + (8 * count) as usize);
     if !body_right(sheet, head, p, count, file) {
-        return Opening::Refused(Refusal::SheetMalformed);
+        return Err(Refusal::SheetMalformed);
     }
-    let key = head.key;
     let numbers = Sheet {
         version: head.version,
-        key: key,
+        key: head.key,
         length: head.length,
         size: head.size,
         pages: count,
         fingerprint: file,
     };
-    Opening::Opened(OpenSheet {
-        numbers: numbers,
-        p: p,
-        place: place,
+    Ok(OpenSheet {
+        numbers,
+        p,
+        place,
         filled: head.filled,
     })
 }
 
-// The same of a sheet whose head is right. Numbers 1, 2, 12, 14.
-fn open_key(sheet: &[u8], head: Head) -> Opening
-    requires { (head_wrong layouts sheet.now ≡ false) × HeadOf sheet.now head }
-    ensures { (opening result ≡ sheet_read (read_sheet sheet.now)) × Kept result }
-{
-    let key = head.key;
-    match keys::test(key) {
-        Tested::Refused(r) => Opening::Refused(r),
-        Tested::Accepted(p) => open_under(p, sheet, head),
-    }
-}
-
 // Opens a sheet. Numbers 14 (size, letters, version, least size, limit of lengths), 1, 2, 12, 14 (total, fingerprints, joining).
-pub fn open_sheet(sheet: &[u8]) -> Opening
-    ensures { (opening result ≡ sheet_read (read_sheet sheet.now)) × Kept result }
+pub fn open_sheet(sheet: &[u8]) -> Result<OpenSheet, Refusal>
+    ensures { mapped (λ x. x.numbers) (told result) ≡ sheet_read (read_sheet sheet.now) }
 {
-    match sheet_heads::open_head(sheet) {
-        Header::Wrong => Opening::Refused(Refusal::SheetMalformed),
-        Header::Right(head) => open_key(sheet, head),
-    }
+    let head = sheet_heads::open_head(sheet).ok_or(Refusal::SheetMalformed)?;
+    let p = keys::test(head.key)?;
+    open_under(p, sheet, head)
 }

@@ -2,17 +2,19 @@
 use mathlib.Core.Path.{◌≡◌, sym, ap, ◌∙◌}
 use mathlib.Core.Bool.{Bool, true, false, ◌||◌}
 use mathlib.Core.List.{List, [], ◌∷◌, ◌++◌}
-use Prim.Native.Nat.{ℕ, ◌+◌, ◌*◌, ◌≤◌, ◌<◌}
+use Prim.Native.Nat.{ℕ, ◌*◌, ◌≤◌, ◌<◌}
 use lib.Dec.{ltb}
 use lib.ListN.{length, drop}
 use native.Mathlib.Omega.{arith}
 use borrow.Author.Tests.{lt-ltb, le-ltb, ltb-false}
+use Rattle.std.specs.Prelude.{Result, Err}
 use Rattle.lists.specs.Lists.{overlay}
 use Rattle.lists.proofs.Lent.{overlay-fits}
 use Rattle.gf2.specs.declared.Modulus.{Modulus}
 use Rattle.refusals.specs.declared.Refusal.{Refusal}
 use Rattle.refusals.specs.declared.Refusal.TheVariants.{TooLong, PageSize, BufferShort, FinalByte}
 use Rattle.refusals.specs.Refusals.{Done, Refused, Test, ◌⇒◌, first_of, longest, passes}
+use Rattle.refusals.specs.Answers.{told}
 use Rattle.refusals.proofs.Laws.{Clear, done-clear, more-refused, more-clear, first_true, first_false}
 use Rattle.files.specs.Files.{Part, part_length, part_bits, misused}
 use Rattle.lists.proofs.Truth.{or-neither}
@@ -20,10 +22,7 @@ use Rattle.acceptance.specs.declared.Key.{Key}
 use Rattle.acceptance.specs.Keys.{polynomial_of, key_tests}
 use Rattle.acceptance.specs.Opened.{Opened}
 use Rattle.acceptance.proofs.Opened.{opened-first}
-use Rattle.keys.specs.declared.Tested.{Tested}
-use Rattle.keys.specs.declared.Tested.TheVariants as TestedCases
 use Rattle.keys.specs.Testing.{test_key}
-use Rattle.keys.specs.Answers.{tested}
 use Rattle.keys.proofs.Laws.{refused}
 use Rattle.sheets.specs.Layout.{Layout, newest, layout_of, sheet_length, page_count, pages_for, sheet_bytes}
 use Rattle.sheets.specs.Sheets.{contents_of, page_size_test, length_tests, length_for, write_sheet}
@@ -95,7 +94,7 @@ module _ (key : Key) (s : ℕ) (part : Part) (buffer : List ℕ) where
   unfolding write_sheet last after long
   by_steps = ap (λ (ts : List Test). first_of (key_tests key ++ ts ++ last) buffer after) (by_bytes part s)
 
-  pub write_refused : (t : Tested) (q : Refusal) → tested t ≡ test_key key → t ≡ TestedCases.Refused q → write_sheet key s part buffer ≡ Refused q buffer
+  pub write_refused : (t : Result Modulus Refusal) (q : Refusal) → told t ≡ test_key key → t ≡ Err q → write_sheet key s part buffer ≡ Refused q buffer
   write_refused t q e a = by_steps ∙ refused t key e (lengths ++ last) buffer after q a
 
   module _ {p : Modulus} (o : Opened key p) where

@@ -4,19 +4,16 @@
 ghost use Rattle.std.specs.Prelude.{◌≡◌, false, ◌++◌, ◌+◌, ◌*◌, ◌≤◌, ◌<◌, ◌^◌, length, drop};
 ghost use Rattle.std.proofs.lemmas.List.Edits.{sets};
 ghost use Rattle.gf2.specs.Moduli.{polynomial, Proper};
-ghost use Rattle.refusals.specs.Answers.{reply};
+ghost use Rattle.refusals.specs.Answers.{told, reply};
 ghost use Rattle.acceptance.specs.Opened.{Opened};
 ghost use Rattle.files.specs.Files.{fingerprint, as_part, part_length, part_bits, misused};
 ghost use Rattle.big_endian.specs.Numbers.{bytes_of, fields_of};
 ghost use Rattle.sheets.specs.Layout.{newest, layout_of, sheet_length, page_count, sheet_bytes};
 ghost use Rattle.sheets.specs.Sheets.{page_fingerprints, contents_of, length_for, write_sheet};
-ghost use Rattle.sheets.specs.Answers.{length_answer};
 
 use acceptance::Key;
 use gf2::Modulus;
-use keys::Tested;
-use refusals::{Refusal, Reply};
-use sheets::SheetLength;
+use refusals::Refusal;
 
 // Writes all fingerprints, of a file of n bits: the pages', and behind them the file's, which is these joined, the last with its own length.
 fn put_fingerprints(fields: &mut [u8], p: Modulus, size: u64, file: &[u8], used: u32, n: u64)
@@ -49,45 +46,31 @@ fn put_sheet(buffer: &mut [u8], key: Key, p: Modulus, size: u64, file: &[u8], us
 }
 
 // The bytes of the sheet of a file of n bytes, an unfinished one counted, with pages of the given size. Numbers 7, 12.
-pub fn length(n: u64, size: u64) -> SheetLength
-    ensures { length_answer result ≡ length_for n size }
+pub fn length(n: u64, size: u64) -> Result<u64, Refusal>
+    ensures { told result ≡ length_for n size }
 {
     if !refusals::bytes_fit(n) {
-        return SheetLength::Refused(Refusal::TooLong);
+        return Err(Refusal::TooLong);
     }
     if !sheet_layout::size_right(size) {
-        return SheetLength::Refused(Refusal::PageSize);
+        return Err(Refusal::PageSize);
     }
     let count = sheet_layout::page_count(size, n);
-    SheetLength::Bytes(sheet_layout::sheet_length(sheet_layout::pages_place(), count))
-}
-
-// Writes the sheet of a file under an opened key. Numbers 7, 12, 13, 19.
-fn write_under(key: Key, p: Modulus, size: u64, file: &[u8], used: u32, buffer: &mut [u8]) -> Reply
-    requires { Opened key p }
-    ensures { reply buffer.new result ≡ write_sheet key size (as_part file.now used) buffer.old }
-{
-    match length(file.len() as u64, size) {
-        SheetLength::Refused(r) => Reply::Refused(r),
-        SheetLength::Bytes(needed) => {
-            if (buffer.len() as u64) < needed {
-                return Reply::Refused(Refusal::BufferShort);
-            }
-            if files::is_misused(file, used) {
-                return Reply::Refused(Refusal::FinalByte);
-            }
-            put_sheet(buffer, key, p, size, file, used);
-            Reply::Done
-        }
-    }
+    Ok(sheet_layout::sheet_length(sheet_layout::pages_place(), count))
 }
 
 // Writes the sheet of a file. Numbers 1, 2, 7, 12, 13, 19.
-pub fn write(key: Key, size: u64, file: &[u8], used: u32, buffer: &mut [u8]) -> Reply
+pub fn write(key: Key, size: u64, file: &[u8], used: u32, buffer: &mut [u8]) -> Result<(), Refusal>
     ensures { reply buffer.new result ≡ write_sheet key size (as_part file.now used) buffer.old }
 {
-    match keys::test(key) {
-        Tested::Refused(r) => Reply::Refused(r),
-        Tested::Accepted(p) => write_under(key, p, size, file, used, buffer),
+    let p = keys::test(key)?;
+    let needed = length(file.len() as u64, size)?;
+    if (buffer.len() as u64) < needed {
+        return Err(Refusal::BufferShort);
     }
+    if files::is_misused(file, used) {
+        return Err(Refusal::FinalByte);
+    }
+    put_sheet(buffer, key, p, size, file, used);
+    Ok(())
 }

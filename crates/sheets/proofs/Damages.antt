@@ -1,6 +1,6 @@
 -- What a check finds. The file's fingerprint is the sheet's where the check says same. A file that differs from the sheet's own inside k
 -- neighbouring bits is told by the first page that differs.
-use mathlib.Core.Path.{◌≡◌, refl, sym, ap, ap₂, subst, ◌∙◌}
+use mathlib.Core.Path.{◌≡◌, sym, ap, ap₂, subst, ◌∙◌}
 use mathlib.Core.Logic.{◌≢◌}
 use mathlib.Core.Bool.{Bool, true, false, cond}
 use mathlib.Core.List.{List, [], ◌++◌, List-discrete}

@@ -10,7 +10,7 @@ use lib.Dec.{lit<}
 use lib.ListN.{length}
 use lib.Pow.{pow_mono, pow_pos}
 use lib.Seq.{sets}
-use Rattle.gf2.specs.Polynomials.{degree, monic}
+use Rattle.gf2.specs.Polynomials.{monic}
 use Rattle.gf2.proofs.Monics.{word-degree}
 use Rattle.acceptance.specs.declared.Key.{Key}
 use Rattle.acceptance.specs.Keys.{polynomial_of, key_of, outside}

@@ -8,5 +8,4 @@ pub mod Changes
 pub mod Guarantee
 pub mod Damages
 pub mod Known
-pub mod Answers
 pub mod Routes

@@ -1,19 +1,16 @@
 -- For callers in Rattle: the answers of the calls in code, as those of the definitions. A reader of the functions for C need not read this page.
-use Rattle.std.specs.Prelude.{List, [], ◌∷◌, ℕ}
-use Rattle.refusals.specs.Refusals.{Answer, Done, Refused, mapped, first_of}
+use Rattle.std.specs.Prelude.{List, [], ◌∷◌, ℕ, Result}
+use Rattle.std.specs.declared.ops.Range.{Range}
+use Rattle.refusals.specs.declared.Refusal.{Refusal}
+use Rattle.refusals.specs.Refusals.{Answer, mapped, first_of}
+use Rattle.refusals.specs.Answers.{told}
 use Rattle.files.specs.Files.{Part, part_bits}
 use Rattle.sheets.specs.Layout.{Contents, contents_in}
 use Rattle.sheets.specs.Sheets.{Outcome, Same, Page, OtherLength, compared, check_tests}
 use Rattle.sheets.specs.Outputs.{numbers_of, range_in}
 use Rattle.sheets.specs.declared.Sheet.{Sheet}
-use Rattle.sheets.specs.declared.Reading.{Reading}
-use Rattle.sheets.specs.declared.Reading.TheVariants as ReadingCases
-use Rattle.sheets.specs.declared.Checked.{Checked}
-use Rattle.sheets.specs.declared.Checked.TheVariants as CheckedCases
-use Rattle.sheets.specs.declared.Changed.{Changed}
-use Rattle.sheets.specs.declared.Changed.TheVariants as ChangedCases
-use Rattle.sheets.specs.declared.SheetLength.{SheetLength}
-use Rattle.sheets.specs.declared.SheetLength.TheVariants as LengthCases
+use Rattle.sheets.specs.declared.Comparison.{Comparison}
+use Rattle.sheets.specs.declared.Comparison.TheVariants as cases
 
 -- the call that answers the changed range: a check, and the range of the page that it names
 unfoldable pub changed_range : List ℕ → Part → Answer Unit (List ℕ)
@@ -21,26 +18,23 @@ changed_range sheet file = let x = contents_in sheet in first_of (check_tests sh
 
 -- ---- the answers in code
 
-abbrev pub length_answer : SheetLength → Answer Unit ℕ
-length_answer (LengthCases.Bytes n) = Done n
-length_answer (LengthCases.Refused r) = Refused r tt
-
 abbrev pub sheet_read : Answer Unit Contents → Answer Unit Sheet
 sheet_read a = mapped numbers_of a
 
-abbrev pub reading : Reading → Answer Unit Sheet
-reading (ReadingCases.Sheet x) = Done x
-reading (ReadingCases.Refused r) = Refused r tt
+-- a comparison that names a page by its number, as the outcome of a check
+abbrev pub outcome_of : Comparison ℕ → Outcome
+outcome_of cases.Same = Same
+outcome_of (cases.Page i) = Page i
+outcome_of cases.OtherLength = OtherLength
 
-abbrev pub check_answer : Checked → Answer Unit Outcome
-check_answer CheckedCases.Same = Done Same
-check_answer (CheckedCases.Page i) = Done (Page i)
-check_answer CheckedCases.OtherLength = Done OtherLength
-check_answer (CheckedCases.Refused r) = Refused r tt
+-- one that gives the page's bytes, by the numbers of `range_in`
+abbrev pub range_of : Comparison (Range ℕ) → List ℕ
+range_of cases.Same = 0 ∷ 0 ∷ 0 ∷ []
+range_of (cases.Page bytes) = 1 ∷ bytes.start ∷ bytes.end ∷ []
+range_of cases.OtherLength = 2 ∷ 0 ∷ 0 ∷ []
 
--- with the numbers of `range_in`
-abbrev pub change_answer : Changed → Answer Unit (List ℕ)
-change_answer ChangedCases.Same = Done (0 ∷ 0 ∷ 0 ∷ [])
-change_answer (ChangedCases.Bytes a b) = Done (1 ∷ a ∷ b ∷ [])
-change_answer ChangedCases.OtherLength = Done (2 ∷ 0 ∷ 0 ∷ [])
-change_answer (ChangedCases.Refused r) = Refused r tt
+abbrev pub check_answer : Result (Comparison ℕ) Refusal → Answer Unit Outcome
+check_answer r = mapped outcome_of (told r)
+
+abbrev pub change_answer : Result (Comparison (Range ℕ)) Refusal → Answer Unit (List ℕ)
+change_answer r = mapped range_of (told r)

@@ -2,15 +2,11 @@
 use Rattle.std.specs.Prelude.{◌≡◌, Bool, cond, List, [], ◌∷◌, ℕ, suc, ◌-◌, ◌*◌, eqb, length, drop}
 use Rattle.refusals.specs.declared.Refusal.TheVariants.{TooLong, SheetMalformed, FinalByte}
 use Rattle.refusals.specs.Refusals.{Answer, Done, mapped, ◌⇒◌, first_of, passes}
-use Rattle.files.specs.Files.{Part, part_length, part_bits, misused, bytes_for}
+use Rattle.files.specs.Files.{Part, part_length, part_bits, misused}
 use Rattle.sheets.specs.declared.Sheet.{Sheet}
-use Rattle.sheets.specs.declared.Checked.{Checked}
-use Rattle.sheets.specs.declared.Checked.TheVariants as CheckedCases
-use Rattle.sheets.specs.declared.Changed.{Changed}
 use Rattle.sheets.specs.Layout.{Layout, newest, layout_of, page_place, page_count, Contents, contents_in}
-use Rattle.sheets.specs.Sheets.{page_size_test, body_wrong, read_sheet, Outcome, Page, compared}
+use Rattle.sheets.specs.Sheets.{page_size_test, body_wrong, read_sheet, Outcome, compared}
 use Rattle.sheets.specs.Outputs.{numbers_of, range_in}
-use Rattle.sheets.specs.Answers.{check_answer, change_answer}
 
 -- a layout that fills up a last page, or does not: what the pages of a file depend on. All else is as in the newest.
 abbrev pub filling : Bool → Layout
@@ -52,22 +48,6 @@ comparison sheet file =
 -- a check's answer as that of `changed_range`
 abbrev pub ranged : Contents → Answer Unit Outcome → Answer Unit (List ℕ)
 ranged x a = mapped (range_in x) a
-
--- an answer of the check that names no page; and the same answer, whatever the sheet's numbers are
-abbrev pub NoPage : Checked → Type 0
-NoPage (CheckedCases.Page i) = ⊥
-NoPage CheckedCases.Same = Unit {0}
-NoPage CheckedCases.OtherLength = Unit {0}
-NoPage (CheckedCases.Refused r) = Unit {0}
-
-abbrev pub WithoutPage : Checked → Changed → Type 0
-WithoutPage o r = (x : Contents) → change_answer r ≡ ranged x (check_answer o)
-
--- any answer in code, by the page size and the file's bytes, which are those of the sheet's length where a page is named
-abbrev pub RangeOf : ℕ → ℕ → Checked → Changed → Type 0
-RangeOf size n o r =
-    (x : Contents) → x.page_size ≡ size → ((i : ℕ) → check_answer o ≡ Done (Page i) → bytes_for x.length ≡ n)
-    → change_answer r ≡ ranged x (check_answer o)
 
 -- the part of a sheet that begins with the fingerprints, by its version
 abbrev pub fingerprints_part : ℕ → List ℕ → List ℕ

@@ -2,5 +2,6 @@ pub mod Layout
 pub mod Sheets
 pub mod Outputs
 pub mod Claims
+pub mod Comparisons
 pub mod Answers
 pub mod Inner

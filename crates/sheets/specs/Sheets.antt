@@ -1,6 +1,6 @@
 -- Writing, reading and checking a page sheet (document 01, "Page sheets"; document 02, wishes 1, 7 and 8): each call is its tests, in document
 -- 01's order, and its value. A file is its list of bits; it is handed in as a part.
-use Rattle.std.specs.Prelude.{Bool, false, ◌||◌, not, cond, List, [], ◌∷◌, ◌++◌, ℕ, zero, suc, ◌+◌, ◌-◌, ◌*◌, ◌^◌, min, ltb, leb, eqb, length, take, drop, replicate}
+use Rattle.std.specs.Prelude.{Bool, false, ◌||◌, not, cond, List, [], ◌∷◌, ◌++◌, ℕ, zero, suc, ◌-◌, ◌*◌, ◌^◌, min, ltb, leb, eqb, length, take, drop, replicate}
 use Rattle.lists.specs.Lists.{overlay}
 use Rattle.gf2.specs.Polynomials.{degree, rem}
 use Rattle.refusals.specs.declared.Refusal.TheVariants.{TooLong, PageSize, BufferShort, SheetMalformed, FinalByte}

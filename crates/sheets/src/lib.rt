@@ -1,9 +1,10 @@
-// Page sheets: the answers of the calls. The definitions are in specs/, their laws in proofs/; the layout in code is in the crate sheet_layout, and
-// the calls are in the crates sheet_writing, sheet_reading and sheet_checking.
+// Page sheets: the numbers of a sheet, and what a check finds. The definitions are in specs/, their laws in proofs/; the layout in code is in the crate
+// sheet_layout, and the calls are in the crates sheet_writing, sheet_reading and sheet_checking.
 #![tactic(auto)]
 
+ghost use Rattle.sheets.specs.Comparisons.{ForPage, PageMapped};
+
 use acceptance::Key;
-use refusals::Refusal;
 
 // The numbers of a sheet: its version, its key, the file's length in bits, the page size in bytes, the number of pages and the file's
 // fingerprint.
@@ -17,35 +18,25 @@ pub struct Sheet {
     pub fingerprint: u64,
 }
 
-// The answer to reading a sheet.
+// A file compared with a sheet: the first page whose fingerprint differs, or none, or the file has another length. The page is given by its number,
+// counted from 0, or by its bytes.
 #[derive(Clone, Copy)]
-pub enum Reading {
-    Sheet(Sheet),
-    Refused(Refusal),
-}
-
-// The answer to checking a file against a sheet: the first page whose fingerprint differs, counted from 0, or none.
-#[derive(Clone, Copy)]
-pub enum Checked {
+pub enum Comparison<P> {
     Same,
-    Page(u32),
+    Page(P),
     OtherLength,
-    Refused(Refusal),
 }
 
-// The answer to the question which bytes were changed first: those of the first page whose fingerprint differs, from the first to before the
-// last; or that there is no such page, and why.
-#[derive(Clone, Copy)]
-pub enum Changed {
-    Same,
-    Bytes(u64, u64),
-    OtherLength,
-    Refused(Refusal),
-}
-
-// The answer to the question how long a sheet is, in bytes.
-#[derive(Clone, Copy)]
-pub enum SheetLength {
-    Bytes(u64),
-    Refused(Refusal),
+impl<P> Comparison<P> {
+    // The same with f of the page.
+    pub fn map<Q, F: FnOnce(P) -> Q>(self, f: F) -> Comparison<Q>
+        requires { ForPage self (F.pre f) }
+        ensures { PageMapped (F.post f) self result }
+    {
+        match self {
+            Comparison::Same => Comparison::Same,
+            Comparison::Page(p) => Comparison::Page(f(p)),
+            Comparison::OtherLength => Comparison::OtherLength,
+        }
+    }
 }

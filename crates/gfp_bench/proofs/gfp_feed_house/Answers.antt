@@ -1,18 +1,17 @@
 -- The answer, stored: on refusal nothing is written, and the state is the mark that was handed in.
 use mathlib.Core.Path.{◌≡◌}
 use mathlib.Core.List.{◌++◌}
+use Rattle.std.proofs.Common.{rules}
 use Rattle.refusals.specs.Refusals.{state_of, value_or}
 use Rattle.refusals.proofs.Replies.{first-keeps}
 use Rattle.acceptance.specs.declared.Key.{Key}
 use Rattle.acceptance.specs.Keys.{polynomial_of, key_tests}
 use Rattle.files.specs.declared.Mark.{Mark}
-use Rattle.files.specs.Files.{Part, as_part, fed_mark}
+use Rattle.files.specs.Files.{Part, fed_mark}
 use Rattle.table_tests.specs.TableTests.{table_tests}
 use Rattle.house.specs.House.{house_words}
 use Rattle.mark_tests.specs.MarkTests.{feed_tests}
 use Rattle.marks.specs.Feeding.{feed_table, feed_house}
-use Rattle.c_interface.specs.Interface.{key_at, mark_at}
-use Rattle.c_interface.proofs.Answers.{stored}
 use Rattle.gfp_bench.proofs.gfp_feed_house.Goals as goal
 
 -- on refusal the state is the mark that was handed in
@@ -22,10 +21,4 @@ keeps x m part = first-keeps (key_tests x ++ table_tests (polynomial_of x) house
     (fed_mark (polynomial_of x) m part)
 
 pub returns : goal.returns
-returns c =
-    let s = c.args in
-    let x = key_at s.degree s.word in
-    let m = mark_at s.fingerprint.now s.bits.now in
-    let part = as_part s.part.now s.used in
-    stored x m (feed_house x m part) _ _ _ (keeps x m part) c.feed_house.ensures
-    c.store.ensures
+returns c = search (rules, keeps)

@@ -1,38 +1,21 @@
 -- `key_in` meets its contract: the two fields of a pair, or the key of the number.
 use mathlib.Core.Path.{sym, ap, ap₂, ◌∙◌}
 use mathlib.Core.Bool.{Bool, cond}
-use Prim.Native.Nat.{ℕ, ◌≤◌}
+use Prim.Native.Nat.{ℕ}
 use native.Mathlib.Omega.{arith}
-use lib.ListN.{length}
 use Rattle.acceptance.specs.declared.Key.{Key}
 use Rattle.acceptance.specs.Keys.{key_of}
 use Rattle.big_endian.specs.Numbers.{number_at}
 use Rattle.sheets.specs.Layout.{key_from}
 use Rattle.sheets.proofs.Keys.{pair_read, number_read}
 use Rattle.sheet_heads.proofs.key_in.Goals as goal
-use Rattle.sheet_heads.proofs.key_in.Goals.{Else-paired, Then-paired}
-
--- the field is inside the sheet
-paired : (c : Then-paired) → 14 ≤ length c.args.sheet.now
-paired c = omega (arith, c.requires, ap {B = ℕ} (λ (b : Bool). cond b 9 8) c.if-paired.true)
-
-alone : (c : Else-paired) → 13 ≤ length c.args.sheet.now
-alone c = omega (arith, c.requires, ap {B = ℕ} (λ (b : Bool). cond b 9 8) c.if-paired.false)
-
-pub number_at-requires : goal.number_at-requires
-number_at-requires c = (omega arith, omega (arith, paired (goal.at.number_at-requires c).Then-paired))
-
-pub number_at-requires-then-paired : goal.number_at-requires-then-paired
-number_at-requires-then-paired c = (omega arith, omega (arith, paired (goal.at.number_at-requires-then-paired c).Then-paired))
-
-pub number_at-requires-2 : goal.number_at-requires-2
-number_at-requires-2 c = (omega arith, omega (arith, alone (goal.at.number_at-requires-2 c).Else-paired))
 
 pub returns-then-paired : goal.returns-then-paired
 returns-then-paired c =
     let a = c.args in
     ap₂ {C = Key} (λ (k w : ℕ). record { degree = k; word = w }) c.number_at.ensures.0 c.number_at-then-paired.ensures.0
-    ∙ pair_read a.paired 5 a.sheet.now c.if-paired.true (paired (goal.at.returns-then-paired c).Then-paired)
+    ∙ pair_read a.paired 5 a.sheet.now c.if-paired.true
+    (omega (arith, c.requires, ap {B = ℕ} (λ (b : Bool). cond b 9 8) c.if-paired.true))
     ∙ ap (λ (b : Bool). key_from a.paired (number_at 5 (cond b 9 8) a.sheet.now)) (sym c.if-paired.true)
 
 pub returns : goal.returns

@@ -8,12 +8,6 @@ use Rattle.gf2.specs.Moduli.{polynomial}
 use Rattle.gf2.proofs.Steps.{residue-small}
 use Rattle.sheet_opening.proofs.file_filled.Goals as goal
 
-pub returns-then-filled : goal.returns-then-filled
-returns-then-filled c =
-    let a = c.args in
-    c.with_zeros.ensures
-    ∙ ap (λ (b : Bool). rem (polynomial a.p) (a.f * 2 ^ cond b (a.all - a.n) 0)) (sym c.if-filled.true)
-
 pub returns : goal.returns
 returns c =
     let a = c.args in

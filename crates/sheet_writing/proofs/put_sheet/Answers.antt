@@ -38,16 +38,6 @@ part s = as_part s.args.file.now s.args.used
 counted : (c : After-part_length-n) → c.part_length-n.result ≡ part_length (part c.before.before.before.before)
 counted c = c.part_length-n.ensures ∙ counted-part (part c.before.before.before.before) (omega (arith, c.requires.3))
 
-pub put_head-requires : goal.put_head-requires
-put_head-requires c =
-    omega (arith, c.requires.4, length_from newest.version (page_count c.args.size (length c.args.file.now)))
-
-pub slice_bounds-put_fingerprints-count : goal.slice_bounds-put_fingerprints-count
-slice_bounds-put_fingerprints-count c = omega (arith, fits c)
-
-pub slice_bounds-put_fingerprints-start : goal.slice_bounds-put_fingerprints-start
-slice_bounds-put_fingerprints-start c = omega (arith, fits c)
-
 pub put_fingerprints-requires : goal.put_fingerprints-requires
 put_fingerprints-requires c =
     let b = c.put_head.new.buffer in

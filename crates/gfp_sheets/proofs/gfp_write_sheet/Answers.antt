@@ -1,6 +1,0 @@
--- The number is that of the reply, and the lent places are what it leaves.
-use Rattle.refusals.proofs.Replies.{replied}
-use Rattle.gfp_sheets.proofs.gfp_write_sheet.Goals as goal
-
-pub returns : goal.returns
-returns c = let m = c.write in replied m.result m.ensures c.number_of.ensures
