@@ -3,38 +3,37 @@
 
 ghost use Rattle.std.specs.Prelude.{◌≡◌};
 ghost use Rattle.refusals.specs.Refusals.{number_of};
-ghost use Rattle.marks.specs.Answers.{begun, fed};
-ghost use Rattle.c_interface.specs.Interface.{mark_at};
+ghost use Rattle.refusals.specs.Answers.{told};
+ghost use Rattle.marks.specs.Answers.{running};
+ghost use Rattle.c_interface.specs.Interface.{key_at, mark_at};
 ghost use Rattle.c_interface.specs.Storing.{mark_or};
 
-use marks::{Begun, Fed};
+use acceptance::Key;
+use marks::Running;
+use refusals::Refusal;
+
+// The running mark that a key and a mark are, each handed in as two numbers.
+pub fn running(degree: u32, word: u64, fingerprint: u64, length: u64) -> Running
+    ensures { result ≡ running (key_at degree word) (mark_at fingerprint length) }
+{
+    Running {
+        key: Key { degree, word },
+        fingerprint,
+        length,
+    }
+}
 
 // The mark of an answer to the two places, and 0; or the refusal's number, and nothing is written.
-pub fn store(answer: Fed, fingerprint: &mut u64, length: &mut u64) -> u32
-    ensures { (result ≡ number_of (fed answer))
-        × (mark_at fingerprint.new length.new ≡ mark_or (mark_at fingerprint.old length.old) (fed answer)) }
+pub fn store(answer: Result<Running, Refusal>, fingerprint: &mut u64, length: &mut u64) -> u32
+    ensures { (result ≡ number_of (told answer))
+        × (mark_at fingerprint.new length.new ≡ mark_or (mark_at fingerprint.old length.old) (told answer)) }
 {
     match answer {
-        Fed::Next(m) => {
+        Ok(m) => {
             *fingerprint = m.fingerprint;
             *length = m.length;
             0
         }
-        Fed::Refused(r, _) => refusals::number(r),
-    }
-}
-
-// The same of a mark that was begun.
-pub fn store_begun(answer: Begun, fingerprint: &mut u64, length: &mut u64) -> u32
-    ensures { (result ≡ number_of (begun answer))
-        × (mark_at fingerprint.new length.new ≡ mark_or (mark_at fingerprint.old length.old) (begun answer)) }
-{
-    match answer {
-        Begun::Started(first) => {
-            *fingerprint = first.fingerprint;
-            *length = first.length;
-            0
-        }
-        Begun::Refused(r) => refusals::number(r),
+        Err(r) => refusals::number(r),
     }
 }

@@ -5,31 +5,24 @@ ghost use Rattle.std.specs.Prelude.{◌≡◌, ◌||◌, ◌^◌, ◌<◌, leb, 
 ghost use Rattle.lists.specs.Members.{among};
 ghost use Rattle.gf2.specs.Polynomials.{◌⊗◌, rem};
 ghost use Rattle.gf2.specs.Moduli.{polynomial, Proper};
+ghost use Rattle.refusals.specs.Answers.{told};
 ghost use Rattle.basis.specs.Rows.{Matrix};
 ghost use Rattle.fields.specs.Fields.{at};
 ghost use Rattle.fields.specs.Primes.{Field};
 ghost use Rattle.draw.specs.Drawing.{degrees, drawn, draw};
-ghost use Rattle.draw.specs.Answers.{answer};
 
 use acceptance::Key;
 use gf2::Modulus;
 use refusals::Refusal;
 
-// The answer to drawing: the key, or a refusal.
-#[derive(Clone, Copy)]
-pub enum Drawn {
-    Key(Key),
-    Refused(Refusal),
-}
-
 // Number 3 does not apply to the degree.
 fn listed(degree: u32) -> bool
     ensures { result ≡ among degree degrees }
 {
-    match degree {
-        11 | 13 | 17 | 19 | 23 | 29 | 31 | 37 | 41 | 43 | 47 | 53 | 59 | 61 => true,
-        _ => false,
-    }
+    matches!(
+        degree,
+        11 | 13 | 17 | 19 | 23 | 29 | 31 | 37 | 41 | 43 | 47 | 53 | 59 | 61
+    )
 }
 
 // Number 4 applies to the element.
@@ -83,18 +76,18 @@ fn minimal_polynomial(p: Modulus, e: u64) -> u64
 }
 
 // The key of a degree that an element draws. Numbers 3, 4.
-pub fn draw(degree: u32, element: u64) -> Drawn
-    ensures { answer result ≡ draw degree element }
+pub fn draw(degree: u32, element: u64) -> Result<Key, Refusal>
+    ensures { told result ≡ draw degree element }
 {
     if !listed(degree) {
-        return Drawn::Refused(Refusal::DegreeNotListed);
+        return Err(Refusal::DegreeNotListed);
     }
     if out_of_range(degree, element) {
-        return Drawn::Refused(Refusal::ElementOutOfRange);
+        return Err(Refusal::ElementOutOfRange);
     }
     let low = stock::stock_word(degree);
     let p = Modulus { degree, low };
     let polynomial = minimal_polynomial(p, element);
     let word = gf2::low_bits(polynomial, degree);
-    Drawn::Key(Key { degree, word })
+    Ok(Key { degree, word })
 }

@@ -7,7 +7,6 @@ ghost use Rattle.refusals.specs.Refusals.{value_or};
 ghost use Rattle.draw.specs.Drawing.{draw};
 
 use acceptance::Key;
-use draw::Drawn;
 use std::io;
 use std::io::Print;
 
@@ -23,12 +22,8 @@ fn show_key(rt: &impl Print, key: Key) -> io::Result<()> {
 
 fn show(rt: &impl Print, degree: u32, element: u64) -> io::Result<()> {
     match draw::draw(degree, element) {
-        Drawn::Key(key) => {
-            show_key(rt, key)?;
-        }
-        Drawn::Refused(r) => {
-            vectors::refused(rt, refusals::number(r))?;
-        }
+        Ok(key) => show_key(rt, key)?,
+        Err(r) => vectors::refused(rt, refusals::number(r))?,
     }
     vectors::text(rt, b"\n")
 }
@@ -37,10 +32,7 @@ fn show(rt: &impl Print, degree: u32, element: u64) -> io::Result<()> {
 fn key_of(element: u64) -> Key
     ensures { result ≡ value_or (record { degree = 0; word = 0 }) (draw 11 element) }
 {
-    match draw::draw(11, element) {
-        Drawn::Key(key) => key,
-        Drawn::Refused(r) => Key { degree: 0, word: 0 },
-    }
+    draw::draw(11, element).unwrap_or(Key { degree: 0, word: 0 })
 }
 
 // One more at a place.
@@ -60,11 +52,7 @@ fn count_keys(counts: &mut [u64]) {
 
 // How many of the counts are n.
 fn places_with(counts: &[u64], n: u64) -> u64 {
-    let mut places: u64 = 0;
-    for i in 0..counts.len() {
-        places = vectors::counted(places, counts[i] == n);
-    }
-    places
+    counts.iter().filter(|count| **count == n).count() as u64
 }
 
 fn show_counts(rt: &impl Print, counts: &[u64]) -> io::Result<()> {

@@ -2,13 +2,12 @@
 #![tactic(auto)]
 
 use acceptance::Key;
-use keys::Tested;
 use std::io;
 use std::io::Print;
 
 // The inverse of a residue that is not 0; 0 where a is no such residue, or the key is not accepted.
 fn inverse_of(key: Key, a: u64) -> u64 {
-    if let Tested::Accepted(p) = keys::test(key) {
+    if let Ok(p) = keys::test(key) {
         if gf2::is_residue(p, a) {
             if 0 < a {
                 return inverses::inverse(p, a);

@@ -1,2 +1,1 @@
 pub mod Testing
-pub mod Answers

@@ -2,21 +2,14 @@
 #![tactic(auto)]
 
 ghost use Rattle.std.specs.Prelude.{◌≡◌, true};
+ghost use Rattle.refusals.specs.Answers.{told};
 ghost use Rattle.acceptance.specs.Keys.{outside};
 ghost use Rattle.stock.specs.Stock.{stock_word};
 ghost use Rattle.keys.specs.Testing.{test_key};
-ghost use Rattle.keys.specs.Answers.{tested};
 
 use acceptance::Key;
 use gf2::Modulus;
 use refusals::Refusal;
-
-// The answer to the test of a key: the opened key, or a refusal.
-#[derive(Clone, Copy)]
-pub enum Tested {
-    Accepted(Modulus),
-    Refused(Refusal),
-}
 
 // Number 1 applies to the key: its degree is outside 8 to 64, or its word has a bit at or above t^k. Modulo t^k a word without one is a residue.
 fn out_of_range(key: Key) -> bool
@@ -44,22 +37,22 @@ fn is_stock(p: Modulus) -> bool
     p.low == stock::stock_word(p.degree)
 }
 
-// Is the key accepted, and if not, by which number is it refused? The stock key of its degree is known to be accepted. Numbers 1, 2.
-pub fn test(key: Key) -> Tested
-    ensures { tested result ≡ test_key key }
+// The opened key, or the refusal of a key that is not accepted. The stock key of its degree is known to be accepted. Numbers 1, 2.
+pub fn test(key: Key) -> Result<Modulus, Refusal>
+    ensures { told result ≡ test_key key }
 {
     if out_of_range(key) {
-        return Tested::Refused(Refusal::KeyRange);
+        return Err(Refusal::KeyRange);
     }
     let p = Modulus {
         degree: key.degree,
         low: key.word,
     };
     if is_stock(p) {
-        return Tested::Accepted(p);
+        return Ok(p);
     }
     if !irreducibility::irreducible(p) {
-        return Tested::Refused(Refusal::KeyReducible);
+        return Err(Refusal::KeyReducible);
     }
-    Tested::Accepted(p)
+    Ok(p)
 }

@@ -8,7 +8,6 @@ ghost use Rattle.refusals.specs.Refusals.{number_of};
 ghost use Rattle.keys.specs.Testing.{test_key};
 
 use acceptance::Key;
-use keys::Tested;
 use std::io;
 use std::io::Print;
 
@@ -16,10 +15,10 @@ use std::io::Print;
 fn number_of(key: Key) -> u32
     ensures { result ≡ number_of (test_key key) }
 {
-    if let Tested::Refused(r) = keys::test(key) {
-        return refusals::number(r);
+    match keys::test(key) {
+        Ok(_) => 0,
+        Err(r) => refusals::number(r),
     }
-    0
 }
 
 fn print(rt: &impl Print, n: u64) -> io::Result<()> {

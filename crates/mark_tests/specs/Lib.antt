@@ -1,2 +1,1 @@
 pub mod MarkTests
-pub mod Answers

@@ -3,6 +3,8 @@ use mathlib.Core.Path.{◌≡◌, sym, ap, ◌∙◌}
 use mathlib.Core.Bool.{Bool, true, false}
 use mathlib.Core.List.{List, [], ◌∷◌, ◌++◌, append_assoc}
 use Prim.Native.Nat.{ℕ, ◌+◌, ◌^◌, ◌<◌}
+use native.Mathlib.Omega.{arith}
+use Rattle.std.specs.Prelude.{Result, Ok, Err}
 use Rattle.gf2.specs.Polynomials.{rem}
 use Rattle.gf2.specs.Moduli.{polynomial}
 use Rattle.gf2.specs.declared.Modulus.{Modulus}
@@ -11,56 +13,68 @@ use Rattle.refusals.specs.declared.Refusal.TheVariants.{MarkNotReduced}
 use Rattle.refusals.specs.Refusals.{Done, Refused, Test, ◌⇒◌, first_of}
 use Rattle.refusals.proofs.Laws.{Clear, skip, clear-done, done-clear, more-refused, more-clear}
 use Rattle.acceptance.specs.declared.Key.{Key}
-use Rattle.acceptance.specs.Keys.{accepted, polynomial_of, key_of}
+use Rattle.acceptance.specs.Keys.{accepted, polynomial_of, key_of, as_modulus, key_tests}
 use Rattle.acceptance.specs.Opened.{Opened}
-use Rattle.acceptance.proofs.Laws.{accepted_iff, accepted-pos, whole-key}
+use Rattle.acceptance.proofs.Laws.{accepted_iff, accepted-pos, whole-key, key_iff}
 use Rattle.acceptance.proofs.Opened.{open_accepted, opened-first, opened-whole, residue-below}
 use Rattle.files.specs.declared.Mark.{Mark}
 use Rattle.files.specs.Files.{value_from, mark_from, unreduced, Part, part_length, part_bits, misused, fed_mark}
 use Rattle.files.proofs.Marks.{mark-eq, true_reduced, empty-mark}
-use Rattle.mark_tests.specs.declared.Measured.{Measured}
-use Rattle.mark_tests.specs.declared.Measured.TheVariants as MeasuredCases
 use Rattle.mark_tests.specs.MarkTests.{feed_tests}
-use Rattle.mark_tests.specs.Answers.{measured}
 use Rattle.lookups.specs.Rule.{table}
 use Rattle.table_tests.specs.TableTests.{table_tests}
 use Rattle.table_tests.proofs.Laws.{clear-table}
 use Rattle.house.specs.House.{house_key, house_words}
 use Rattle.house.proofs.House.{house-accepted}
 use Rattle.marks.specs.Feeding.{begin_from, feed_bits, feed_table, feed_house, BeginsTrue, EmptyIsOne, HouseFirst, HouseBits}
-use Rattle.marks.specs.Answers.{fed_under}
+use Rattle.marks.specs.declared.Running.{Running}
+use Rattle.marks.specs.declared.RefusedMark.{RefusedMark}
+use Rattle.marks.specs.Answers.{mark_in, fed, fed_under}
 
--- ---- what a caller of `mark_tests::judge` knows in each arm
+-- a refusal of the first tests of a call
+from-refused : {A : Type 0} (ts us : List Test) (m : Running) (v : A) (w : Mark) (q : Refusal) (n : Running) → first_of ts m v ≡ Refused q n
+    → Refused q n ≡ fed_under m.key (first_of (ts ++ us) (mark_in m) w)
+from-refused [] us m v w q n e = absurd (let z : ◌≡◌ {A = ℕ} 0 1 = cc in omega arith)
+from-refused (true ⇒ r ∷ ts) us m v w q n e = let d : r ≡ q = cc in let f : m ≡ n = cc in rw (d, f)
+from-refused (false ⇒ r ∷ ts) us m v w q n e = from-refused ts us m v w q n e
 
-module _ {x : Key} {p : Modulus} (h : Opened x p) (m : Mark) (part : Part) (r : Measured)
-    (e : measured r ≡ first_of (feed_tests (polynomial p) m part) tt (m.length + part_length part)) where
+-- ---- what a caller knows behind the `?` of an answer on a running mark
+
+-- where the tests refuse, so does a call whose tests begin with them
+pub still-refused : {A : Type 0} (ts us : List Test) (m : Running) (v : A) (w : Mark) (d : RefusedMark) → fed (Err d) ≡ first_of ts m v
+    → fed (Err d) ≡ fed_under m.key (first_of (ts ++ us) (mark_in m) w)
+still-refused ts us m v w d e = from-refused ts us m v w d.refusal d.mark (sym e)
+
+-- of the test of the key
+pub opened : (m : Running) (p : Modulus) → Done p ≡ first_of (key_tests m.key) m (as_modulus m.key) → Opened m.key p
+opened m p e =
+    let c = done-clear (key_tests m.key) m (as_modulus m.key) p (sym e) in
+    record { in_range = c.0.0; is-accepted = ((key_iff m.key).0 (c.0.0, c.0.1.0)).0; parts = sym c.1 }
+
+-- of the tests of a part
+module _ {p : Modulus} (m : Running) (h : Opened m.key p) (part : Part) (n : ℕ)
+    (e : Done n ≡ first_of (feed_tests (polynomial_of m.key) (mark_in m) part) m (m.length + part_length part)) where
   abbrev key : ℕ
-  key = polynomial_of x
+  key = polynomial_of m.key
 
-  under_key : measured r ≡ first_of (feed_tests key m part) tt (m.length + part_length part)
-  under_key = e ∙ ap (λ (q : ℕ). first_of (feed_tests q m part) tt (m.length + part_length part)) (opened-whole h)
+  clear : Clear (feed_tests key (mark_in m) part) × (m.length + part_length part ≡ n)
+  clear = done-clear (feed_tests key (mark_in m) part) m (m.length + part_length part) n (sym e)
 
-  pub feed-refused : (q : Refusal) → r ≡ MeasuredCases.Refused q → first_of (feed_tests key m part) m (fed_mark key m part) ≡ Refused q m
-  feed-refused q a = more-refused (feed_tests key m part) [] tt m (m.length + part_length part) (fed_mark key m part) q (sym under_key ∙ ap measured a)
+  pub clear-below : m.fingerprint < 2 ^ p.degree
+  clear-below = residue-below h m.fingerprint clear.0.1.0
 
-  module _ (n : ℕ) (a : r ≡ MeasuredCases.Length n) where
-    clear : Clear (feed_tests key m part) × (m.length + part_length part ≡ n)
-    clear = done-clear (feed_tests key m part) tt (m.length + part_length part) n (sym under_key ∙ ap measured a)
+  pub clear-used : misused part ≡ false
+  clear-used = clear.0.1.1.0
 
-    pub clear-below : m.fingerprint < 2 ^ p.degree
-    clear-below = residue-below h m.fingerprint clear.0.1.0
-
-    pub clear-used : misused part ≡ false
-    clear-used = clear.0.1.1.0
-
-    -- the residue of the part behind the fingerprint, however it was computed, is the value
-    pub fed-next : (y : ℕ) → y ≡ rem (polynomial p) (value_from m.fingerprint (part_bits part))
-        → fed_under x (Done (record { fingerprint = y; length = n })) ≡ fed_under x (first_of (feed_tests key m part) m (fed_mark key m part))
-    unfolding fed_mark
-    fed-next y is =
-        ap (λ (z : Mark). fed_under x (Done z))
-        (mark-eq (is ∙ ap (λ (q : ℕ). rem q (value_from m.fingerprint (part_bits part))) (opened-whole h)) (sym clear.1))
-        ∙ sym (ap (fed_under x) (clear-done (feed_tests key m part) m (fed_mark key m part) clear.0))
+  -- the residue of the part behind the fingerprint, however it was computed, is the value
+  pub fed-next : (y : ℕ) → y ≡ rem (polynomial p) (value_from m.fingerprint (part_bits part))
+      → fed_under m.key (Done (record { fingerprint = y; length = n }))
+      ≡ fed_under m.key (first_of (feed_tests key (mark_in m) part) (mark_in m) (fed_mark key (mark_in m) part))
+  unfolding fed_mark
+  fed-next y is =
+      ap (λ (z : Mark). fed_under m.key (Done z))
+      (mark-eq (is ∙ ap (λ (q : ℕ). rem q (value_from m.fingerprint (part_bits part))) (opened-whole h)) (sym clear.1))
+      ∙ sym (ap (fed_under m.key) (clear-done (feed_tests key (mark_in m) part) (mark_in m) (fed_mark key (mark_in m) part) clear.0))
 
 -- ---- marks of files
 

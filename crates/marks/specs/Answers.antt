@@ -1,12 +1,10 @@
 -- For callers in Rattle: the answers of the calls in code as an `Answer`, with the running mark.
+use Rattle.std.specs.Prelude.{Result, Ok, Err}
 use Rattle.refusals.specs.Refusals.{Answer, Done, Refused}
 use Rattle.acceptance.specs.declared.Key.{Key}
 use Rattle.files.specs.declared.Mark.{Mark}
 use Rattle.marks.specs.declared.Running.{Running}
-use Rattle.marks.specs.declared.Begun.{Begun}
-use Rattle.marks.specs.declared.Begun.TheVariants as BegunCases
-use Rattle.marks.specs.declared.Fed.{Fed}
-use Rattle.marks.specs.declared.Fed.TheVariants as FedCases
+use Rattle.marks.specs.declared.RefusedMark.{RefusedMark}
 
 abbrev pub mark_in : Running → Mark
 mark_in r = record { fingerprint = r.fingerprint; length = r.length }
@@ -14,13 +12,10 @@ mark_in r = record { fingerprint = r.fingerprint; length = r.length }
 abbrev pub running : Key → Mark → Running
 running x m = record { key = x; fingerprint = m.fingerprint; length = m.length }
 
-abbrev pub begun : Begun → Answer Unit Running
-begun (BegunCases.Started m) = Done m
-begun (BegunCases.Refused r) = Refused r tt
-
-abbrev pub fed : Fed → Answer Running Running
-fed (FedCases.Next m) = Done m
-fed (FedCases.Refused r m) = Refused r m
+-- of a call on a running mark: on refusal with the mark as it was handed in
+abbrev pub fed : {A : Type 0} → Result A RefusedMark → Answer Running A
+fed (Ok a) = Done a
+fed (Err e) = Refused e.refusal e.mark
 
 -- the same answer about running marks under one key
 abbrev pub begun_under : Key → Answer Unit Mark → Answer Unit Running

@@ -3,25 +3,24 @@
 // leading 1, or it is a plain mark: feeding is the same for both, and a mark can be turned into the other kind.
 #![tactic(auto)]
 
-ghost use Rattle.std.specs.Prelude.{◌≡◌, ◌++◌, ◌<◌};
+ghost use Rattle.std.specs.Prelude.{◌≡◌, ◌++◌, ◌+◌, ◌<◌};
 ghost use Rattle.refusals.specs.Refusals.{first_of};
-ghost use Rattle.acceptance.specs.Keys.{polynomial_of};
+ghost use Rattle.refusals.specs.Answers.{told};
+ghost use Rattle.acceptance.specs.Keys.{polynomial_of, as_modulus, key_tests};
 ghost use Rattle.acceptance.specs.Opened.{Opened};
-ghost use Rattle.files.specs.Files.{as_part, fed_mark};
+ghost use Rattle.files.specs.Files.{as_part, part_length, fed_mark};
 ghost use Rattle.files.specs.PlainMarks.{turned};
 ghost use Rattle.mark_tests.specs.MarkTests.{feed_tests};
 ghost use Rattle.lookups.specs.Groups.{Table};
 ghost use Rattle.table_tests.specs.TableTests.{table_tests};
 ghost use Rattle.marks.specs.Feeding.{begin_from, begin, feed_bits, feed_table, feed_house};
 ghost use Rattle.marks.specs.PlainMarks.{begin_plain, turn_tests, turn};
-ghost use Rattle.marks.specs.Answers.{mark_in, begun, begun_under, fed, fed_under};
+ghost use Rattle.marks.specs.Answers.{mark_in, running, begun_under, fed, fed_under};
 
 use acceptance::Key;
 use files::Mark;
 use gf2::Modulus;
-use keys::Tested;
-use mark_tests::Measured;
-use refusals::{Refusal, Reply};
+use refusals::Refusal;
 
 // A running mark (document 01's term): the state of a fingerprint that is taken as the file is read. The length is in bits. Numbers only.
 #[derive(Clone, Copy)]
@@ -31,125 +30,102 @@ pub struct Running {
     pub length: u64,
 }
 
-// The answer to beginning a mark under a key.
+// A refusal, and the running mark as it was handed in.
 #[derive(Clone, Copy)]
-pub enum Begun {
-    Started(Running),
-    Refused(Refusal),
+pub struct RefusedMark {
+    pub refusal: Refusal,
+    pub mark: Running,
 }
 
-// The answer to a feed: the next running mark, or a refusal with the running mark handed in.
-#[derive(Clone, Copy)]
-pub enum Fed {
-    Next(Running),
-    Refused(Refusal, Running),
+impl From<RefusedMark> for Refusal {
+    ghost from_gives = { λ e r. r ≡ e.refusal };
+
+    fn from(e: RefusedMark) -> Refusal {
+        e.refusal
+    }
 }
 
-// A part fed with no table, after the test of the key. Here and below a key is copied field by field: its degree and word were just stored apart, and
-// a copy of both at once would wait for that.
-fn feed_alone(p: Modulus, m: Running, part: &[u8], used: u32) -> Fed
+// The length in bits that feeding a part to a running mark gives, under its opened key.
+fn judge(p: Modulus, m: Running, part: &[u8], used: u32) -> Result<u64, RefusedMark>
+    requires { Opened m.key p }
+    ensures { fed result ≡ first_of (feed_tests (polynomial_of m.key) (mark_in m) (as_part part.now used)) m
+        (m.length + part_length (as_part part.now used)) }
+{
+    mark_tests::judge(p, m.mark(), part, used).map_err(|refusal| m.refused(refusal))
+}
+
+// A part fed with no table, after the test of the key.
+fn feed_alone(p: Modulus, m: Running, part: &[u8], used: u32) -> Result<Running, RefusedMark>
     requires { Opened m.key p }
     ensures { fed result ≡ fed_under m.key (first_of (feed_tests (polynomial_of m.key) (mark_in m) (as_part part.now used)) (mark_in m)
         (fed_mark (polynomial_of m.key) (mark_in m) (as_part part.now used))) }
 {
-    let mark = Mark {
-        fingerprint: m.fingerprint,
-        length: m.length,
-    };
-    match mark_tests::judge(p, mark, part, used) {
-        Measured::Refused(r) => Fed::Refused(r, m),
-        Measured::Length(total) => {
-            let key = Key {
-                degree: m.key.degree,
-                word: m.key.word,
-            };
-            let next = feeding::part_alone(p, m.fingerprint, part, used);
-            Fed::Next(Running {
-                key: key,
-                fingerprint: next,
-                length: total,
-            })
-        }
-    }
+    let length = judge(p, m, part, used)?;
+    let next = feeding::part_alone(p, m.fingerprint, part, used);
+    Ok(m.with_mark(next, length))
 }
 
 // A part fed by the table of the key, after the tests of key and words.
-fn feed_looked(p: Modulus, m: Running, words: &[u64], part: &[u8], used: u32) -> Fed
+fn feed_looked(
+    p: Modulus,
+    m: Running,
+    words: &[u64],
+    part: &[u8],
+    used: u32,
+) -> Result<Running, RefusedMark>
     requires { Opened m.key p × Table (polynomial_of m.key) words.now }
     ensures { fed result ≡ fed_under m.key (first_of (feed_tests (polynomial_of m.key) (mark_in m) (as_part part.now used)) (mark_in m)
         (fed_mark (polynomial_of m.key) (mark_in m) (as_part part.now used))) }
 {
-    let mark = Mark {
-        fingerprint: m.fingerprint,
-        length: m.length,
-    };
-    match mark_tests::judge(p, mark, part, used) {
-        Measured::Refused(r) => Fed::Refused(r, m),
-        Measured::Length(total) => {
-            let key = Key {
-                degree: m.key.degree,
-                word: m.key.word,
-            };
-            let looked = feeding::part_by_table(words, p, m.fingerprint, part, used);
-            Fed::Next(Running {
-                key: key,
-                fingerprint: looked,
-                length: total,
-            })
-        }
-    }
+    let length = judge(p, m, part, used)?;
+    let looked = feeding::part_by_table(words, p, m.fingerprint, part, used);
+    Ok(m.with_mark(looked, length))
 }
 
 // The same, after the test of the key: all words are tested first.
-fn feed_under(p: Modulus, m: Running, words: &[u64], part: &[u8], used: u32) -> Fed
+fn feed_under(
+    p: Modulus,
+    m: Running,
+    words: &[u64],
+    part: &[u8],
+    used: u32,
+) -> Result<Running, RefusedMark>
     requires { Opened m.key p }
     ensures { fed result ≡ fed_under m.key (first_of (table_tests (polynomial_of m.key) words.now
         ++ feed_tests (polynomial_of m.key) (mark_in m) (as_part part.now used)) (mark_in m)
         (fed_mark (polynomial_of m.key) (mark_in m) (as_part part.now used))) }
 {
-    match table_tests::judge(p, words) {
-        Reply::Refused(r) => Fed::Refused(r, m),
-        Reply::Done => feed_looked(p, m, words, part, used),
-    }
+    table_tests::judge(p, words).map_err(|refusal| m.refused(refusal))?;
+    feed_looked(p, m, words, part, used)
 }
 
 // The mark of the empty file behind a start.
-fn begin_from(start: u64, key: Key) -> Begun
+fn begin_from(start: u64, key: Key) -> Result<Running, Refusal>
     requires { start < 2 }
-    ensures { begun result ≡ begun_under key (begin_from start key) }
+    ensures { told result ≡ begun_under key (begin_from start key) }
 {
-    match keys::test(key) {
-        Tested::Refused(r) => Begun::Refused(r),
-        Tested::Accepted(_) => Begun::Started(Running {
-            key: key,
-            fingerprint: start,
-            length: 0,
-        }),
-    }
+    keys::test(key)?;
+    Ok(Running {
+        key,
+        fingerprint: start,
+        length: 0,
+    })
 }
 
 // A mark turned, after the test of the key.
-fn turn_under(p: Modulus, m: Running) -> Fed
+fn turn_under(p: Modulus, m: Running) -> Result<Running, RefusedMark>
     requires { Opened m.key p }
     ensures { fed result ≡ fed_under m.key (first_of (turn_tests (polynomial_of m.key) (mark_in m)) (mark_in m)
         (turned (polynomial_of m.key) (mark_in m))) }
 {
     if !refusals::bits_fit(m.length) {
-        return Fed::Refused(Refusal::TooLong, m);
+        return Err(m.refused(Refusal::TooLong));
     }
     if !gf2::is_residue(p, m.fingerprint) {
-        return Fed::Refused(Refusal::MarkNotReduced, m);
+        return Err(m.refused(Refusal::MarkNotReduced));
     }
-    let key = Key {
-        degree: m.key.degree,
-        word: m.key.word,
-    };
     let turned = files::turned_residue(p, m.fingerprint, m.length);
-    Fed::Next(Running {
-        key: key,
-        fingerprint: turned,
-        length: m.length,
-    })
+    Ok(m.with_mark(turned, m.length))
 }
 
 impl Running {
@@ -163,57 +139,82 @@ impl Running {
         }
     }
 
+    // Its key, copied field by field: its degree and word were just stored apart, and a copy of both at once would wait for that.
+    fn key_by_fields(self) -> Key
+        ensures { result ≡ self.key }
+    {
+        Key {
+            degree: self.key.degree,
+            word: self.key.word,
+        }
+    }
+
+    // Another mark under its key.
+    pub fn with_mark(self, fingerprint: u64, length: u64) -> Running
+        ensures { result ≡ running self.key (record { fingerprint = fingerprint; length = length }) }
+    {
+        Running {
+            key: self.key_by_fields(),
+            fingerprint,
+            length,
+        }
+    }
+
+    // Its refusal: it goes back as it was handed in.
+    pub fn refused(self, refusal: Refusal) -> RefusedMark
+        ensures { result ≡ record { refusal = refusal; mark = self } }
+    {
+        RefusedMark {
+            refusal,
+            mark: self,
+        }
+    }
+
+    // Its key, opened. Numbers 1, 2.
+    pub fn opened(self) -> Result<Modulus, RefusedMark>
+        ensures { fed result ≡ first_of (key_tests self.key) self (as_modulus self.key) }
+    {
+        keys::test(self.key_by_fields()).map_err(|refusal| self.refused(refusal))
+    }
+
     // The mark of the empty file under a key. Numbers 1, 2.
-    pub fn begin(key: Key) -> Begun
-        ensures { begun result ≡ begun_under key (begin key) }
+    pub fn begin(key: Key) -> Result<Running, Refusal>
+        ensures { told result ≡ begun_under key (begin key) }
     {
         begin_from(1, key)
     }
 
     // The plain mark of the empty file under a key. Numbers 1, 2.
-    pub fn begin_plain(key: Key) -> Begun
-        ensures { begun result ≡ begun_under key (begin_plain key) }
+    pub fn begin_plain(key: Key) -> Result<Running, Refusal>
+        ensures { told result ≡ begun_under key (begin_plain key) }
     {
         begin_from(0, key)
     }
 
     // A plain mark turned into a mark with the leading 1, or such a mark into a plain mark: t^n is added, n being the length. Numbers 1, 2, 7, 8.
-    pub fn turn(self) -> Fed
+    pub fn turn(self) -> Result<Running, RefusedMark>
         ensures { fed result ≡ fed_under self.key (turn self.key (mark_in self)) }
     {
-        match keys::test(self.key) {
-            Tested::Refused(r) => Fed::Refused(r, self),
-            Tested::Accepted(p) => turn_under(p, self),
-        }
+        turn_under(self.opened()?, self)
     }
 
     // The mark of what was fed with the part behind it, of whose final byte `used` bits are used. Numbers 1, 2, 7, 8, 19.
-    pub fn feed(self, part: &[u8], used: u32) -> Fed
+    pub fn feed(self, part: &[u8], used: u32) -> Result<Running, RefusedMark>
         ensures { fed result ≡ fed_under self.key (feed_bits self.key (mark_in self) (as_part part.now used)) }
     {
-        match keys::test(self.key) {
-            Tested::Refused(r) => Fed::Refused(r, self),
-            Tested::Accepted(p) => feed_alone(p, self, part, used),
-        }
+        feed_alone(self.opened()?, self, part, used)
     }
 
     // The same by the lent table, all of whose words are tested first. Numbers 1, 2, 5, 6, 7, 8, 19.
-    pub fn feed_table(self, words: &[u64], part: &[u8], used: u32) -> Fed
+    pub fn feed_table(self, words: &[u64], part: &[u8], used: u32) -> Result<Running, RefusedMark>
         ensures { fed result ≡ fed_under self.key (feed_table self.key (mark_in self) words.now (as_part part.now used)) }
     {
-        let key = Key {
-            degree: self.key.degree,
-            word: self.key.word,
-        };
-        match keys::test(key) {
-            Tested::Refused(r) => Fed::Refused(r, self),
-            Tested::Accepted(p) => feed_under(p, self, words, part, used),
-        }
+        feed_under(self.opened()?, self, words, part, used)
     }
 
     // The same by the house key's constant words. Under that key they are right: they are not read, and nothing is tested but the lengths, the
     // mark and the final byte. Under another key they are tested like a lent table. Numbers 1, 2, 6, 7, 8, 19.
-    pub fn feed_house(self, part: &[u8], used: u32) -> Fed
+    pub fn feed_house(self, part: &[u8], used: u32) -> Result<Running, RefusedMark>
         ensures { fed result ≡ fed_under self.key (feed_house self.key (mark_in self) (as_part part.now used)) }
     {
         let p = Modulus {
@@ -228,7 +229,7 @@ impl Running {
 }
 
 // A part fed by the house key's constant words, which are copied here alone.
-fn feed_constant(m: Running, part: &[u8], used: u32) -> Fed
+fn feed_constant(m: Running, part: &[u8], used: u32) -> Result<Running, RefusedMark>
     ensures { fed result ≡ fed_under m.key (feed_house m.key (mark_in m) (as_part part.now used)) }
 {
     let words = house::words();

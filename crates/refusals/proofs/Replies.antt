@@ -4,30 +4,29 @@ use mathlib.Core.Bool.{true, false}
 use mathlib.Core.List.{List, [], ◌∷◌, ◌++◌}
 use Prim.Native.Nat.{ℕ}
 use Rattle.refusals.specs.declared.Refusal.{Refusal}
-use Rattle.refusals.specs.declared.Reply.{Reply}
-use Rattle.refusals.specs.declared.Reply.TheVariants as ReplyCases
+use Rattle.std.specs.Prelude.{Result, Ok, Err}
 use Rattle.refusals.specs.Refusals.{Answer, Done, Refused, number_of, state_of, value_or, mapped, Test, ◌⇒◌, first_of, judged}
 use Rattle.refusals.specs.Answers.{reply, told}
 use Rattle.refusals.proofs.Laws.{Clear, done-clear, more-refused}
 
 -- the tests that were judged, whatever stands behind them
-module _ (ts : List Test) (r : Reply) (e : told r ≡ judged ts) where
-  pub judged-refused : {S A : Type 0} (us : List Test) (s : S) (v : A) (q : Refusal) → r ≡ ReplyCases.Refused q → first_of (ts ++ us) s v ≡ Refused q s
+module _ (ts : List Test) (r : Result Unit Refusal) (e : told r ≡ judged ts) where
+  pub judged-refused : {S A : Type 0} (us : List Test) (s : S) (v : A) (q : Refusal) → r ≡ Err q → first_of (ts ++ us) s v ≡ Refused q s
   judged-refused us s v q a = more-refused ts us tt s tt v q (sym e ∙ ap told a)
 
-  pub judged-clear : r ≡ ReplyCases.Done → Clear ts
+  pub judged-clear : r ≡ Ok tt → Clear ts
   judged-clear a = (done-clear ts tt tt tt (sym e ∙ ap told a)).0
 
 -- the number and the state of a reply, for the functions for C
-reply-number : {A : Type 0} (left : A) (r : Reply) → number_of (told r) ≡ number_of (reply left r)
-reply-number left ReplyCases.Done = refl
-reply-number left (ReplyCases.Refused q) = refl
+reply-number : {A : Type 0} (left : A) (r : Result Unit Refusal) → number_of (told r) ≡ number_of (reply left r)
+reply-number left (Ok u) = refl
+reply-number left (Err q) = refl
 
-reply_state : {A : Type 0} (left : A) (r : Reply) → left ≡ state_of (reply left r)
-reply_state left ReplyCases.Done = refl
-reply_state left (ReplyCases.Refused q) = refl
+reply_state : {A : Type 0} (left : A) (r : Result Unit Refusal) → left ≡ state_of (reply left r)
+reply_state left (Ok u) = refl
+reply_state left (Err q) = refl
 
-pub replied : {A : Type 0} {left : A} {answer : Answer A A} (r : Reply) {n : ℕ} → reply left r ≡ answer → n ≡ number_of (told r)
+pub replied : {A : Type 0} {left : A} {answer : Answer A A} (r : Result Unit Refusal) {n : ℕ} → reply left r ≡ answer → n ≡ number_of (told r)
     → (n ≡ number_of answer) × (left ≡ state_of answer)
 replied {left = left} r e h = (h ∙ reply-number left r ∙ ap number_of e, reply_state left r ∙ ap state_of e)
 

@@ -1,13 +1,14 @@
--- For callers in Rattle: the reply in code of a call that gives no value, as an answer.
-use Rattle.refusals.specs.declared.Reply.{Reply}
-use Rattle.refusals.specs.declared.Reply.TheVariants as ReplyCases
+-- For callers in Rattle: an answer of the code, a value or a refusal, as an answer of the definitions.
+use Rattle.std.specs.Prelude.{Result, Ok, Err}
+use Rattle.refusals.specs.declared.Refusal.{Refusal}
 use Rattle.refusals.specs.Refusals.{Answer, Done, Refused}
 
--- with what it leaves: changed, or as it was handed in
-abbrev pub reply : {A : Type 0} → A → Reply → Answer A A
-reply left ReplyCases.Done = Done left
-reply left (ReplyCases.Refused r) = Refused r left
-
 -- of a call that leaves nothing changed
-abbrev pub told : Reply → Answer Unit Unit
-told r = reply tt r
+abbrev pub told : {A : Type 0} → Result A Refusal → Answer Unit A
+told (Ok a) = Done a
+told (Err r) = Refused r tt
+
+-- of a call that gives no value, with what it leaves: changed, or as it was handed in
+abbrev pub reply : {A : Type 0} → A → Result Unit Refusal → Answer A A
+reply left (Ok u) = Done left
+reply left (Err r) = Refused r left

@@ -10,62 +10,40 @@ pub const LONGEST: u64 = 34359738360;
 
 pub const LONGEST_BYTES: u64 = 4294967295;
 
-#[derive(Clone, Copy)]
+// Each refusal, with its number: 1 to 14, or 19.
+#[derive(Clone, Copy, PartialEq, Eq)]
 pub enum Refusal {
-    KeyRange,
-    KeyReducible,
-    DegreeNotListed,
-    ElementOutOfRange,
-    TableSize,
-    TableWord,
-    TooLong,
-    MarkNotReduced,
-    PageLengthsDiffer,
-    PagePastEnd,
-    EmptyPattern,
-    PageSize,
-    BufferShort,
-    SheetMalformed,
-    FinalByte,
+    KeyRange = 1,
+    KeyReducible = 2,
+    DegreeNotListed = 3,
+    ElementOutOfRange = 4,
+    TableSize = 5,
+    TableWord = 6,
+    TooLong = 7,
+    MarkNotReduced = 8,
+    PageLengthsDiffer = 9,
+    PagePastEnd = 10,
+    EmptyPattern = 11,
+    PageSize = 12,
+    BufferShort = 13,
+    SheetMalformed = 14,
+    FinalByte = 19,
 }
 
-// The answer of a call that gives no value: done, or refused.
-#[derive(Clone, Copy)]
-pub enum Reply {
-    Done,
-    Refused(Refusal),
-}
-
-// The number of a refusal: 1 to 14, or 19.
+// The number of a refusal.
 pub fn number(r: Refusal) -> u32
     ensures { result ≡ number r }
 {
-    match r {
-        Refusal::KeyRange => 1,
-        Refusal::KeyReducible => 2,
-        Refusal::DegreeNotListed => 3,
-        Refusal::ElementOutOfRange => 4,
-        Refusal::TableSize => 5,
-        Refusal::TableWord => 6,
-        Refusal::TooLong => 7,
-        Refusal::MarkNotReduced => 8,
-        Refusal::PageLengthsDiffer => 9,
-        Refusal::PagePastEnd => 10,
-        Refusal::EmptyPattern => 11,
-        Refusal::PageSize => 12,
-        Refusal::BufferShort => 13,
-        Refusal::SheetMalformed => 14,
-        Refusal::FinalByte => 19,
-    }
+    r as u32
 }
 
-// The number of a reply: 0, or the refusal's.
-pub fn number_of(reply: Reply) -> u32
-    ensures { result ≡ number_of (told reply) }
+// The number of an answer that holds no value: 0, or the refusal's.
+pub fn number_of(answer: Result<(), Refusal>) -> u32
+    ensures { result ≡ number_of (told answer) }
 {
-    match reply {
-        Reply::Done => 0,
-        Reply::Refused(r) => number(r),
+    match answer {
+        Ok(()) => 0,
+        Err(r) => number(r),
     }
 }
 

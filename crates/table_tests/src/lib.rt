@@ -8,18 +8,18 @@ ghost use Rattle.refusals.specs.Answers.{told};
 ghost use Rattle.table_tests.specs.TableTests.{table_tests};
 
 use gf2::Modulus;
-use refusals::{Refusal, Reply};
+use refusals::Refusal;
 
 // Are the lent words the table of a modulus? Numbers 5, 6.
-pub fn judge(p: Modulus, words: &[u64]) -> Reply
+pub fn judge(p: Modulus, words: &[u64]) -> Result<(), Refusal>
     requires { Proper p }
     ensures { told result ≡ judged (table_tests (polynomial p) words.now) }
 {
     if words.len() != 1024 {
-        return Reply::Refused(Refusal::TableSize);
+        return Err(Refusal::TableSize);
     }
     if !lookups::table_holds(words, p) {
-        return Reply::Refused(Refusal::TableWord);
+        return Err(Refusal::TableWord);
     }
-    Reply::Done
+    Ok(())
 }

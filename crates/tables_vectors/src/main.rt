@@ -4,8 +4,8 @@
 #![tactic(auto)]
 
 use acceptance::Key;
-use marks::{Begun, Fed, Running};
-use refusals::Reply;
+use marks::Running;
+use refusals::Refusal;
 use std::io;
 use std::io::Print;
 
@@ -18,17 +18,14 @@ const KEY: Key = Key {
 // One bit past the longest file.
 const PAST: u64 = 34359738361;
 
-fn show(rt: &impl Print, reply: Reply, done: &[u8]) -> io::Result<()> {
-    match reply {
-        Reply::Done => {
-            vectors::text(rt, done)?;
-        }
-        Reply::Refused(r) => {
+fn show(rt: &impl Print, answer: Result<(), Refusal>, done: &[u8]) -> io::Result<()> {
+    match answer {
+        Ok(()) => vectors::text(rt, done),
+        Err(r) => {
             vectors::refused(rt, refusals::number(r))?;
-            vectors::text(rt, b"\n")?;
+            vectors::text(rt, b"\n")
         }
     }
-    Ok(())
 }
 
 fn show_word(rt: &impl Print, n: u64, word: u64) -> io::Result<()> {
@@ -39,9 +36,9 @@ fn show_word(rt: &impl Print, n: u64, word: u64) -> io::Result<()> {
 
 fn running(key: Key, fingerprint: u64, length: u64) -> Running {
     Running {
-        key: key,
-        fingerprint: fingerprint,
-        length: length,
+        key,
+        fingerprint,
+        length,
     }
 }
 
@@ -218,19 +215,18 @@ fn feed_plain(
 ) -> io::Result<()> {
     vectors::text(rt, what)?;
     match Running::begin_plain(key) {
-        Begun::Started(m) => {
+        Ok(m) => {
             vectors::text(rt, b"\n  with no table: ")?;
             vectors::fed_or_refused(rt, m.feed(part, used))?;
             vectors::text(rt, b"  by the table: ")?;
-            vectors::fed_or_refused(rt, m.feed_table(words, part, used))?;
+            vectors::fed_or_refused(rt, m.feed_table(words, part, used))
         }
-        Begun::Refused(r) => {
+        Err(r) => {
             vectors::text(rt, b": ")?;
             vectors::refused(rt, refusals::number(r))?;
-            vectors::text(rt, b"\n")?;
+            vectors::text(rt, b"\n")
         }
     }
-    Ok(())
 }
 
 fn turn(rt: &impl Print, what: &[u8], key: Key, fingerprint: u64, length: u64) -> io::Result<()> {
@@ -248,18 +244,17 @@ fn turn_and_feed(
     used: u32,
 ) -> io::Result<()> {
     match running(KEY, fingerprint, length).turn() {
-        Fed::Next(m) => {
+        Ok(m) => {
             vectors::text(rt, b"  turned: ")?;
             vectors::mark(rt, m)?;
             vectors::text(rt, b"  and fed: ")?;
-            vectors::fed_or_refused(rt, m.feed_table(words, part, used))?;
+            vectors::fed_or_refused(rt, m.feed_table(words, part, used))
         }
-        Fed::Refused(r, _) => {
-            vectors::refused(rt, refusals::number(r))?;
-            vectors::text(rt, b"\n")?;
+        Err(refused) => {
+            vectors::refused(rt, refusals::number(refused.refusal))?;
+            vectors::text(rt, b"\n")
         }
     }
-    Ok(())
 }
 
 // 41, 41 42, and 41 with 3 bits behind it; four files whose plain fingerprint is 0; and two keys that are refused.

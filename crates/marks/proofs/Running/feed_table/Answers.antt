@@ -1,49 +1,17 @@
 -- `Running::feed_table` meets its contract: the tests of the key, and then those of `feed_under`.
 use mathlib.Core.Path.{sym, ap, ◌∙◌}
-use mathlib.Core.List.{List, ◌++◌}
-use Rattle.refusals.specs.Refusals.{Test}
-use Rattle.acceptance.specs.Keys.{polynomial_of}
-use Rattle.acceptance.specs.Opened.{Opened}
-use Rattle.acceptance.proofs.Opened.{opened-first}
-use Rattle.files.specs.declared.Mark.{Mark}
-use Rattle.files.specs.Files.{as_part, fed_mark}
-use Rattle.table_tests.specs.TableTests.{table_tests}
-use Rattle.keys.proofs.Laws.{opened, refused}
-use Rattle.mark_tests.specs.MarkTests.{feed_tests}
+use Rattle.std.proofs.Common.{rules}
 use Rattle.marks.specs.Feeding.{feed_table}
-use Rattle.marks.specs.Answers.{mark_in, fed_under}
+use Rattle.marks.proofs.Laws.{opened, still-refused}
 use Rattle.marks.proofs.Running.feed_table.Goals as goal
-use Rattle.marks.proofs.Running.feed_table.Goals.{In-Accepted, Start}
 
--- the tests behind those of the key, and the value
-abbrev tests : Start → List Test
-tests s =
-    table_tests (polynomial_of s.args.self.key) s.args.words.now
-    ++ feed_tests (polynomial_of s.args.self.key) (mark_in s.args.self) (as_part s.args.part.now s.args.used)
-
-abbrev value : Start → Mark
-value s = fed_mark (polynomial_of s.args.self.key) (mark_in s.args.self) (as_part s.args.part.now s.args.used)
-
--- the accepted key
-key-opened : (c : In-Accepted) → Opened c.args.self.key c.in-Accepted.p
-key-opened c =
-    let t = c.test in
-    opened t.result c.args.self.key t.ensures _ c.in-Accepted.is
-
-pub returns-in-Refused : goal.returns-in-Refused
+pub returns-in_err-opened : goal.returns-in_err-opened
 unfolding feed_table
-returns-in-Refused c =
-    let key = c.args.self.key in
-    let t = c.test in
-    sym (ap (fed_under key) (refused t.result key t.ensures (tests (goal.at.returns-in-Refused c).Start) (mark_in c.args.self)
-    (value (goal.at.returns-in-Refused c).Start) _ c.in-Refused.is))
+returns-in_err-opened c = search (rules, still-refused)
 
 pub feed_under-requires : goal.feed_under-requires
-feed_under-requires c = key-opened c
+feed_under-requires c = search (rules, opened)
 
-pub returns-in-Accepted : goal.returns-in-Accepted
+pub returns : goal.returns
 unfolding feed_table
-returns-in-Accepted c =
-    c.feed_under.ensures ∙ sym (ap (fed_under c.args.self.key)
-    (opened-first (key-opened (goal.at.returns-in-Accepted c).In-Accepted) (tests (goal.at.returns-in-Accepted c).Start) (mark_in c.args.self)
-    (value (goal.at.returns-in-Accepted c).Start)))
+returns c = search rules
