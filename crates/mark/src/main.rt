@@ -14,7 +14,7 @@ ghost use Rattle.mark.specs.Program.{Ran};
 ghost use Rattle.mark.specs.Heads.{HeadRead, Known, Answered};
 
 use input_calls::{Got, Input};
-use input_feeding::Marked;
+use input_feeding::{Marking, Stopped};
 use key_lines::LineError;
 use refusals::Refusal;
 use std::io::{Print, Stdin};
@@ -59,12 +59,16 @@ fn answer(stdin: Stdin, head: &[u8], input: Input, out: &mut [u8; 96]) -> Text
 {
     match key_lines::key_line(head) {
         Ok((key, at)) => {
-            let Marking { marked, input } =
-                input_feeding::mark_file(stdin, key, &head[at..], input);
+            let Marking { marked, input } = input_feeding::mark_file(
+                stdin,
+                key,
+                &head[at..],
+                input,
+            );
             let length = match marked {
-                Marked::Done(m) => Some(printing::report(m, out)),
-                Marked::Refused(r) => Some(printing::refusal(r, out)),
-                Marked::Unread => None,
+                Ok(m) => Some(printing::report(m, out)),
+                Err(Stopped::Refused(r)) => Some(printing::refusal(r, out)),
+                Err(Stopped::Unread) => None,
             };
             Text { length, input }
         }
