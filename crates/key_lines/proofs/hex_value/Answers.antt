@@ -40,5 +40,6 @@ loop-b-preserved c =
 pub returns : goal.returns
 unfolding all_digits hex_from
 returns c =
-    let l = c.loop-b in
-    (sym (rw (drop_of_length-le c.args.line.now c.loop-b-test.false) at l.invariant.1), rw (drop_of_length-le c.args.line.now c.loop-b-test.false) at l.invariant.2)
+    let done = drop_of_length-le c.args.line.now c.loop-b-test.false in
+    let v = c.loop-b.invariant in
+    (sym (rw done at v.1), rw done at v.2)
