@@ -1,6 +1,6 @@
 -- The plain book (document 01, "The plain book of demand 3") at the Bench level: what the book does beside its calls, which are the feeds of
 -- crate fed_parts, and the routes to a file's fingerprint.
-use Rattle.std.specs.Prelude.{◌≡◌, List, [], ◌∷◌, ◌++◌, ℕ, length, drop}
+use Rattle.std.specs.Prelude.{◌≡◌, List, [], ◌∷◌, ◌++◌, ℕ, length, drop, Ok}
 use Rattle.refusals.specs.declared.Refusal.TheVariants.{FinalByte}
 use Rattle.refusals.specs.Refusals.{Done, Test, ◌⇒◌}
 use Rattle.acceptance.specs.Keys.{key_of, key_tests}
@@ -11,7 +11,6 @@ use Rattle.table_tests.specs.TableTests.{table_tests}
 use Rattle.mark_tests.specs.MarkTests.{sum_test}
 use Rattle.marks.specs.Feeding.{begin}
 use Rattle.marks.specs.PlainMarks.{turn}
-use Rattle.key_lines.specs.declared.KeyLine.TheVariants.{Key}
 use Rattle.key_lines.specs.KeyLines.{key_line}
 use Rattle.printing.specs.Printing.{report, printed}
 use Rattle.book.specs.Runs.{Level, Leaves}
@@ -48,5 +47,5 @@ pub data Route (key : ℕ) (file : List ℕ) (f : ℕ) : Type 0 where
   ByTurning : (m n : Mark) → PlainTrue key file m → turn (key_of key) m ≡ Done n → n.fingerprint ≡ f → Route key file f
   Beginning : file ≡ [] → begin (key_of key) ≡ Done (record { fingerprint = f; length = 0 }) → Route key file f
   -- of an input whose first line is the key and whose other bytes are the file; the program prints bytes
-  Printed : (input : List ℕ) (at : ℕ) → key_line input ≡ Key (key_of key) at → bits (drop at input) ≡ file
+  Printed : (input : List ℕ) (at : ℕ) → key_line input ≡ Ok (key_of key, at) → bits (drop at input) ≡ file
       → printed input ≡ report (record { key = key_of key; fingerprint = f; length = length file }) → Route key file f

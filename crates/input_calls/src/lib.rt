@@ -4,7 +4,7 @@
 
 ghost use Rattle.std.specs.Prelude.{◌≡◌, ◌<◌, length};
 ghost use Rattle.input_calls.specs.declared.Got.TheVariants.{Interrupted};
-ghost use Rattle.input_calls.specs.Reading.{outcome, failure, over, unread, after, abandoned, Read};
+ghost use Rattle.input_calls.specs.Reading.{outcome, failure, given, over, unread, after, abandoned, Read};
 
 use std::io;
 use std::io::{ErrorKind, Read, Stdin};
@@ -26,31 +26,65 @@ pub struct Input {
     last: Got,
 }
 
-// Before the first read.
+impl Got {
+    // How many bytes it gave.
+    fn given(self) -> u64
+        ensures { result ≡ given self }
+    {
+        match self {
+            Got::Bytes(n) => n as u64,
+            _ => 0,
+        }
+    }
+
+    // Whether no read is made any more.
+    fn over(self) -> bool
+        ensures { result ≡ over self }
+    {
+        matches!(self, Got::End | Got::Failed)
+    }
+}
+
+impl Input {
+    // What the last read gave.
+    pub fn last(self) -> Got
+        ensures { result ≡ self.last }
+    {
+        self.last
+    }
+
+    // The input, given up behind a read that was interrupted: nothing more is read of it.
+    pub fn abandon(self) -> Input
+        requires { self.last ≡ Interrupted }
+        ensures { result ≡ abandoned self }
+    {
+        Input {
+            last: Got::Failed,
+            ..self
+        }
+    }
+
+    // The input behind a call that gave something. A number of bytes that no u64 holds counts as a failure.
+    fn after(self, got: Got) -> Input
+        ensures { result ≡ after self got }
+    {
+        match self.bytes.checked_add(got.given()) {
+            Some(bytes) => Input { bytes, last: got },
+            None => Input {
+                last: Got::Failed,
+                ..self
+            },
+        }
+    }
+}
+
+// Before the first read. A function of the crate: tools/test-form finds by its name that the input is begun in one place.
 pub fn unread() -> Input
     ensures { result ≡ unread }
 {
     Input {
         bytes: 0,
         last: Got::Bytes(0),
-    }
-}
-
-// What the last read gave.
-pub fn last(input: Input) -> Got
-    ensures { result ≡ input.last }
-{
-    input.last
-}
-
-// The input, given up behind a read that was interrupted: nothing more is read of it.
-pub fn abandon(input: Input) -> Input
-    requires { input.last ≡ Interrupted }
-    ensures { result ≡ abandoned input }
-{
-    Input {
-        bytes: input.bytes,
-        last: Got::Failed,
     }
 }
 
@@ -75,60 +109,14 @@ fn failure(kind: ErrorKind) -> Got
     }
 }
 
-// Whether no read is made any more.
-fn over(got: Got) -> bool
-    ensures { result ≡ over got }
-{
-    match got {
-        Got::Bytes(_) => false,
-        Got::End => true,
-        Got::Interrupted => false,
-        Got::Failed => true,
-    }
-}
-
-// The input behind a call that gave something. A number of bytes that no u64 holds counts as a failure.
-fn after(input: Input, got: Got) -> Input
-    ensures { result ≡ after input got }
-{
-    let bytes = input.bytes;
-    match got {
-        Got::Bytes(n) => {
-            if u64::MAX - bytes < n as u64 {
-                return Input {
-                    bytes: bytes,
-                    last: Got::Failed,
-                };
-            }
-            Input {
-                bytes: bytes + n as u64,
-                last: Got::Bytes(n),
-            }
-        }
-        Got::End => Input {
-            bytes: bytes,
-            last: Got::End,
-        },
-        Got::Interrupted => Input {
-            bytes: bytes,
-            last: Got::Interrupted,
-        },
-        Got::Failed => Input {
-            bytes: bytes,
-            last: Got::Failed,
-        },
-    }
-}
-
 // One call of read on standard input; none where an earlier one gave the end or failed. The buffer has room: with none, read answers 0 before the end too.
 pub fn read_once(mut stdin: Stdin, input: Input, buffer: &mut [u8]) -> Input
     requires { 0 < length buffer.old }
     ensures { Read input result buffer.new }
 {
-    let last = input.last;
-    if over(last) {
+    if input.last.over() {
         return input;
     }
     let answer = stdin.read(buffer);
-    after(input, outcome(answer, buffer))
+    input.after(outcome(answer, buffer))
 }

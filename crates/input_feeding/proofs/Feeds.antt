@@ -1,11 +1,11 @@
 -- The parts that the program reads: feeding them one after another marks the file that they make.
 use mathlib.Core.Path.{◌≡◌, refl, sym, ap, subst, ◌∙◌}
-use mathlib.Core.Bool.{Bool, true, false}
 use mathlib.Core.List.{List, [], ◌∷◌, ◌++◌, flatten, append_assoc, append-nil}
 use Prim.Native.Nat.{ℕ, ◌+◌, ◌*◌, ◌≤◌, ◌<◌}
 use native.Mathlib.Decide.{dec_le}
 use native.Mathlib.Omega.{arith}
 use lib.ListN.{length, take, length-append}
+use Rattle.std.specs.Prelude.{Option, Some, None, Result, Ok, Err}
 use borrow.Author.Tests.{lt-ltb, le-ltb}
 use Rattle.lists.specs.Lists.{list_from}
 use Rattle.refusals.specs.declared.Refusal.{Refusal}
@@ -26,18 +26,15 @@ use Rattle.tables.specs.Tables.{make_table}
 use Rattle.table_tests.specs.TableTests.{table_size_test, table_tests}
 use Rattle.table_tests.proofs.Laws.{size-passed, clear-table}
 use Rattle.marks.specs.declared.Running.{Running}
-use Rattle.marks.specs.declared.Fed.{Fed}
-use Rattle.marks.specs.declared.Fed.TheVariants as FedCases
 use Rattle.mark_tests.specs.MarkTests.{feed_tests}
 use Rattle.marks.specs.Feeding.{begin_from, begin, feed_table}
-use Rattle.marks.specs.Answers.{mark_in, running, fed, begun_under, fed_under}
+use Rattle.marks.specs.Answers.{mark_in, running, begun_under, fed_under}
 use Rattle.printing.specs.Printing.{mark_file}
-use Rattle.input_feeding.specs.declared.Marked.TheVariants as MarkedCases
-use Rattle.input_feeding.specs.declared.Step.{Step}
-use Rattle.input_feeding.specs.declared.Step.TheVariants as StepCases
+use Rattle.input_feeding.specs.declared.Stopped.{Stopped}
+use Rattle.input_feeding.specs.declared.Stopped.TheVariants as StoppedCases
 use Rattle.input_feeding.specs.declared.Marking.{Marking}
-use Rattle.input_feeding.specs.Turns.{Turned}
-use Rattle.input_feeding.specs.Marking.{feeds, stateless, Gives, FedInParts, MarkedInParts, refused}
+use Rattle.input_feeding.specs.Turns.{fed_on, Turned}
+use Rattle.input_feeding.specs.Marking.{feeds, stateless, Gives, FedInParts, MarkedInParts}
 use Rattle.input_calls.specs.declared.Got.{Got}
 use Rattle.input_calls.specs.declared.Got.TheVariants.{Bytes, End, Interrupted, Failed}
 use Rattle.input_calls.specs.declared.Input.{Input}
@@ -89,25 +86,47 @@ SoFar start words input m at =
     (m.key ≡ start.key)
     × ((parts : List (List ℕ)) × (Gave input parts at × (feeds start.key words (Done (mark_in start)) parts ≡ Done (mark_in m))))
 
--- where no more is read, a read gave the end
-abbrev pub Closed : Bool → Input → Type 0
-Closed true at = Unit {0}
-Closed false at = at.last ≡ End
-
-pub still_more : (more : Bool) (at : Input) → more ≡ true → Closed more at
-still_more more at e = rw e tt
-
 pub at_first : (start : Running) (words : List ℕ) (input : Input) → SoFar start words input start input
 at_first start words input = (refl, ([], (gave-none input input refl, refl)))
 
--- what a turn leaves, by its step
+-- behind the end
+at-end : (start : Running) (words : List ℕ) (input : Input) (m : Running) (at : Input) → SoFar start words input m at → at.last ≡ End
+    → FedInParts start words input (record { marked = Ok m; input = at })
+at-end start words input m at s e = (
+  s.1.0,
+  (
+    s.1.1.0,
+    (
+      e,
+      ap (λ (a : Answer Mark Mark). begun_under start.key (stateless a)) s.1.1.1
+          ∙ ap (λ (k : Key). Done (running k (mark_in m))) (sym s.0),
+    ),
+  ),
+)
+
+-- what a turn answers
+abbrev pub Step : Type 0
+Step = Result (Option Running) Stopped
+
+fed-on_next : (b : Answer Running Running) (now : Running) → ◌≡◌ {A = Step} (Ok (Some now)) (fed_on b) → Done now ≡ b
+fed-on_next (Done m) now e = cc
+fed-on_next (Refused r m) now e = absurd (let z : ◌≡◌ {A = ℕ} 0 1 = cc in omega arith)
+
+fed-on_end : (b : Answer Running Running) → ◌≡◌ {A = Step} (Ok None) (fed_on b) → ⊥
+fed-on_end (Done m) e = let z : ◌≡◌ {A = ℕ} 0 1 = cc in omega arith
+fed-on_end (Refused r m) e = let z : ◌≡◌ {A = ℕ} 0 1 = cc in omega arith
+
+fed-on_stopped : (b : Answer Running Running) (s : Stopped) → ◌≡◌ {A = Step} (Err s) (fed_on b)
+    → (r : Refusal) × ((kept : Running) × ((s ≡ StoppedCases.Refused r) × (Refused r kept ≡ b)))
+fed-on_stopped (Done m) s e = absurd (let z : ◌≡◌ {A = ℕ} 0 1 = cc in omega arith)
+fed-on_stopped (Refused r m) s e = (r, (m, (cc, refl)))
+
+-- what a turn leaves, by its answer
 pub record Turn (start : Running) (words : List ℕ) (input : Input) (m : Running) (next : Input) (step : Step) : Type 0 where
-  pub ends : step ≡ StepCases.End → SoFar start words input m next × (next.last ≡ End)
-  pub fails : step ≡ StepCases.Failed → FedInParts start words input (record { marked = MarkedCases.Unread; input = next })
-  pub goes_on : (f : Fed) → step ≡ StepCases.Fed f → (now : Running) → f ≡ FedCases.Next now
+  pub ends : step ≡ Ok None → FedInParts start words input (record { marked = Ok m; input = next })
+  pub goes_on : (now : Running) → step ≡ Ok (Some now)
       → SoFar start words input now next × ((m.length < now.length) × (now.length ≤ longest))
-  pub stops : (f : Fed) → step ≡ StepCases.Fed f → (r : Refusal) (kept : Running) → f ≡ FedCases.Refused r kept
-      → FedInParts start words input (refused r next)
+  pub stops : (s : Stopped) → step ≡ Err s → FedInParts start words input (record { marked = Err s; input = next })
 
 module _ (start : Running) (words : List ℕ) (input : Input) (m : Running) (at : Input) (s : SoFar start words input m at) where
   -- one part more
@@ -121,95 +140,60 @@ module _ (start : Running) (words : List ℕ) (input : Input) (m : Running) (at 
   no_more : (next : Input) → next.bytes ≡ at.bytes → SoFar start words input m next
   no_more next e = (s.0, (s.1.0, ((s.1.1.0.0, e ∙ s.1.1.0.1), s.1.1.1)))
 
-  pub at-end : at.last ≡ End → FedInParts start words input (record { marked = MarkedCases.Done m; input = at })
-  at-end e = (
-    s.1.0,
-    (
-      s.1.1.0,
-      (
-        e,
-        ap (λ (a : Answer Mark Mark). begun_under start.key (stateless a)) s.1.1.1
-            ∙ ap (λ (k : Key). Done (running k (mark_in m))) (sym s.0),
-      ),
-    ),
-  )
-
   -- one read, and the turn that feeds what it gave
-  module _ (next : Input) (buffer : List ℕ) (read : Read at next buffer) (step : Step) (h : Turned next.last m words buffer step) where
-    -- what a step says of the read
-    fed-bytes : (f : Fed) → step ≡ StepCases.Fed f
-        → (n : ℕ) × ((next.last ≡ Bytes n) × (fed f ≡ fed_under m.key (feed_table m.key (mark_in m) words (whole (take n buffer)))))
-    fed-bytes f e = go next.last refl h
-      where
-        go : (g : Got) → next.last ≡ g → Turned g m words buffer step
-            → (n : ℕ) × ((next.last ≡ Bytes n) × (fed f ≡ fed_under m.key (feed_table m.key (mark_in m) words (whole (take n buffer)))))
-        go (Bytes n) t u = let same : u.0 ≡ f = cc in (n, (t, ap fed (sym same) ∙ u.1.1))
-        go End t u = absurd (let z : ◌≡◌ {A = ℕ} 0 1 = cc in omega arith)
-        go Interrupted t u = absurd (let z : ◌≡◌ {A = ℕ} 0 1 = cc in omega arith)
-        go Failed t u = absurd (let z : ◌≡◌ {A = ℕ} 0 1 = cc in omega arith)
-
-    turn_end : step ≡ StepCases.End → next.last ≡ End
-    turn_end e = go next.last refl h
-      where
-        go : (g : Got) → next.last ≡ g → Turned g m words buffer step → next.last ≡ End
-        go (Bytes n) t u = absurd (let z : ◌≡◌ {A = ℕ} 0 1 = cc u.1.0 in omega arith)
-        go End t u = t
-        go Interrupted t u = absurd (let z : ◌≡◌ {A = ℕ} 0 1 = cc in omega arith)
-        go Failed t u = absurd (let z : ◌≡◌ {A = ℕ} 0 1 = cc in omega arith)
-
-    turn-failed : step ≡ StepCases.Failed → (next.last ≡ Interrupted → ⊥) → next.last ≡ Failed
-    turn-failed e never = go next.last refl h
-      where
-        go : (g : Got) → next.last ≡ g → Turned g m words buffer step → next.last ≡ Failed
-        go (Bytes n) t u = absurd (let z : ◌≡◌ {A = ℕ} 0 1 = cc u.1.0 in omega arith)
-        go End t u = absurd (let z : ◌≡◌ {A = ℕ} 0 1 = cc in omega arith)
-        go Interrupted t u = absurd (never t)
-        go Failed t u = t
-
+  module _ (next : Input) (buffer : List ℕ) (read : Read at next buffer) (step : Step) where
     turn-none : given next.last ≡ 0 → SoFar start words input m next
     turn-none z = no_more next (read_none at next buffer read z)
 
-    module _ (f : Fed) (is : step ≡ StepCases.Fed f) where
-      abbrev count : ℕ
-      count = (fed-bytes f is).0
-
+    module _ (n : ℕ) (got : next.last ≡ Bytes n) (fed : Turned (Bytes n) m words buffer step) where
       abbrev part : List ℕ
-      part = take count buffer
+      part = take n buffer
 
       gave : Gave input (s.1.0 ++ part ∷ []) next
-      gave = gave-append input at next s.1.0 (part ∷ []) s.1.1.0 (gave_one at next buffer count read (fed-bytes f is).1.0)
-
-      turn-next : (now : Running) → f ≡ FedCases.Next now → SoFar start words input now next
-      turn-next now e =
-          let h = fed-next m.key (feed_table m.key (mark_in m) words (whole part)) now (ap fed (sym e) ∙ (fed-bytes f is).1.1) in
-          (h.0 ∙ s.0, (s.1.0 ++ part ∷ [], (gave, one_more part ∙ h.1)))
+      gave = gave-append input at next s.1.0 (part ∷ []) s.1.1.0 (gave_one at next buffer n read got)
 
       -- number 7 bounds the mark, and it is longer than before
-      turn-less : (now : Running) → f ≡ FedCases.Next now → (m.length < now.length) × (now.length ≤ longest)
-      turn-less now e =
-          let b = read-bytes at next buffer read count (fed-bytes f is).1.0 in
-          let h = fed-next m.key (feed_table m.key (mark_in m) words (whole part)) now (ap fed (sym e) ∙ (fed-bytes f is).1.1) in
+      turn-next : (now : Running) → step ≡ Ok (Some now)
+          → SoFar start words input now next × ((m.length < now.length) × (now.length ≤ longest))
+      turn-next now e =
+          let answer = feed_table m.key (mark_in m) words (whole part) in
+          let h = fed-next m.key answer now (fed-on_next (fed_under m.key answer) now (sym e ∙ fed)) in
+          let b = read-bytes at next buffer read n got in
           let g = fed-longer m.key (mark_in m) words part (mark_in now) h.1 in
-          (omega (arith, g.0, b.0.0, b.0.1.1), g.1)
+          ((h.0 ∙ s.0, (s.1.0 ++ part ∷ [], (gave, one_more part ∙ h.1))), (omega (arith, g.0, b.0.0, b.0.1.1), g.1))
 
-      turn-refused : (r : Refusal) (kept : Running) → f ≡ FedCases.Refused r kept → FedInParts start words input (refused r next)
-      turn-refused r kept e = (
-        s.1.0 ++ part ∷ [],
-        (
-          gave,
-          ap (begun_under start.key)
-              (ap stateless (one_more part)
-              ∙ fed-refused m.key (feed_table m.key (mark_in m) words (whole part)) r kept (ap fed (sym e) ∙ (fed-bytes f is).1.1)),
-        ),
-      )
+      turn-refused : (t : Stopped) → step ≡ Err t → FedInParts start words input (record { marked = Err t; input = next })
+      turn-refused t e =
+          let answer = feed_table m.key (mark_in m) words (whole part) in
+          let f = fed-on_stopped (fed_under m.key answer) t (sym e ∙ fed) in
+          subst (λ (x : Stopped). FedInParts start words input (record { marked = Err x; input = next })) (sym f.1.1.0)
+          (s.1.0 ++ part ∷ [], (gave, ap (begun_under start.key) (ap stateless (one_more part) ∙ fed-refused m.key answer f.0 f.1.0 f.1.1.1)))
 
-    pub turn_of : (next.last ≡ Interrupted → ⊥) → Turn start words input m next step
-    turn_of never = record {
-      ends = λ e. let l = turn_end e in (turn-none (ap given l), l);
-      fails = λ e. let l = turn-failed e never in let so = turn-none (ap given l) in (so.1.0, (so.1.1.0, l));
-      goes_on = λ f is now e. (turn-next f is now e, turn-less f is now e);
-      stops = turn-refused;
-    }
+    turn-failed : (t : Stopped) → next.last ≡ Failed → t ≡ StoppedCases.Unread → FedInParts start words input (record { marked = Err t; input = next })
+    turn-failed t l e =
+        let so = turn-none (ap given l) in
+        subst (λ (x : Stopped). FedInParts start words input (record { marked = Err x; input = next })) (sym e) (so.1.0, (so.1.1.0, l))
+
+    pub turn_of : Turned next.last m words buffer step → (next.last ≡ Interrupted → ⊥) → Turn start words input m next step
+    turn_of h never = go next.last refl h
+      where
+        go : (g : Got) → next.last ≡ g → Turned g m words buffer step → Turn start words input m next step
+        go (Bytes n) l u = record {
+          ends = λ e. absurd (fed-on_end (fed_under m.key (feed_table m.key (mark_in m) words (whole (take n buffer)))) (sym e ∙ u));
+          goes_on = turn-next n l u;
+          stops = turn-refused n l u;
+        }
+        go End l u = record {
+          ends = λ e. at-end start words input m next (turn-none (ap given l)) l;
+          goes_on = λ now e. absurd (let z : ◌≡◌ {A = ℕ} 0 1 = cc in omega arith);
+          stops = λ t e. absurd (let z : ◌≡◌ {A = ℕ} 0 1 = cc in omega arith);
+        }
+        go Interrupted l u = absurd (never l)
+        go Failed l u = record {
+          ends = λ e. absurd (let z : ◌≡◌ {A = ℕ} 0 1 = cc in omega arith);
+          goes_on = λ now e. absurd (let z : ◌≡◌ {A = ℕ} 0 1 = cc in omega arith);
+          stops = λ t e. turn-failed t l cc;
+        }
 
 -- ---- feeding the parts is marking the file
 
@@ -303,27 +287,20 @@ module _ (x : Key) (h : Clear (key_tests x)) where
       (ap (begun_under x)
       (more-clear (key_tests x) (passes (8 * length (flatten parts) ∷ []) ⇒ TooLong ∷ []) tt (mark_of key (bits (flatten parts))) h))
 
--- ---- the calls of `mark_file`, one after another
+-- ---- the calls of `feed_first`, one after another, and what is read behind the first bytes
 
 pub done_refused : {S A : Type 0} {a : A} {r : Refusal} {s : S} → ◌≡◌ {A = Answer S A} (Done a) (Refused r s) → ⊥
 done_refused e = let z : ◌≡◌ {A = ℕ} 0 1 = cc in omega arith
 
 module _ (key : Key) where
   -- a key that is refused
-  pub begun-refused : (first : List ℕ) (input : Input) (r : Refusal) → Refused r tt ≡ begun_under key (begin key)
-      → MarkedInParts key first input (refused r input)
+  pub begun-refused : (first : List ℕ) (r : Refusal) → Refused r tt ≡ begun_under key (begin key) → mark_file key first ≡ Refused r tt
   unfolding begin_from mark_file
-  begun-refused first input r e =
-      let file = first ++ flatten [] in
-      let p = polynomial_of key in (
-        [],
-        (
-          gave-none input input refl,
-          ap (begun_under key)
-              (more-refused (key_tests key) (passes (8 * length file ∷ []) ⇒ TooLong ∷ []) tt tt (mark_of p []) (mark_of p (bits file)) r
-              (go (begin key) refl e)),
-        ),
-      )
+  begun-refused first r e =
+      let p = polynomial_of key in
+      ap (begun_under key)
+      (more-refused (key_tests key) (passes (8 * length first ∷ []) ⇒ TooLong ∷ []) tt tt (mark_of p []) (mark_of p (bits first)) r
+      (go (begin key) refl e))
     where
       go : (a : Answer Unit Mark) → begin key ≡ a → Refused r tt ≡ begun_under key a → begin key ≡ Refused r tt
       go (Done m) t u = absurd (done_refused (sym u))
@@ -359,15 +336,13 @@ module _ (key : Key) where
       fed_marked parts =
           rw ((begun-clear m begun-is).1, table-words) (feeds_marked key clear (first ∷ parts))
 
-      pub first-refused : (input : Input) (r : Refusal) (kept : Running)
-          → Refused r kept ≡ fed_under m.key (feed_table m.key (mark_in m) words (whole first)) → MarkedInParts key first input (refused r input)
-      first-refused input r kept u = (
-        [],
-        (
-          gave-none input input refl,
-          sym (fed_marked []) ∙ ap (begun_under key) (fed-refused m.key (feed_table m.key (mark_in m) words (whole first)) r kept u),
-        ),
-      )
+      pub first-refused : (r : Refusal) (kept : Running) → Refused r kept ≡ fed_under m.key (feed_table m.key (mark_in m) words (whole first))
+          → mark_file key first ≡ Refused r tt
+      unfolding flatten
+      first-refused r kept u =
+          ap (mark_file key) (sym (append-nil first))
+          ∙ sym (fed_marked [])
+          ∙ ap (begun_under key) (fed-refused m.key (feed_table m.key (mark_in m) words (whole first)) r kept u)
 
       pub rest_marked : (input : Input) (next : Running) (r : Marking)
           → Done next ≡ fed_under m.key (feed_table m.key (mark_in m) words (whole first)) → FedInParts next words input r
@@ -383,3 +358,9 @@ module _ (key : Key) where
               (fed-is.0 ∙ ap (λ (x : Running). x.key) (begun-clear m begun-is).1)
               ∙ ap (λ (a : Answer Mark Mark). begun_under key (stateless (feeds key words a p.0))) (sym fed-is.1)
               ∙ fed_marked p.0
+
+-- where the first bytes are refused, nothing is read behind them
+pub refused-marked : (key : Key) (first : List ℕ) (input : Input) (r : Refusal) → mark_file key first ≡ Refused r tt
+    → MarkedInParts key first input (record { marked = Err (StoppedCases.Refused r); input = input })
+unfolding flatten
+refused-marked key first input r e = ([], (gave-none input input refl, ap (mark_file key) (append-nil first) ∙ e))

@@ -1,5 +1,5 @@
 -- For inner functions: a reader of the promises need not read this page. The parts that are read, as they are fed.
-use Rattle.std.specs.Prelude.{◌≡◌, ℕ}
+use Rattle.std.specs.Prelude.{◌≡◌, ℕ, Result, Ok, Err}
 use mathlib.Core.List.{List, [], ◌∷◌, ◌++◌, flatten}
 use Rattle.refusals.specs.declared.Refusal.{Refusal}
 use Rattle.refusals.specs.Refusals.{Answer, Done, Refused}
@@ -7,15 +7,16 @@ use Rattle.acceptance.specs.declared.Key.{Key}
 use Rattle.files.specs.declared.Mark.{Mark}
 use Rattle.files.specs.Files.{whole}
 use Rattle.marks.specs.declared.Running.{Running}
-use Rattle.marks.specs.Feeding.{feed_table}
-use Rattle.marks.specs.Answers.{mark_in, begun_under}
+use Rattle.tables.specs.Tables.{make_table}
+use Rattle.marks.specs.Feeding.{begin, feed_table}
+use Rattle.marks.specs.Answers.{mark_in, begun_under, fed_under}
 use Rattle.printing.specs.Printing.{mark_file}
 use Rattle.input_calls.specs.declared.Got.{Got}
 use Rattle.input_calls.specs.declared.Got.TheVariants as GotCases
 use Rattle.input_calls.specs.declared.Input.{Input}
 use Rattle.input_calls.specs.Reading.{Gave}
-use Rattle.input_feeding.specs.declared.Marked.{Marked}
-use Rattle.input_feeding.specs.declared.Marked.TheVariants as MarkedCases
+use Rattle.input_feeding.specs.declared.Stopped.{Stopped}
+use Rattle.input_feeding.specs.declared.Stopped.TheVariants as StoppedCases
 use Rattle.input_feeding.specs.declared.Marking.{Marking}
 
 -- feeds by the words of a table, one after another, until one is refused
@@ -30,10 +31,10 @@ stateless (Done m) = Done m
 stateless (Refused r m) = Refused r tt
 
 -- the code's answer, by what the last read gave: this one behind the end; this one, which is a refusal; none, where a read failed
-abbrev pub Gives : Marked → Got → Answer Unit Running → Type 0
-Gives (MarkedCases.Done m) got a = (got ≡ GotCases.End) × (a ≡ Done m)
-Gives (MarkedCases.Refused r) got a = a ≡ Refused r tt
-Gives MarkedCases.Unread got a = got ≡ GotCases.Failed
+abbrev pub Gives : Result Running Stopped → Got → Answer Unit Running → Type 0
+Gives (Ok m) got a = (got ≡ GotCases.End) × (a ≡ Done m)
+Gives (Err (StoppedCases.Refused r)) got a = a ≡ Refused r tt
+Gives (Err StoppedCases.Unread) got a = got ≡ GotCases.Failed
 
 -- the parts that the reads gave, fed one after another to a running mark
 abbrev pub FedInParts : Running → List ℕ → Input → Marking → Type 0
@@ -47,5 +48,11 @@ abbrev pub MarkedInParts : Key → List ℕ → Input → Marking → Type 0
 MarkedInParts key first input r =
     (parts : List (List ℕ)) × (Gave input parts r.input × Gives r.marked r.input.last (mark_file key (first ++ flatten parts)))
 
-abbrev pub refused : Refusal → Input → Marking
-refused r input = record { marked = MarkedCases.Refused r; input = input }
+-- the first bytes, fed by the table that was made where other words were; or a refusal, which is theirs
+abbrev pub FirstFed : Key → List ℕ → List ℕ → List ℕ → Result Running Refusal → Type 0
+FirstFed key first blank words (Ok next) =
+    (m : Running)
+    × (Done m ≡ begun_under key (begin key))
+    × (Done words ≡ make_table key blank)
+    × (Done next ≡ fed_under m.key (feed_table m.key (mark_in m) words (whole first)))
+FirstFed key first blank words (Err r) = mark_file key first ≡ Refused r tt

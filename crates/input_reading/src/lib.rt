@@ -9,24 +9,19 @@ ghost use Rattle.input_calls.specs.Reading.{Read};
 use input_calls::{Got, Input};
 use std::io::Stdin;
 
-// One read; where a signal interrupts it, another one. A proved loop has to end: it counts its turns down from a number that no run uses up.
-pub fn read_some(stdin: Stdin, input: Input, buffer: &mut [u8]) -> Input
+// One read; where a signal interrupts it, another one. A proved loop has to end: no run makes as many turns.
+pub fn read_some(stdin: Stdin, mut input: Input, buffer: &mut [u8]) -> Input
     requires { 0 < length buffer.old }
     ensures read { Read input result buffer.new }
     ensures fact { result.last ≡ Interrupted → ⊥ }
 {
-    let mut at = input;
-    let mut turns = u64::MAX;
-    while turns > 0 {
-        at = input_calls::read_once(stdin, at, buffer);
-        let got = input_calls::last(at);
-        if let Got::Interrupted = got {
-            turns -= 1;
-        } else {
-            return at;
+    for _ in 0..u64::MAX {
+        input = input_calls::read_once(stdin, input, buffer);
+        if !matches!(input.last(), Got::Interrupted) {
+            return input;
         }
     }
-    input_calls::abandon(at)
+    input.abandon()
 }
 
 // Reads behind the first bytes of a buffer, which stay.

@@ -2,6 +2,7 @@
 use mathlib.Core.Path.{◌≡◌, refl, sym, ap, ap₂, ◌∙◌}
 use mathlib.Core.Bool.{Bool, true, false, cond, ◌&&◌, and-false}
 use mathlib.Core.List.{List, [], ◌∷◌, ◌++◌}
+use mathlib.Core.Logic.{◌⊎◌, inl, inr}
 use Prim.Native.Nat.{ℕ, zero, suc, ◌+◌, ◌-◌, ◌*◌, ◌^◌, ◌≤◌, ◌<◌, min}
 use lib.Pow.{pow-add}
 use native.Mathlib.Nat.{le_trans, le-add_right, mul-le-mul_right, zero-add, add-zero, add_assoc, zero-mul, mul-one, mul_assoc, mul_comm, add-mul}
@@ -12,7 +13,7 @@ use native.Mathlib.Omega.{arith}
 use lib.Dec.{leb, ltb, eqb}
 use lib.ListN.{length, get_or, take, drop, length-take, length-drop, length-append}
 use lib.Seq.{drop-cons, take_all, take-take, take-append-le, take-append_seam, take-append-add}
-use borrow.Author.Tests.{ltb-true, lt-ltb, le-ltb, le-leb, lt-leb}
+use borrow.Author.Tests.{eq-eqb, ne_eqb, ltb-true, lt-ltb, le-ltb, le-leb, lt-leb}
 use Rattle.lists.proofs.Truth.{and_both}
 use Rattle.gf2.specs.Polynomials.{monic}
 use Rattle.acceptance.specs.declared.Key.{Key}
@@ -20,8 +21,11 @@ use Rattle.acceptance.specs.Keys.{key_of}
 use Rattle.acceptance.proofs.Laws.{within-range, range-key}
 use Rattle.key_lines.specs.KeyLines.{digit, all_digits, hex_from, line_of, key_before, index_of, key_line}
 use Rattle.key_lines.specs.Deciding.{undecided}
-use Rattle.key_lines.specs.declared.KeyLine.{KeyLine}
-use Rattle.key_lines.specs.declared.KeyLine.TheVariants as LineCases
+use Rattle.key_lines.specs.declared.LineError.{LineError}
+use Rattle.key_lines.specs.declared.LineError.TheVariants.{NoKey, TooLarge}
+use Rattle.std.specs.Prelude.{Option, Some, None, Result, Ok, Err, ◌≢◌, MatchOption, unwrap_or}
+use Rattle.std.specs.List.{list_all, AllWithin, HoldsAt}
+use Rattle.std.proofs.lemmas.Iterator.{index_from_first}
 
 -- the value of a byte, by the range that holds it
 pub digit_under : (b : ℕ) → b < 48 → digit b ≡ 16
@@ -45,11 +49,6 @@ unfolding digit
 digit-over b h = simp (lt-leb b 57 (omega arith), and-false (leb 48 b), lt-leb b 102 h, and-false (leb 97 b))
 
 module _ (line : List ℕ) (i : ℕ) (h : i < length line) where
-  -- the place of a byte, by the next one
-  pub index_next : (b : ℕ) → index_of b (drop i line) ≡ cond (eqb (get_or line i 0) b) 0 (suc (index_of b (drop (i + 1) line)))
-  unfolding index_of
-  index_next b = rw (add-one, drop-cons line i 0 h)
-
   pub digits-next : all_digits (drop i line) ≡ (ltb (digit (get_or line i 0)) 16 && all_digits (drop (i + 1) line))
   unfolding all_digits
   digits-next = rw (add-one, drop-cons line i 0 h)
@@ -62,6 +61,44 @@ module _ (line : List ℕ) (i : ℕ) (h : i < length line) where
   digit-here e =
       let both = and_both (ltb (digit (get_or line i 0)) 16) (all_digits (drop (i + 1) line)) (sym digits-next ∙ e) in
       (ltb-true (digit (get_or line i 0)) 16 both.0, both.1)
+
+  pub digits-behind : digit (get_or line i 0) < 16 → all_digits (drop (i + 1) line) ≡ all_digits (drop i line)
+  digits-behind h = sym (rw (lt-ltb (digit (get_or line i 0)) 16 h) at digits-next)
+
+-- std's words for the loops of the code
+pub digits-all : (line : List ℕ) → list_all (λ b. ltb (digit b) 16) line ≡ all_digits line
+unfolding all_digits
+digits-all [] = refl
+digits-all (b ∷ bs) = ap (λ t. ltb (digit b) 16 && t) (digits-all bs)
+
+-- the first newline, as std's search finds it
+pub newline-found : (input : List ℕ) (r : Option ℕ)
+    → MatchOption r (AllWithin (λ x. x ≢ 10) input 0 (length input))
+    (λ n. (n < length input) × HoldsAt (λ x. x ≡ 10) input n × AllWithin (λ x. x ≢ 10) input 0 n)
+    → MatchOption r (length input ≤ index_of 10 input) (λ n. (n < length input) × (n ≡ index_of 10 input))
+unfolding index_of
+newline-found input r h = go r h (index_from_first (index_of 10) (λ x. x ≡ 10) (λ x. x ≢ 10) none hit miss input r h)
+  where
+    none : index_of 10 [] ≡ 0
+    none = refl
+
+    hit : (x : ℕ) (xs : List ℕ) → x ≡ 10 → index_of 10 (x ∷ xs) ≡ 0
+    hit x xs e = rw (eq-eqb x 10 e) refl
+
+    miss : (x : ℕ) (xs : List ℕ) → x ≢ 10 → index_of 10 (x ∷ xs) ≡ index_of 10 xs + 1
+    miss x xs e = rw (ne_eqb x 10 e) (omega arith)
+
+    go : (r : Option ℕ)
+        → MatchOption r (AllWithin (λ x. x ≢ 10) input 0 (length input))
+        (λ n. (n < length input) × HoldsAt (λ x. x ≡ 10) input n × AllWithin (λ x. x ≢ 10) input 0 n)
+        → index_of 10 input ≡ unwrap_or r (length input)
+        → MatchOption r (length input ≤ index_of 10 input) (λ n. (n < length input) × (n ≡ index_of 10 input))
+    go None h e = omega (arith, e)
+    go (Some n) h e = (h.0, sym e)
+
+pub not-true : (b : Bool) → (b ≡ true → ⊥) → b ≡ false
+not-true true f = absurd (f refl)
+not-true false f = refl
 
 -- room for a digit more
 pub hex_lt : (s d i : ℕ) → s < 2 ^ (4 * i) → d < 16 → s * 16 + d < 2 ^ (4 * (i + 1))
@@ -104,11 +141,11 @@ pub top_large : (d w : ℕ) → 2 ≤ d → 2 ^ 65 ≤ d * 2 ^ 64 + w
 top_large d w h = le_trans (mul-le-mul_right (2 ^ 64) h) (le-add_right (d * 2 ^ 64) w)
 
 -- a number that writes a key, and one that is too large
-pub line_small : (v at : ℕ) → v < 2 ^ 65 → line_of v at ≡ LineCases.Key (key_of v) at
+pub line_small : (v at : ℕ) → v < 2 ^ 65 → line_of v at ≡ Ok (key_of v, at)
 unfolding line_of
 line_small v at h = rw (lt-ltb v (2 ^ 65) h)
 
-pub line_large : (v at : ℕ) → 2 ^ 65 ≤ v → line_of v at ≡ LineCases.TooLarge
+pub line_large : (v at : ℕ) → 2 ^ 65 ≤ v → line_of v at ≡ Err TooLarge
 unfolding line_of
 line_large v at h = rw (le-ltb v (2 ^ 65) h)
 
@@ -119,24 +156,20 @@ top_key w h = let x : Key = record { degree = 64; word = w } in sym (range-key x
 
 -- ---- the tests
 
-pub line_at : (input : List ℕ) (r : ℕ) → r ≡ index_of 10 input → key_line input ≡ key_before r input
-unfolding key_line
-line_at input r e = ap (λ (n : ℕ). key_before n input) (sym e)
-
 module _ (n : ℕ) (input : List ℕ) where
-  pub no_newline : length input ≤ n → key_before n input ≡ LineCases.NoKey
+  pub no_newline : length input ≤ n → key_before n input ≡ Err NoKey
   unfolding key_before
   no_newline h = rw (le-ltb n (length input) h)
 
-  pub empty-line : n < 1 → key_before n input ≡ LineCases.NoKey
+  pub empty-line : n < 1 → key_before n input ≡ Err NoKey
   unfolding key_before
   empty-line h = rw (lt-leb 1 n h, and-false (ltb n (length input)))
 
-  pub long-line : 17 < n → key_before n input ≡ LineCases.NoKey
+  pub long-line : 17 < n → key_before n input ≡ Err NoKey
   unfolding key_before
   long-line h = rw (lt-leb n 17 h, and-false (leb 1 n), and-false (ltb n (length input)))
 
-  pub other-bytes : all_digits (take n input) ≡ false → key_before n input ≡ LineCases.NoKey
+  pub other-bytes : all_digits (take n input) ≡ false → key_before n input ≡ Err NoKey
   unfolding key_before
   other-bytes e = rw (e, and-false (ltb n (length input) && (leb 1 n && leb n 17)))
 
@@ -144,14 +177,63 @@ module _ (n : ℕ) (input : List ℕ) where
   unfolding key_before
   key-digits h lo hi e = rw (lt-ltb n (length input) h, le-leb 1 n lo, le-leb n 17 hi, e)
 
-no_key_lem : {x : Key} {at : ℕ} → LineCases.NoKey ≡ LineCases.Key x at → ⊥
+-- by the place of the first newline, where there is one
+pub unended : (input : List ℕ) → length input ≤ index_of 10 input → key_line input ≡ Err NoKey
+unfolding key_line
+unended input h = no_newline (index_of 10 input) input h
+
+module _ (input : List ℕ) (n : ℕ) (at : (n < length input) × (n ≡ index_of 10 input)) where
+  key-before : key_line input ≡ key_before n input
+  unfolding key_line
+  key-before = ap (λ (k : ℕ). key_before k input) (sym at.1)
+
+  pub line-length : (n < 1) ⊎ (17 < n) → key_line input ≡ Err NoKey
+  line-length (inl h) = key-before ∙ empty-line n input h
+  line-length (inr h) = key-before ∙ long-line n input h
+
+  pub line-other : all_digits (take n input) ≡ false → key_line input ≡ Err NoKey
+  line-other e = key-before ∙ other-bytes n input e
+
+-- the line has 1 to 17 digits, which write a top digit and a word
+pub record Written (input : List ℕ) (n top word : ℕ) : Type 0 where
+  pub at : (n < length input) × (n ≡ index_of 10 input)
+  pub low : 1 ≤ n
+  pub high : n ≤ 17
+  pub digits : (all_digits (take n input) ≡ true) × (hex_from 0 (take n input) ≡ top * 2 ^ 64 + word)
+
+module _ {input : List ℕ} {n top word : ℕ} (w : Written input n top word) where
+  line-digits : key_line input ≡ line_of (top * 2 ^ 64 + word) (n + 1)
+  line-digits = key-before input n w.at ∙ key-digits n input w.at.0 w.low w.high w.digits.0 ∙ ap (λ v. line_of v (n + 1)) w.digits.1
+
+  pub line-0 : top ≡ 0 → word < 2 ^ 64 → key_line input ≡ Ok (key_of word, n + 1)
+  line-0 e l =
+      line-digits
+      ∙ ap (λ t. line_of (t * 2 ^ 64 + word) (n + 1)) e
+      ∙ ap (λ v. line_of v (n + 1)) (zero-add word)
+      ∙ line_small word (n + 1) (omega arith)
+
+  pub line-1 : top ≡ 1 → word < 2 ^ 64 → key_line input ≡ Ok (record { degree = 64; word = word }, n + 1)
+  line-1 e l =
+      line-digits
+      ∙ ap (λ t. line_of (t * 2 ^ 64 + word) (n + 1)) e
+      ∙ line_small (1 * 2 ^ 64 + word) (n + 1) (omega arith)
+      ∙ ap (λ x. Ok (x, n + 1)) (top_key word l)
+
+  pub line-large : 2 ≤ top → key_line input ≡ Err TooLarge
+  line-large l = line-digits ∙ line_large (top * 2 ^ 64 + word) (n + 1) (top_large top word l)
+
+-- what a line says
+abbrev pub Line : Type 0
+Line = Result (Key × ℕ) LineError
+
+no_key_lem : {x : Key} {at : ℕ} → ◌≡◌ {A = Line} (Err NoKey) (Ok (x, at)) → ⊥
 no_key_lem f = let z : ◌≡◌ {A = ℕ} 0 1 = cc in omega arith
 
-too_large : {x : Key} {at : ℕ} → LineCases.TooLarge ≡ LineCases.Key x at → ⊥
-too_large f = let z : ◌≡◌ {A = ℕ} 0 2 = cc in omega arith
+too_large : {x : Key} {at : ℕ} → ◌≡◌ {A = Line} (Err TooLarge) (Ok (x, at)) → ⊥
+too_large f = let z : ◌≡◌ {A = ℕ} 0 1 = cc in omega arith
 
 -- the file begins within the input or at its end
-pub key-within : (input : List ℕ) (x : Key) (at : ℕ) → key_line input ≡ LineCases.Key x at → at ≤ length input
+pub key-within : (input : List ℕ) (x : Key) (at : ℕ) → key_line input ≡ Ok (x, at) → at ≤ length input
 unfolding key_line key_before line_of
 key-within input x at e = go (ltb n (length input)) (leb 1 n && leb n 17) (all_digits (take n input)) (ltb v (2 ^ 65)) refl e
   where
@@ -161,9 +243,13 @@ key-within input x at e = go (ltb n (length input)) (leb 1 n && leb n 17) (all_d
     v : ℕ
     v = hex_from 0 (take n input)
 
+    place : Line → ℕ
+    place (Ok k) = k.1
+    place (Err r) = 0
+
     go : (a b c d : Bool) → ltb n (length input) ≡ a
-        → cond (a && b && c) (cond d (LineCases.Key (key_of v) (n + 1)) LineCases.TooLarge) LineCases.NoKey ≡ LineCases.Key x at → at ≤ length input
-    go true true true true t f = let g : n + 1 ≡ at = cc in omega (arith, ltb-true n (length input) t)
+        → ◌≡◌ {A = Line} (cond (a && b && c) (cond d (Ok (key_of v, n + 1)) (Err TooLarge)) (Err NoKey)) (Ok (x, at)) → at ≤ length input
+    go true true true true t f = let g : n + 1 ≡ at = ap place f in omega (arith, ltb-true n (length input) t)
     go true true true false t f = absurd (too_large f)
     go true true false d t f = absurd (no_key_lem f)
     go true false c d t f = absurd (no_key_lem f)
@@ -221,7 +307,7 @@ index_stays b input more h =
     = ap (index_of b) (sym (take-append_seam input more)) ∙ index_take b (length input) (input ++ more) in
     omega arith
 
-pub line_settled : (input more : List ℕ) (l : KeyLine) → (l ≡ LineCases.NoKey → ⊥) → key_line input ≡ l → key_line (input ++ more) ≡ l
+pub line_settled : (input more : List ℕ) (l : Line) → (l ≡ Err NoKey → ⊥) → key_line input ≡ l → key_line (input ++ more) ≡ l
 unfolding key_line
 line_settled input more l some e = go (dec_lt (index_of 10 input) (length input))
   where
@@ -229,14 +315,14 @@ line_settled input more l some e = go (dec_lt (index_of 10 input) (length input)
     go (yes h) = rw (index_stays 10 input more h) (line_stays (index_of 10 input) input more h ∙ e)
     go (no h) = absurd (some (sym e ∙ no_newline (index_of 10 input) input (omega arith)))
 
-pub key-stays : (input more : List ℕ) (x : Key) (at : ℕ) → key_line input ≡ LineCases.Key x at → key_line (input ++ more) ≡ LineCases.Key x at
-key-stays input more x at e = line_settled input more (LineCases.Key x at) (λ f. no_key_lem (sym f)) e
+pub key-stays : (input more : List ℕ) (x : Key) (at : ℕ) → key_line input ≡ Ok (x, at) → key_line (input ++ more) ≡ Ok (x, at)
+key-stays input more x at e = line_settled input more (Ok (x, at)) (λ f. no_key_lem (sym f)) e
 
-pub large_stays : (input more : List ℕ) → key_line input ≡ LineCases.TooLarge → key_line (input ++ more) ≡ LineCases.TooLarge
-large_stays input more e = line_settled input more LineCases.TooLarge apart e
+pub large_stays : (input more : List ℕ) → key_line input ≡ Err TooLarge → key_line (input ++ more) ≡ Err TooLarge
+large_stays input more e = line_settled input more (Err TooLarge) apart e
   where
-    apart : LineCases.TooLarge ≡ LineCases.NoKey → ⊥
-    apart f = let z : ◌≡◌ {A = ℕ} 2 0 = cc in omega arith
+    apart : ◌≡◌ {A = Line} (Err TooLarge) (Err NoKey) → ⊥
+    apart f = let z : ◌≡◌ {A = ℕ} 0 1 = cc in omega arith
 
 -- ---- bytes that decide the line
 

@@ -1,133 +1,75 @@
 // The key's line that the printing program reads. These functions are for the project's own crates: what they require, every caller proves.
 #![tactic(auto)]
 
-ghost use Rattle.std.specs.Prelude.{◌≡◌, true, ◌≤◌, length};
-ghost use Rattle.key_lines.specs.KeyLines.{digit, all_digits, hex_from, line_of, index_of, key_line};
+ghost use Rattle.std.specs.Prelude.{◌≡◌, true, false, ◌+◌, ◌*◌, ◌^◌, ◌<◌, ◌≤◌, length, SomeIff, MatchOption};
+ghost use Rattle.key_lines.specs.KeyLines.{digit, all_digits, hex_from, key_line};
 ghost use Rattle.key_lines.specs.Deciding.{undecided};
 
 use acceptance::Key;
 
-// What the first line of an input says: the key, and the place where the file begins; or a number of 2^65 or more.
+// Why the first line of an input gives no key: it is no line of 1 to 17 digits, or they write a number of 2^65 or more.
 #[derive(Clone, Copy)]
-pub enum KeyLine {
+pub enum LineError {
     NoKey,
-    Key(Key, usize),
     TooLarge,
 }
 
-// The value of a lowercase hexadecimal digit; 16 of a byte that is none.
-fn digit(b: u8) -> u64
-    ensures { result ≡ digit b }
+// The value of a lowercase hexadecimal digit. std's `to_digit` takes capital letters too.
+fn digit(b: u8) -> Option<u64>
+    ensures { SomeIff result (digit b < 16) (digit b) }
 {
-    if b < b'0' {
-        return 16;
+    match b {
+        b'0'..=b'9' => Some(u64::from(b - b'0')),
+        b'a'..=b'f' => Some(u64::from(b - b'a') + 10),
+        _ => None,
     }
-    if b <= b'9' {
-        return (b - b'0') as u64;
-    }
-    if b < b'a' {
-        return 16;
-    }
-    if b <= b'f' {
-        return (b - b'a') as u64 + 10;
-    }
-    16
 }
 
-fn all_digits(line: &[u8]) -> bool
-    ensures { result ≡ all_digits line.now }
-{
-    let mut i = 0;
-    while i < line.len() {
-        if 16 <= digit(line[i]) {
-            return false;
-        }
-        i += 1;
-    }
-    true
-}
-
-// The number that the digits write.
-fn hex_value(line: &[u8]) -> u64
-    requires { (length line.now ≤ 16) × (all_digits line.now ≡ true) }
-    ensures { result ≡ hex_from 0 line.now }
+// The number that at most 16 digits write; none where a byte is no digit.
+fn hex_value(line: &[u8]) -> Option<u64>
+    requires { length line.now ≤ 16 }
+    ensures { SomeIff result (all_digits line.now ≡ true) (hex_from 0 line.now) }
 {
     let mut value = 0;
-    let mut i = 0;
-    while i < line.len() {
-        value = value * 16 + digit(line[i]);
-        i += 1;
+    for b in line {
+        value = value * 16 + digit(*b)?;
     }
-    value
+    Some(value)
 }
 
-// What 1 to 17 digits say, with the file from a place on. Seventeen are a top digit and a word.
-fn line_of(line: &[u8], at: usize) -> KeyLine
-    requires { (length line.now ≤ 17) × (all_digits line.now ≡ true) }
-    ensures { result ≡ line_of (hex_from 0 line.now) at }
+// The same of at most 17 digits: how often 2^64 is in the number, and the word below.
+fn top_and_word(line: &[u8]) -> Option<(u64, u64)>
+    requires { length line.now ≤ 17 }
+    ensures { MatchOption result (all_digits line.now ≡ false) (λ v. (all_digits line.now ≡ true) × (hex_from 0 line.now ≡ v.0 * 2 ^ 64 + v.1)) }
 {
     if line.len() < 17 {
-        return KeyLine::Key(acceptance::key_of(hex_value(line)), at);
+        return Some((0, hex_value(line)?));
     }
-    let top = digit(line[0]);
-    let word = hex_value(&line[1..]);
-    if top == 0 {
-        return KeyLine::Key(acceptance::key_of(word), at);
-    }
-    if top == 1 {
-        return KeyLine::Key(
-            Key {
-                degree: 64,
-                word: word,
-            },
-            at,
-        );
-    }
-    KeyLine::TooLarge
+    Some((digit(line[0])?, hex_value(&line[1..])?))
 }
 
-// The place of the first byte b, the length where there is none.
-fn find(input: &[u8], b: u8) -> usize
-    ensures value { result ≡ index_of b input.now }
-    ensures in_bounds { result ≤ length input.now }
-{
-    let mut n = 0;
-    while n < input.len() {
-        if input[n] == b {
-            return n;
-        }
-        n += 1;
-    }
-    n
-}
-
-// The key that the first line of an input gives.
-pub fn key_line(input: &[u8]) -> KeyLine
+// The key that the first line of an input gives, and the place where the file begins.
+pub fn key_line(input: &[u8]) -> Result<(Key, usize), LineError>
     ensures { result ≡ key_line input.now }
 {
-    let n = find(input, b'\n');
-    if n == input.len() {
-        return KeyLine::NoKey;
+    let n = input
+        .iter()
+        .position(|b| *b == b'\n')
+        .ok_or(LineError::NoKey)?;
+    if !(1..=17).contains(&n) {
+        return Err(LineError::NoKey);
     }
-    if n < 1 {
-        return KeyLine::NoKey;
+    let (top, word) = top_and_word(&input[..n]).ok_or(LineError::NoKey)?;
+    match top {
+        0 => Ok((acceptance::key_of(word), n + 1)),
+        1 => Ok((Key { degree: 64, word }, n + 1)),
+        _ => Err(LineError::TooLarge),
     }
-    if 17 < n {
-        return KeyLine::NoKey;
-    }
-    let line = &input[..n];
-    if !all_digits(line) {
-        return KeyLine::NoKey;
-    }
-    line_of(line, n + 1)
 }
 
 // Whether what comes behind these bytes can still change what the first line says.
 pub fn undecided(input: &[u8]) -> bool
     ensures { result ≡ undecided input.now }
 {
-    if 18 <= input.len() {
-        return false;
-    }
-    all_digits(input)
+    input.len() < 18 && input.iter().all(|b| digit(*b).is_some())
 }

@@ -1,13 +1,13 @@
 -- What is printed is what `printed` says of the input that the head and the parts behind it make.
 use mathlib.Core.Path.{◌≡◌, refl, sym, ap, subst, ◌∙◌}
-use mathlib.Core.Bool.{true, false}
+use mathlib.Core.Bool.{false}
 use mathlib.Core.List.{List, [], ◌∷◌, ◌++◌, flatten, append-nil}
 use mathlib.Core.Logic.{◌⊎◌, inl, inr}
 use Prim.Native.Nat.{ℕ, ◌-◌, ◌*◌}
 use native.Mathlib.Omega.{arith}
 use lib.ListN.{length, take, drop, length-drop}
+use Rattle.std.specs.Prelude.{Some, Result, Ok, Err}
 use lib.Seq.{drop-append-le, take_all}
-use Rattle.io.specs.Counts.{IsPrefixLen}
 use Rattle.refusals.specs.declared.Refusal.{Refusal}
 use Rattle.refusals.specs.declared.Refusal.TheVariants.{KeyRange, TooLong}
 use Rattle.refusals.specs.Refusals.{Answer, Done, Refused, Test, ◌⇒◌, first_of, passes}
@@ -18,31 +18,25 @@ use Rattle.files.specs.declared.Mark.{Mark}
 use Rattle.files.specs.Files.{bits, mark_of}
 use Rattle.marks.specs.declared.Running.{Running}
 use Rattle.marks.specs.Answers.{begun_under}
-use Rattle.key_lines.specs.declared.KeyLine.{KeyLine}
-use Rattle.key_lines.specs.declared.KeyLine.TheVariants as LineCases
+use Rattle.key_lines.specs.declared.LineError.TheVariants.{NoKey, TooLarge}
 use Rattle.key_lines.specs.KeyLines.{key_line}
 use Rattle.key_lines.specs.Deciding.{undecided}
 use Rattle.printing.specs.Printing.{no_key, refused, report, answer_text, mark_file, printed_after, printed}
 use Rattle.printing.proofs.Settled.{none_settled, large_settled, refused_settled}
 use Rattle.numerals.specs.Buffers.{PutInFront}
-use Rattle.key_lines.proofs.Laws.{key-within, key-stays}
-use Rattle.input_calls.specs.declared.Got.{Got}
+use Rattle.key_lines.proofs.Laws.{Line, key-within, key-stays}
 use Rattle.input_calls.specs.declared.Got.TheVariants as GotCases
 use Rattle.input_calls.specs.declared.Input.{Input}
-use Rattle.input_calls.specs.Reading.{over}
-use Rattle.input_calls.proofs.Answers.{true_false}
 use Rattle.input_reading.proofs.Given.{gave-none, gave-append, flatten_append}
-use Rattle.input_feeding.specs.declared.Marked.{Marked}
-use Rattle.input_feeding.specs.declared.Marked.TheVariants as MarkedCases
+use Rattle.input_feeding.specs.declared.Stopped.{Stopped}
+use Rattle.input_feeding.specs.declared.Stopped.TheVariants as StoppedCases
 use Rattle.input_feeding.specs.declared.Marking.{Marking}
 use Rattle.input_feeding.specs.Marking.{Gives, MarkedInParts}
 use Rattle.input_feeding.proofs.Feeds.{done_refused}
-use Rattle.mark.specs.declared.Front.{Front}
-use Rattle.mark.specs.declared.Front.TheVariants as FrontCases
 use Rattle.mark.specs.declared.Text.{Text}
 use Rattle.mark.specs.declared.Head.{Head}
 use Rattle.mark.specs.Program.{Settled, Told, Ran}
-use Rattle.mark.specs.Heads.{HeadRead, Known, Answered, told}
+use Rattle.mark.specs.Heads.{HeadRead, Known, Answered}
 
 -- the part of a list from a place on
 pub from : (at : ℕ) (l : List ℕ) → take (length l - at) (drop at l) ≡ drop at l
@@ -50,14 +44,14 @@ from at l = take_all (length l - at) (drop at l) (omega (arith, length-drop at l
 
 module _ (head before after : List ℕ) (n : ℕ) (input : Input) (known : Known head input) where
   -- of the head alone
-  head-printed : (line : KeyLine) → key_line head ≡ line → (undecided head ≡ false → Settled head) → PutInFront before after n (printed_after line head)
-      → Answered head input before after (told (FrontCases.Bytes n) input)
+  head-printed : (line : Line) → key_line head ≡ line → (undecided head ≡ false → Settled head) → PutInFront before after n (printed_after line head)
+      → Answered head input before after (record { length = Some n; input = input })
   unfolding flatten printed
   head-printed line e settles p = (
     [],
     (
       gave-none input input refl,
-      (subst (PutInFront before after n) (sym (ap printed (append-nil head) ∙ ap (λ (l : KeyLine). printed_after l head) e)) p, go known),
+      (subst (PutInFront before after n) (sym (ap printed (append-nil head) ∙ ap (λ (l : Line). printed_after l head) e)) p, go known),
     ),
   )
     where
@@ -65,15 +59,15 @@ module _ (head before after : List ℕ) (n : ℕ) (input : Input) (known : Known
       go (inl d) = inr (subst Settled (sym (append-nil head)) (settles d))
       go (inr l) = inl l
 
-  pub none-printed : key_line head ≡ LineCases.NoKey → PutInFront before after n no_key → Answered head input before after (told (FrontCases.Bytes n) input)
-  none-printed e p = head-printed LineCases.NoKey e (λ d more. none_settled head more d e) p
+  pub none-printed : key_line head ≡ Err NoKey → PutInFront before after n no_key → Answered head input before after (record { length = Some n; input = input })
+  none-printed e p = head-printed (Err NoKey) e (λ d more. none_settled head more d e) p
 
-  pub large_printed : key_line head ≡ LineCases.TooLarge → PutInFront before after n (refused KeyRange)
-      → Answered head input before after (told (FrontCases.Bytes n) input)
-  large_printed e p = head-printed LineCases.TooLarge e (λ d more. large_settled head more e) p
+  pub large_printed : key_line head ≡ Err TooLarge → PutInFront before after n (refused KeyRange)
+      → Answered head input before after (record { length = Some n; input = input })
+  large_printed e p = head-printed (Err TooLarge) e (λ d more. large_settled head more e) p
 
 -- of the file behind the key's line
-module _ (head before after : List ℕ) (input : Input) (key : Key) (at : ℕ) (line : key_line head ≡ LineCases.Key key at) (r : Marking)
+module _ (head before after : List ℕ) (input : Input) (key : Key) (at : ℕ) (line : key_line head ≡ Ok (key, at)) (r : Marking)
     (p : MarkedInParts key (drop at head) input r) where
   file-at : drop at (head ++ flatten p.0) ≡ drop at head ++ flatten p.0
   file-at = drop-append-le at head (flatten p.0) (key-within head key at line)
@@ -81,23 +75,23 @@ module _ (head before after : List ℕ) (input : Input) (key : Key) (at : ℕ) (
   printed-is : (a : Answer Unit Running) → mark_file key (drop at head ++ flatten p.0) ≡ a → printed (head ++ flatten p.0) ≡ answer_text a
   unfolding printed
   printed-is a e =
-      ap (λ (l : KeyLine). printed_after l (head ++ flatten p.0)) (key-stays head (flatten p.0) key at line)
+      ap (λ (l : Line). printed_after l (head ++ flatten p.0)) (key-stays head (flatten p.0) key at line)
       ∙ ap (λ (file : List ℕ). answer_text (mark_file key file)) file-at
       ∙ ap answer_text e
 
-  gives : (s : Marked) → r.marked ≡ s → Gives s r.input.last (mark_file key (drop at head ++ flatten p.0))
-  gives s e = subst (λ (x : Marked). Gives x r.input.last (mark_file key (drop at head ++ flatten p.0))) e p.1.1
+  gives : (s : Result Running Stopped) → r.marked ≡ s → Gives s r.input.last (mark_file key (drop at head ++ flatten p.0))
+  gives s e = subst (λ (x : Result Running Stopped). Gives x r.input.last (mark_file key (drop at head ++ flatten p.0))) e p.1.1
 
-  pub done-printed : (n : ℕ) (m : Running) → r.marked ≡ MarkedCases.Done m → PutInFront before after n (report m)
-      → Answered head input before after (told (FrontCases.Bytes n) r.input)
+  pub done-printed : (n : ℕ) (m : Running) → r.marked ≡ Ok m → PutInFront before after n (report m)
+      → Answered head input before after (record { length = Some n; input = r.input })
   done-printed n m e put =
-      let g = gives (MarkedCases.Done m) e in
+      let g = gives (Ok m) e in
       (p.0, (p.1.0, (subst (PutInFront before after n) (sym (printed-is (Done m) g.1)) put, inl g.0)))
 
-  pub refused-printed : (n : ℕ) (q : Refusal) → r.marked ≡ MarkedCases.Refused q → PutInFront before after n (refused q)
-      → Answered head input before after (told (FrontCases.Bytes n) r.input)
+  pub refused-printed : (n : ℕ) (q : Refusal) → r.marked ≡ Err (StoppedCases.Refused q) → PutInFront before after n (refused q)
+      → Answered head input before after (record { length = Some n; input = r.input })
   refused-printed n q e put =
-      let g = gives (MarkedCases.Refused q) e in (
+      let g = gives (Err (StoppedCases.Refused q)) e in (
         p.0,
         (
           p.1.0,
@@ -108,15 +102,12 @@ module _ (head before after : List ℕ) (input : Input) (key : Key) (at : ℕ) (
         ),
       )
 
-  pub unread-printed : r.marked ≡ MarkedCases.Unread → Answered head input before before (told FrontCases.Unread r.input)
-  unread-printed e = (p.0, (p.1.0, (refl, gives MarkedCases.Unread e)))
-
 -- a mark that was made has a key to which number 1 does not apply
 pub marked_range : (key : Key) (first : List ℕ) (input : Input) (r : Marking) (m : Running) → MarkedInParts key first input r
-    → r.marked ≡ MarkedCases.Done m → outside m.key ≡ false
+    → r.marked ≡ Ok m → outside m.key ≡ false
 unfolding mark_file
 marked_range key first input r m p e =
-    go (first_of (key_tests key ++ rest) tt mark) refl (subst (λ (s : Marked). Gives s r.input.last (mark_file key file)) e p.1.1).1
+    go (first_of (key_tests key ++ rest) tt mark) refl (subst (λ (s : Result Running Stopped). Gives s r.input.last (mark_file key file)) e p.1.1).1
   where
     file : List ℕ
     file = first ++ flatten p.0
@@ -139,36 +130,13 @@ marked_range key first input r m p e =
 
 -- ---- the head, and what is read behind it
 
--- where the input is over and no read failed, one gave the end
-pub ended : (input : Input) → over input.last ≡ true → (input.last ≡ GotCases.Failed → ⊥) → input.last ≡ GotCases.End
-ended input o never = go input.last refl
-  where
-    go : (g : Got) → input.last ≡ g → input.last ≡ GotCases.End
-    go (GotCases.Bytes n) t = absurd (true_false (sym o ∙ ap over t))
-    go GotCases.End t = t
-    go GotCases.Interrupted t = absurd (true_false (sym o ∙ ap over t))
-    go GotCases.Failed t = absurd (never t)
-
 module _ (input : Input) (head : List ℕ) (h : Head) (read : HeadRead input head h) where
-  pub head-known : (h.input.last ≡ GotCases.Failed → ⊥) → Known (take h.count head) h.input
-  head-known never = go read.1.0
-    where
-      go : (undecided (take h.count head) ≡ false) ⊎ (over h.input.last ≡ true) → Known (take h.count head) h.input
-      go (inl d) = inl d
-      go (inr o) = inr (ended h.input o never)
-
-  pub head-failed : (before : List ℕ) → h.input.last ≡ GotCases.Failed → Ran input before before (told FrontCases.Unread h.input)
-  head-failed before e = (read.1.1.0, (read.1.1.1.0, (refl, e)))
-
   pub head-answered : (before after : List ℕ) (r : Text) → Answered (take h.count head) h.input before after r → Ran input before after r
   head-answered before after r p = (
     read.1.1.0 ++ p.0,
     (
       gave-append input h.input r.input read.1.1.0 p.0 read.1.1.1.0 p.1.0,
-      subst (λ (bytes : List ℕ). Told r.front bytes r.input.last before after)
+      subst (λ (bytes : List ℕ). Told r.length bytes r.input.last before after)
           (ap (λ (l : List ℕ). l ++ flatten p.0) (sym read.1.1.1.1) ∙ sym (flatten_append read.1.1.0 p.0)) p.1.1,
     ),
   )
-
-pub text-counts : (input : Input) (before after : List ℕ) (r : Text) (n : ℕ) → Ran input before after r → r.front ≡ FrontCases.Bytes n → IsPrefixLen n after
-text-counts input before after r n p e = (subst (λ (x : Front). Told x (flatten p.0) r.input.last before after) e p.1.1).0.1.0

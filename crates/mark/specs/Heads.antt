@@ -6,7 +6,6 @@ use Rattle.key_lines.specs.Deciding.{undecided}
 use Rattle.input_calls.specs.declared.Got.TheVariants.{End}
 use Rattle.input_calls.specs.declared.Input.{Input}
 use Rattle.input_calls.specs.Reading.{over, Gave}
-use Rattle.mark.specs.declared.Front.{Front}
 use Rattle.mark.specs.declared.Text.{Text}
 use Rattle.mark.specs.declared.Head.{Head}
 use Rattle.mark.specs.Program.{Told}
@@ -25,7 +24,4 @@ Known head input = (undecided head ≡ false) ⊎ (input.last ≡ End)
 -- the text for the head and the parts that the reads gave behind it
 abbrev pub Answered : List ℕ → Input → List ℕ → List ℕ → Text → Type 0
 Answered head input before after r =
-    (parts : List (List ℕ)) × (Gave input parts r.input × Told r.front (head ++ flatten parts) r.input.last before after)
-
-abbrev pub told : Front → Input → Text
-told front input = record { front = front; input = input }
+    (parts : List (List ℕ)) × (Gave input parts r.input × Told r.length (head ++ flatten parts) r.input.last before after)

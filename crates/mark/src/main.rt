@@ -11,25 +11,18 @@
 
 ghost use Rattle.std.specs.Prelude.{◌≡◌, length};
 ghost use Rattle.mark.specs.Program.{Ran};
-ghost use Rattle.mark.specs.Heads.{HeadRead, Known, Answered, told};
+ghost use Rattle.mark.specs.Heads.{HeadRead, Known, Answered};
 
 use input_calls::{Got, Input};
-use input_feeding::Marked;
-use key_lines::KeyLine;
+use input_feeding::{Marking, Stopped};
+use key_lines::LineError;
 use refusals::Refusal;
 use std::io::{Print, Stdin};
 
-// The length of the text at the front of a buffer, or that standard input cannot be read.
-#[derive(Clone, Copy)]
-enum Front {
-    Bytes(usize),
-    Unread,
-}
-
-// The same, and the input as it was left.
+// The length of the text at the front of a buffer, none where standard input cannot be read; and the input as it was left.
 #[derive(Clone, Copy)]
 struct Text {
-    front: Front,
+    length: Option<usize>,
     input: Input,
 }
 
@@ -41,38 +34,22 @@ struct Head {
 }
 
 // Reads until the first bytes decide what the key's line says, or a read gives the end or fails. It reads no more than 18 bytes: these decide it.
-fn read_head(stdin: Stdin, input: Input, head: &mut [u8]) -> Head
+fn read_head(stdin: Stdin, mut input: Input, head: &mut [u8]) -> Head
     requires { 18 ≡ length head.old }
     ensures { HeadRead input head.new result }
 {
-    let mut at = input;
-    let mut done = 0;
-    let mut more = true;
-    while more {
-        at = input_reading::read_behind(stdin, at, head, done);
-        match input_calls::last(at) {
-            Got::Bytes(n) => {
-                done += n;
-                more = key_lines::undecided(&head[..done]);
-            }
-            _ => {
-                more = false;
-            }
+    let mut count = 0;
+    loop {
+        input = input_reading::read_behind(stdin, input, head, count);
+        let Got::Bytes(n) = input.last() else {
+            break;
+        };
+        count += n;
+        if !key_lines::undecided(&head[..count]) {
+            break;
         }
     }
-    Head {
-        count: done,
-        input: at,
-    }
-}
-
-fn told(front: Front, input: Input) -> Text
-    ensures { result ≡ told front input }
-{
-    Text {
-        front: front,
-        input: input,
-    }
+    Head { count, input }
 }
 
 // The text for an input that begins with the bytes of head, which decide what the key's line says or are the whole input. Answers its length.
@@ -81,20 +58,28 @@ fn answer(stdin: Stdin, head: &[u8], input: Input, out: &mut [u8; 96]) -> Text
     ensures { Answered head.now input out.old out.new result }
 {
     match key_lines::key_line(head) {
-        KeyLine::NoKey => told(Front::Bytes(printing::no_key(out)), input),
-        KeyLine::Key(key, at) => {
-            let marking = input_feeding::mark_file(stdin, key, &head[at..], input);
-            let marked = marking.marked;
-            match marked {
-                Marked::Done(m) => told(Front::Bytes(printing::report(m, out)), marking.input),
-                Marked::Refused(r) => told(Front::Bytes(printing::refusal(r, out)), marking.input),
-                Marked::Unread => told(Front::Unread, marking.input),
-            }
+        Ok((key, at)) => {
+            let Marking { marked, input } = input_feeding::mark_file(
+                stdin,
+                key,
+                &head[at..],
+                input,
+            );
+            let length = match marked {
+                Ok(m) => Some(printing::report(m, out)),
+                Err(Stopped::Refused(r)) => Some(printing::refusal(r, out)),
+                Err(Stopped::Unread) => None,
+            };
+            Text { length, input }
         }
-        KeyLine::TooLarge => told(
-            Front::Bytes(printing::refusal(Refusal::KeyRange, out)),
+        Err(LineError::NoKey) => Text {
+            length: Some(printing::no_key(out)),
             input,
-        ),
+        },
+        Err(LineError::TooLarge) => Text {
+            length: Some(printing::refusal(Refusal::KeyRange, out)),
+            input,
+        },
     }
 }
 
@@ -103,10 +88,13 @@ fn run(stdin: Stdin, input: Input, out: &mut [u8; 96]) -> Text
     ensures { Ran input out.old out.new result }
 {
     let mut head = [0u8; 18];
-    let read = read_head(stdin, input, &mut head);
-    match input_calls::last(read.input) {
-        Got::Failed => told(Front::Unread, read.input),
-        _ => answer(stdin, &head[..read.count], read.input, out),
+    let Head { count, input } = read_head(stdin, input, &mut head);
+    match input.last() {
+        Got::Failed => Text {
+            length: None,
+            input,
+        },
+        _ => answer(stdin, &head[..count], input, out),
     }
 }
 
@@ -129,9 +117,8 @@ fn unread(rt: &HostRuntime) {
 fn main(rt: HostRuntime) {
     let mut out = [0u8; 96];
     let text = run(rt.stdin(), input_calls::unread(), &mut out);
-    let front = text.front;
-    match front {
-        Front::Unread => unread(&rt),
-        Front::Bytes(k) => print(&rt, &out[..k]),
+    match text.length {
+        Some(n) => print(&rt, &out[..n]),
+        None => unread(&rt),
     }
 }

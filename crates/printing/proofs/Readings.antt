@@ -7,7 +7,7 @@ use Rattle.gf2.specs.Polynomials.{◌⊕◌, halvings, degree, monic, reduce, lo
 use Rattle.lists.specs.Lists.{any_below}
 use Rattle.acceptance.specs.Keys.{reducible, key_of}
 use Rattle.files.specs.Files.{bits, low_bits, value_from, fingerprint_from, mark_from}
-use Rattle.key_lines.specs.declared.KeyLine.TheVariants.{Key}
+use Rattle.std.specs.Prelude.{Ok}
 use Rattle.key_lines.specs.KeyLines.{key_line, key_before, line_of, all_digits, digit, hex_from, index_of}
 use Rattle.numerals.specs.Numerals.{digits_of, numeral}
 use Rattle.printing.specs.Printing.{ascii, printed, report, refused, mark_file}
@@ -19,7 +19,7 @@ unfolding ascii printed key_line key_before line_of all_digits digit hex_from di
 example = refl
 
 -- its key's line, and its answer as a report
-pub example-line : key_line (ascii "11b\nAB") ≡ Key (key_of 0x11B) 4
+pub example-line : key_line (ascii "11b\nAB") ≡ Ok (key_of 0x11B, 4)
 unfolding ascii key_line key_before line_of all_digits digit hex_from index_of
 example-line = refl
 
@@ -28,7 +28,7 @@ unfolding ascii digits_of numeral report degree halvings monic
 example-report = example
 
 -- wish 8's: seventeen digits, the first of them 1, 0 and 2
-pub line_64 : key_line (ascii "1000000000000001b\nAB") ≡ Key (record { degree = 64; word = 0x1B }) 18
+pub line_64 : key_line (ascii "1000000000000001b\nAB") ≡ Ok (record { degree = 64; word = 0x1B }, 18)
 unfolding ascii key_line key_before line_of all_digits digit hex_from index_of degree halvings
 line_64 = refl
 
@@ -42,7 +42,7 @@ report_64 =
     (sym (numeral-is 16 (omega arith) 0x14142 5 (omega arith, omega arith, λ m. omega arith)))
     ∙ unfold numeral in refl
 
-pub line-zeros : key_line (ascii "0000000000000011b\nAB") ≡ Key (record { degree = 8; word = 0x1B }) 18
+pub line-zeros : key_line (ascii "0000000000000011b\nAB") ≡ Ok (record { degree = 8; word = 0x1B }, 18)
 unfolding ascii key_line key_before line_of all_digits digit hex_from index_of degree halvings
 line-zeros = refl
 

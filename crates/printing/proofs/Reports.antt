@@ -8,6 +8,7 @@ use native.Mathlib.Nat.{le_refl}
 use native.Mathlib.Decide.{dec_lt}
 use native.Mathlib.Omega.{arith}
 use lib.Dec.{ltb}
+use Rattle.std.specs.Prelude.{Ok}
 use lib.ListN.{length, get_or, drop}
 use borrow.Author.Tests.{lt-ltb, le-ltb}
 use Rattle.io.specs.Digits.{hex_digit_ascii}
@@ -22,12 +23,10 @@ use Rattle.files.specs.declared.Mark.{Mark}
 use Rattle.files.specs.Files.{bits, fingerprint, mark_of, mark_from}
 use Rattle.marks.specs.declared.Running.{Running}
 use Rattle.marks.specs.Answers.{begun_under}
-use Rattle.key_lines.specs.declared.KeyLine.{KeyLine}
-use Rattle.key_lines.specs.declared.KeyLine.TheVariants as LineCases
 use Rattle.key_lines.specs.KeyLines.{digit, hex_from, key_line}
 use Rattle.numerals.specs.Numerals.{digits_of, numeral}
 use Rattle.printing.specs.Printing.{ascii, report, refused, answer_text, mark_file, printed_after, printed}
-use Rattle.key_lines.proofs.Laws.{digit_decimal, digit_letter}
+use Rattle.key_lines.proofs.Laws.{Line, digit_decimal, digit_letter}
 
 -- ---- a numeral in base 16 reads back
 
@@ -82,7 +81,7 @@ unfolding refused report ascii
 no_report m e = omega (arith, ap (λ (text : List ℕ). get_or text 0 0) e)
 
 -- where a report is printed, its fingerprint is that of the file behind the key's line
-pub printed-fingerprint : (input : List ℕ) (key at f : ℕ) → accepted key ≡ true → key_line input ≡ LineCases.Key (key_of key) at
+pub printed-fingerprint : (input : List ℕ) (key at f : ℕ) → accepted key ≡ true → key_line input ≡ Ok (key_of key, at)
     → printed input ≡ report (record { key = key_of key; fingerprint = f; length = length (bits (drop at input)) })
     → f ≡ fingerprint key (bits (drop at input))
 unfolding printed mark_file mark_from
@@ -97,7 +96,7 @@ printed-fingerprint input key at f a line e =
 
     is : printed input ≡ answer_text (answer (passes (8 * length file ∷ [])))
     is =
-        ap (λ (l : KeyLine). printed_after l input) line
+        ap (λ (l : Line). printed_after l input) line
         ∙ ap (λ (m : Answer Unit Mark). answer_text (begun_under (key_of key) m))
         (opened-first (open_accepted key a) (passes (8 * length (drop at input) ∷ []) ⇒ TooLong ∷ []) tt
         (mark_of (polynomial_of (key_of key)) (bits (drop at input))))

@@ -1,5 +1,5 @@
 -- What the printing program prints (document 01), on lists of bytes.
-use Rattle.std.specs.Prelude.{List, [], ◌∷◌, ◌++◌, ℕ, ◌*◌, ◌/◌, length, drop}
+use Rattle.std.specs.Prelude.{List, [], ◌∷◌, ◌++◌, ℕ, ◌*◌, ◌/◌, length, drop, Result, Ok, Err}
 use Prim.Native.Char.{code}
 use Prim.Native.String.{String, [] as end, ◌∷◌ as ◌then◌}
 use Rattle.refusals.specs.declared.Refusal.{Refusal}
@@ -10,8 +10,8 @@ use Rattle.acceptance.specs.Keys.{polynomial_of, key_tests}
 use Rattle.files.specs.Files.{bits, mark_of}
 use Rattle.marks.specs.declared.Running.{Running}
 use Rattle.marks.specs.Answers.{begun_under}
-use Rattle.key_lines.specs.declared.KeyLine.{KeyLine}
-use Rattle.key_lines.specs.declared.KeyLine.TheVariants as LineCases
+use Rattle.key_lines.specs.declared.LineError.{LineError}
+use Rattle.key_lines.specs.declared.LineError.TheVariants.{NoKey, TooLarge}
 use Rattle.key_lines.specs.KeyLines.{key_line}
 use Rattle.numerals.specs.Numerals.{numeral}
 
@@ -42,10 +42,10 @@ answer_text (Refused r s) = refused r
 unfoldable pub mark_file : Key → List ℕ → Answer Unit Running
 mark_file x file = begun_under x (first_of (key_tests x ++ passes (8 * length file ∷ []) ⇒ TooLong ∷ []) tt (mark_of (polynomial_of x) (bits file)))
 
-abbrev pub printed_after : KeyLine → List ℕ → List ℕ
-printed_after LineCases.NoKey input = no_key
-printed_after (LineCases.Key x at) input = answer_text (mark_file x (drop at input))
-printed_after LineCases.TooLarge input = refused KeyRange
+abbrev pub printed_after : Result (Key × ℕ) LineError → List ℕ → List ℕ
+printed_after (Ok (x, at)) input = answer_text (mark_file x (drop at input))
+printed_after (Err NoKey) input = no_key
+printed_after (Err TooLarge) input = refused KeyRange
 
 -- what the program prints on an input
 unfoldable pub printed : List ℕ → List ℕ

@@ -4,31 +4,42 @@ use Prim.Native.Nat.{◌≤◌}
 use native.Mathlib.Omega.{arith}
 use lib.ListN.{length}
 use borrow.Author.Rules.{rules}
+use Rattle.std.proofs.Common.{inl}
 use Rattle.input_calls.specs.declared.Got.TheVariants.{Bytes}
-use Rattle.mark.proofs.Heads.{none-stands, bytes_fit, bytes_stand, goes}
+use Rattle.input_calls.proofs.Answers.{counts}
+use Rattle.mark.proofs.Heads.{none-stands, bytes_fit, bytes_stand, still_room}
 use Rattle.mark.proofs.read_head.Goals as goal
 
-pub loop-more-init : goal.loop-more-init
-loop-more-init c = (c.requires, (omega arith, (none-stands c.args.input c.args.head.now, omega arith)))
+pub loop-n-init : goal.loop-n-init
+loop-n-init c = (c.requires, omega arith, none-stands c.args.input c.args.head.now)
 
-pub loop-more-preserved-in-Bytes : goal.loop-more-preserved-in-Bytes
-loop-more-preserved-in-Bytes c =
-    let l = c.loop-more in
-    let r = c.read_behind-at in
-    let next = r.result in
-    let head = r.new.buffer in
-    let full : 18 ≡ length head = search rules in
-    let within : l.done ≤ length head = omega (arith, full, l.invariant.0, l.invariant.1.0) in
-    let gave : next.last ≡ Bytes c.in-Bytes.n = sym c.last.ensures ∙ c.in-Bytes.is in
-    let start = c.args.input in
+pub loop-n-preserved : goal.loop-n-preserved
+loop-n-preserved c =
+    let l = c.loop-n in
+    let r = c.read_behind-input in
     let e = r.ensures in
-    let stands = l.invariant.1.1.0 in (
+    let full : 18 ≡ length r.new.buffer = search rules in
+    let within : l.count ≤ length r.new.buffer = omega (arith, full) in
+    let got : r.result.last ≡ Bytes c.in-Bytes.n = sym c.last.ensures ∙ c.in-Bytes.is in
+    let stands = l.invariant.2 in (
       full,
+      still_room c.args.input l.input l.count l.head stands r.result r.new.buffer within e.buffer_unchanged e.read _ got
+          (sym c.undecided.ensures ∙ c.if-not-undecided.false),
+      bytes_stand c.args.input l.input l.count l.head stands r.result r.new.buffer within e.buffer_unchanged e.read _ got,
+    )
+
+pub returns-then-not-undecided : goal.returns-then-not-undecided
+returns-then-not-undecided c =
+    let l = c.loop-n in
+    let r = c.read_behind-input in
+    let e = r.ensures in
+    let full : 18 ≡ length r.new.buffer = search rules in
+    let within : l.count ≤ length r.new.buffer = omega (arith, full) in
+    let got : r.result.last ≡ Bytes c.in-Bytes.n = sym c.last.ensures ∙ c.in-Bytes.is in
+    let stands = l.invariant.2 in (
+      counts _ _ (bytes_fit c.args.input l.input l.count l.head stands r.result r.new.buffer within e.buffer_unchanged e.read _ got).1,
       (
-        (bytes_fit start l.at l.done l.head stands next head within e.buffer_unchanged e.read _ gave).1,
-        (
-          bytes_stand start l.at l.done l.head stands next head within e.buffer_unchanged e.read _ gave,
-          goes start l.at l.done l.head stands next head within e.buffer_unchanged e.read _ gave c.undecided-more.result c.undecided-more.ensures,
-        ),
+        inl (sym c.undecided.ensures ∙ c.if-not-undecided.true),
+        bytes_stand c.args.input l.input l.count l.head stands r.result r.new.buffer within e.buffer_unchanged e.read _ got,
       ),
     )

@@ -4,4 +4,4 @@ use Rattle.mark.proofs.run.Goals as goal
 
 pub returns-in_default : goal.returns-in_default
 returns-in_default c =
-    head-answered c.args.input c.read_head-read.new.head c.read_head-read.result c.read_head-read.ensures _ _ c.answer.result c.answer.ensures
+    head-answered c.args.input c.read_head-count.new.head c.read_head-count.result c.read_head-count.ensures _ _ c.answer.result c.answer.ensures
