@@ -1,4 +1,4 @@
--- Laws of the tests of two marks, and of two pages.
+-- Laws of the tests of two marks, and of the lengths of two pages.
 use mathlib.Core.Path.{◌≡◌, sym, ap, ap₂, ◌∙◌}
 use mathlib.Core.Bool.{Bool, true, false, not, or_comm}
 use mathlib.Core.List.{[], ◌∷◌}
@@ -6,7 +6,6 @@ use Prim.Native.Nat.{ℕ, ◌+◌, ◌^◌, ◌≤◌, min}
 use native.Mathlib.Nat.{add_comm}
 use native.Mathlib.Omega.{arith}
 use lib.Dec.{ltb}
-use lib.ListN.{length}
 use borrow.Author.Tests.{not-true}
 use Rattle.lists.proofs.Truth.{or-left_comm}
 use Rattle.refusals.specs.declared.Refusal.TheVariants.{TooLong, MarkNotReduced}
@@ -16,8 +15,7 @@ use Rattle.refusals.proofs.Replies.{first-keeps}
 use Rattle.acceptance.specs.declared.Key.{Key}
 use Rattle.acceptance.specs.Keys.{polynomial_of}
 use Rattle.files.specs.declared.Mark.{Mark}
-use Rattle.files.specs.Files.{unreduced, Part, part_length, misused, joined_from}
-use Rattle.files.proofs.Parts.{well-used, same-used}
+use Rattle.files.specs.Files.{unreduced, joined_from}
 use Rattle.compose.specs.Composing.{marks_tests, join_tests, join_behind_from, join_in_front_from}
 
 -- ---- they do not depend on the order of the marks
@@ -46,11 +44,6 @@ pub counted-pages : (a m n x y : ℕ) → x ≡ min m (2 ^ 36) → y ≡ min n (
 counted-pages a m n x y e f g =
     let w = within (a ∷ x ∷ y ∷ []) (not-true (passes (a ∷ x ∷ y ∷ [])) (sym g)) in
     (omega (arith, e, w.1.0), omega (arith, f, w.1.1.0), w.0)
-
--- two pages of one length, neither misused: as many bytes in either, and as many used bits
-pub same-pages : (old new : Part) → misused old ≡ false → misused new ≡ false → part_length old ≡ part_length new
-    → (length old.bytes ≡ length new.bytes) × (old.used ≡ new.used)
-same-pages old new h k e = same-used old new (well-used old h) (well-used new k) e
 
 -- ---- on refusal the state is the mark that was handed in
 

@@ -15,7 +15,8 @@ use Rattle.gf2.proofs.Steps.{residue-lt}
 use Rattle.refusals.specs.Refusals.{longest}
 use Rattle.acceptance.proofs.Opened.{opened-degree, opened-proper, opened-whole}
 use Rattle.files.specs.Files.{fingerprint_from, fingerprint, Part, as_part, part_length, misused, replaced}
-use Rattle.compose.proofs.Laws.{counted-pages, same-pages}
+use Rattle.files.proofs.Parts.{well-used, same-used}
+use Rattle.compose.proofs.Laws.{counted-pages}
 use Rattle.compose.proofs.replace.Goals as goal
 use Rattle.compose.proofs.replace.Goals.{Else-is_misused-2, Else-not-within}
 
@@ -33,9 +34,10 @@ lengths c = counted-pages _ _ _ _ _ c.part_length-n.ensures c.part_length-other.
 -- as many bytes in either page, and as many used bits
 used : (c : Else-is_misused-2) → (length c.args.old.now ≡ length c.args.new.now) × (c.args.old_used ≡ c.args.new_used)
 used c =
+    let x = as_part c.args.old.now c.args.old_used in
+    let y = as_part c.args.new.now c.args.new_used in
     let k = counted-pages _ _ _ _ _ c.part_length-n.ensures c.part_length-other.ensures c.if-not-within.ensures in
-    same-pages (as_part c.args.old.now c.args.old_used) (as_part c.args.new.now c.args.new_used) (sym c.if-is_misused.ensures) (sym c.if-is_misused-2.ensures)
-    (sym k.0 ∙ c.if-n-other.false ∙ k.1)
+    same-used x y (well-used x (sym c.if-is_misused.ensures)) (well-used y (sym c.if-is_misused-2.ensures)) (sym k.0 ∙ c.if-n-other.false ∙ k.1)
 
 -- the difference of two fingerprints is a residue
 fingerprints-lt : (p : Modulus) → Proper p → (a b : List ℕ) → fingerprint (polynomial p) a ⊕ fingerprint (polynomial p) b < 2 ^ p.degree

@@ -8,7 +8,7 @@ use Rattle.refusals.proofs.Replies.{first-keeps}
 use Rattle.acceptance.specs.declared.Key.{Key}
 use Rattle.acceptance.specs.Keys.{polynomial_of, key_tests}
 use Rattle.files.specs.declared.Mark.{Mark}
-use Rattle.files.specs.Files.{Part, as_part, replaced}
+use Rattle.files.specs.Files.{Part, replaced}
 use Rattle.compose.specs.Composing.{page_tests, replace_page}
 use Rattle.gfp_site.proofs.gfp_replace_page.Goals as goal
 
