@@ -3,34 +3,20 @@
 #![tactic(auto)]
 
 use acceptance::Key;
-use search::Searched;
+use refusals::Refusal;
+use search::Counts;
 use std::io;
 use std::io::Print;
 
-fn show(rt: &impl Print, answer: Searched) -> io::Result<()> {
+fn show(rt: &impl Print, answer: Result<Counts, Refusal>) -> io::Result<()> {
     match answer {
-        Searched::Found(c) => {
-            vectors::decimal(rt, b"", wide(c.places))?;
-            vectors::decimal(rt, b" places, ", wide(c.alarms))?;
-            vectors::text(rt, b" false alarms")?;
+        Ok(found) => {
+            vectors::decimal(rt, b"", u64::from(found.places))?;
+            vectors::decimal(rt, b" places, ", u64::from(found.alarms))?;
+            vectors::text(rt, b" false alarms")
         }
-        Searched::Refused(r) => {
-            vectors::refused(rt, refusals::number(r))?;
-        }
+        Err(r) => vectors::refused(rt, refusals::number(r)),
     }
-    Ok(())
-}
-
-fn wide(x: u32) -> u64 {
-    x as u64
-}
-
-// The word at a place, 0 where there is none.
-fn word(words: &[u32], i: usize) -> u64 {
-    if i < words.len() {
-        return wide(words[i]);
-    }
-    0
 }
 
 // With two words lent.
@@ -38,8 +24,8 @@ fn with_two(rt: &impl Print, what: &[u8], key: Key, text: &[u8], pattern: &[u8])
     let mut words: [u32; 2] = [9; 2];
     vectors::text(rt, what)?;
     show(rt, search::search(key, text, pattern, &mut words))?;
-    vectors::decimal(rt, b", words ", word(&words, 0))?;
-    vectors::decimal(rt, b" ", word(&words, 1))?;
+    vectors::decimal(rt, b", words ", u64::from(words[0]))?;
+    vectors::decimal(rt, b" ", u64::from(words[1]))?;
     vectors::text(rt, b"\n")
 }
 
@@ -48,7 +34,7 @@ fn with_one(rt: &impl Print, what: &[u8], key: Key, text: &[u8], pattern: &[u8])
     let mut words: [u32; 1] = [9; 1];
     vectors::text(rt, what)?;
     show(rt, search::search(key, text, pattern, &mut words))?;
-    vectors::decimal(rt, b", word ", word(&words, 0))?;
+    vectors::decimal(rt, b", word ", u64::from(words[0]))?;
     vectors::text(rt, b"\n")
 }
 

@@ -5,6 +5,8 @@ use mathlib.Core.List.{List}
 use Prim.Native.Nat.{ℕ, ◌+◌, ◌*◌, ◌^◌, ◌≤◌, ◌<◌}
 use native.Mathlib.Omega.{arith}
 use lib.ListN.{length, drop, length-drop}
+use Rattle.std.specs.Prelude.{Some}
+use Rattle.std.specs.Borrow.{Bor}
 use Rattle.refusals.specs.Refusals.{Done}
 use Rattle.gf2.specs.Moduli.{polynomial}
 use Rattle.acceptance.specs.Keys.{polynomial_of}
@@ -44,7 +46,10 @@ module _ (sheet : List ℕ) (x : OpenSheet) (r : ReadAs sheet x.numbers) where
     count-small = omega (arith, count-few x.numbers.size (length file.bytes) size_right.0 size_right.1 (omega arith))
 
     -- the part of the sheet that begins with them
-    module _ (part : List ℕ) (ep : part ≡ drop x.place sheet) where
+    module _ (fields : Bor (List ℕ)) (ep : fields.now ≡ drop x.place sheet) where
+      abbrev part : List ℕ
+      part = fields.now
+
       pub room : 8 * count ≤ length part
       room = let l = ap length ep ∙ length-drop x.place sheet in omega (arith, l, total)
 
@@ -60,18 +65,18 @@ module _ (sheet : List ℕ) (x : OpenSheet) (r : ReadAs sheet x.numbers) where
           (long ∙ length-is sheet r) part (ep ∙ ap (λ (n : ℕ). drop n sheet) x.placed)
           ∙ ap (λ (fs : List ℕ). Done (first_change 0 (numbers_at 0 8 count part) fs)) own
 
-      module _ (before after : List ℕ) (n : ℕ) (h : Passed prints part before after n) where
+      module _ (before after : List ℕ) (n : ℕ) (h : Passed prints (Some fields) before after n) where
         lengths : length prints ≡ count
         lengths = length-pages (filling x.filled) (polynomial x.p) count (8 * x.numbers.size) (part_bits file)
 
         pub passed-few : n ≤ count
-        passed-few = pass_few prints part before after n count h lengths room
+        passed-few = pass_few prints fields before after n count h lengths
 
         module _ (used : misused file ≡ false) where
           pub changed-told : n < x.numbers.pages → comparison sheet file ≡ Done (Page n)
           changed-told l =
-              answer used ∙ ap Done (pass_changed prints part before after n count h lengths room (omega (arith, l, pages-many sheet r file long)))
+              answer used ∙ ap Done (pass_changed prints fields before after n count h lengths (omega (arith, l, pages-many sheet r file long)))
 
           pub same-told : x.numbers.pages ≤ n → comparison sheet file ≡ Done Same
           same-told l =
-              answer used ∙ ap Done (pass_same prints part before after n count h lengths room (omega (arith, l, pages-many sheet r file long)))
+              answer used ∙ ap Done (pass_same prints fields before after n count h lengths (omega (arith, l, pages-many sheet r file long)))

@@ -31,7 +31,7 @@ fn compare(sheet: &[u8], x: OpenSheet, file: &[u8], used: u32) -> Result<Compari
     let mut none = [0u8; 0];
     let p = x.p;
     let size = y.size as usize;
-    let same = sheet_pass::over_pages(&mut none, pages, p, size, x.filled, file, used) as u64;
+    let same = sheet_pass::over_pages(&mut none, Some(pages), p, size, x.filled, file, used) as u64;
     if same < y.pages {
         return Ok(Comparison::Page(same as u32));
     }

@@ -109,13 +109,13 @@ bits-apart k bits s t u v = simp (unreduced-first, unreduced-append, or_assoc)
 -- four fields a turn
 pub bits-four : (k bits place lane n e f g h : ℕ) (l : List ℕ) → 0 < n → e ≡ number_at place 8 l → f ≡ number_at (place + lane) 8 l
     → g ≡ number_at (place + lane + lane) 8 l → h ≡ number_at (place + lane + lane + lane) 8 l
-    → some_unreduced k (bit_or (bit_or (bit_or (bit_or bits e) f) g) h ∷ four_lanes (place + 8) lane (n - 1) l) ≡ some_unreduced k
+    → some_unreduced k (bit_or bits (bit_or (bit_or (bit_or e f) g) h) ∷ four_lanes (place + 8) lane (n - 1) l) ≡ some_unreduced k
     (bits ∷ four_lanes place lane n l)
 bits-four k bits place lane n e f g h l p ee ef eg eh =
     let b : place + 8 + lane ≡ place + lane + 8 = omega arith in
     let c : place + 8 + lane + lane ≡ place + lane + lane + 8 = omega arith in
     let d : place + 8 + lane + lane + lane ≡ place + lane + lane + lane + 8 = omega arith in
-    rw (bits-apart k (bit_or (bit_or (bit_or (bit_or bits e) f) g) h), bits-apart k bits, d, c, b)
+    rw (bits-apart k (bit_or bits (bit_or (bit_or (bit_or e f) g) h)), bits-apart k bits, d, c, b)
     (rw (numbers-next place 8 n l p, numbers-next (place + lane) 8 n l p, numbers-next (place + lane + lane) 8 n l p)
     (rw (numbers-next (place + lane + lane + lane) 8 n l p, ← ee, ← ef, ← eg, ← eh) (simp (unreduced-first, or_leb, or_assoc, or-left_comm))))
 

@@ -36,14 +36,10 @@ fn join_lane(shift: &[u64], fields: &[u8], from: usize, n: u64, f: u64, before: 
 {
     let mut x = f;
     let mut bits = before;
-    let mut place = from;
-    let mut left = n;
-    while 0 < left {
-        let g = big_endian::eight_at(fields, place);
+    for i in 0..n {
+        let g = big_endian::eight_at(fields, from + 8 * i as usize);
         x = shifts::join(shift, x, g);
-        bits = bits | g;
-        place += 8;
-        left -= 1;
+        bits |= g;
     }
     Joined { mark: x, bits }
 }
@@ -59,9 +55,8 @@ fn join_lanes(shift: &[u64], fields: &[u8], q: u64) -> Lanes
     let mut c: u64 = 0;
     let mut d: u64 = 0;
     let mut bits: u64 = 0;
-    let mut place: usize = 0;
-    let mut left = q;
-    while 0 < left {
+    for i in 0..q {
+        let place = (8 * i) as usize;
         let e = big_endian::eight_at(fields, place);
         let f = big_endian::eight_at(fields, place + lane);
         let g = big_endian::eight_at(fields, place + lane + lane);
@@ -70,22 +65,9 @@ fn join_lanes(shift: &[u64], fields: &[u8], q: u64) -> Lanes
         b = shifts::join(shift, b, f);
         c = shifts::join(shift, c, g);
         d = shifts::join(shift, d, h);
-        bits = bits | e | f | g | h;
-        place += 8;
-        left -= 1;
+        bits |= e | f | g | h;
     }
     Lanes { a, b, c, d, bits }
-}
-
-// The coefficients below t^n: at n = 64 the whole word.
-fn low_part(x: u64, n: u32) -> u64
-    requires { n ≤ 64 }
-    ensures { result ≡ x % 2 ^ n }
-{
-    if n == 64 {
-        return x;
-    }
-    gf2::low_bits(x, n)
 }
 
 // The first n page marks of a sheet joined, each of a whole page. Many of them in four lanes, which cost a power of t and three products. A
@@ -102,10 +84,9 @@ fn join_run(fields: &[u8], p: Modulus, size: u64, n: u64) -> Joined
     let q = n / 4;
     let x = join_lanes(&shift, fields, q);
     let t = gf2::power_of_t(p, 8 * size * q);
-    let k = p.degree;
-    let ab = table_lanes::times_plus(p, low_part(x.a, k), t, x.b);
-    let abc = table_lanes::times_plus(p, low_part(ab, k), t, x.c);
-    let abcd = table_lanes::times_plus(p, low_part(abc, k), t, x.d);
+    let ab = table_lanes::times_plus(p, lookups::below(p, x.a), t, x.b);
+    let abc = table_lanes::times_plus(p, lookups::below(p, ab), t, x.c);
+    let abcd = table_lanes::times_plus(p, lookups::below(p, abc), t, x.d);
     let from = (32 * q) as usize;
     join_lane(&shift, fields, from, n - 4 * q, abcd, x.bits)
 }
@@ -115,8 +96,8 @@ fn join_last(p: Modulus, x: Joined, last: u64, n: u64) -> Joined
     requires { Proper p }
     ensures { LastJoined (polynomial p) p.degree x last n result }
 {
-    let f = low_part(x.mark, p.degree);
-    let g = low_part(last, p.degree);
+    let f = lookups::below(p, x.mark);
+    let g = lookups::below(p, last);
     Joined {
         mark: files::joined_residue(p, 1, f, g, n),
         bits: x.bits | last,

@@ -1,46 +1,47 @@
 -- Laws of a pass over pages: a block of them more, and what a pass with nothing known or nothing to write gives.
 use mathlib.Core.Path.{◌≡◌, refl, sym, ap, ap₂, ◌∙◌}
 use mathlib.Core.List.{List, [], ◌∷◌, ◌++◌}
-use Prim.Native.Nat.{ℕ, suc, ◌+◌, ◌-◌, ◌*◌, ◌≤◌, ◌<◌}
+use Prim.Native.Nat.{ℕ, suc, ◌+◌, ◌*◌, ◌≤◌, ◌<◌}
 use native.Mathlib.Nat.{zero-add}
 use native.Mathlib.Omega.{arith}
 use lib.ListN.{length, take, drop, length-append, length-drop, take-append-drop}
 use lib.Seq.{sets, drop-drop, length-take-le, take-add, take-take, take-length}
+use Rattle.std.specs.Prelude.{Option, Some, None}
+use Rattle.std.specs.Borrow.{Bor}
 use Rattle.big_endian.specs.Numbers.{fields_of, numbers_at}
 use Rattle.sheets.specs.Sheets.{Same, Page, first_change}
 use Rattle.sheets.specs.Inner.{agreeing}
 use Rattle.big_endian.proofs.Numbers.{length-fields_of, length-numbers_at, numbers-append, fields-append, sets_behind}
 use Rattle.sheets.proofs.Changes.{agree-le, agree-all, agree-here, agree-further, changed_at, changed_nowhere}
-use Rattle.sheet_pass.specs.Passes.{expected, Passed}
+use Rattle.sheet_pass.specs.Passes.{Known, expected, Passed}
 
 -- ---- the expected fingerprints
 
-pub length-expected : (known : List ℕ) (from : ℕ) (fs : List ℕ) → length (expected known from fs) ≡ length fs
+pub length-expected : (known : Option (Bor (List ℕ))) (from : ℕ) (fs : List ℕ) → length (expected known from fs) ≡ length fs
 unfolding expected
-length-expected [] from fs = refl
-length-expected (b ∷ known) from fs = length-numbers_at from 8 (length fs) (b ∷ known)
+length-expected None from fs = refl
+length-expected (Some fields) from fs = length-numbers_at from 8 (length fs) fields.now
 
-expected-append : (known : List ℕ) (from : ℕ) (us vs : List ℕ)
+expected-append : (known : Option (Bor (List ℕ))) (from : ℕ) (us vs : List ℕ)
     → expected known from (us ++ vs) ≡ expected known from us ++ expected known (from + 8 * length us) vs
 unfolding expected
-expected-append [] from us vs = refl
-expected-append (b ∷ known) from us vs =
-    ap (λ (n : ℕ). numbers_at from 8 n (b ∷ known)) (length-append us vs)
-    ∙ numbers-append from 8 (length us) (length vs) (b ∷ known)
+expected-append None from us vs = refl
+expected-append (Some fields) from us vs =
+    ap (λ (n : ℕ). numbers_at from 8 n fields.now) (length-append us vs)
+    ∙ numbers-append from 8 (length us) (length vs) fields.now
 
-pub expected-known : (known : List ℕ) (from : ℕ) (fs : List ℕ) → 0 < length known → expected known from fs ≡ numbers_at from 8 (length fs) known
+pub expected-known : (known : Option (Bor (List ℕ))) (fields : Bor (List ℕ)) (from : ℕ) (fs : List ℕ) → known ≡ Some fields
+    → expected known from fs ≡ numbers_at from 8 (length fs) fields.now
 unfolding expected
-expected-known [] from fs l = absurd (omega arith)
-expected-known (b ∷ known) from fs l = refl
+expected-known known fields from fs e = ap (λ (k : Option (Bor (List ℕ))). expected k from fs) e
 
-pub expected-none : (known : List ℕ) (from : ℕ) (fs : List ℕ) → length known ≡ 0 → expected known from fs ≡ fs
-unfolding expected
-expected-none [] from fs l = refl
-expected-none (b ∷ known) from fs l = absurd (omega arith)
+pub known_fewer : (m n : ℕ) (known : Option (Bor (List ℕ))) → m ≤ n → Known n known → Known m known
+known_fewer m n None l h = tt
+known_fewer m n (Some fields) l h = omega arith
 
 -- ---- a block more: us are the n numbers from the i-th of fs on
 
-module _ (known fs us : List ℕ) (i n : ℕ) (e : us ≡ take n (drop i fs)) (h : i + n ≤ length fs) where
+module _ (known : Option (Bor (List ℕ))) (fs us : List ℕ) (i n : ℕ) (e : us ≡ take n (drop i fs)) (h : i + n ≤ length fs) where
   pub block-long : length us ≡ n
   block-long = ap length e ∙ length-take-le n (drop i fs) (rw (length-drop i fs) (omega arith))
 
@@ -100,27 +101,25 @@ sets_none (v ∷ vs) (b ∷ l) i e = absurd (omega arith)
 -- ---- what a pass gives
 
 -- nothing is known: all pages are passed,
-pub pass_count : (fs before after : List ℕ) (n : ℕ) → Passed fs [] before after n → n ≡ length fs
+pub pass_count : (fs before after : List ℕ) (n : ℕ) → Passed fs None before after n → n ≡ length fs
 unfolding expected
 pass_count fs before after n h = h.same ∙ agree-all fs
 
 -- and all fingerprints are written
-pub pass_all : (fs before after : List ℕ) (n : ℕ) → Passed fs [] before after n → after ≡ sets before 0 (fields_of 8 fs)
+pub pass_all : (fs before after : List ℕ) (n : ℕ) → Passed fs None before after n → after ≡ sets before 0 (fields_of 8 fs)
 unfolding expected
 pass_all fs before after n h =
     let all : take n fs ≡ fs = ap (λ (m : ℕ). take m fs) (pass_count fs before after n h) ∙ take-length fs in
     h.written ∙ ap (λ (us : List ℕ). sets before 0 (fields_of 8 us)) all
 
-expected-all : (known fs : List ℕ) → 8 * length fs ≤ length known → expected known 0 fs ≡ numbers_at 0 8 (length fs) known
-unfolding expected numbers_at
-expected-all [] [] l = refl
-expected-all [] (f ∷ fs) l = absurd (omega arith)
-expected-all (b ∷ known) fs l = refl
-
 -- all c are known: the first that differs
-module _ (fs known before after : List ℕ) (n c : ℕ) (h : Passed fs known before after n) (long : length fs ≡ c) (room : 8 * c ≤ length known) where
-  there : expected known 0 fs ≡ numbers_at 0 8 c known
-  there = expected-all known fs (omega arith) ∙ ap (λ (m : ℕ). numbers_at 0 8 m known) long
+module _ (fs : List ℕ) (fields : Bor (List ℕ)) (before after : List ℕ) (n c : ℕ) (h : Passed fs (Some fields) before after n) (long : length fs ≡ c) where
+  abbrev known : List ℕ
+  known = fields.now
+
+  there : expected (Some fields) 0 fs ≡ numbers_at 0 8 c known
+  unfolding expected
+  there = ap (λ (m : ℕ). numbers_at 0 8 m known) long
 
   agreed-here : n ≡ agreeing (numbers_at 0 8 c known) fs
   agreed-here = h.same ∙ ap (λ (us : List ℕ). agreeing us fs) there

@@ -11,32 +11,29 @@ ghost use Rattle.sheets.specs.Layout.{page_count};
 ghost use Rattle.sheets.specs.Sheets.{page_fingerprints};
 ghost use Rattle.sheets.specs.Inner.{filling, agreeing};
 ghost use Rattle.sheet_pages.specs.Blocks.{FedBy};
-ghost use Rattle.sheet_pass.specs.Passes.{Room, expected, Passed};
+ghost use Rattle.sheet_pass.specs.Passes.{Room, Known, expected, Passed};
 
 use gf2::Modulus;
 use sheet_pages::Paging;
 
 // How many of the fingerprints, from the first on, are those in the known fields from a place on: all of them where nothing is known.
-fn agreeing(known: &[u8], from: usize, marks: &[u64]) -> usize
-    requires { Room (from + 8 * length marks.now) known.now }
-    ensures { result ≡ agreeing (expected known.now from marks.now) marks.now }
+fn agreeing(known: Option<&[u8]>, from: usize, marks: &[u64]) -> usize
+    requires { Known (from + 8 * length marks.now) known }
+    ensures { result ≡ agreeing (expected known.entry from marks.now) marks.now }
 {
-    if known.len() == 0 {
+    let Some(fields) = known else {
         return marks.len();
-    }
-    let mut place = from;
-    let mut i: usize = 0;
-    while i < marks.len() {
-        if big_endian::eight_at(known, place) != marks[i] {
+    };
+    for (i, mark) in marks.iter().enumerate() {
+        if big_endian::eight_at(fields, from + 8 * i) != *mark {
             return i;
         }
-        place += 8;
-        i += 1;
     }
-    i
+    marks.len()
 }
 
-// Writes fingerprints one behind the other from a place on, where room is lent.
+// Writes fingerprints one behind the other from a place on, where room is lent: `out` is empty where it is not. It is no
+// `Option<&mut [u8]>`, since no clause can say what is written behind the reference in one.
 fn put_fields(out: &mut [u8], from: usize, marks: &[u64])
     requires { Room (from + 8 * length marks.now) out.old }
     ensures { out.new ≡ sets out.old from (fields_of 8 marks.now) }
@@ -44,31 +41,27 @@ fn put_fields(out: &mut [u8], from: usize, marks: &[u64])
     if out.len() == 0 {
         return;
     }
-    let mut place = from;
-    let mut i: usize = 0;
-    while i < marks.len() {
-        big_endian::put(out, place, 8, marks[i]);
-        place += 8;
-        i += 1;
+    for (i, mark) in marks.iter().enumerate() {
+        big_endian::put(out, from + 8 * i, 8, *mark);
     }
 }
 
 // The pass, block by block: it ends with the first page whose fingerprint is not the expected one.
 fn over_blocks(
     out: &mut [u8],
-    known: &[u8],
+    known: Option<&[u8]>,
     words: &[u64],
     eights: &[u64],
     x: Paging,
     file: &[u8],
 ) -> usize
     requires { FedBy x.p words.now eights.now × (16 ≤ x.size) × (x.size ≤ 4096) × (length file.now < 2 ^ 32)
-        × Room (8 * page_count x.size (length file.now)) out.old × Room (8 * page_count x.size (length file.now)) known.now
+        × Room (8 * page_count x.size (length file.now)) out.old × Known (8 * page_count x.size (length file.now)) known
         × (misused (as_part file.now x.used) ≡ false) }
     ensures { Passed
         (page_fingerprints (filling x.filled) (polynomial x.p) (8 * x.size) (page_count x.size (length file.now))
         (part_bits (as_part file.now x.used)))
-        known.now out.old out.new result }
+        known.entry out.old out.new result }
 {
     let size = x.size;
     let mut marks = [0u64; 64];
@@ -86,12 +79,12 @@ fn over_blocks(
     page
 }
 
-// The pass under an opened key, with a last page filled up or not: how many pages, from the first on, have the expected fingerprints. An empty
-// `known` means that nothing is known, an empty `out` that nothing is to be written. The file comes as bytes and the used bits of the final one.
+// The pass under an opened key, with a last page filled up or not: how many pages, from the first on, have the expected fingerprints: those that
+// are known, or any. An empty `out` means that nothing is to be written. The file comes as bytes and the used bits of the final one.
 // Tables are made only where they are read.
 pub fn over_pages(
     out: &mut [u8],
-    known: &[u8],
+    known: Option<&[u8]>,
     p: Modulus,
     size: usize,
     filled: bool,
@@ -99,21 +92,21 @@ pub fn over_pages(
     used: u32,
 ) -> usize
     requires { Proper p × (8 ≤ p.degree) × (16 ≤ size) × (size ≤ 4096) × (length file.now < 2 ^ 32)
-        × Room (8 * page_count size (length file.now)) out.old × Room (8 * page_count size (length file.now)) known.now
+        × Room (8 * page_count size (length file.now)) out.old × Known (8 * page_count size (length file.now)) known
         × (misused (as_part file.now used) ≡ false) }
     ensures { Passed
         (page_fingerprints (filling filled) (polynomial p) (8 * size) (page_count size (length file.now))
         (part_bits (as_part file.now used)))
-        known.now out.old out.new result }
+        known.entry out.old out.new result }
 {
     let mut words = [0u64; 1024];
     let mut eights = [0u64; 2048];
     let made = sheet_pages::make_tables(&mut words, &mut eights, p, size);
     let x = Paging {
-        p: p,
-        size: size,
-        used: used,
-        filled: filled,
+        p,
+        size,
+        used,
+        filled,
     };
     over_blocks(out, known, &words[..made], &eights, x, file)
 }

@@ -25,8 +25,7 @@ fn put_fingerprints(fields: &mut [u8], p: Modulus, size: u64, file: &[u8], used:
         (part_bits (as_part file.now used)))
         ++ bytes_of 8 (fingerprint (polynomial p) (part_bits (as_part file.now used)))) }
 {
-    let none = [0u8; 0];
-    let count = sheet_pass::over_pages(fields, &none, p, size as usize, false, file, used);
+    let count = sheet_pass::over_pages(fields, None, p, size as usize, false, file, used);
     let joined = sheet_joining::pages_joined(fields, p, size, n, count as u64, false);
     big_endian::put(fields, 8 * count, 8, joined.mark);
 }

@@ -62,7 +62,7 @@ over_pages-same-requires c =
       z.1,
       omega (arith, few),
       λ lent. absurd (omega (arith, lent)),
-      λ lent. room a.sheet.now a.x c.requires (as_part a.file.now a.used) few (as_long at.Else-part_length-y) c.page_fields-pages.result.now
+      room a.sheet.now a.x c.requires (as_part a.file.now a.used) few (as_long at.Else-part_length-y) c.page_fields-pages.result
           c.page_fields-pages.ensures,
       well at.Else-is_misused,
     )
@@ -76,7 +76,7 @@ overflow_cast-result c =
     let long = as_long at.Else-part_length-y in
     omega (
       arith,
-      passed-few a.sheet.now a.x c.requires part few long c.page_fields-pages.result.now c.page_fields-pages.ensures _ _ c.over_pages-same.result
+      passed-few a.sheet.now a.x c.requires part few long c.page_fields-pages.result c.page_fields-pages.ensures _ _ c.over_pages-same.result
           c.over_pages-same.ensures,
       count-small a.sheet.now a.x c.requires part few long,
     )
@@ -86,7 +86,7 @@ returns-then-same-y c =
     let a = c.args in
     let at = goal.at.returns-then-same-y c in
     sym (changed-told a.sheet.now a.x c.requires (as_part a.file.now a.used) (fits at.Else-file-gt-LONGEST_BYTES) (as_long at.Else-part_length-y)
-    c.page_fields-pages.result.now c.page_fields-pages.ensures _ _ c.over_pages-same.result c.over_pages-same.ensures (well at.Else-is_misused)
+    c.page_fields-pages.result c.page_fields-pages.ensures _ _ c.over_pages-same.result c.over_pages-same.ensures (well at.Else-is_misused)
     (omega (arith, c.if-same-y.true)))
 
 pub returns : goal.returns
@@ -94,5 +94,5 @@ returns c =
     let a = c.args in
     let at = goal.at.returns c in
     sym (same-told a.sheet.now a.x c.requires (as_part a.file.now a.used) (fits at.Else-file-gt-LONGEST_BYTES) (as_long at.Else-part_length-y)
-    c.page_fields-pages.result.now c.page_fields-pages.ensures _ _ c.over_pages-same.result c.over_pages-same.ensures (well at.Else-is_misused)
+    c.page_fields-pages.result c.page_fields-pages.ensures _ _ c.over_pages-same.result c.over_pages-same.ensures (well at.Else-is_misused)
     (omega (arith, c.if-same-y.false)))

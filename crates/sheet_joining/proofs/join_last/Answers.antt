@@ -14,7 +14,7 @@ one-off q f g n = ap (λ (z : ℕ). rem q (f * 2 ^ n ⊕ g ⊕ z)) (one-mul (2 ^
 pub joined_residue-requires : goal.joined_residue-requires
 joined_residue-requires c =
     let k = c.args.p.degree in
-    (c.requires, omega arith, low-lt k _ _ c.low_part-f.ensures, low-lt k _ _ c.low_part-g.ensures)
+    (c.requires, omega arith, low-lt k _ _ c.below-f.ensures, low-lt k _ _ c.below-g.ensures)
 
 pub returns : goal.returns
 returns c =
@@ -22,7 +22,7 @@ returns c =
     record {
       mark =
           c.joined_residue.ensures
-          ∙ ap₂ (λ (f g : ℕ). rem (polynomial a.p) (f * 2 ^ a.n ⊕ g ⊕ 1 * 2 ^ a.n)) c.low_part-f.ensures c.low_part-g.ensures
+          ∙ ap₂ (λ (f g : ℕ). rem (polynomial a.p) (f * 2 ^ a.n ⊕ g ⊕ 1 * 2 ^ a.n)) c.below-f.ensures c.below-g.ensures
           ∙ one-off (polynomial a.p) _ _ a.n;
       bits = refl;
     }

@@ -25,17 +25,17 @@ overflow_mul-size-2 c = omega (arith, mul-le-mul_right (c.args.n / 4) c.requires
 
 pub times_plus-ab-requires : goal.times_plus-ab-requires
 times_plus-ab-requires c =
-    (c.requires.0, low-lt c.args.p.degree _ _ c.low_part.ensures, power-lt (goal.at.times_plus-ab-requires c).After-power_of_t-t)
+    (c.requires.0, low-lt c.args.p.degree _ _ c.below.ensures, power-lt (goal.at.times_plus-ab-requires c).After-power_of_t-t)
 
 pub times_plus-abc-requires : goal.times_plus-abc-requires
 times_plus-abc-requires c =
     let s = c in
-    (s.requires.0, low-lt s.args.p.degree _ _ c.low_part-2.ensures, power-lt (goal.at.times_plus-abc-requires c).After-power_of_t-t)
+    (s.requires.0, low-lt s.args.p.degree _ _ c.below-2.ensures, power-lt (goal.at.times_plus-abc-requires c).After-power_of_t-t)
 
 pub times_plus-abcd-requires : goal.times_plus-abcd-requires
 times_plus-abcd-requires c =
     let s = c in
-    (s.requires.0, low-lt s.args.p.degree _ _ c.low_part-3.ensures, power-lt (goal.at.times_plus-abcd-requires c).After-power_of_t-t)
+    (s.requires.0, low-lt s.args.p.degree _ _ c.below-3.ensures, power-lt (goal.at.times_plus-abcd-requires c).After-power_of_t-t)
 
 pub returns : goal.returns
 returns c =
@@ -49,9 +49,9 @@ returns c =
           x.result x.ensures
           c.power_of_t-t.result c.power_of_t-t.ensures c.times_plus-ab.result c.times_plus-abc.result c.times_plus-abcd.result
           c.join_lane-2.result.mark
-          (times_low a.p _ _ _ _ _ c.low_part.ensures c.times_plus-ab.ensures)
-          (times_low a.p _ _ _ _ _ c.low_part-2.ensures c.times_plus-abc.ensures)
-          (times_low a.p _ _ _ _ _ c.low_part-3.ensures c.times_plus-abcd.ensures)
+          (times_low a.p _ _ _ _ _ c.below.ensures c.times_plus-ab.ensures)
+          (times_low a.p _ _ _ _ _ c.below-2.ensures c.times_plus-abc.ensures)
+          (times_low a.p _ _ _ _ _ c.below-3.ensures c.times_plus-abcd.ensures)
           c.join_lane-2.ensures.0;
       bits = bits-all t.new.words a.fields.now 0 a.n q (32 * q) x.result c.join_lane-2.result.bits (omega arith) (omega arith) x.ensures
           c.join_lane-2.ensures.1;

@@ -1,55 +1,56 @@
 -- `agreeing` meets its contract: the first i numbers agree.
-use mathlib.Core.Path.{sym, ap, ◌∙◌}
+use mathlib.Core.Path.{◌≡◌, refl, sym, ap, ◌∙◌}
 use mathlib.Core.List.{List}
-use Prim.Native.Nat.{ℕ, ◌+◌, ◌-◌, ◌*◌, ◌≤◌}
-use native.Mathlib.Nat.{zero-add, sub-zero}
+use Prim.Native.Nat.{ℕ, ◌+◌, ◌-◌, ◌*◌}
+use native.Mathlib.Nat.{zero-add, add-zero, sub-zero}
 use native.Mathlib.Omega.{arith}
 use lib.ListN.{length}
 use Rattle.big_endian.specs.Numbers.{number_at, numbers_at}
 use Rattle.sheets.specs.Inner.{agreeing}
 use Rattle.sheets.proofs.Changes.{agree-all, agree_on, agree_off, agree-end}
-use Rattle.sheet_pass.proofs.Passes.{expected-known, expected-none}
+use Rattle.sheet_pass.specs.Passes.{expected}
+use Rattle.sheet_pass.proofs.Passes.{expected-known}
 use Rattle.sheet_pass.proofs.agreeing.Goals as goal
-use Rattle.sheet_pass.proofs.agreeing.Goals.{At-loop-i}
+use Rattle.sheet_pass.proofs.agreeing.Goals.{In-Some}
 
--- something is known, and of all of them
-room : (c : At-loop-i) → c.args.from + 8 * length c.args.marks.now ≤ length c.args.known.now
-room c = c.requires (omega (arith, c.if-known-eq0.false))
-
-pub returns-then-known-eq0 : goal.returns-then-known-eq0
-returns-then-known-eq0 c =
+-- the expected ones are those that are known
+all-known : (c : In-Some) → let a = c.args in
+    agreeing (expected a.known a.from a.marks.now) a.marks.now ≡ agreeing (numbers_at a.from 8 (length a.marks.now) c.in-Some.fields.now) a.marks.now
+all-known c =
     let a = c.args in
-    let own = expected-none a.known.now a.from a.marks.now c.if-known-eq0.true in
-    sym (ap (λ (fs : List ℕ). agreeing fs a.marks.now) own ∙ agree-all a.marks.now)
+    ap (λ (fs : List ℕ). agreeing fs a.marks.now) (expected-known a.known c.in-Some.fields a.from a.marks.now c.in-Some.is)
+
+pub returns-in_default : goal.returns-in_default
+unfolding expected
+returns-in_default c = let a = c.args in rw c.in_default.is (sym (agree-all a.marks.now))
 
 pub loop-i-init : goal.loop-i-init
-loop-i-init c =
-    let a = c.args in
-    (omega arith, omega arith, rw (zero-add, sub-zero, expected-known a.known.now a.from a.marks.now (omega (arith, c.if-known-eq0.false))))
+loop-i-init c = rw (zero-add, add-zero, sub-zero) refl
 
 pub eight_at-requires : goal.eight_at-requires
-eight_at-requires c = omega (arith, room (goal.at.eight_at-requires c).At-loop-i, c.loop-i.invariant.1)
+eight_at-requires c = let room = rw c.in-Some.is at c.requires in omega (arith, room)
 
-pub returns-then-eight_at-marks : goal.returns-then-eight_at-marks
+pub returns-then-eight_at-mark : goal.returns-then-eight_at-mark
 unfolding number_at
-returns-then-eight_at-marks c =
+returns-then-eight_at-mark c =
     let l = c.loop-i in
     let a = c.args in
-    omega (arith, l.invariant.2, agree_off l.place a.known.now a.marks.now l.i (omega arith) (λ d. c.if-eight_at-marks.true (c.eight_at.ensures ∙ d)))
-
-pub overflow_add-place : goal.overflow_add-place
-overflow_add-place c = omega (arith, room (goal.at.overflow_add-place c).At-loop-i, c.loop-i.invariant.1)
+    let off = agree_off (a.from + 8 * l.i) c.in-Some.fields.now a.marks.now l.i (omega arith) (λ d. c.if-eight_at-mark.true (c.eight_at.ensures ∙ d)) in
+    omega (arith, l.invariant, off, all-known (goal.at.returns-then-eight_at-mark c).In-Some)
 
 pub loop-i-preserved : goal.loop-i-preserved
 unfolding number_at
 loop-i-preserved c =
     let l = c.loop-i in
     let a = c.args in
-    let on = agree_on l.place a.known.now a.marks.now l.i (omega arith) (sym c.eight_at.ensures ∙ c.if-eight_at-marks.false) in
-    (omega arith, omega (arith, l.invariant.1), omega (arith, l.invariant.2, on))
+    let place = a.from + 8 * l.i in
+    let e : a.from + 8 * (l.i + 1) ≡ place + 8 = omega arith in
+    let on = agree_on place c.in-Some.fields.now a.marks.now l.i (omega arith) (sym c.eight_at.ensures ∙ c.if-eight_at-mark.false) in
+    rw e (omega (arith, l.invariant, on))
 
 pub returns : goal.returns
 returns c =
     let l = c.loop-i in
     let a = c.args in
-    omega (arith, l.invariant.2, agree-end a.marks.now (numbers_at l.place 8 (length a.marks.now - l.i) a.known.now) l.i (omega arith))
+    let end = agree-end a.marks.now (numbers_at (a.from + 8 * l.i) 8 (length a.marks.now - l.i) c.in-Some.fields.now) l.i (omega arith) in
+    omega (arith, l.invariant, end, all-known (goal.at.returns c).In-Some)

@@ -1,7 +1,7 @@
 -- `over_blocks` meets its contract: the first pages have the expected fingerprints, and these are written.
 use mathlib.Core.Path.{◌≡◌, refl, sym, ap, ◌∙◌}
 use mathlib.Core.List.{List, []}
-use Prim.Native.Nat.{ℕ, ◌+◌, ◌-◌, ◌*◌, ◌^◌, ◌≤◌, ◌<◌}
+use Prim.Native.Nat.{ℕ, ◌+◌, ◌*◌, ◌^◌, ◌≤◌, ◌<◌}
 use native.Mathlib.Nat.{zero-add}
 use native.Mathlib.Omega.{arith}
 use lib.ListN.{length, take, drop, drop_of_length-le}
@@ -16,7 +16,7 @@ use Rattle.sheets.specs.Inner.{filling}
 use Rattle.sheets.proofs.Pages.{length-pages, page-begins, count-few, count-reached, all_left}
 use Rattle.sheets.proofs.Changes.{agree-le}
 use Rattle.sheet_pass.specs.Passes.{expected}
-use Rattle.sheet_pass.proofs.Passes.{block-long, block-few, block-ends, block_agrees, block_written}
+use Rattle.sheet_pass.proofs.Passes.{block-long, block-few, block-ends, block_agrees, block_written, known_fewer}
 use Rattle.sheet_pass.proofs.Turns.{turn-within, turn-some, turn-marks}
 use Rattle.sheet_pass.proofs.over_blocks.Goals as goal
 use Rattle.sheet_pass.proofs.over_blocks.Goals.{After-agreeing-same, After-marks-1, After-next_pages-n, After-put_fields, Start}
@@ -104,7 +104,7 @@ fits : (c : After-next_pages-n) → c.loop-page.page + c.next_pages-n.result ≤
 fits c = omega (arith, within c, many-at_after_next_pages_n c)
 
 long : (c : After-next_pages-n) → length (block c) ≡ c.next_pages-n.result
-long c = block-long c.args.known.now (prints-at_after_next_pages_n c) (block c) c.loop-page.page c.next_pages-n.result (marks c) (fits c)
+long c = block-long c.args.known (prints-at_after_next_pages_n c) (block c) c.loop-page.page c.next_pages-n.result (marks c) (fits c)
 
 all-marks : (c : After-next_pages-n) → c.next_pages-n.result ≤ length c.next_pages-n.new.marks
 all-marks c = omega (arith, c.next_pages-n.ensures.count, c.next_pages-n.auto.marks, c.loop-page.invariant.1)
@@ -156,7 +156,7 @@ fits-at_after_agreeing_same c = omega (arith, within-at_after_agreeing_same c, m
 
 few : (c : After-agreeing-same) → c.agreeing-same.result ≤ c.next_pages-n.result
 few c =
-    block-few c.args.known.now (prints-at_after_agreeing_same c) (block-at_after_agreeing_same c) c.loop-page.page c.next_pages-n.result
+    block-few c.args.known (prints-at_after_agreeing_same c) (block-at_after_agreeing_same c) c.loop-page.page c.next_pages-n.result
     (marks-at_after_agreeing_same c) (fits-at_after_agreeing_same c) c.agreeing-same.result
     c.agreeing-same.ensures
 
@@ -213,7 +213,7 @@ fits-at_after_put_fields c = omega (arith, within-at_after_put_fields c, many-at
 
 few-at_after_put_fields : (c : After-put_fields) → c.agreeing-same.result ≤ c.next_pages-n.result
 few-at_after_put_fields c =
-    block-few c.args.known.now (prints-at_after_put_fields c) (block-at_after_put_fields c) c.loop-page.page c.next_pages-n.result
+    block-few c.args.known (prints-at_after_put_fields c) (block-at_after_put_fields c) c.loop-page.page c.next_pages-n.result
     (marks-at_after_put_fields c) (fits-at_after_put_fields c) c.agreeing-same.result
     c.agreeing-same.ensures
 
@@ -275,13 +275,10 @@ pub slice_bounds-agreeing-end : goal.slice_bounds-agreeing-end
 slice_bounds-agreeing-end c = sym (long (goal.at.slice_bounds-agreeing-end c).After-next_pages-n)
 
 pub agreeing-same-requires : goal.agreeing-same-requires
-agreeing-same-requires c lent = omega (
-  arith,
-  long (goal.at.agreeing-same-requires c).After-next_pages-n,
-  within
-      (goal.at.agreeing-same-requires c).After-next_pages-n,
-  c.requires.5 lent,
-)
+agreeing-same-requires c =
+    known_fewer _ _ c.args.known
+    (omega (arith, long (goal.at.agreeing-same-requires c).After-next_pages-n, within (goal.at.agreeing-same-requires c).After-next_pages-n))
+    c.requires.5
 
 pub overflow_mul-page-in-loop-page-2 : goal.overflow_mul-page-in-loop-page-2
 overflow_mul-page-in-loop-page-2 c = omega (
@@ -332,7 +329,7 @@ pub returns-then-same-n : goal.returns-then-same-n
 returns-then-same-n c =
     let l = c.loop-page in
     let ends =
-    block-ends c.args.known.now (prints (goal.at.returns-then-same-n c).Start) (block (goal.at.returns-then-same-n c).After-next_pages-n) l.page
+    block-ends c.args.known (prints (goal.at.returns-then-same-n c).Start) (block (goal.at.returns-then-same-n c).After-next_pages-n) l.page
     c.next_pages-n.result (marks (goal.at.returns-then-same-n c).After-next_pages-n) (fits (goal.at.returns-then-same-n c).After-next_pages-n)
     c.agreeing-same.result c.agreeing-same.ensures
     c.if-same-n.true in
@@ -352,7 +349,7 @@ pub loop-page-preserved : goal.loop-page-preserved
 loop-page-preserved c =
     let l = c.loop-page in
     let agrees =
-    block_agrees c.args.known.now (prints (goal.at.loop-page-preserved c).Start) (block (goal.at.loop-page-preserved c).After-next_pages-n) l.page
+    block_agrees c.args.known (prints (goal.at.loop-page-preserved c).Start) (block (goal.at.loop-page-preserved c).After-next_pages-n) l.page
     c.next_pages-n.result (marks (goal.at.loop-page-preserved c).After-next_pages-n) (fits (goal.at.loop-page-preserved c).After-next_pages-n)
     c.agreeing-same.result c.agreeing-same.ensures
     c.if-same-n.false in (
@@ -369,7 +366,7 @@ shape_of-out c = c.loop-page.invariant.2
 pub returns : goal.returns
 returns c =
     let l = c.loop-page in
-    let known = c.args.known.now in
+    let known = c.args.known in
     let reached = count-reached c.args.x.size (length (file (goal.at.returns c).Start).bytes) l.page (positive (goal.at.returns c).Start) (omega arith) in
     let none : drop l.page (prints (goal.at.returns c).Start) ≡ [] = drop_of_length-le (prints (goal.at.returns c).Start) {i = l.page}
     (omega (arith, many (goal.at.returns c).Start)) in
