@@ -12,7 +12,9 @@ ghost use Rattle.page_marks.specs.Marks.{Begun, BegunBy, Reduced, Finished};
 use lookups::KeyTable;
 
 // The first bytes of each of the pages, `whole` of them, in groups of eight, a mark for each page: two pages side by side, which do not wait
-// for each other. Where the last page has none beside it, it is fed beside itself.
+// for each other. Where the last page has none beside it, it is fed beside itself. A function of its own in the machine code, where the address
+// of the table stays in a register: 16-byte pages take a fifth longer where it is not.
+#[inline(never)]
 pub fn begin_pages(marks: &mut [u64], eights: &[u64], size: usize, whole: usize, pages: &[u8])
     requires { (length eights.now ≡ 2048) × (8 ≤ whole) × (whole % 8 ≡ 0) × (whole ≤ size)
         × (length marks.old * size ≤ length pages.now) }

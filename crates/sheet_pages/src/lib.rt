@@ -2,7 +2,7 @@
 // require, every caller proves.
 #![tactic(auto)]
 
-ghost use Rattle.std.specs.Prelude.{◌≡◌, false, ◌*◌, ◌≤◌, length};
+ghost use Rattle.std.specs.Prelude.{◌≡◌, false, ◌*◌, ◌/◌, ◌≤◌, ◌<◌, min, length};
 ghost use Rattle.gf2.specs.Moduli.{polynomial, Proper};
 ghost use Rattle.files.specs.Files.{fingerprint, as_part, part_bits, misused};
 ghost use Rattle.sheets.specs.Sheets.{page_of};
@@ -42,6 +42,17 @@ pub struct Paging {
     pub size: usize,
     pub used: u32,
     pub filled: bool,
+}
+
+// How many whole pages the next block has: all that are left, at most 64. The comparison spares a division for each full block.
+fn block(left: usize, size: usize) -> usize
+    requires { (0 < size) × (size ≤ 4096) }
+    ensures { result ≡ min (left / size) 64 }
+{
+    if 64 * size <= left {
+        return 64;
+    }
+    left / size
 }
 
 // The fingerprints of whole pages, one for each of the marks: by folding where there is no table.
@@ -99,7 +110,7 @@ pub fn next_pages(
     ensures { NextPages (filling x.filled) (polynomial x.p) x.size (as_part rest.now x.used) result
         marks.old marks.new }
 {
-    let n = (files::whole_bytes(rest, x.used) / x.size).min(64);
+    let n = block(files::whole_bytes(rest, x.used), x.size);
     whole_marks(&mut marks[..n], tables, x, rest);
     if n == 64 || rest.len() <= n * x.size {
         return n;

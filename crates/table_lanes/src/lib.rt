@@ -20,13 +20,20 @@ pub struct Lanes {
     pub d: u64,
 }
 
-// Four bytes more in each of four lanes of n bytes: four chains of look-ups that do not wait for each other.
+// Four bytes more in each of four lanes of n bytes: four chains of look-ups that do not wait for each other. The bytes are read before the first
+// look-up, so that the compiler knows four of them as one load.
 fn feed_turn(table: KeyTable<'_>, x: &mut [u64; 4], part: &[u8], n: usize, i: usize)
     requires { (i + 4 ≤ n) × (4 * n ≤ length part.now) }
     ensures { EachLane (λ j. FourMore table.entry.p part.now (i + j * n) (get_or x.old j 0) (get_or x.new j 0)) }
 {
+    let v = [
+        big_endian::four_at(part, i),
+        big_endian::four_at(part, i + n),
+        big_endian::four_at(part, i + 2 * n),
+        big_endian::four_at(part, i + 3 * n),
+    ];
     for (j, y) in x.iter_mut().enumerate() {
-        *y = table.append(*y, big_endian::four_at(part, i + j * n));
+        *y = table.append(*y, v[j]);
     }
 }
 

@@ -18,11 +18,11 @@ use Rattle.sheet_pages.proofs.next_pages.Goals.{then-n-eq64-via-then-n-eq64, the
 pub returns-then-n-eq64 : goal.returns-then-n-eq64
 returns-then-n-eq64 c =
     let a = c.args in
-    let n = c.min-n.result in
+    let n = c.block-n.result in
     let w = c.whole_bytes in
-    let seen : length (take n a.marks.now) ≡ n = length-take-le n a.marks.now (omega (arith, c.requires.3, c.min-n.ensures)) in
+    let seen : length (take n a.marks.now) ≡ n = length-take-le n a.marks.now (omega (arith, c.requires.3, c.block-n.ensures)) in
     next-whole _ (polynomial a.x.p) a.x.size n w.result (as_part a.rest.now a.x.used) a.marks.now c.whole_marks.new.marks c.requires.1 w.ensures.0
-    c.min-n.ensures (c.whole_marks.auto.marks ∙ seen) c.requires.3 (λ i l. c.whole_marks.ensures i (omega (arith, l, seen)))
+    c.block-n.ensures (c.whole_marks.auto.marks ∙ seen) c.requires.3 (λ i l. c.whole_marks.ensures i (omega (arith, l, seen)))
     (λ d.
     elim c.then-n-eq64.branch [
       | then-n-eq64-via-then-n-eq64 w ↦ absurd (d w.if-n-eq64.true)
@@ -32,9 +32,9 @@ returns-then-n-eq64 c =
 pub last_page-requires : goal.last_page-requires
 last_page-requires c =
     let a = c.args in
-    let from = c.min-n.result * a.x.size in
+    let from = c.block-n.result * a.x.size in
     let same = all_left a.rest.now from in
-    let fits = short a.x.size c.min-n.result c.whole_bytes.result (as_part a.rest.now a.x.used) c.requires.1 c.whole_bytes.ensures.0 c.min-n.ensures
+    let fits = short a.x.size c.block-n.result c.whole_bytes.result (as_part a.rest.now a.x.used) c.requires.1 c.whole_bytes.ensures.0 c.block-n.ensures
     c.if-n-eq64.false in (
       c.requires.0,
       omega (arith, ap length same ∙ length-drop from a.rest.now, fits),
@@ -45,11 +45,11 @@ last_page-requires c =
 pub returns : goal.returns
 returns c =
     let a = c.args in
-    let n = c.min-n.result in
+    let n = c.block-n.result in
     let w = c.whole_bytes in
-    let seen : length (take n a.marks.now) ≡ n = length-take-le n a.marks.now (omega (arith, c.requires.3, c.min-n.ensures)) in
+    let seen : length (take n a.marks.now) ≡ n = length-take-le n a.marks.now (omega (arith, c.requires.3, c.block-n.ensures)) in
     next-last _ (polynomial a.x.p) a.x.size n w.result (as_part a.rest.now a.x.used) a.marks.now c.whole_marks.new.marks c.requires.1 w.ensures.0
-    c.min-n.ensures (c.whole_marks.auto.marks ∙ seen) c.requires.3 (λ i l. c.whole_marks.ensures i (omega (arith, l, seen))) c.if-n-eq64.false
+    c.block-n.ensures (c.whole_marks.auto.marks ∙ seen) c.requires.3 (λ i l. c.whole_marks.ensures i (omega (arith, l, seen))) c.if-n-eq64.false
     c.if-rest-n.false c.last_page.result
     (c.last_page.ensures
     ∙ ap (λ (q : List ℕ). fingerprint (polynomial a.x.p) (page_of (filling a.x.filled) (8 * a.x.size) (part_bits (as_part q a.x.used))))
