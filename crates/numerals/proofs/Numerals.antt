@@ -1,20 +1,16 @@
 -- The fewest digits that hold a number are its numeral; the digit 1 in front of a word of sixteen.
 use mathlib.Core.Path.{◌≡◌, refl, sym, ap, ◌∙◌}
-use mathlib.Core.Bool.{false}
 use mathlib.Core.List.{List, [], ◌∷◌, ◌++◌}
 use Prim.Native.Nat.{ℕ, zero, suc, ◌+◌, ◌-◌, ◌/◌, ◌%◌, ◌^◌, ◌≤◌, ◌<◌}
 use native.Mathlib.Nat.{le_refl, one-mul, mul-le-mul_right, mod-eq_of_lt, pow-zero, pow-suc, one-le-pow, pow-le-pow_right}
 use native.Mathlib.Nat.{div-lt_iff_lt-mul, le-div_iff_mul-le, div-lt_self}
 use native.Mathlib.Decide.{dec_lt}
 use native.Mathlib.Omega.{arith}
-use lib.Pow.{pow-add, pow_mono}
+use lib.Dec.{lit<}
 use borrow.Author.Tests.{lt-ltb, le-ltb}
 use Rattle.io.specs.Digits.{hex_digit_ascii, last_digits, IsDigitCount}
 use Rattle.gf2.specs.Polynomials.{monic}
 use Rattle.gf2.proofs.Steps.{less_one}
-use Rattle.acceptance.specs.declared.Key.{Key}
-use Rattle.acceptance.specs.Keys.{outside}
-use Rattle.acceptance.proofs.Laws.{in_range}
 use Rattle.numerals.specs.Numerals.{digits_of, numeral}
 
 module _ (b : ℕ) (two : 1 < b) where
@@ -93,10 +89,6 @@ pub numeral_64 : (w : ℕ) → w < 2 ^ 64 → 49 ∷ last_digits 16 16 w ≡ num
 unfolding monic
 numeral_64 w l = sym (top_one 16 w l) ∙ numeral-is 16 (omega arith) (2 ^ 64 + w) 17 (omega arith, omega arith, λ m. omega arith)
 
--- below degree 64 a key's polynomial is a number of 64 bits
-pub word_fits : (x : Key) → outside x ≡ false → x.degree < 64 → 2 ^ x.degree + x.word < 2 ^ 64
-word_fits x r h =
-    let l = (in_range x r).2 in
-    let m : x.degree + 1 ≤ 64 = omega arith in
-    let p : 2 ^ (x.degree + 1) ≤ 2 ^ 64 = pow_mono m in
-    omega (arith, l, p, pow-add 2 x.degree 1)
+-- all sixteen digits of a word
+pub all_sixteen : (w : ℕ) → w < 2 ^ 64 → {k : ℕ} → IsDigitCount 16 16 w k → k ≡ 16
+all_sixteen w fits {k} few = omega (arith, few.0, fewest-le 16 (lit< tt) 16 16 w k (omega arith) fits few)

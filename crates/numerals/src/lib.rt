@@ -1,85 +1,77 @@
-// Texts and numbers in digits, put into a lent buffer. These functions are for the project's own crates: what they require, every caller proves.
+// Numbers in digits, and texts put into a lent buffer. These functions are for the project's own crates: what they require, every caller proves.
 #![tactic(auto)]
 
-ghost use Rattle.std.specs.Prelude.{◌≡◌, false, ◌+◌, ◌≤◌, ◌++◌, length};
-ghost use Rattle.gf2.specs.Polynomials.{monic};
+ghost use Rattle.std.specs.Prelude.{◌≡◌, false, ◌≤◌, length, take, flat_map};
 ghost use Rattle.acceptance.specs.Keys.{polynomial_of, outside};
 ghost use Rattle.numerals.specs.Numerals.{numeral};
-ghost use Rattle.numerals.specs.Buffers.{put_at};
+ghost use Rattle.numerals.specs.Buffers.{PutInFront};
 
 use acceptance::Key;
 
-// Puts a text at a place of a buffer, and answers the place behind it.
-pub fn put(out: &mut [u8], at: usize, text: &[u8]) -> usize
-    requires { at + length text.now ≤ length out.old }
-    ensures value { result ≡ at + length text.now }
-    ensures out_after { out.new ≡ put_at out.old at text.now }
-{
-    let next = at + text.len();
-    out[at..next].copy_from_slice(text);
-    next
+// Digits at the front of an array that has room for the most.
+#[derive(Clone, Copy)]
+pub struct Digits<const N: usize> {
+    pub bytes: [u8; N],
+    pub count: usize,
+    pub ghost in_bounds: { count ≤ N },
 }
 
-// The same of two texts, one behind the other.
-fn put_both(out: &mut [u8], at: usize, first: &[u8], second: &[u8]) -> usize
-    requires { at + length first.now + length second.now ≤ length out.old }
-    ensures value { result ≡ at + length (first.now ++ second.now) }
-    ensures out_after { out.new ≡ put_at out.old at (first.now ++ second.now) }
-{
-    let next = put(out, at, first);
-    put(out, next, second)
-}
-
-// The same of a label and a number in decimal.
-pub fn put_decimal(out: &mut [u8], at: usize, label: &[u8], n: u64) -> usize
-    requires { at + length label.now + 20 ≤ length out.old }
-    ensures value { result ≡ at + length (label.now ++ numeral 10 n) }
-    ensures upper_bound { result ≤ at + length label.now + 20 }
-    ensures out_after { out.new ≡ put_at out.old at (label.now ++ numeral 10 n) }
-{
-    let mut digits = [0u8; 20];
-    let k = io::decimal(n, &mut digits);
-    put_both(out, at, label, &digits[..k])
-}
-
-// The same of a label and a number in hexadecimal.
-pub fn put_hex(out: &mut [u8], at: usize, label: &[u8], n: u64) -> usize
-    requires { at + length label.now + 16 ≤ length out.old }
-    ensures value { result ≡ at + length (label.now ++ numeral 16 n) }
-    ensures upper_bound { result ≤ at + length label.now + 16 }
-    ensures out_after { out.new ≡ put_at out.old at (label.now ++ numeral 16 n) }
-{
-    let mut digits = [0u8; 16];
-    let k = io::hex(n, 1, &mut digits);
-    put_both(out, at, label, &digits[..k])
-}
-
-// The same of a label and t^64 with a word below it in hexadecimal: the digit 1, and all sixteen of the word.
-fn put_seventeen(out: &mut [u8], at: usize, label: &[u8], word: u64) -> usize
-    requires { at + length label.now + 17 ≤ length out.old }
-    ensures value { result ≡ at + length (label.now ++ numeral 16 (monic 64 word)) }
-    ensures upper_bound { result ≤ at + length label.now + 17 }
-    ensures out_after { out.new ≡ put_at out.old at (label.now ++ numeral 16 (monic 64 word)) }
-{
-    let mut digits = [0u8; 16];
-    let k = io::hex(word, 16, &mut digits);
-    let next = put_both(out, at, label, b"1");
-    put(out, next, &digits[..k])
-}
-
-// The same of a label and a key's polynomial in hexadecimal.
-pub fn put_polynomial(out: &mut [u8], at: usize, label: &[u8], x: Key) -> usize
-    requires label_in_bounds { at + length label.now + 17 ≤ length out.old }
-    requires x_value { outside x ≡ false }
-    ensures value { result ≡ at + length (label.now ++ numeral 16 (polynomial_of x)) }
-    ensures upper_bound { result ≤ at + length label.now + 17 }
-    ensures out_after { out.new ≡ put_at out.old at (label.now ++ numeral 16 (polynomial_of x)) }
-{
-    let k = x.degree;
-    let word = x.word;
-    if k == 64 {
-        return put_seventeen(out, at, label, word);
+impl<const N: usize> Digits<N> {
+    pub fn text(&self) -> &[u8]
+        ensures { result.now ≡ take self.now.count self.now.bytes }
+    {
+        &self.bytes[..self.count]
     }
-    let power: u64 = 1 << k;
-    put_hex(out, at, label, power + word)
+}
+
+// A number in decimal.
+pub fn decimal(n: u64) -> Digits<20>
+    ensures { take result.count result.bytes ≡ numeral 10 n }
+{
+    let mut bytes = [0u8; 20];
+    let count = io::decimal(n, &mut bytes);
+    Digits { bytes, count }
+}
+
+// A number in hexadecimal.
+pub fn hexadecimal(n: u64) -> Digits<16>
+    ensures { take result.count result.bytes ≡ numeral 16 n }
+{
+    let mut bytes = [0u8; 16];
+    let count = io::hex(n, 1, &mut bytes);
+    Digits { bytes, count }
+}
+
+// A key's polynomial in hexadecimal. Of degree 64 it is the digit 1, and all sixteen of the word.
+pub fn polynomial(x: Key) -> Digits<17>
+    requires { outside x ≡ false }
+    ensures { take result.count result.bytes ≡ numeral 16 (polynomial_of x) }
+{
+    let mut bytes = [b'1'; 17];
+    if x.degree == 64 {
+        let mut word = [0u8; 16];
+        io::hex(x.word, 16, &mut word);
+        bytes[1..].copy_from_slice(&word);
+        return Digits { bytes, count: 17 };
+    }
+    let below = hexadecimal((1 << x.degree) + x.word);
+    bytes[..16].copy_from_slice(&below.bytes);
+    Digits {
+        bytes,
+        count: below.count,
+    }
+}
+
+// Puts texts at the front of a buffer, one behind the other, and answers how many bytes they have.
+pub fn put(out: &mut [u8], texts: &[&[u8]]) -> usize
+    requires { length (flat_map (λ text. text.now) texts.now) ≤ length out.old }
+    ensures { PutInFront out.old out.new result (flat_map (λ text. text.now) texts.now) }
+{
+    let mut count = 0;
+    for text in texts {
+        let next = count + text.len();
+        out[count..next].copy_from_slice(text);
+        count = next;
+    }
+    count
 }

@@ -14,27 +14,37 @@ pub fn report(m: Running, out: &mut [u8; 96]) -> usize
     requires { outside m.key ≡ false }
     ensures { PutInFront out.old out.new result (report m) }
 {
-    let key = m.key;
-    let fingerprint = m.fingerprint;
-    let bytes = m.length / 8;
-    let a = numerals::put_decimal(out, 0, b"key ", key.degree as u64);
-    let b = numerals::put_polynomial(out, a, b" ", key);
-    let c = numerals::put_decimal(out, b, b"\nbytes ", bytes);
-    let d = numerals::put_hex(out, c, b"\nmark ", fingerprint);
-    numerals::put(out, d, b"\n")
+    let degree = numerals::decimal(m.key.degree as u64);
+    let key = numerals::polynomial(m.key);
+    let bytes = numerals::decimal(m.length / 8);
+    let mark = numerals::hexadecimal(m.fingerprint);
+    numerals::put(
+        out,
+        &[
+            b"key ",
+            degree.text(),
+            b" ",
+            key.text(),
+            b"\nbytes ",
+            bytes.text(),
+            b"\nmark ",
+            mark.text(),
+            b"\n",
+        ],
+    )
 }
 
 // The line of a refusal.
 pub fn refusal(r: Refusal, out: &mut [u8; 96]) -> usize
     ensures { PutInFront out.old out.new result (refused r) }
 {
-    let a = numerals::put_decimal(out, 0, b"refused ", refusals::number(r) as u64);
-    numerals::put(out, a, b"\n")
+    let number = numerals::decimal(refusals::number(r) as u64);
+    numerals::put(out, &[b"refused ", number.text(), b"\n"])
 }
 
 // The line where the input gives no key.
 pub fn no_key(out: &mut [u8; 96]) -> usize
     ensures { PutInFront out.old out.new result no_key }
 {
-    numerals::put(out, 0, b"no key\n")
+    numerals::put(out, &[b"no key\n"])
 }

@@ -1,12 +1,15 @@
--- `printing::refusal` meets its contract: the label with the number, and a newline behind it.
-use native.Mathlib.Omega.{arith}
+-- `printing::refusal` meets its contract: the label, the number and a newline.
+use mathlib.Core.Path.{ap, subst, ◌∙◌}
+use mathlib.Core.List.{List, ◌++◌}
+use Prim.Native.Nat.{ℕ}
+use Rattle.numerals.specs.Numerals.{numeral}
+use Rattle.numerals.specs.Buffers.{PutInFront}
 use Rattle.printing.specs.Printing.{ascii, refused}
-use Rattle.numerals.proofs.Buffers.{put-number, put_next, whole}
 use Rattle.printing.proofs.refusal.Goals as goal
 
 pub returns : goal.returns
 unfolding refused ascii
 returns c =
-    let d = c.put_decimal-a in
-    let line = put-number c.args.out.now 0 (ascii "refused ") 10 c.number.ensures d.ensures.value d.ensures.out_after in
-    whole (omega arith) (put_next (omega arith) line (ascii "\n") c.put.ensures.value c.put.ensures.out_after)
+    subst (λ (digits : List ℕ). PutInFront c.args.out.now c.put.new.out c.put.result (ascii "refused " ++ digits ++ ascii "\n"))
+    (c.text.ensures ∙ c.decimal-number.ensures ∙ ap (numeral 10) c.number.ensures)
+    c.put.ensures
