@@ -21,7 +21,8 @@ loop-block-preserved c =
     let e = c.in-Some.ensures.steps in (
       e.0 ∙ l.invariant.0,
       t.auto.q ∙ l.invariant.1,
-      block_before house-pos l.block-iterator.rest.now c.in-Some.block.now c.next.new.self.rest.now (folded exponents a.s l.q 0) (folded exponents a.s t.new.q 0)
+      block_before house-pos l.block-iterator.rest.now c.in-Some.block.now c.next.new.self.rest.now (folded exponents a.s l.q 0)
+          (folded exponents a.s t.new.q 0)
           e.1.0
           t.ensures
           ∙ l.invariant.2,
