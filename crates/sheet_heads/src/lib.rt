@@ -56,18 +56,16 @@ fn head_in(sheet: &[u8], version: u64, v: Fields) -> Option<Head>
     ensures { HeaderOf sheet.now
         (ltb (length sheet.now) (sheet_length (layout_of version) 0) || ltb longest (length_in (layout_of version) sheet.now)) result }
 {
-    let length_place = sheet_layout::KEY_PLACE + v.key;
-    let size_place = length_place + v.length;
-    let place = size_place + v.size;
+    let place = v.pages_place();
     if sheet.len() < place + 8 {
         return None;
     }
-    let length = v.unit * big_endian::number_at(sheet, length_place, v.length);
+    let length = v.unit * big_endian::number_at(sheet, v.length_place(), v.length);
     if refusals::LONGEST < length {
         return None;
     }
     let key = key_in(sheet, v.paired);
-    let size = big_endian::number_at(sheet, size_place, v.size);
+    let size = big_endian::number_at(sheet, v.size_place(), v.size);
     Some(Head {
         version,
         key,
@@ -106,8 +104,6 @@ pub fn put_head(buffer: &mut [u8], key: Key, n: u64, size: u64)
     let counted = n / v.unit;
     let degree_place = sheet_layout::KEY_PLACE;
     let word_place = sheet_layout::WORD_PLACE;
-    let length_place = sheet_layout::KEY_PLACE + v.key;
-    let size_place = length_place + v.length;
     big_endian::put(buffer, 0, sheet_layout::LETTERS_WIDTH, LETTERS);
     big_endian::put(
         buffer,
@@ -122,6 +118,6 @@ pub fn put_head(buffer: &mut [u8], key: Key, n: u64, size: u64)
         u64::from(key.degree),
     );
     big_endian::put(buffer, word_place, 8, key.word);
-    big_endian::put(buffer, length_place, v.length, counted);
-    big_endian::put(buffer, size_place, v.size, size);
+    big_endian::put(buffer, v.length_place(), v.length, counted);
+    big_endian::put(buffer, v.size_place(), v.size, size);
 }

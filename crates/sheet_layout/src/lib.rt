@@ -34,6 +34,32 @@ pub struct Fields {
     pub filled: bool,
 }
 
+impl Fields {
+    // Where the length begins.
+    pub fn length_place(self) -> usize
+        requires { self.key ≤ 9 }
+        ensures { result ≡ 5 + self.key }
+    {
+        KEY_PLACE + self.key
+    }
+
+    // Where the page size begins.
+    pub fn size_place(self) -> usize
+        requires { (self.key ≤ 9) × (self.length ≤ 8) }
+        ensures { result ≡ 5 + self.key + self.length }
+    {
+        self.length_place() + self.length
+    }
+
+    // Where the fingerprints begin.
+    pub fn pages_place(self) -> usize
+        requires { (self.key ≤ 9) × (self.length ≤ 8) × (self.size ≤ 2) }
+        ensures { result ≡ 5 + self.key + self.length + self.size }
+    {
+        self.size_place() + self.size
+    }
+}
+
 // The fields of each version: what it changes of the one before.
 const VERSION_1: Fields = Fields {
     key: 8,
@@ -85,8 +111,7 @@ pub fn fields_of(version: u64) -> Option<Fields>
 pub fn pages_place() -> usize
     ensures { (result ≡ page_place (layout_of newest.version) 0) × (result < 32) }
 {
-    let v = newest();
-    KEY_PLACE + v.key + v.length + v.size
+    newest().pages_place()
 }
 
 // The part of a sheet that begins with the fingerprints, from their place on.

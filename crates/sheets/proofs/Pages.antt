@@ -306,9 +306,6 @@ pages-last v p s n file h =
 pub all_left : (file : List ℕ) (at : ℕ) → take (length file - at) (drop at file) ≡ drop at file
 all_left file at = take_all (length file - at) (drop at file) (rw (length-drop at file) (le_refl (length file - at)))
 
-pub count-whole : (s n : ℕ) → 0 < s → n / s ≤ page_count s n
-count-whole s n h = (le-div_iff_mul-le h).1 (omega (arith, div-add-mod' n s))
-
 -- m pages and one more, which has what they leave
 pub count_next : (s n m : ℕ) → 0 < s → m * s < n → n ≤ m * s + s → page_count s n ≡ m + 1
 count_next s n m h l r =
@@ -317,16 +314,6 @@ count_next s n m h l r =
       count-le s n (m + 1) h (omega (arith, add-mul m 1 s)),
       count-reached s n (m + 1) h (omega (arith, add-mul m 1 s)),
     )
-
--- ---- how many pages there are beside the whole ones
-
--- none where these are the file
-pub count-exact : (s n : ℕ) → 0 < s → n ≤ n / s * s → page_count s n ≡ n / s
-count-exact s n h l = omega (arith, count-reached s n (n / s) h l, count-whole s n h)
-
--- else one
-pub count-more : (s n : ℕ) → 0 < s → n / s * s < n → page_count s n ≡ n / s + 1
-count-more s n h l = count_next s n (n / s) h l (omega (arith, last-short s n h))
 
 -- the pages of a part, by its bytes and by its bits
 pub part-pages : (s : ℕ) (p : Part) → 0 < s → page_count s (length p.bytes) ≡ page_count (8 * s) (part_length p)

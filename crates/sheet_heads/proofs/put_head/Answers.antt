@@ -40,8 +40,10 @@ returns c =
     let small : key.word < 2 ^ 64 = omega arith in
     let degree = c.put-3.ensures ∙ ap (λ (n : ℕ). sets c.put-2.new.bytes 5 (bytes_of 1 n)) c.from.ensures in
     let pair = store_pair (layout_of newest.version).paired key _ 5 _ _ _ paired (wide (goal.at.returns c).After-newest-v) small degree c.put-4.ensures in
+    let length = rw c.length_place.ensures at c.put-5.ensures in
+    let size = rw c.size_place.ensures at c.put-6.ensures in
     rw (c.newest-v.ensures.widths, c.newest-v.ensures.unit)
     (store_field _ _ _ _ _ _ _ _ c.put.ensures
     (store_field _ _ _ _ _ _ _ _ c.put-2.ensures
     (store_field _ _ _ _ _ _ _ _ pair
-    (store_field _ _ _ _ _ _ _ _ c.put-5.ensures (store_field _ _ _ _ _ _ _ _ c.put-6.ensures (store_none _ _ _))))))
+    (store_field _ _ _ _ _ _ _ _ length (store_field _ _ _ _ _ _ _ _ size (store_none _ _ _))))))
