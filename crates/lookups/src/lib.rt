@@ -144,7 +144,7 @@ impl KeyTable<'_> {
         let mut x = f;
         let (groups, tail) = part.as_chunks::<4>();
         for group in groups {
-            x = self.append(x, big_endian::four_at(group, 0));
+            x = self.append(x, u32::from_be_bytes(*group));
         }
         self.feed_tail(below(self.p, x), tail)
     }

@@ -2,7 +2,7 @@
 // crates: what they require, every caller proves.
 #![tactic(auto)]
 
-ghost use Rattle.std.specs.Prelude.{◌≡◌, ◌*◌, ◌%◌, ◌≤◌, ◌<◌, length};
+ghost use Rattle.std.specs.Prelude.{◌≡◌, ◌+◌, ◌-◌, ◌*◌, ◌%◌, ◌≤◌, ◌<◌, min, length};
 ghost use Rattle.gf2.specs.Polynomials.{rem};
 ghost use Rattle.gf2.specs.Moduli.{polynomial};
 ghost use Rattle.files.specs.Files.{bits, value_from};
@@ -11,8 +11,16 @@ ghost use Rattle.page_marks.specs.Marks.{Begun, BegunBy, Reduced, Finished};
 
 use lookups::KeyTable;
 
+// The page that is fed beside page i, of n pages: the next one, or page i itself where it is the last.
+fn beside(i: usize, n: usize) -> usize
+    requires { i < n }
+    ensures { result ≡ min (i + 1) (n - 1) }
+{
+    if i < n - 1 { i + 1 } else { i }
+}
+
 // The first bytes of each of the pages, `whole` of them, in groups of eight, a mark for each page: two pages side by side, which do not wait
-// for each other. Where the last page has none beside it, it is fed beside itself. A function of its own in the machine code, where the address
+// for each other. A function of its own in the machine code, where the address
 // of the table stays in a register: 16-byte pages take a fifth longer where it is not.
 #[inline(never)]
 pub fn begin_pages(marks: &mut [u64], eights: &[u64], size: usize, whole: usize, pages: &[u8])
@@ -22,7 +30,7 @@ pub fn begin_pages(marks: &mut [u64], eights: &[u64], size: usize, whole: usize,
 {
     let n = marks.len();
     for i in (0..n).step_by(2) {
-        let j = (i + 1).min(n - 1);
+        let j = beside(i, n);
         let a = i * size;
         let b = j * size;
         let x = shifts::feed_eights(eights, &pages[a..a + whole], &pages[b..b + whole]);
