@@ -6,7 +6,7 @@ use Rattle.gf2.specs.declared.Modulus.{Modulus}
 use Rattle.files.specs.Files.{Part, part_length, part_bits}
 use Rattle.multiples.specs.Rows.{SameFrom}
 use Rattle.house.specs.House.{house_key}
-use Rattle.sheet_pages.specs.declared.tables.PageTables.{PageTables}
+use Rattle.sheet_pages.specs.declared.page_tables.PageTables.{PageTables}
 use Rattle.sheets.specs.Layout.{Layout, page_count}
 use Rattle.sheets.specs.Sheets.{page_fingerprints}
 

@@ -10,11 +10,11 @@ ghost use Rattle.sheets.specs.Inner.{filling};
 ghost use Rattle.sheet_pages.specs.Blocks.{FedBy, NextPages};
 ghost use Rattle.page_marks.specs.Marks.{Finished};
 
-mod tables;
+mod page_tables;
 
 use gf2::Modulus;
 use lookups::KeyTable;
-pub use tables::PageTables;
+pub use page_tables::PageTables;
 
 // The tables made where they are read: none where pages are folded.
 pub fn make_tables<'a>(

@@ -7,4 +7,5 @@ use Rattle.page_marks.specs.Marks.{Finished}
 use Rattle.page_marks.proofs.finish_pages.Given as goal
 
 abbrev pub invariant-loop-i : goal.invariant-loop-i
-invariant-loop-i l = (length l.marks ≡ length l.initial.marks) × Finished (polynomial l.table.p) l.size l.i l.pages l.marks × SameFrom l.i l.initial.marks l.marks
+invariant-loop-i l = (length l.marks ≡ length l.initial.marks) × Finished (polynomial l.table.p) l.size l.i l.pages l.marks × SameFrom l.i l.initial.marks
+    l.marks
