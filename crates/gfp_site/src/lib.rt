@@ -10,6 +10,7 @@ ghost use Rattle.compose.specs.Composing.{join_behind, join_in_front, replace_pa
 ghost use Rattle.compose.specs.PlainMarks.{join_plain_behind, join_plain_in_front};
 
 use files::Mark;
+use marks::Running;
 
 // The file of the mark (other_fingerprint, other_bits) goes behind the file of the mark in the two places; lengths are in bits.
 // Numbers 1, 2, 7, 8.
@@ -25,7 +26,7 @@ pub extern "C" fn gfp_join_behind(
     ensures { (result ≡ number_of (join_behind (key_at degree word) (mark_at fingerprint.old bits.old) (mark_at other_fingerprint other_bits)))
         × (mark_at fingerprint.new bits.new ≡ state_of (join_behind (key_at degree word) (mark_at fingerprint.old bits.old) (mark_at other_fingerprint other_bits))) }
 {
-    let m = c_interface::running(degree, word, *fingerprint, *bits);
+    let m: Running = c_interface::running(degree, word, *fingerprint, *bits);
     let behind = Mark {
         fingerprint: other_fingerprint,
         length: other_bits,
@@ -46,7 +47,7 @@ pub extern "C" fn gfp_join_in_front(
     ensures { (result ≡ number_of (join_in_front (key_at degree word) (mark_at fingerprint.old bits.old) (mark_at other_fingerprint other_bits)))
         × (mark_at fingerprint.new bits.new ≡ state_of (join_in_front (key_at degree word) (mark_at fingerprint.old bits.old) (mark_at other_fingerprint other_bits))) }
 {
-    let m = c_interface::running(degree, word, *fingerprint, *bits);
+    let m: Running = c_interface::running(degree, word, *fingerprint, *bits);
     let front = Mark {
         fingerprint: other_fingerprint,
         length: other_bits,
@@ -67,7 +68,7 @@ pub extern "C" fn gfp_join_plain_behind(
     ensures { (result ≡ number_of (join_plain_behind (key_at degree word) (mark_at fingerprint.old bits.old) (mark_at other_fingerprint other_bits)))
         × (mark_at fingerprint.new bits.new ≡ state_of (join_plain_behind (key_at degree word) (mark_at fingerprint.old bits.old) (mark_at other_fingerprint other_bits))) }
 {
-    let m = c_interface::running(degree, word, *fingerprint, *bits);
+    let m: Running = c_interface::running(degree, word, *fingerprint, *bits);
     let other = Mark {
         fingerprint: other_fingerprint,
         length: other_bits,
@@ -88,7 +89,7 @@ pub extern "C" fn gfp_join_plain_in_front(
     ensures { (result ≡ number_of (join_plain_in_front (key_at degree word) (mark_at fingerprint.old bits.old) (mark_at other_fingerprint other_bits)))
         × (mark_at fingerprint.new bits.new ≡ state_of (join_plain_in_front (key_at degree word) (mark_at fingerprint.old bits.old) (mark_at other_fingerprint other_bits))) }
 {
-    let m = c_interface::running(degree, word, *fingerprint, *bits);
+    let m: Running = c_interface::running(degree, word, *fingerprint, *bits);
     let other = Mark {
         fingerprint: other_fingerprint,
         length: other_bits,
@@ -115,7 +116,7 @@ pub extern "C" fn gfp_replace_page(
         × (mark_at fingerprint.new bits.new ≡ state_of (replace_page (key_at degree word) (mark_at fingerprint.old bits.old) place
         (as_part old_page.now old_used) (as_part new_page.now new_used))) }
 {
-    let m = c_interface::running(degree, word, *fingerprint, *bits);
+    let m: Running = c_interface::running(degree, word, *fingerprint, *bits);
     c_interface::store(
         compose::replace_page(m, place, old_page, old_used, new_page, new_used),
         fingerprint,
