@@ -14,15 +14,6 @@ feed_one-longer-requires c =
     let r = c.requires.0 in
     (r.reduce, read_below a.s.modulus r.reduce.0 a.text.now a.i a.s.m a.g c.requires.2)
 
-pub overflow_cast-first : goal.overflow_cast-first
-overflow_cast-first c = omega (arith, c.shared_slice_known-4-1.given c.args.i)
-
-pub offset_bounds-outgoing-first : goal.offset_bounds-outgoing-first
-offset_bounds-outgoing-first c = omega (arith, c.shared_slice_known-4-1.given c.args.i)
-
-pub bounds-outgoing-first : goal.bounds-outgoing-first
-bounds-outgoing-first c = omega (arith, c.shared_slice_known-4-1.given c.args.i)
-
 pub returns : goal.returns
 unfolding ◌⊕◌
 returns c =

@@ -6,7 +6,7 @@ use lib.ListN.{get_or}
 use Rattle.gf2.specs.Polynomials.{rem}
 use Rattle.lookups.specs.Groups.{ReducesByte}
 use Rattle.rolling.specs.Rolling.{window, residue, key_of}
-use Rattle.rolling.proofs.Residues.{read_none, read_below, read_more, read_all, same_place}
+use Rattle.rolling.proofs.Residues.{read_none, read_below, read_more}
 use Rattle.rolling.proofs.start_lanes.Goals as goal
 use Rattle.rolling.proofs.start_lanes.Goals.{Start}
 
@@ -54,16 +54,4 @@ loop-j-preserved c =
       more 256 l.b _ (omega arith) (omega (arith, byte (at + 256))) l.invariant.0 c.feed_one-b.ensures,
       more 512 l.c _ (omega arith) (omega (arith, byte (at + 512))) l.invariant.1 c.feed_one-c.ensures,
       more 768 l.d _ (omega arith) (omega (arith, byte (at + 768))) l.invariant.2 c.feed_one-d.ensures,
-    )
-
-pub returns : goal.returns
-returns c =
-    let a = c.args in
-    let l = c.loop-j in
-    let e : l.j ≡ a.s.m = omega arith in
-    let all = read_all a.s.modulus c.requires.0.0 a.text.now in (
-      same_place a.s a.text.now a.from (a.from + 0) a.g (omega arith) c.requires.2,
-      all (a.from + 256) l.j a.s.m l.b e l.invariant.0,
-      all (a.from + 512) l.j a.s.m l.c e l.invariant.1,
-      all (a.from + 768) l.j a.s.m l.d e l.invariant.2,
     )
