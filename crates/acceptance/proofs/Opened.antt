@@ -32,9 +32,6 @@ module _ {x : Key} {p : Modulus} (h : Opened x p) where
   range : (8 ≤ x.degree) × (x.degree ≤ 64) × (x.word < 2 ^ x.degree)
   range = in_range x h.in_range
 
-  pub opened-pos : 0 < polynomial_of x
-  opened-pos = accepted-pos key h.is-accepted
-
   -- it is the key of its polynomial
   pub opened-key : x ≡ key_of (polynomial_of x)
   opened-key = range-key x h.in_range

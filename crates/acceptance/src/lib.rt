@@ -18,9 +18,9 @@ pub fn key_of(p: u64) -> Key
     if p == 0 {
         return Key { degree: 0, word: 0 };
     }
-    let k = gf2::degree(p);
+    let degree = gf2::degree(p);
     Key {
-        degree: k,
-        word: gf2::low_bits(p, k),
+        degree,
+        word: gf2::low_bits(p, degree),
     }
 }

@@ -7,11 +7,6 @@ abbrev pub Mapped : (ℕ → ℕ) → ℕ → List ℕ → List ℕ → Type 0
 Mapped f i given rows = rows ≡ map f (take i given) ++ drop i given
 
 module _ (f : ℕ → ℕ) where
-  long : (i : ℕ) (given : List ℕ) → length (map f (take i given) ++ drop i given) ≡ length given
-  long zero given = refl
-  long (suc i) [] = refl
-  long (suc i) (r ∷ given) = ap suc (long i given)
-
   entry : (i : ℕ) (given : List ℕ) → get_or (map f (take i given) ++ drop i given) i 0 ≡ get_or given i 0
   entry zero given = refl
   entry (suc i) [] = refl
@@ -28,9 +23,6 @@ module _ (f : ℕ → ℕ) where
   whole (r ∷ given) = ap (λ (x : List ℕ). f r ∷ x) (whole given)
 
   module _ (i : ℕ) (given : List ℕ) {rows : List ℕ} (h : Mapped f i given rows) where
-    pub mapped-length : length rows ≡ length given
-    mapped-length = ap length h ∙ long i given
-
     pub mapped_at : get_or rows i 0 ≡ get_or given i 0
     mapped_at = ap (λ (x : List ℕ). get_or x i 0) h ∙ entry i given
 

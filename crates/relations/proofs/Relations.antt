@@ -48,16 +48,10 @@ module _ (c w : ℕ) where
   Added j rows given sums = sums ≡ add_where c w (take j rows) given
 
   module _ (j : ℕ) (rows given : List ℕ) {sums : List ℕ} (h : Added j rows given sums) where
-    pub added-length : length sums ≡ length given
-    added-length = ap length h ∙ length-added (take j rows) given
-
     pub added_next : {x y : ℕ} → j < length rows → y ≡ get_or rows j 0 → x ≡ y / 2 ^ c % 2 * w ⊕ get_or sums j 0 → Added (j + 1) rows given (set sums j x)
     added_next l at e =
         let same = ap (λ (t : List ℕ). get_or t j 0) h ∙ added-at j rows given in
         ap₂ (λ (t : List ℕ) (z : ℕ). set t j z) h (e ∙ ap₂ (λ (r s : ℕ). r / 2 ^ c % 2 * w ⊕ s) at same) ∙ rw add-one (more j rows given l)
-
-    pub added-whole : j ≡ length rows → sums ≡ add_where c w rows given
-    added-whole e = rw (e, take-length) at h
 
 -- ---- rows and sums
 

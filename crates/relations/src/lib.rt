@@ -11,7 +11,7 @@ ghost use Rattle.relations.specs.Adding.{add_where};
 fn chosen(x: u64, v: u64) -> u64
     ensures { result ≡ x % 2 * v }
 {
-    v & std::num::wrapping_sub_u64(0, x & 1)
+    v & (x & 1).wrapping_neg()
 }
 
 // The sum of the rows that the bits of x choose.
@@ -20,9 +20,9 @@ pub fn sum_of(x: u64, rows: &[u64]) -> u64
 {
     let mut sum: u64 = 0;
     let mut bits = x;
-    for j in 0..rows.len() {
-        sum = sum ^ chosen(bits, rows[j]);
-        bits = bits / 2;
+    for row in rows {
+        sum ^= chosen(bits, *row);
+        bits /= 2;
     }
     sum
 }
@@ -33,11 +33,11 @@ fn clear_with_sums(rows: &mut [u64], sums: &mut [u64], v: u64, w: u64, c: u32)
     ensures { (rows.new ≡ map (clear c v) rows.old)
         × (sums.new ≡ add_where c w rows.old sums.old) }
 {
-    for j in 0..rows.len() {
-        let r = rows[j];
-        let bits = r >> c;
-        rows[j] = chosen(bits, v) ^ r;
-        sums[j] = chosen(bits, w) ^ sums[j];
+    // By the index j, since of two slices that a zip lends by iter_mut a proof knows the lengths alone.
+    for (j, row) in rows.iter_mut().enumerate() {
+        let bits = *row >> c;
+        *row ^= chosen(bits, v);
+        sums[j] ^= chosen(bits, w);
     }
 }
 

@@ -12,10 +12,8 @@ pub fn differences(words: &[u64], at: usize, n: usize, y: u64) -> u64
 {
     let next = at + n;
     let mut sum: u64 = 0;
-    let mut i: usize = 0;
-    while i < n {
-        sum = sum | (words[next + i] ^ words[at + i] ^ y);
-        i += 1;
+    for i in 0..n {
+        sum |= words[next + i] ^ words[at + i] ^ y;
     }
     sum
 }
@@ -36,8 +34,7 @@ pub fn differences_of_eight(words: &[u64], at: usize, n: usize, y: u64, z: u64, 
     let at6 = at5 + n;
     let at7 = at6 + n;
     let mut sum: u64 = 0;
-    let mut i: usize = 0;
-    while i < n {
+    for i in 0..n {
         let w0 = words[at + i];
         let w1 = words[at1 + i];
         let w2 = words[at2 + i];
@@ -46,8 +43,7 @@ pub fn differences_of_eight(words: &[u64], at: usize, n: usize, y: u64, z: u64, 
         let twice = (w2 ^ w0 ^ z) | (w3 ^ w1 ^ z);
         let low = (words[at4 + i] ^ w0 ^ v) | (words[at5 + i] ^ w1 ^ v);
         let high = (words[at6 + i] ^ w2 ^ v) | (words[at7 + i] ^ w3 ^ v);
-        sum = sum | (once | twice | low | high);
-        i += 1;
+        sum |= once | twice | low | high;
     }
     sum
 }

@@ -16,12 +16,10 @@ fn first_holds(words: &[u64], at: usize, width: u32, p: Modulus, x: u64) -> bool
     let mut sum = words[at];
     let mut n: usize = 1;
     let mut y = x;
-    let mut b: u32 = 0;
-    while b < width {
-        sum = sum | row_differences::differences(words, at, n, y);
+    for _ in 0..width {
+        sum |= row_differences::differences(words, at, n, y);
         y = gf2::step(p, y, 0);
-        n = n * 2;
-        b += 1;
+        n *= 2;
     }
     sum == 0
 }
@@ -53,14 +51,12 @@ pub fn rows_hold(words: &[u64], width: u32, rows: usize, p: Modulus, x: u64) -> 
 {
     let size = multiples::row_size(width);
     let mut y = x;
-    let mut j: usize = 0;
-    while j < rows {
+    for j in 0..rows {
         let at = j * size;
         if !row_holds(words, at, width, p, y) {
             return false;
         }
         y = gf2::step(p, words[at + size / 2], 0);
-        j += 1;
     }
     true
 }

@@ -1,4 +1,4 @@
--- `acceptance::key_of` meets its contract: the degree of 0 is 0 by definition, and that of another word is below 64.
+-- The degree of 0 is 0 by definition, and that of another word is below 64.
 use mathlib.Core.Path.{sym, ap}
 use native.Mathlib.Omega.{arith}
 use Rattle.gf2.specs.Polynomials.{degree, halvings}
@@ -12,7 +12,4 @@ returns-then-p-eq0 c = sym (ap key_of c.if-p-eq0.true)
 
 pub low_bits-requires : goal.low_bits-requires
 low_bits-requires c =
-    omega (arith, c.degree-k.ensures, word-degree c.args.p (omega (arith, c.if-p-eq0.false)) c.ranges.p.fits)
-
-pub returns : goal.returns
-returns c = simp (c.low_bits.ensures, c.degree-k.ensures)
+    omega (arith, c.degree-degree.ensures, word-degree c.args.p (omega (arith, c.if-p-eq0.false)) c.ranges.p.fits)

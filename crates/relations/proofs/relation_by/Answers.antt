@@ -1,14 +1,8 @@
--- The loop's invariant is `Kept`. The measure is the number of rows that are left.
-use Rattle.std.proofs.Common.{◌≡◌, ◌*◌, ◌%◌, ◌^◌, ◌<◌, arith, length-drop, length-take, rules}
+use Rattle.std.proofs.Common.{◌≡◌, ◌*◌, ◌%◌, ◌^◌, arith, rules}
 use Rattle.gf2.specs.Polynomials.{◌⊕◌}
 use Rattle.gf2.proofs.Steps.{shifted_one}
 use Rattle.relations.proofs.Relations.{kept-start, pivot, kept-turn, relation_found}
 use Rattle.relations.proofs.relation_by.Goals as goal
-use Rattle.relations.proofs.relation_by.Goals.{In-loop-i}
-
--- what the arithmetic of a turn rests on
-in-turn : (c : In-loop-i) → (c.loop-i.i < c.args.k) × (c.args.k < 64)
-in-turn c = (c.loop-i-test.true, c.requires.0)
 
 pub loop-i-init : goal.loop-i-init
 loop-i-init c = kept-start c.args.rows c.args.k c.requires.0 (search rules) c.requires.2
@@ -17,11 +11,6 @@ pub lowest_one-c-requires : goal.lowest_one-c-requires
 lowest_one-c-requires c =
     let l = c.loop-i in
     pivot c.args.rows c.args.k c.requires.0 l.i l.work l.sums l.invariant c.loop-i-test.true c.requires.1
-
-pub clear_with_sums-requires : goal.clear_with_sums-requires
-clear_with_sums-requires c =
-    let l = c.loop-i in
-    (c.lowest_one-c.ensures.0, simp (length-take, length-drop, l.invariant.work_length, l.invariant.sums-length))
 
 pub loop-i-preserved : goal.loop-i-preserved
 unfolding ◌⊕◌
@@ -43,15 +32,3 @@ returns c =
     let e : l.i ≡ c.args.k = omega arith in
     relation_found c.args.rows c.args.k c.requires.0 l.work l.sums (rw e at l.invariant) (1 * 2 ^ c.args.k % 2 ^ 64)
     (shifted_one c.args.k c.requires.0)
-
-pub overflow_add-n : goal.overflow_add-n
-overflow_add-n c = omega (arith, c.requires.0)
-
-pub overflow_shl-place-2 : goal.overflow_shl-place-2
-overflow_shl-place-2 c = omega (arith, c.requires.0)
-
-pub offset_bounds-sums-last : goal.offset_bounds-sums-last
-offset_bounds-sums-last c = omega (arith, c.requires.0)
-
-pub bounds-sums-last : goal.bounds-sums-last
-bounds-sums-last c = omega (arith, c.requires.0)

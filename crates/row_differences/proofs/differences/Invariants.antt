@@ -1,12 +1,8 @@
--- `differences` meets its contract: the sum is 0 where the first i words agree.
+-- The sum is 0 where the first i words agree.
 use mathlib.Core.Path.{◌≡◌}
-use Prim.Native.Nat.{◌-◌, ◌≤◌}
 use mathlib.Core.Logic.{◌↔◌}
 use Rattle.multiples.specs.Rows.{Shifted}
 use Rattle.row_differences.proofs.differences.Given as goal
 
 abbrev pub invariant-loop-i : goal.invariant-loop-i
-invariant-loop-i l = (l.i ≤ l.n) × ((l.sum ≡ 0) ↔ Shifted l.at l.next l.i l.y l.words l.words)
-
-abbrev pub decreases-loop-i : goal.decreases-loop-i
-decreases-loop-i l = l.n - l.i
+invariant-loop-i l = (l.sum ≡ 0) ↔ Shifted l.at l.next l.i l.y l.words l.words
