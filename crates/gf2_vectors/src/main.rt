@@ -30,24 +30,16 @@ fn step(f: u64, bit: u64) -> u64
     gf2::step(KEY, f, bit)
 }
 
-// Four bits, the high bit first.
-fn half(f: u64, bits: u64) -> u64
-    requires { (f < 256) × (bits < 16) }
-    ensures { result < 256 }
-{
-    let first = step(f, bits / 8);
-    let second = step(first, bits / 4 % 2);
-    let third = step(second, bits / 2 % 2);
-    step(third, bits % 2)
-}
-
-// The eight bits of a byte.
+// The eight bits of a byte, the high bit first.
 fn fed(f: u64, byte: u64) -> u64
     requires { (f < 256) × (byte < 256) }
     ensures { result < 256 }
 {
-    let front = half(f, byte / 16);
-    half(front, byte % 16)
+    let mut x = f;
+    for i in (0..8u32).rev() {
+        x = step(x, (byte >> i) % 2);
+    }
+    x
 }
 
 // Word 256·j + i of the key's table: i·t^(8 + 8j).
@@ -120,13 +112,8 @@ fn main(rt: HostRuntime) -> io::Result<()> {
     show(&rt, b"word 257: ", word(1, 1))?;
     show(&rt, b"11b times 11d: ", gf2::product(WIDE, 0x11B, 0x11D))?;
     show(&rt, b"degree of 1071f: ", gf2::degree(0x1071F) as u64)?;
-    show_edges(&rt, 1)?;
-    show_edges(&rt, 2)?;
-    show_edges(&rt, 8)?;
-    show_edges(&rt, 31)?;
-    show_edges(&rt, 32)?;
-    show_edges(&rt, 33)?;
-    show_edges(&rt, 61)?;
-    show_edges(&rt, 63)?;
-    show_edges(&rt, 64)
+    for degree in [1, 2, 8, 31, 32, 33, 61, 63, 64] {
+        show_edges(&rt, degree)?;
+    }
+    Ok(())
 }

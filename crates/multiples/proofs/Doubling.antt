@@ -95,12 +95,6 @@ row_one {key} pos x a words l i h =
     let e : i ≡ 0 = omega arith in
     rw (e, add-zero) (get_or-set_same words a 0 0 l ∙ sym (multiple-zero pos x))
 
-pub row_before : (a : ℕ) (words : List ℕ) → SameBefore a words (set words a 0)
-row_before a words i l = get_or-set_other words a i 0 0 (λ e. omega arith)
-
-pub row-behind : (a n : ℕ) (words : List ℕ) → 0 < n → SameFrom (a + n) words (set words a 0)
-row-behind a n words h i l = get_or-set_other words a i 0 0 (λ e. omega arith)
-
 -- what a list's double keeps of a row
 pub row_kept : (key x a n : ℕ) (from words : List ℕ) → SameBefore (a + n) from words → Multiples key x a n from → Multiples key x a n words
 row_kept key x a n from words s f i l = s (a + i) (omega arith) ∙ f i l
@@ -215,12 +209,6 @@ module _ (p₀ p₁ p₂ p₃ p₄ p₅ p₆ p₇ y z v : ℕ) (words : List ℕ
       ((Shifted p₀ p₁ i y words words × (Shifted p₀ p₂ i z words words × Shifted p₁ p₃ i z words words))
       × (Shifted p₀ p₄ i v words words × Shifted p₁ p₅ i v words words))
       × (Shifted p₂ p₆ i v words words × Shifted p₃ p₇ i v words words)
-
-  none : (p q u : ℕ) → Shifted p q 0 u words words
-  none p q u i l = absurd (omega arith)
-
-  pub parts_none : Parts 0
-  parts_none = (((none p₀ p₁ y, (none p₀ p₂ z, none p₁ p₃ z)), (none p₀ p₄ v, none p₁ p₅ v)), (none p₂ p₆ v, none p₃ p₇ v))
 
   abbrev pub part_differences : ℕ → ℕ
   part_differences i =

@@ -1,14 +1,12 @@
 -- Laws of rows one behind the other, each with the multiples of t^w times the start of the row before it: one turn of the loops that fill
 -- and test them.
 use mathlib.Core.Path.{◌≡◌, sym, ap, ◌∙◌}
-use mathlib.Core.Bool.{Bool, true, not, true≢false}
 use mathlib.Core.List.{List}
 use Prim.Native.Nat.{ℕ, suc, ◌+◌, ◌*◌, ◌/◌, ◌^◌, ◌≤◌, ◌<◌}
 use native.Mathlib.Nat.{mul-zero, mul-one, mul-suc, mul-le-mul_right}
 use native.Mathlib.Numerals.{add-one}
 use native.Mathlib.Decide.{dec_lt}
 use native.Mathlib.Omega.{arith}
-use borrow.Author.Tests.{not-true}
 use lib.Arith.{digits_lt}
 use lib.ListN.{get_or}
 use lib.Pow.{pow-add, pow_pos}
@@ -45,15 +43,7 @@ module _ (w j c size n : ℕ) (es : size ≡ 2 ^ w) (h : j < c) (l : c * 2 ^ w �
       let m : suc j * 2 ^ w ≤ c * 2 ^ w = mul-le-mul_right (2 ^ w) h in
       rw es (omega (arith, m, l))
 
-  pub middle_in : j * size + size / 2 < n
-  middle_in = omega (arith, row-le, es, pow_pos w)
-
 -- ---- one turn
-
--- a row that is not right
-pub rows-refused : (p : Modulus) (w x size j c y : ℕ) (words : List ℕ) → size ≡ 2 ^ w → y ≡ rem (polynomial p) (x * 2 ^ (w * j)) → j < c → (b : Bool)
-    → (Multiples (polynomial p) y (j * size) (2 ^ w) words → b ≡ true) → not b ≡ true → Rows w (polynomial p) x c words → ⊥
-rows-refused p w x size j c y words es ey l b h n f = true≢false (sym (h (rw (es, ey) (f j l))) ∙ not-true b n)
 
 -- row j: its size, its start and its words
 pub record Row (p : Modulus) (w x size j y : ℕ) (words : List ℕ) : Type 0 where
