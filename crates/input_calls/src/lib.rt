@@ -10,7 +10,7 @@ use std::io;
 use std::io::{ErrorKind, Read, Stdin};
 
 // What a read gave.
-#[derive(Clone, Copy)]
+#[derive(Clone, Copy, PartialEq, Eq)]
 pub enum Got {
     Bytes(usize),
     End,

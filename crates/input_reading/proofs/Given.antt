@@ -8,10 +8,9 @@ use native.Mathlib.Omega.{arith}
 use lib.ListN.{length, take, length-append}
 use Rattle.io.specs.Counts.{IsPrefixLen}
 use Rattle.input_calls.specs.declared.Got.{Got}
-use Rattle.input_calls.specs.declared.Got.TheVariants.{Bytes, End, Interrupted, Failed}
+use Rattle.input_calls.specs.declared.Got.TheVariants.{Bytes, Interrupted}
 use Rattle.input_calls.specs.declared.Input.{Input}
 use Rattle.input_calls.specs.Reading.{given, over, InFront, Reading, Read, NonEmpty, Gave}
-use Rattle.input_calls.proofs.Answers.{true_false}
 
 -- ---- what a read gave
 
@@ -38,20 +37,6 @@ module _ (input next : Input) (l : List ℕ) (r : Read input next l) where
       go : (b : Bool) → Reading b input next l → next.bytes ≡ input.bytes
       go true s = ap (λ (x : Input). x.bytes) s
       go false s = omega (arith, s.1)
-
-  -- the bytes that it gave are at the front of the buffer
-  pub read-front : InFront next.last l
-  read-front = go (over input.last) refl r
-    where
-      none : (g : Got) → over g ≡ true → InFront g l
-      none (Bytes n) t = absurd (true_false (sym t))
-      none End t = tt
-      none Interrupted t = tt
-      none Failed t = tt
-
-      go : (b : Bool) → over input.last ≡ b → Reading b input next l → InFront next.last l
-      go true t s = none next.last (ap (λ (x : Input). over x.last) s ∙ t)
-      go false t s = s.0
 
 -- ---- a read that is made again
 

@@ -17,7 +17,7 @@ pub fn read_some(stdin: Stdin, mut input: Input, buffer: &mut [u8]) -> Input
 {
     for _ in 0..u64::MAX {
         input = input_calls::read_once(stdin, input, buffer);
-        if !matches!(input.last(), Got::Interrupted) {
+        if input.last() != Got::Interrupted {
             return input;
         }
     }

@@ -89,13 +89,13 @@ fn run(stdin: Stdin, input: Input, out: &mut [u8; 96]) -> Text
 {
     let mut head = [0u8; 18];
     let Head { count, input } = read_head(stdin, input, &mut head);
-    match input.last() {
-        Got::Failed => Text {
+    if input.last() == Got::Failed {
+        return Text {
             length: None,
             input,
-        },
-        _ => answer(stdin, &head[..count], input, out),
+        };
     }
+    answer(stdin, &head[..count], input, out)
 }
 
 // Writes the text, or a line on standard error that says that it cannot.

@@ -14,7 +14,7 @@ pub fn report(m: Running, out: &mut [u8; 96]) -> usize
     requires { outside m.key ≡ false }
     ensures { PutInFront out.old out.new result (report m) }
 {
-    let degree = numerals::decimal(m.key.degree as u64);
+    let degree = numerals::decimal(u64::from(m.key.degree));
     let key = numerals::polynomial(m.key);
     let bytes = numerals::decimal(m.length / 8);
     let mark = numerals::hexadecimal(m.fingerprint);
@@ -38,7 +38,7 @@ pub fn report(m: Running, out: &mut [u8; 96]) -> usize
 pub fn refusal(r: Refusal, out: &mut [u8; 96]) -> usize
     ensures { PutInFront out.old out.new result (refused r) }
 {
-    let number = numerals::decimal(refusals::number(r) as u64);
+    let number = numerals::decimal(u64::from(refusals::number(r)));
     numerals::put(out, &[b"refused ", number.text(), b"\n"])
 }
 

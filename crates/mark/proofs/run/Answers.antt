@@ -2,6 +2,6 @@
 use Rattle.mark.proofs.Texts.{head-answered}
 use Rattle.mark.proofs.run.Goals as goal
 
-pub returns-in_default : goal.returns-in_default
-returns-in_default c =
+pub returns : goal.returns
+returns c =
     head-answered c.args.input c.read_head-count.new.head c.read_head-count.result c.read_head-count.ensures _ _ c.answer.result c.answer.ensures

@@ -11,5 +11,5 @@ pub returns : goal.returns
 unfolding refused ascii
 returns c =
     subst (λ (digits : List ℕ). PutInFront c.args.out.now c.put.new.out c.put.result (ascii "refused " ++ digits ++ ascii "\n"))
-    (c.text.ensures ∙ c.decimal-number.ensures ∙ ap (numeral 10) c.number.ensures)
+    (c.text.ensures ∙ c.decimal-number.ensures ∙ ap (numeral 10) (c.from.ensures ∙ c.number.ensures))
     c.put.ensures

@@ -1,5 +1,5 @@
 -- `printing::report` meets its contract: the labels, with the numbers between them.
-use mathlib.Core.Path.{◌≡◌, ap₂, subst, ◌∙◌}
+use mathlib.Core.Path.{◌≡◌, ap, ap₂, subst, ◌∙◌}
 use mathlib.Core.List.{List, [], ◌++◌, append_assoc, append-nil}
 use Prim.Native.Nat.{ℕ}
 use Rattle.acceptance.specs.Keys.{polynomial_of}
@@ -20,7 +20,7 @@ text degree key bytes mark = ascii "key " ++ degree ++ (ascii " " ++ key) ++ (as
 pub returns : goal.returns
 unfolding report ascii
 returns c =
-    let degree = c.text.ensures ∙ c.decimal-degree.ensures in
+    let degree = c.text.ensures ∙ c.decimal-degree.ensures ∙ ap (numeral 10) c.from.ensures in
     let key = c.text-2.ensures ∙ c.polynomial-key.ensures in
     let bytes = c.text-3.ensures ∙ c.decimal-bytes.ensures in
     let mark = c.text-4.ensures ∙ c.hexadecimal-mark.ensures in
