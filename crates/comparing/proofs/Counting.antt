@@ -51,9 +51,9 @@ module _ (flags : List Bool) (text pattern : List ℕ) (from size : ℕ) where
     place-next after e z =
         rw e
         (skipped (tally_place t l (flagged-place flags text pattern from i true flag z) (flagged-alarm flags text pattern from i true flag z)) (omega arith)
-            next f)
+        next f)
 
     pub alarm_next : same (window (length pattern) text (from + i)) pattern ≡ false → Counted words₀ p₀ a₀ words p (a + 1) (place_of size next)
     alarm_next z =
         skipped (tally_alarm t l (flagged-place flags text pattern from i false flag z) (flagged-alarm flags text pattern from i false flag z)) (omega arith)
-            next f
+        next f

@@ -5,21 +5,22 @@ use acceptance::Key;
 use std::io;
 use std::io::Print;
 
-// The inverse of a residue that is not 0; 0 where a is no such residue, or the key is not accepted.
-fn inverse_of(key: Key, a: u64) -> u64 {
+// The inverse of a residue that is not 0; none where a is no such residue, or the key is not accepted.
+fn inverse_of(key: Key, a: u64) -> Option<u64> {
     if let Ok(p) = keys::test(key) {
-        if gf2::is_residue(p, a) {
-            if 0 < a {
-                return inverses::inverse(p, a);
-            }
+        if 0 < a && gf2::is_residue(p, a) {
+            return Some(inverses::inverse(p, a));
         }
     }
-    0
+    None
 }
 
 fn show(rt: &impl Print, degree: u32, word: u64, a: u64) -> io::Result<()> {
     vectors::hex(rt, b"", a)?;
-    vectors::hex(rt, b": ", inverse_of(Key { degree, word }, a))?;
+    match inverse_of(Key { degree, word }, a) {
+        Some(x) => vectors::hex(rt, b": ", x)?,
+        None => vectors::text(rt, b": none")?,
+    }
     vectors::text(rt, b"\n")
 }
 

@@ -29,6 +29,6 @@ four-bytes p i l h =
     λ k b. get_or-take 4 (drop i p) k 0 b ∙ get_or-drop i p k 0 in
     let first : get_or p (i + 0) 0 ≡ get_or p i 0 = ap (λ (j : ℕ). get_or p j 0) (add-zero i) in
     let same : from_be_bytes w32 (take 4 (drop i p))
-        ≡ from_be_bytes w32 (get_or p i 0 ∷ get_or p (i + 1) 0 ∷ get_or p (i + 2) 0 ∷ get_or p (i + 3) 0 ∷ []) =
+    ≡ from_be_bytes w32 (get_or p i 0 ∷ get_or p (i + 1) 0 ∷ get_or p (i + 2) 0 ∷ get_or p (i + 3) 0 ∷ []) =
     omega (arith, first, byte 0 (omega arith), byte 1 (omega arith), byte 2 (omega arith), byte 3 (omega arith)) in
     same ∙ value-four p i l h

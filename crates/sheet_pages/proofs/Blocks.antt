@@ -123,7 +123,7 @@ module _ (v : Layout) (key s n w : ℕ) (rest : Part) (before new : List ℕ) (h
               omega (arith, en, d, counted, begin, count_next s (length rest.bytes) n (omega (arith, hs)) more left-short);
           prints =
               block_last v key (8 * s) n last bits (new ++ drop n before) (omega
-                  (arith, part-length rest, (part-range rest).0, left-short, mul_left_comm n 8 s))
+              (arith, part-length rest, (part-range rest).0, left-short, mul_left_comm n 8 s))
               (rw (length-append new (drop n before), length-drop n before) (omega (arith, long, en, d, room)))
               (e ∙ ap (λ (q : List ℕ). fingerprint key (page_of v (8 * s) q)) left) prints;
           behind = λ j l. get_or-set_other (new ++ drop n before) n j last 0 (λ c. omega (arith, c, l)) ∙ behind j (omega (arith, l));

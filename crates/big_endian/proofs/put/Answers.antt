@@ -27,5 +27,5 @@ pub returns : goal.returns
 returns c =
     let a = c.args in
     let bytes = c.copy_from_slice.ensures.after ∙ ap (λ (l : List ℕ). take (8 - (8 - a.w)) (drop (8 - a.w) l)) c.to_be_bytes.ensures
-        ∙ last a.w a.x c.requires.0 in
+    ∙ last a.w a.x c.requires.0 in
     rw bytes (put-bytes a.bytes.now (bytes_of a.w a.x) a.at (a.at + a.w - a.at) (omega (arith, length-bytes_of a.w a.x)) (omega arith))

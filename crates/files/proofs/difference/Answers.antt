@@ -22,7 +22,7 @@ loop-a-preserved c =
     let m = c.requires.0 in
     let l = c.loop-a in
     let at = zip_turn a.old.now a.new.now l.yielded c.into_iter-a-iterator.result l.a-iterator c.next.new.self c.next.result (search rules) (search rules)
-        l.yielded_by
+    l.yielded_by
     (c.in-Some.a, c.in-Some.b) c.in-Some.is c.next.ensures.steps in
     let n = length l.yielded in
     let byte-old : get_or a.old.now n 0 < 256 = (c.type_inv.old n).fits in
@@ -40,7 +40,7 @@ returns c =
     let p = polynomial a.p in
     let n = length l.yielded in
     let end = zip_end a.old.now a.new.now l.yielded c.into_iter-a-iterator.result l.a-iterator c.next.new.self c.next.result (search rules) (search rules)
-        l.yielded_by c.in-None.is c.next.ensures.steps in
+    l.yielded_by c.in-None.is c.next.ensures.steps in
     let old-end = drop_of_length-le a.old.now {i = n} (omega (arith, end, c.requires.1)) in
     let new-end = drop_of_length-le a.new.now {i = n} (omega (arith, end, c.requires.1)) in
     sym (residue-small a.p.degree a.p.low m.2 l.x l.invariant.0) ∙ sym (ap (rem p) (⊕-zero l.x)) ∙ (rw (old-end, new-end) at l.invariant.1)

@@ -26,7 +26,7 @@ returns-in-Some c =
     let found = sym c.in-Some.ensures.value in
     let within = slice_get_within part (length part - 1) c.in-Some.last.now found in
     let last = c.low_bits.ensures ∙ ap (λ (b : ℕ). b % 2 ^ (8 - a.used)) (c.from.ensures
-        ∙ sym (get_or_from_slice_get part (length part - 1) c.in-Some.last.now 0 found)) in
+    ∙ sym (get_or_from_slice_get part (length part - 1) c.in-Some.last.now 0 found)) in
     ap (λ (n : ℕ). not (eqb n 0)) last ∙ sym (used-some (as_part part a.used) c.if-used-lt1.false c.if-used-gt8.false (omega (arith, within)))
 
 pub returns-in-None : goal.returns-in-None

@@ -17,5 +17,5 @@ returns c =
     let k = c.copy_within in
     ap (rem house_key)
     (folded-same 61 a.s k.new.self (drop (length a.src.now) d.new.q) (ap (take (61 * a.s)) k.ensures.after
-        ∙ kept_last d.new.q (length a.src.now) (61 * a.s) (omega arith)) exponents all-exponents)
+    ∙ kept_last d.new.q (length a.src.now) (61 * a.s) (omega arith)) exponents all-exponents)
     ∙ d.ensures

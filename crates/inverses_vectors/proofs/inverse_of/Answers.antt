@@ -16,7 +16,7 @@ key-opened c =
     opened t.result c.args.key t.ensures _ c.in-Accepted.is
 
 pub is_residue-requires : goal.is_residue-requires
-is_residue-requires c = opened-proper (key-opened c)
+is_residue-requires c = opened-proper (key-opened (goal.at.is_residue-requires c).In-Accepted)
 
 pub inverse-requires : goal.inverse-requires
 inverse-requires c =

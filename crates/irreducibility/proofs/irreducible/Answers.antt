@@ -58,10 +58,13 @@ returns-then-independent_values c =
     let k = p.degree in
     let d = known p c.requires in
     let one = (first d c.square_rows.ensures _ (c.independent_values.ensures.0 (λ i x. odd_part x) (λ i x y h l e. search rules))).0
-        c.if-independent_values.true in
+    c.if-independent_values.true in
     let two = second d c.square_rows.ensures _ (c.independent_values-then-independent_values.ensures.0 (λ i x. folded 6 (x ⊕ 2 ^ (k - k / 2 + i)))
-    (λ i x y h l e. let power = shifted_one (k - k / 2 + i) (omega (arith, length-take (k / 2) (made d c.square_rows.ensures (drop (k / 2) (replicate 32 0))),
-        d.high)) in
+    (λ i x y h l e. let power = shifted_one (k - k / 2 + i) (omega (
+      arith,
+      length-take (k / 2) (made d c.square_rows.ensures (drop (k / 2) (replicate 32 0))),
+      d.high,
+    )) in
     search (rules, power))) in
     by_test (reducible key) c.independent_values-then-independent_values.result
     (λ t. both-irreducible key k d.proper d.is d.low d.high one (two.0 t))

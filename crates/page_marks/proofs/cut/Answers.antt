@@ -41,6 +41,6 @@ returns c =
     ∙ look_one ws (a.x % 2 ^ k) h (top (goal.at.returns c).Start)
     ∙ ap (λ (y : ℕ). a.x % 2 ^ k ⊕ y)
     (looked-shift 8 (monic-pos k a.table.p.low m) k 4 ws (table-rows a.table.p ws a.table.holds) 1 h (omega arith)
-        (omega (arith, top (goal.at.returns c).Start)))
+    (omega (arith, top (goal.at.returns c).Start)))
     ∙ ⊕_comm (a.x % 2 ^ k) (rem (polynomial a.table.p) (h * 2 ^ k))
     ∙ sym (residue-split k a.table.p.low m a.x)

@@ -9,4 +9,4 @@ use Rattle.page_marks.proofs.cut_marks.Given as goal
 abbrev pub invariant-loop-mark : goal.invariant-loop-mark
 invariant-loop-mark l =
     (length l.marks ≡ length l.initial.marks) × Reduced (polynomial l.table.p) l.mark-index l.initial.marks l.marks × SameFrom l.mark-index l.initial.marks
-        l.marks
+    l.marks

@@ -80,9 +80,11 @@ step-z-requires c =
     let a = c.args in
     let n = c.row_size-n in
     let m = c.requires.0 in
-    let held = c.first_holds-2.ensures.0 (not-false c.first_holds-2.result c.if-not-first_holds.false-raw) in
-    (m, residue-below a.p m _ _ (once a.at a.width n.result a.words.now (omega arith) c.requires.3 n.ensures a.p m a.x held c.step-y.result c.step-y.ensures),
-        omega arith)
+    let held = c.first_holds-2.ensures.0 (not-false c.first_holds-2.result c.if-not-first_holds.false-raw) in (
+      m,
+      residue-below a.p m _ _ (once a.at a.width n.result a.words.now (omega arith) c.requires.3 n.ensures a.p m a.x held c.step-y.result c.step-y.ensures),
+      omega arith,
+    )
 
 pub step-v-requires : goal.step-v-requires
 step-v-requires c =

@@ -15,9 +15,12 @@ pub loop-i-preserved : goal.loop-i-preserved
 loop-i-preserved c =
     let a = c.args in
     let l = c.loop-i in
-    let left : l.i + 4 ≤ a.n = omega (arith, c.loop-i-test.true, l.invariant.1, c.requires.1) in
-    (left, omega (arith, l.invariant.1), lanes-more a.table.p c.args.table.holds.0 a.f a.part.now a.n c.requires.2 l.i l.x _ left l.invariant.2
-        c.feed_turn.ensures)
+    let left : l.i + 4 ≤ a.n = omega (arith, c.loop-i-test.true, l.invariant.1, c.requires.1) in (
+      left,
+      omega (arith, l.invariant.1),
+      lanes-more a.table.p c.args.table.holds.0 a.f a.part.now a.n c.requires.2 l.i l.x _ left l.invariant.2
+          c.feed_turn.ensures,
+    )
 
 pub returns : goal.returns
 returns c =
@@ -29,6 +32,6 @@ returns c =
       | then-loop-i-test+else-n-i-gt4 w ↦
           let left : l.i + 4 ≤ a.n = omega (arith, w.loop-i-test.true, l.invariant.1, c.requires.1) in
           let more = lanes-more a.table.p c.args.table.holds.0 a.f a.part.now a.n c.requires.2 l.i l.x w.feed_turn.new.x left l.invariant.2
-              w.feed_turn.ensures in
+          w.feed_turn.ensures in
           fed (l.i + 4) c.loop-i-test.x _ (omega arith) (rw w.x-is more) c.clear.ensures
     ]

@@ -30,7 +30,7 @@ four-lanes c =
     let n = lane a.part.now in
     let e : 32 * (length a.part.now / 16) ≡ 8 * n = omega arith in
     four-joined (monic-pos a.table.p.degree a.table.p.low c.args.table.holds.0.2) a.f a.part.now n c.power-t.result c.join-abcd.result c.feed_lanes-x.result
-        (omega arith)
+    (omega arith)
     c.feed_lanes-x.ensures (c.power-t.ensures ∙ ap (λ (m : ℕ). rem (polynomial a.table.p) (2 ^ m)) e) c.join-abcd.ensures
 
 -- ---- the needs
