@@ -19,7 +19,7 @@ use gf2::Modulus;
 use lookups::KeyTable;
 
 // Whole bytes behind a residue, with no table: folded, sparse or by bits.
-fn bytes_alone(p: Modulus, f: u64, part: &[u8]) -> u64
+pub fn bytes_alone(p: Modulus, f: u64, part: &[u8]) -> u64
     requires { Proper p × (f < 2 ^ p.degree) }
     ensures { result ≡ rem (polynomial p) (value_from f (bits part.now)) }
 {
@@ -33,7 +33,7 @@ fn bytes_alone(p: Modulus, f: u64, part: &[u8]) -> u64
 }
 
 // Whole bytes behind a residue, by the table of the key: folded or by table.
-fn bytes_by_table(table: KeyTable<'_>, f: u64, part: &[u8]) -> u64
+pub fn bytes_by_table(table: KeyTable<'_>, f: u64, part: &[u8]) -> u64
     requires { f < 2 ^ table.p.degree }
     ensures { result ≡ rem (polynomial table.entry.p) (value_from f (bits part.now)) }
 {

@@ -35,12 +35,6 @@ four-lanes c =
 
 -- ---- the needs
 
-pub feed_lanes-x-requires : goal.feed_lanes-x-requires
-feed_lanes-x-requires c = (c.requires.0, omega arith, omega arith)
-
-pub power-t-requires : goal.power-t-requires
-power-t-requires c = omega (arith, c.requires.1)
-
 pub join-abcd-requires : goal.join-abcd-requires
 join-abcd-requires c =
     residue-below c.args.table.p c.args.table.holds.0 c.power-t.result _ c.power-t.ensures

@@ -73,6 +73,3 @@ returns c =
     ∙ ap (λ (i : ℕ). rem key ((2 ^ 32) ⊗^ (a.n / 2 ^ i))) e
     ∙ ap (λ (m : ℕ). rem key ((2 ^ 32) ⊗^ m)) (div-one a.n)
     ∙ ap (rem key) (pow-word 32 a.n)
-
-pub degree-i-requires : goal.degree-i-requires
-degree-i-requires c = c.requires
