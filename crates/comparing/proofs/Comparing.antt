@@ -55,13 +55,6 @@ module _ (flags : List Bool) where
   pub none_more : (first i next : ℕ) → next ≤ i + 1 → NoneFlagged flags first i → get_or flags i false ≡ false → NoneFlagged flags first next
   none_more first i next s before last = none-join first i next before (λ j l h. let e : j ≡ i = omega arith in rw e last)
 
-  -- windows in front without a flag
-  pub next-further : (first i size : ℕ) (next : Option ℕ) → first ≤ i → NoneFlagged flags first i → NextFlagged flags i size next
-      → NextFlagged flags first size next
-  next-further first i size None s before f = none-join first i size before f
-  next-further first i size (Some n) s before f =
-      record { low = omega (arith, f.low); high = f.high; none = none-join first i n before f.none; flagged = f.flagged }
-
   abbrev flag : ℕ → Bool
   flag i = get_or flags i false
 

@@ -36,14 +36,6 @@ unfolding exponent
 word_size (inl e) = ap (λ (x : ℕ). 8 * x) e
 word_size (inr e) = ap (λ (x : ℕ). 8 * x) e
 
-pub not_wide : {s : ℕ} → Word s → (s ≡ 16 → ⊥) → s ≡ 4
-not_wide (inl e) n = e
-not_wide (inr e) n = absurd (n e)
-
-pub word-pos : {s : ℕ} → Word s → 0 < s
-word-pos (inl e) = omega arith
-word-pos (inr e) = omega arith
-
 pub word_most : {s : ℕ} → Word s → s ≤ 16
 word_most (inl e) = omega arith
 word_most (inr e) = omega arith

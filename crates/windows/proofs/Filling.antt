@@ -3,7 +3,7 @@ use mathlib.Core.Path.{◌≡◌, ◌∙◌}
 use mathlib.Core.Logic.{◌⊎◌, inl, inr, ◌≢◌}
 use mathlib.Core.List.{List}
 use Prim.Native.Nat.{ℕ, ◌+◌, ◌≤◌, ◌<◌}
-use native.Mathlib.Decide.{ℕ_discrete, dec_lt}
+use native.Mathlib.Decide.{ℕ_discrete}
 use native.Mathlib.Omega.{arith}
 use lib.ListN.{length, get_or, set, length-set}
 use lib.Seq.{get_or-set_same, get_or-set_other}
@@ -31,13 +31,6 @@ module _ {A : Type 0} {d : A} {rule : ℕ → A} where
       apart i a b (inl h) e = omega arith
       apart i a b (inr h) e = omega arith
 
-  pub filled-join : (n m c : ℕ) (l : List A) → Filled d rule n m l → Filled d rule m c l → Filled d rule n c l
-  filled-join n m c l f g = record { entry = λ i a b. go i a b (dec_lt i m) }
-    where
-      go : (i : ℕ) → n ≤ i → i < c → Dec (i < m) → get_or l i d ≡ rule i
-      go i a b (yes q) = f.entry i a q
-      go i a b (no q) = g.entry i (omega arith) b
-
 -- ---- four lanes of 256 entries, j of each filled
 
 module _ {A : Type 0} (d : A) (rule : ℕ → A) where
@@ -48,9 +41,6 @@ module _ {A : Type 0} (d : A) (rule : ℕ → A) where
       × Filled d rule 256 (j + 256) l
       × Filled d rule 512 (j + 512) l
       × Filled d rule 768 (j + 768) l
-
-  pub lanes-begin : (l : List A) → length l ≡ 1024 → LanesFilled 0 l
-  lanes-begin l e = (e, filled_none 0 l, filled_none 256 l, filled_none 512 l, filled_none 768 l)
 
   pub lanes-more : (j : ℕ) (l : List A) (u v w x : A) → j < 256 → LanesFilled j l → u ≡ rule j → v ≡ rule (j + 256) → w ≡ rule (j + 512) → x ≡ rule (j + 768)
       → LanesFilled (j + 1) (set (set (set (set l j u) (j + 256) v) (j + 512) w) (j + 768) x)
@@ -87,8 +77,3 @@ module _ {A : Type 0} (d : A) (rule : ℕ → A) where
             (inl (omega arith)))
             (omega arith) ex),
       )
-
-  pub lanes_end : (j : ℕ) (l : List A) → j ≡ 256 → LanesFilled j l → Filled d rule 0 1024 l
-  lanes_end j l e f =
-      let (n, p, q, r, s) = rw e at f in
-      filled-join 0 768 1024 l (filled-join 0 512 768 l (filled-join 0 256 512 l p q) r) s

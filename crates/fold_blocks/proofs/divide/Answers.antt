@@ -5,7 +5,6 @@ use Prim.Native.Nat.{ℕ, ◌+◌, ◌*◌, ◌<◌}
 use native.Mathlib.Nat.{zero-mul, one-mul, add-zero}
 use native.Mathlib.Omega.{arith}
 use lib.ListN.{length, get_or, set, take, length-set}
-use lib.Seq.{take-length}
 use Rattle.gf2.specs.Polynomials.{◌⊕◌}
 use Rattle.gf2.proofs.Sums.{⊕_assoc, ⊕-zero}
 use Rattle.files.specs.Files.{bits, value_from}
@@ -43,10 +42,3 @@ loop-i-preserved c =
           (c.shared_slice_known-1.given l.i).fits
           l.invariant.1,
     )
-
-pub returns : goal.returns
-returns c =
-    let a = c.args in
-    let l = c.loop-i in
-    let e : l.i ≡ length a.src.now = omega arith in
-    rw (e, take-length) at l.invariant.1

@@ -1,6 +1,6 @@
 -- `divide_block` meets its contract: what the words from the i-th piece on stand for, with the bytes from there on behind it,
 -- has the residue of the whole.
-use mathlib.Core.Path.{◌≡◌, refl, sym, ap, ◌∙◌}
+use mathlib.Core.Path.{◌≡◌, sym, ap, ◌∙◌}
 use mathlib.Core.List.{List}
 use Prim.Native.Nat.{ℕ, ◌+◌, ◌-◌, ◌*◌, ◌/◌, ◌≤◌}
 use native.Mathlib.Omega.{arith}
@@ -42,21 +42,6 @@ piece s w q src r i b l m h len e =
         ∙ sym (drop-drop (b - i) i (put_mid i (length q - i) q r))
         ∙ ap (drop (b - i)) (put_last i q r (omega arith))
 
-lengths : (q src : List ℕ) (s i b : ℕ) → i ≤ b → b ≤ length src → length src + 61 * s ≤ length q
-    → length (take (b - i) (drop i src)) + 61 * s ≤ length (take (length q - i) (drop i q))
-lengths q src s i b l m h =
-    rw (length-take-le (b - i) (drop i src) (rw length-drop (omega arith)), rest_all q i, length-drop) (omega arith)
-
-pub loop-i-init : goal.loop-i-init
-loop-i-init c = (refl, refl)
-
-pub divide_piece-requires : goal.divide_piece-requires
-divide_piece-requires c =
-    let l = c.loop-i in
-    let n = length c.args.src.now in
-    let h : 64 * l.i + 64 ≤ n = omega arith in
-    (c.requires.0, lengths l.q c.args.src.now c.args.s (64 * l.i) (64 * l.i + 64) (omega arith) (omega arith) (omega (arith, l.invariant.0, c.requires.1)))
-
 pub loop-i-preserved : goal.loop-i-preserved
 loop-i-preserved c =
     let a = c.args in
@@ -72,12 +57,6 @@ loop-i-preserved c =
           d.ensures)
           ∙ l.invariant.1,
     )
-
-pub divide_piece-requires-2 : goal.divide_piece-requires-2
-divide_piece-requires-2 c =
-    let l = c.loop-i in
-    let n = length c.args.src.now in
-    (c.requires.0, lengths l.q c.args.src.now c.args.s (64 * (n / 64)) n (omega arith) (omega arith) (omega (arith, l.invariant.0, c.requires.1)))
 
 pub returns : goal.returns
 returns c =

@@ -1,17 +1,10 @@
 -- `fold` meets its contract: what the words in front stand for, with the rest of the part behind it, has the residue of the whole.
 use mathlib.Core.Path.{sym, ◌∙◌}
-use native.Mathlib.Omega.{arith}
 use Rattle.house.specs.House.{house_key}
 use Rattle.fold_blocks.specs.Folds.{exponents, folded}
 use Rattle.fold_blocks.proofs.Folding.{block_before, nothing_behind}
 use Rattle.fold_blocks.proofs.House.{house-pos}
 use Rattle.fold_blocks.proofs.fold.Goals as goal
-
-pub turn-requires : goal.turn-requires
-turn-requires c =
-    let l = c.loop-block.invariant in
-    let e = c.in-Some.ensures.steps in
-    (c.requires.0, omega (arith, e.1.1, l.0, l.1, c.requires.2))
 
 pub loop-block-preserved : goal.loop-block-preserved
 loop-block-preserved c =

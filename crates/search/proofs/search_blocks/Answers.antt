@@ -1,6 +1,6 @@
 -- `search::search_blocks` meets its contract. The loop's invariant: of the windows before `from` all places and false alarms are found,
 -- and g is the residue of the next window. The measure is the number of windows that are left.
-use mathlib.Core.Path.{◌≡◌, refl, ap, ◌∙◌}
+use mathlib.Core.Path.{◌≡◌, ap, ◌∙◌}
 use mathlib.Core.List.{List}
 use Prim.Native.Nat.{ℕ, ◌+◌, ◌-◌, ◌≤◌}
 use native.Mathlib.Omega.{arith}
@@ -9,7 +9,7 @@ use lib.Seq.{sets}
 use Rattle.gf2.proofs.Monics.{monic-pos}
 use Rattle.search.specs.Searching.{windows, is_place, is_alarm}
 use Rattle.rolling.specs.Rolling.{key_of}
-use Rattle.comparing.proofs.Numbers.{tally_begin, tally_block, tally_end, tally_length, passing-length}
+use Rattle.comparing.proofs.Numbers.{tally_block, tally_end, passing-length}
 use Rattle.search.proofs.Blocks.{flagged-places, flagged-alarms, all_found}
 use Rattle.search.proofs.search_blocks.Goals as goal
 
@@ -17,31 +17,6 @@ use Rattle.search.proofs.search_blocks.Goals as goal
 windows-is : (t q : List ℕ) → length q ≤ length t → length t - length q + 1 ≡ windows t q
 unfolding windows
 windows-is t q h = omega arith
-
-pub loop-from-init : goal.loop-from-init
-loop-from-init c = (
-  omega arith,
-  refl,
-  omega arith,
-  omega arith,
-  (λ h. c.requires.3),
-  tally_begin,
-)
-
-pub flag_block-b-requires : goal.flag_block-b-requires
-flag_block-b-requires c =
-    let l = c.loop-from in
-    let h = c.loop-from-test.true in
-    let e = c.requires.1 in
-    (c.requires.0, l.invariant.1, omega arith, l.invariant.4 h)
-
-pub compare-found-requires : goal.compare-found-requires
-compare-found-requires c =
-    let l = c.loop-from in
-    let block = c.flag_block-b.ensures in
-    let e = c.requires.1 in
-    let some = c.requires.0.some in
-    (block.1, omega (arith, block.2), omega arith, c.requires.5, l.invariant.2, l.invariant.3)
 
 pub loop-from-preserved : goal.loop-from-preserved
 loop-from-preserved c =
@@ -67,9 +42,6 @@ loop-from-preserved c =
       (λ h. b.4.next (omega (arith, h, e))),
       tally_block l.invariant.5 _ size _ _ (omega (arith, fits)) (found.2 ∙ ap (sets l.places l.found.places) ps) np na,
     )
-
-pub shape_of-places : goal.shape_of-places
-shape_of-places c = tally_length c.loop-from.invariant.5
 
 pub returns : goal.returns
 returns c =

@@ -1,15 +1,11 @@
 -- `join_lane` meets its contract: what is joined behind x, and behind the bits, are the fields from the i-th on.
-use mathlib.Core.Path.{◌≡◌, refl, sym, ◌∙◌}
+use mathlib.Core.Path.{◌≡◌, sym, ◌∙◌}
 use Prim.Native.Nat.{◌+◌, ◌-◌, ◌*◌}
-use native.Mathlib.Nat.{add-zero, sub-zero}
 use native.Mathlib.Omega.{arith}
 use Rattle.big_endian.specs.Numbers.{number_at, numbers_at}
 use Rattle.big_endian.proofs.Numbers.{numbers-done}
 use Rattle.sheet_joining.proofs.Joining.{looping-next, looping-done, bits-next, bits-done}
 use Rattle.sheet_joining.proofs.join_lane.Goals as goal
-
-pub loop-i-init : goal.loop-i-init
-loop-i-init c = (rw (add-zero c.args.from, sub-zero c.args.n) refl, λ k. rw (add-zero c.args.from, sub-zero c.args.n) refl)
 
 pub loop-i-preserved : goal.loop-i-preserved
 unfolding number_at

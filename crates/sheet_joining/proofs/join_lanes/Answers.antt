@@ -1,7 +1,6 @@
 -- `join_lanes` meets its contract: what is joined behind the four marks, and behind the bits, are the fields of each lane from the i-th on.
-use mathlib.Core.Path.{◌≡◌, refl, sym, ◌∙◌}
+use mathlib.Core.Path.{◌≡◌, sym, ◌∙◌}
 use Prim.Native.Nat.{ℕ, ◌+◌, ◌-◌, ◌*◌, ◌<◌}
-use native.Mathlib.Nat.{sub-zero}
 use native.Mathlib.Omega.{arith}
 use lib.ListN.{get_or}
 use Rattle.gf2.specs.Polynomials.{◌⊕◌}
@@ -10,9 +9,6 @@ use Rattle.big_endian.specs.Numbers.{number_at, numbers_at}
 use Rattle.sheet_joining.specs.Joining.{looping}
 use Rattle.sheet_joining.proofs.Joining.{looping-next, looping-done, bits-four, bits-four-done}
 use Rattle.sheet_joining.proofs.join_lanes.Goals as goal
-
-pub loop-i-init : goal.loop-i-init
-loop-i-init c = let e = sub-zero c.args.q in (rw e refl, rw e refl, rw e refl, rw e refl, λ k. rw e refl)
 
 pub loop-i-preserved : goal.loop-i-preserved
 unfolding number_at

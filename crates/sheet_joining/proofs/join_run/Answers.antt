@@ -1,7 +1,6 @@
 -- `join_run` meets its contract.
 use mathlib.Core.Path.{◌∙◌}
 use Prim.Native.Nat.{◌*◌, ◌/◌, ◌^◌, ◌<◌}
-use native.Mathlib.Nat.{mul-le-mul_right}
 use native.Mathlib.Omega.{arith}
 use Rattle.gf2.proofs.Steps.{residue-below}
 use Rattle.sheet_joining.proofs.Joining.{low-lt, bits_none, bits-all, few-joined, times_low, all-joined}
@@ -19,9 +18,6 @@ returns-then-n-lt64 c =
       mark = λ r. x.0 ∙ few-joined a.p c.requires.0 a.size 0 a.n a.fields.now c.fill.new.words c.fill.ensures r;
       bits = λ k. x.1 k ∙ bits_none k _;
     }
-
-pub overflow_mul-size-2 : goal.overflow_mul-size-2
-overflow_mul-size-2 c = omega (arith, mul-le-mul_right (c.args.n / 4) c.requires.1)
 
 pub times_plus-ab-requires : goal.times_plus-ab-requires
 times_plus-ab-requires c =

@@ -61,6 +61,3 @@ pub difference_ones-requires : goal.difference_ones-requires
 difference_ones-requires c =
     let l = c.loop-olds in
     (one_byte c.args.p c.args.n c.requires.0, l.invariant.1.0, l.invariant.0)
-
-pub returns : goal.returns
-returns c = c.difference_ones.ensures ∙ c.loop-olds.invariant.1.1

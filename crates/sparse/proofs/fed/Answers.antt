@@ -1,5 +1,5 @@
 -- `fed` meets its contract: x, with the rest behind it, stands for f and the part.
-use mathlib.Core.Path.{◌≡◌, ◌∙◌}
+use mathlib.Core.Path.{◌≡◌}
 use Prim.Native.Nat.{◌-◌, ◌*◌, ◌/◌, ◌^◌}
 use native.Mathlib.Omega.{arith}
 use lib.ListN.{take}
@@ -30,6 +30,3 @@ loop-rest-preserved c =
 
 pub feed_ones-requires : goal.feed_ones-requires
 feed_ones-requires c = (one_byte c.args.p c.args.n c.requires.0, c.loop-rest.invariant.0)
-
-pub returns : goal.returns
-returns c = c.feed_ones.ensures ∙ c.loop-rest.invariant.1

