@@ -4,7 +4,6 @@ use mathlib.Core.Bool.{Bool, true, false}
 use mathlib.Core.List.{List, [], ◌∷◌, ◌++◌, append_assoc}
 use Prim.Native.Nat.{ℕ, ◌+◌, ◌^◌, ◌<◌}
 use native.Mathlib.Omega.{arith}
-use Rattle.std.specs.Prelude.{Err}
 use Rattle.gf2.specs.Polynomials.{rem}
 use Rattle.gf2.specs.Moduli.{polynomial}
 use Rattle.gf2.specs.declared.Modulus.{Modulus}
@@ -13,9 +12,9 @@ use Rattle.refusals.specs.declared.Refusal.TheVariants.{MarkNotReduced}
 use Rattle.refusals.specs.Refusals.{Done, Refused, Test, ◌⇒◌, first_of}
 use Rattle.refusals.proofs.Laws.{Clear, skip, clear-done, done-clear, more-clear}
 use Rattle.acceptance.specs.declared.Key.{Key}
-use Rattle.acceptance.specs.Keys.{accepted, polynomial_of, key_of, as_modulus, key_tests}
+use Rattle.acceptance.specs.Keys.{accepted, polynomial_of, key_of, key_tests}
 use Rattle.acceptance.specs.Opened.{Opened}
-use Rattle.acceptance.proofs.Laws.{accepted_iff, accepted-pos, whole-key, key_iff}
+use Rattle.acceptance.proofs.Laws.{accepted_iff, accepted-pos, whole-key}
 use Rattle.acceptance.proofs.Opened.{open_accepted, opened-first, opened-whole, residue-below}
 use Rattle.files.specs.declared.Mark.{Mark}
 use Rattle.files.specs.Files.{value_from, mark_from, unreduced, Part, part_length, part_bits, misused, fed_mark}
@@ -29,7 +28,7 @@ use Rattle.house.proofs.House.{house-accepted}
 use Rattle.marks.specs.Feeding.{begin_from, feed_bits, feed_table, feed_house, BeginsTrue, EmptyIsOne, HouseFirst, HouseBits}
 use Rattle.marks.specs.declared.Running.{Running}
 use Rattle.marks.specs.declared.RefusedMark.{RefusedMark}
-use Rattle.marks.specs.Answers.{mark_in, fed, fed_under}
+use Rattle.marks.specs.Answers.{mark_in, fed_under}
 
 -- a refusal of the first tests of a call
 from-refused : {A : Type 0} (ts us : List Test) (m : Running) (v : A) (w : Mark) (q : Refusal) (n : Running) → first_of ts m v ≡ Refused q n
@@ -41,15 +40,13 @@ from-refused (false ⇒ r ∷ ts) us m v w q n e = from-refused ts us m v w q n 
 -- ---- what a caller knows behind the `?` of an answer on a running mark
 
 -- where the tests refuse, so does a call whose tests begin with them
-pub still-refused : {A : Type 0} (ts us : List Test) (m : Running) (v : A) (w : Mark) (d : RefusedMark) → fed (Err d) ≡ first_of ts m v
-    → fed (Err d) ≡ fed_under m.key (first_of (ts ++ us) (mark_in m) w)
+pub still-refused : {A : Type 0} (ts us : List Test) (m : Running) (v : A) (w : Mark) (d : RefusedMark) → Refused d.refusal d.mark ≡ first_of ts m v
+    → Refused d.refusal d.mark ≡ fed_under m.key (first_of (ts ++ us) (mark_in m) w)
 still-refused ts us m v w d e = from-refused ts us m v w d.refusal d.mark (sym e)
 
--- of the test of the key
-pub opened : (m : Running) (p : Modulus) → Done p ≡ first_of (key_tests m.key) m (as_modulus m.key) → Opened m.key p
-opened m p e =
-    let c = done-clear (key_tests m.key) m (as_modulus m.key) p (sym e) in
-    record { in_range = c.0.0; is-accepted = ((key_iff m.key).0 (c.0.0, c.0.1.0)).0; parts = sym c.1 }
+-- where the test of the key doesn't, the mark goes on as it was handed in
+pub same-mark : (m n : Running) → Done n ≡ first_of (key_tests m.key) m m → n ≡ m
+same-mark m n e = sym (done-clear (key_tests m.key) m m n (sym e)).1
 
 -- of the tests of a part
 module _ {p : Modulus} (m : Running) (h : Opened m.key p) (part : Part) (n : ℕ)

@@ -4,14 +4,13 @@
 #![tactic(auto)]
 
 ghost use Rattle.std.specs.Prelude.{◌≡◌, ◌++◌, ◌+◌, ◌<◌};
-ghost use Rattle.refusals.specs.Refusals.{first_of};
+ghost use Rattle.refusals.specs.Refusals.{first_of, mapped};
 ghost use Rattle.refusals.specs.Answers.{told};
-ghost use Rattle.acceptance.specs.Keys.{polynomial_of, as_modulus, key_tests};
+ghost use Rattle.acceptance.specs.Keys.{polynomial_of, key_tests};
 ghost use Rattle.acceptance.specs.Opened.{Opened};
 ghost use Rattle.files.specs.Files.{as_part, part_length, fed_mark};
 ghost use Rattle.files.specs.PlainMarks.{turned};
 ghost use Rattle.mark_tests.specs.MarkTests.{feed_tests};
-ghost use Rattle.lookups.specs.Groups.{Table};
 ghost use Rattle.table_tests.specs.TableTests.{table_tests};
 ghost use Rattle.marks.specs.Feeding.{begin_from, begin, feed_bits, feed_table, feed_house};
 ghost use Rattle.marks.specs.PlainMarks.{begin_plain, turn_tests, turn};
@@ -20,6 +19,7 @@ ghost use Rattle.marks.specs.Answers.{mark_in, running, begun_under, fed, fed_un
 use acceptance::Key;
 use files::Mark;
 use gf2::Modulus;
+use lookups::KeyTable;
 use refusals::Refusal;
 
 // A running mark (document 01's term): the state of a fingerprint that is taken as the file is read. The length is in bits. Numbers only.
@@ -45,59 +45,65 @@ impl From<RefusedMark> for Refusal {
     }
 }
 
-// The length in bits that feeding a part to a running mark gives, under its opened key.
-fn judge(p: Modulus, m: Running, part: &[u8], used: u32) -> Result<u64, RefusedMark>
-    requires { Opened m.key p }
-    ensures { fed result ≡ first_of (feed_tests (polynomial_of m.key) (mark_in m) (as_part part.now used)) m
-        (m.length + part_length (as_part part.now used)) }
-{
-    mark_tests::judge(p, m.mark(), part, used).map_err(|refusal| m.refused(refusal))
+// A running mark with its key opened.
+#[derive(Clone, Copy)]
+pub struct OpenMark {
+    pub p: Modulus,
+    pub mark: Running,
+    pub ghost opened: { Opened mark.key p },
 }
 
-// A part fed with no table, after the test of the key. Inlined, it need not have the running mark in memory: a part of 1 byte takes 16 % less time.
-#[inline]
-fn feed_alone(p: Modulus, m: Running, part: &[u8], used: u32) -> Result<Running, RefusedMark>
-    requires { Opened m.key p }
-    ensures { fed result ≡ fed_under m.key (first_of (feed_tests (polynomial_of m.key) (mark_in m) (as_part part.now used)) (mark_in m)
-        (fed_mark (polynomial_of m.key) (mark_in m) (as_part part.now used))) }
-{
-    let length = judge(p, m, part, used)?;
-    let next = feeding::part_alone(p, m.fingerprint, part, used);
-    Ok(m.with_mark(next, length))
-}
+impl OpenMark {
+    // The length in bits that feeding a part gives.
+    fn judge(self, part: &[u8], used: u32) -> Result<u64, RefusedMark>
+        ensures { fed result ≡ first_of (feed_tests (polynomial_of self.mark.key) (mark_in self.mark) (as_part part.now used)) self.mark
+            (self.mark.length + part_length (as_part part.now used)) }
+    {
+        mark_tests::judge(self.p, self.mark.mark(), part, used).map_err(|refusal| self
+            .mark
+            .refused(refusal))
+    }
 
-// A part fed by the table of the key, after the tests of key and words.
-fn feed_looked(
-    p: Modulus,
-    m: Running,
-    words: &[u64],
-    part: &[u8],
-    used: u32,
-) -> Result<Running, RefusedMark>
-    requires { Opened m.key p × Table (polynomial_of m.key) words.now }
-    ensures { fed result ≡ fed_under m.key (first_of (feed_tests (polynomial_of m.key) (mark_in m) (as_part part.now used)) (mark_in m)
-        (fed_mark (polynomial_of m.key) (mark_in m) (as_part part.now used))) }
-{
-    let length = judge(p, m, part, used)?;
-    let looked = feeding::part_by_table(words, p, m.fingerprint, part, used);
-    Ok(m.with_mark(looked, length))
-}
+    // A part fed with no table. Inlined, it need not have the running mark in memory.
+    #[inline]
+    fn feed_alone(self, part: &[u8], used: u32) -> Result<Running, RefusedMark>
+        ensures { fed result ≡ fed_under self.mark.key (first_of (feed_tests (polynomial_of self.mark.key) (mark_in self.mark) (as_part part.now used))
+            (mark_in self.mark) (fed_mark (polynomial_of self.mark.key) (mark_in self.mark) (as_part part.now used))) }
+    {
+        let length = self.judge(part, used)?;
+        let next = feeding::part_alone(self.p, self.mark.fingerprint, part, used);
+        Ok(self.mark.with_mark(next, length))
+    }
 
-// The same, after the test of the key: all words are tested first.
-fn feed_under(
-    p: Modulus,
-    m: Running,
-    words: &[u64],
-    part: &[u8],
-    used: u32,
-) -> Result<Running, RefusedMark>
-    requires { Opened m.key p }
-    ensures { fed result ≡ fed_under m.key (first_of (table_tests (polynomial_of m.key) words.now
-        ++ feed_tests (polynomial_of m.key) (mark_in m) (as_part part.now used)) (mark_in m)
-        (fed_mark (polynomial_of m.key) (mark_in m) (as_part part.now used))) }
-{
-    table_tests::judge(p, words).map_err(|refusal| m.refused(refusal))?;
-    feed_looked(p, m, words, part, used)
+    // A part fed by the lent words: all of them are tested first.
+    fn feed_under(self, words: &[u64], part: &[u8], used: u32) -> Result<Running, RefusedMark>
+        ensures { fed result ≡ fed_under self.mark.key (first_of (table_tests (polynomial_of self.mark.key) words.now
+            ++ feed_tests (polynomial_of self.mark.key) (mark_in self.mark) (as_part part.now used))
+            (mark_in self.mark) (fed_mark (polynomial_of self.mark.key) (mark_in self.mark) (as_part part.now used))) }
+    {
+        let p = self.p;
+        table_tests::judge(p, words).map_err(|refusal| self.mark.refused(refusal))?;
+        let length = self.judge(part, used)?;
+        let table = KeyTable { words, p };
+        let looked = feeding::part_by_table(table, self.mark.fingerprint, part, used);
+        Ok(self.mark.with_mark(looked, length))
+    }
+
+    // The mark turned.
+    fn turn(self) -> Result<Running, RefusedMark>
+        ensures { fed result ≡ fed_under self.mark.key (first_of (turn_tests (polynomial_of self.mark.key) (mark_in self.mark)) (mark_in self.mark)
+            (turned (polynomial_of self.mark.key) (mark_in self.mark))) }
+    {
+        let m = self.mark;
+        if !refusals::bits_fit(m.length) {
+            return Err(m.refused(Refusal::TooLong));
+        }
+        if !gf2::is_residue(self.p, m.fingerprint) {
+            return Err(m.refused(Refusal::MarkNotReduced));
+        }
+        let turned = files::turned_residue(self.p, m.fingerprint, m.length);
+        Ok(m.with_mark(turned, m.length))
+    }
 }
 
 // The mark of the empty file behind a start.
@@ -111,22 +117,6 @@ fn begin_from(start: u64, key: Key) -> Result<Running, Refusal>
         fingerprint: start,
         length: 0,
     })
-}
-
-// A mark turned, after the test of the key.
-fn turn_under(p: Modulus, m: Running) -> Result<Running, RefusedMark>
-    requires { Opened m.key p }
-    ensures { fed result ≡ fed_under m.key (first_of (turn_tests (polynomial_of m.key) (mark_in m)) (mark_in m)
-        (turned (polynomial_of m.key) (mark_in m))) }
-{
-    if !refusals::bits_fit(m.length) {
-        return Err(m.refused(Refusal::TooLong));
-    }
-    if !gf2::is_residue(p, m.fingerprint) {
-        return Err(m.refused(Refusal::MarkNotReduced));
-    }
-    let turned = files::turned_residue(p, m.fingerprint, m.length);
-    Ok(m.with_mark(turned, m.length))
 }
 
 impl Running {
@@ -161,11 +151,12 @@ impl Running {
         }
     }
 
-    // Its key, opened. Numbers 1, 2.
-    pub fn opened(self) -> Result<Modulus, RefusedMark>
-        ensures { fed result ≡ first_of (key_tests self.key) self (as_modulus self.key) }
+    // The same mark with its key opened. Numbers 1, 2.
+    pub fn opened(self) -> Result<OpenMark, RefusedMark>
+        ensures { mapped (λ o. o.mark) (fed result) ≡ first_of (key_tests self.key) self self }
     {
-        keys::test(self.key).map_err(|refusal| self.refused(refusal))
+        let p = keys::test(self.key).map_err(|refusal| self.refused(refusal))?;
+        Ok(OpenMark { p, mark: self })
     }
 
     // The mark of the empty file under a key. Numbers 1, 2.
@@ -186,21 +177,21 @@ impl Running {
     pub fn turn(self) -> Result<Running, RefusedMark>
         ensures { fed result ≡ fed_under self.key (turn self.key (mark_in self)) }
     {
-        turn_under(self.opened()?, self)
+        self.opened()?.turn()
     }
 
     // The mark of what was fed with the part behind it, of whose final byte `used` bits are used. Numbers 1, 2, 7, 8, 19.
     pub fn feed(self, part: &[u8], used: u32) -> Result<Running, RefusedMark>
         ensures { fed result ≡ fed_under self.key (feed_bits self.key (mark_in self) (as_part part.now used)) }
     {
-        feed_alone(self.opened()?, self, part, used)
+        self.opened()?.feed_alone(part, used)
     }
 
     // The same by the lent table, all of whose words are tested first. Numbers 1, 2, 5, 6, 7, 8, 19.
     pub fn feed_table(self, words: &[u64], part: &[u8], used: u32) -> Result<Running, RefusedMark>
         ensures { fed result ≡ fed_under self.key (feed_table self.key (mark_in self) words.now (as_part part.now used)) }
     {
-        feed_under(self.opened()?, self, words, part, used)
+        self.opened()?.feed_under(words, part, used)
     }
 
     // The same by the house key's constant words. Under that key they are right: they are not read, and nothing is tested but the lengths, the
@@ -213,7 +204,7 @@ impl Running {
             low: self.key.word,
         };
         if house::is_house(p) {
-            return feed_alone(p, self, part, used);
+            return OpenMark { p, mark: self }.feed_alone(part, used);
         }
         feed_constant(self, part, used)
     }

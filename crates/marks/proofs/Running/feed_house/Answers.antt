@@ -16,8 +16,8 @@ house c = let h = c.is_house.ensures c.if-is_house.true in (h.0, h.1)
 opened-house : (c : Then-is_house) → let key = c.args.self.key in Opened key (as_modulus key)
 opened-house c = house-opened c.args.self.key (house c).0 (house c).1
 
-pub feed_alone-requires : goal.feed_alone-requires
-feed_alone-requires c = opened-house c
+pub invariant_of-feed_alone : goal.invariant_of-feed_alone
+invariant_of-feed_alone c = record { opened = opened-house (goal.at.invariant_of-feed_alone c).Then-is_house }
 
 pub returns-then-is_house : goal.returns-then-is_house
 returns-then-is_house c =
