@@ -1,6 +1,6 @@
 -- The groups that a slice is cut into.
 use mathlib.Core.Path.{◌≡◌, sym, ap, ◌∙◌}
-use mathlib.Core.List.{List}
+use mathlib.Core.List.{List, [], ◌∷◌}
 use Prim.Native.Nat.{ℕ, zero, suc, ◌+◌, ◌*◌, ◌≤◌, ◌<◌}
 use native.Mathlib.Omega.{arith}
 use native.Mathlib.Nat.{not-suc-le-zero, le_of_suc-le-suc, add_comm, add-zero, zero-mul, suc-mul}
@@ -11,7 +11,7 @@ use Rattle.std.proofs.lemmas.List.{get_or-drop}
 use Rattle.std.specs.Int.{from_be_bytes}
 use Rattle.std.specs.Simd.{first_chunks}
 use Rattle.files.specs.Files.{bits, value_from}
-use Rattle.big_endian.proofs.Pieces.{value-one, value-four}
+use Rattle.big_endian.proofs.Pieces.{value-four}
 
 -- group i is the n elements from place i·n on
 pub group-at : {A : Type 0} (d : List A) (n k : ℕ) (xs : List A) (i : ℕ) → i < k → get_or (first_chunks n k xs) i d ≡ take n (drop (i * n) xs)
@@ -27,11 +27,8 @@ pub four-bytes : (p : List ℕ) (i : ℕ) → i + 4 ≤ length p → ((j : ℕ) 
 four-bytes p i l h =
     let byte : (k : ℕ) → k < 4 → get_or (take 4 (drop i p)) k 0 ≡ get_or p (i + k) 0 =
     λ k b. get_or-take 4 (drop i p) k 0 b ∙ get_or-drop i p k 0 in
-    let one : (j : ℕ) → j < length p → get_or p j 0 ≡ value_from 0 (bits (take 1 (drop j p))) = λ j b. value-one p j b (h j) in
-    let a = get_or p (i + 0) 0 in
-    let sum : from_be_bytes w32 (take 4 (drop i p)) ≡ ((a * 256 + get_or p (i + 1) 0) * 256 + get_or p (i + 2) 0) * 256 + get_or p (i + 3) 0 =
-    omega (arith, byte 0 (omega arith), byte 1 (omega arith), byte 2 (omega arith), byte 3 (omega arith)) in
-    let zero : get_or p (i + 0) 0 ≡ get_or p i 0 = ap (λ (j : ℕ). get_or p j 0) (add-zero i) in
-    sum
-    ∙ value-four p i a (get_or p (i + 1) 0) (get_or p (i + 2) 0) (get_or p (i + 3) 0) l (zero ∙ one i (omega (arith, l))) (one (i + 1) (omega (arith, l)))
-    (one (i + 2) (omega (arith, l))) (one (i + 3) (omega (arith, l)))
+    let first : get_or p (i + 0) 0 ≡ get_or p i 0 = ap (λ (j : ℕ). get_or p j 0) (add-zero i) in
+    let same : from_be_bytes w32 (take 4 (drop i p))
+        ≡ from_be_bytes w32 (get_or p i 0 ∷ get_or p (i + 1) 0 ∷ get_or p (i + 2) 0 ∷ get_or p (i + 3) 0 ∷ []) =
+    omega (arith, first, byte 0 (omega arith), byte 1 (omega arith), byte 2 (omega arith), byte 3 (omega arith)) in
+    same ∙ value-four p i l h
