@@ -17,7 +17,7 @@ use Rattle.rolling.specs.declared.Setup.{Setup}
 use Rattle.search.specs.Searching.{windows, is_place, is_alarm, places, alarms, counts}
 use Rattle.rolling.specs.Rolling.{window, residue, key_of}
 use Rattle.windows.specs.Flags.{Filled, hit}
-use Rattle.rolling.proofs.Windows.{window-length}
+use Rattle.rolling.proofs.Window.{window-length}
 use Rattle.comparing.specs.Flagged.{flagged_place, flagged_alarm, flagged_places, flagged_alarms}
 use Rattle.comparing.proofs.Comparing.{same-is}
 use Rattle.rolling.proofs.Residues.{without_one}
