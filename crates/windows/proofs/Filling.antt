@@ -12,9 +12,6 @@ use Rattle.windows.specs.Flags.{Filled}
 -- ---- entries that follow a rule
 
 module _ {A : Type 0} {d : A} {rule : ℕ → A} where
-  pub filled_none : (n : ℕ) (l : List A) → Filled d rule n n l
-  filled_none n l = record { entry = λ i h g. absurd (omega arith) }
-
   -- one more, behind them
   pub filled_more : (n c : ℕ) (l : List A) (v : A) → Filled d rule n c l → c < length l → v ≡ rule c → Filled d rule n (c + 1) (set l c v)
   filled_more n c l v f h e = record { entry = λ i a b. go i a b (ℕ_discrete i c) }
@@ -31,30 +28,19 @@ module _ {A : Type 0} {d : A} {rule : ℕ → A} where
       apart i a b (inl h) e = omega arith
       apart i a b (inr h) e = omega arith
 
-  pub filled-join : (n m c : ℕ) (l : List A) → Filled d rule n m l → Filled d rule m c l → Filled d rule n c l
-  filled-join n m c l f g = record { entry = λ i a b. go i a b (dec_lt i m) }
-    where
-      go : (i : ℕ) → n ≤ i → i < c → Dec (i < m) → get_or l i d ≡ rule i
-      go i a b (yes q) = f.entry i a q
-      go i a b (no q) = g.entry i (omega arith) b
-
 -- ---- four lanes of 256 entries, j of each filled
 
 module _ {A : Type 0} (d : A) (rule : ℕ → A) where
   abbrev pub LanesFilled : ℕ → List A → Type 0
   LanesFilled j l =
-      (length l ≡ 1024)
-      × Filled d rule 0 j l
+      Filled d rule 0 j l
       × Filled d rule 256 (j + 256) l
       × Filled d rule 512 (j + 512) l
       × Filled d rule 768 (j + 768) l
 
-  pub lanes-begin : (l : List A) → length l ≡ 1024 → LanesFilled 0 l
-  lanes-begin l e = (e, filled_none 0 l, filled_none 256 l, filled_none 512 l, filled_none 768 l)
-
-  pub lanes-more : (j : ℕ) (l : List A) (u v w x : A) → j < 256 → LanesFilled j l → u ≡ rule j → v ≡ rule (j + 256) → w ≡ rule (j + 512) → x ≡ rule (j + 768)
+  pub lanes-more : (j : ℕ) (l : List A) (u v w x : A) → j < 256 → length l ≡ 1024 → LanesFilled j l → u ≡ rule j → v ≡ rule (j + 256) → w ≡ rule (j + 512) → x ≡ rule (j + 768)
       → LanesFilled (j + 1) (set (set (set (set l j u) (j + 256) v) (j + 512) w) (j + 768) x)
-  lanes-more j l u v w x h (n, p, q, r, s) eu ev ew ex =
+  lanes-more j l u v w x h n (p, q, r, s) eu ev ew ex =
       let l1 = set l j u in
       let l2 = set l1 (j + 256) v in
       let l3 = set l2 (j + 512) w in
@@ -62,7 +48,6 @@ module _ {A : Type 0} (d : A) (rule : ℕ → A) where
       let e3 : j + 512 + 1 ≡ j + 1 + 512 = omega arith in
       let e4 : j + 768 + 1 ≡ j + 1 + 768 = omega arith in
       let long : length l3 ≡ 1024 = simp length-set n in (
-        simp length-set n,
         filled-other 0 (j + 1) (j + 768) l3 x
             (filled-other 0 (j + 1) (j + 512) l2 w
             (filled-other 0 (j + 1) (j + 256) l1 v (filled_more 0 j l u p (omega arith) eu) (inr (omega arith)))
@@ -87,8 +72,3 @@ module _ {A : Type 0} (d : A) (rule : ℕ → A) where
             (inl (omega arith)))
             (omega arith) ex),
       )
-
-  pub lanes_end : (j : ℕ) (l : List A) → j ≡ 256 → LanesFilled j l → Filled d rule 0 1024 l
-  lanes_end j l e f =
-      let (n, p, q, r, s) = rw e at f in
-      filled-join 0 768 1024 l (filled-join 0 512 768 l (filled-join 0 256 512 l p q) r) s

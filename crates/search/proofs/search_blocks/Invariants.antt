@@ -11,11 +11,10 @@ use Rattle.search.proofs.search_blocks.Given as goal
 abbrev pub invariant-loop-from : goal.invariant-loop-from
 invariant-loop-from l =
     (l.from ≤ l.windows)
-    × (length l.flags ≡ 1024)
     × (l.found.places ≤ l.from)
     × (l.found.alarms ≤ l.from)
-    × (l.from < l.windows → ResidueAt l.s l.text l.from l.g)
-    × Tally (is_place l.text l.pattern) (is_alarm (key_of l.s) l.text l.pattern) 0 l.windows l.initial.places 0 0 l.places l.found.places l.found.alarms l.from
+    × (l.from < l.windows → ResidueAt l.w l.from l.g)
+    × Tally (is_place l.w.text.now l.pattern) (is_alarm (key_of l.w) l.w.text.now l.pattern) 0 l.windows l.initial.places 0 0 l.places l.found.places l.found.alarms l.from
 
 abbrev pub decreases-loop-from : goal.decreases-loop-from
 decreases-loop-from l = l.windows - l.from

@@ -19,7 +19,7 @@ loop-j-preserved c =
       same_place w _ _ _ (omega arith) c.roll-b.ensures,
       same_place w _ _ _ (omega arith) c.roll-c.ensures,
       same_place w _ _ _ (omega arith) c.roll-d.ensures,
-      lanes-more false (hit w from) l.j l.flags _ _ _ _ (omega arith) h.4
+      lanes-more false (hit w from) l.j l.flags _ _ _ _ (omega arith) (omega arith) h.4
           (hit-is w from l.j _ l.a (omega arith) h.0)
           (hit-is w from (l.j + 256) _ l.b (omega arith) h.1)
           (hit-is w from (l.j + 512) _ l.c (omega arith) h.2)
