@@ -23,7 +23,7 @@ use Rattle.multiples.specs.Rows.{Multiples, Rows}
 use Rattle.files.specs.Files.{bits, value_from, fingerprint, fingerprint_from}
 use Rattle.files.proofs.Values.{value-append, value-⊕, value-byte, length-bits, bits-append, rem-from}
 use Rattle.files.proofs.Turning.{equal-starts}
-use Rattle.rolling.specs.declared.windows.Windows.{Windows}
+use Rattle.rolling.specs.declared.text_windows.Windows.{Windows}
 use Rattle.rolling.specs.Rolling.{window, residue, key_of, ResidueAt}
 use Rattle.rolling.proofs.Window.{window-length, window_more, window-front, window-none}
 

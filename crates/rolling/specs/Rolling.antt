@@ -3,7 +3,7 @@ use Rattle.std.specs.Prelude.{◌≡◌, List, ℕ, take, drop}
 use Rattle.gf2.specs.Moduli.{polynomial}
 use Rattle.files.specs.Files.{bits}
 use Rattle.files.specs.PlainMarks.{plain_fingerprint}
-use Rattle.rolling.specs.declared.windows.Windows.{Windows}
+use Rattle.rolling.specs.declared.text_windows.Windows.{Windows}
 
 -- the window of m bytes at the place i
 unfoldable pub window : ℕ → List ℕ → ℕ → List ℕ

@@ -9,10 +9,10 @@ ghost use Rattle.gf2.specs.Moduli.{polynomial};
 ghost use Rattle.lookups.specs.Groups.{ReducesByte};
 ghost use Rattle.rolling.specs.Rolling.{window, residue};
 
-mod windows;
+mod text_windows;
 
 use gf2::Modulus;
-pub use windows::Windows;
+pub use text_windows::Windows;
 
 // The residues of the first window and of the pattern, and t^(8m) for a pattern of m bytes.
 #[derive(Clone, Copy)]

@@ -13,7 +13,7 @@ use Rattle.lists.specs.Lists.{passing, overlay}
 use Rattle.lists.proofs.Lent.{overlay_sets}
 use Rattle.files.specs.Files.{bits, fingerprint}
 use Rattle.comparing.specs.declared.Counts.{Counts}
-use Rattle.rolling.specs.declared.windows.Windows.{Windows}
+use Rattle.rolling.specs.declared.text_windows.Windows.{Windows}
 use Rattle.search.specs.Searching.{windows, is_place, is_alarm, places, alarms, counts}
 use Rattle.rolling.specs.Rolling.{window, residue, key_of}
 use Rattle.windows.specs.Flags.{Filled, hit}

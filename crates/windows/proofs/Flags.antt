@@ -2,7 +2,7 @@
 use mathlib.Core.Path.{◌≡◌, ap}
 use Prim.Native.Nat.{ℕ, ◌+◌}
 use lib.Dec.{eqb}
-use Rattle.rolling.specs.declared.windows.Windows.{Windows}
+use Rattle.rolling.specs.declared.text_windows.Windows.{Windows}
 use Rattle.rolling.specs.Rolling.{ResidueAt}
 use Rattle.rolling.proofs.Residues.{same_place}
 use Rattle.windows.specs.Flags.{hit}

@@ -1,6 +1,6 @@
 -- For inner functions: a reader of the promises need not read this page. The flags of a text's windows.
 use Rattle.std.specs.Prelude.{◌≡◌, Bool, false, List, ℕ, ◌+◌, ◌≤◌, ◌<◌, eqb, length, get_or}
-use Rattle.rolling.specs.declared.windows.Windows.{Windows}
+use Rattle.rolling.specs.declared.text_windows.Windows.{Windows}
 use Rattle.rolling.specs.Rolling.{window, residue, key_of, ResidueAt}
 
 -- the entries n to c - 1 of a list follow a rule

@@ -2,7 +2,7 @@
 use mathlib.Core.Path.{refl}
 use Prim.Native.Nat.{◌+◌}
 use Rattle.rolling.proofs.Residues.{read_below, read_more}
-use Rattle.rolling.proofs.windows.Windows.longer.Goals as goal
+use Rattle.rolling.proofs.text_windows.Windows.longer.Goals as goal
 
 pub feed_one-requires : goal.feed_one-requires
 feed_one-requires c =

@@ -3,7 +3,7 @@ use mathlib.Core.Path.{refl}
 use Rattle.gf2.specs.Polynomials.{◌⊕◌}
 use Rattle.gf2.proofs.Monics.{monic-pos}
 use Rattle.rolling.proofs.Residues.{rolled}
-use Rattle.rolling.proofs.windows.Windows.roll.Goals as goal
+use Rattle.rolling.proofs.text_windows.Windows.roll.Goals as goal
 
 pub returns : goal.returns
 unfolding ◌⊕◌

@@ -1,6 +1,6 @@
 -- `Windows::start_lanes` meets its contract: no bytes have the residue 0.
 use Rattle.rolling.proofs.Residues.{read_none}
-use Rattle.rolling.proofs.windows.Windows.start_lanes.Goals as goal
+use Rattle.rolling.proofs.text_windows.Windows.start_lanes.Goals as goal
 
 pub loop-j-init : goal.loop-j-init
 loop-j-init c =
