@@ -67,11 +67,9 @@ pub fn flag_block(w: Windows<'_>, from: usize, g: u64, flags: &mut [bool; 1024])
         × Flagged w.entry from result.size result.next flags.old flags.new }
 {
     let left = w.text.len() - w.m + 1 - from;
-    if w.m <= 512 {
-        if 1024 < left {
-            let next = four_lanes(w, from, g, flags);
-            return Block { size: 1024, next };
-        }
+    if w.m <= 512 && 1024 < left {
+        let next = four_lanes(w, from, g, flags);
+        return Block { size: 1024, next };
     }
     let size = left.min(1024);
     let next = one_by_one(w, from, size, g, flags);

@@ -11,32 +11,23 @@ use Rattle.refusals.proofs.Laws.{holds, fails}
 use Rattle.refusals.proofs.Lengths.{within}
 use Rattle.search.proofs.Calls.{both-fit, call_long, call_empty, call_none, call_done}
 use Rattle.search.proofs.search_under.Goals as goal
-use Rattle.search.proofs.search_under.Goals.{After-bytes_fit-2, Else-not-fit}
+use Rattle.search.proofs.search_under.Goals.{Else-not-fit}
 
 -- ---- what is known at the places
 
--- both fit, as the code has it
-fit : (c : After-bytes_fit-2) → let a = c.args in
-    (c.bytes_fit.result && c.bytes_fit-2.result) ≡ not (passes (8 * length a.text.now ∷ 8 * length a.pattern.now ∷ []))
-fit c =
-    let a = c.args in
-    both-fit _ _ (length a.text.now) (length a.pattern.now) c.bytes_fit.ensures c.bytes_fit-2.ensures
-
-fit-at_else_not_fit : (c : Else-not-fit) → let a = c.args in
-    (c.bytes_fit.result && c.bytes_fit-2.result) ≡ not (passes (8 * length a.text.now ∷ 8 * length a.pattern.now ∷ []))
-fit-at_else_not_fit c =
-    let a = c.args in
-    both-fit _ _ (length a.text.now) (length a.pattern.now) c.bytes_fit.ensures c.bytes_fit-2.ensures
-
+-- both fit
 short : (c : Else-not-fit) → let a = c.args in passes (8 * length a.text.now ∷ 8 * length a.pattern.now ∷ []) ≡ false
-short c = fails _ _ (fit-at_else_not_fit c) c.if-not-fit.false-raw
+short c =
+    let a = c.args in
+    fails _ _ (both-fit _ _ (length a.text.now) (length a.pattern.now) c.bytes_fit.ensures c.bytes_fit-2.ensures) c.if-not-fit.false-raw
 
 -- ---- the needs
 
 pub returns-then-not-fit : goal.returns-then-not-fit
 returns-then-not-fit c =
     let a = c.args in
-    call_long (polynomial a.p) a.text.now a.pattern.now a.places.now (holds _ _ (fit (goal.at.returns-then-not-fit c).After-bytes_fit-2) c.if-not-fit.true-raw)
+    call_long (polynomial a.p) a.text.now a.pattern.now a.places.now
+    (holds _ _ (both-fit _ _ (length a.text.now) (length a.pattern.now) c.bytes_fit.ensures c.bytes_fit-2.ensures) c.if-not-fit.true-raw)
 
 pub returns-then-pattern-eq0 : goal.returns-then-pattern-eq0
 returns-then-pattern-eq0 c =
