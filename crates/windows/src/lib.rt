@@ -36,13 +36,7 @@ fn four_lanes(w: Windows<'_>, from: usize, g: u64, flags: &mut [bool; 1024]) -> 
 }
 
 // `size` windows, one after the other. There is no next residue behind the text's last window.
-fn one_by_one(
-    w: Windows<'_>,
-    from: usize,
-    size: usize,
-    g: u64,
-    flags: &mut [bool; 1024],
-) -> u64
+fn one_by_one(w: Windows<'_>, from: usize, size: usize, g: u64, flags: &mut [bool; 1024]) -> u64
     requires { (from + size + w.m ≤ length w.text.now + 1) × (size ≤ 1024) × ResidueAt w from g }
     ensures { Flagged w.entry from size result flags.old flags.new }
 {

@@ -1,8 +1,6 @@
 -- `search::search_blocks` meets its contract. The loop's invariant: of the windows before `from` all places and false alarms are found,
 -- and g is the residue of the next window. The measure is the number of windows that are left.
-use mathlib.Core.Path.{◌≡◌}
 use Prim.Native.Nat.{◌-◌, ◌≤◌, ◌<◌}
-use lib.ListN.{length}
 use Rattle.search.specs.Searching.{is_place, is_alarm}
 use Rattle.rolling.specs.Rolling.{key_of, ResidueAt}
 use Rattle.comparing.proofs.Numbers.{Tally}
