@@ -23,9 +23,9 @@ use Rattle.multiples.specs.Rows.{Multiples, Rows}
 use Rattle.files.specs.Files.{bits, value_from, fingerprint, fingerprint_from}
 use Rattle.files.proofs.Values.{value-append, value-⊕, value-byte, length-bits, bits-append, rem-from}
 use Rattle.files.proofs.Turning.{equal-starts}
-use Rattle.rolling.specs.declared.Setup.{Setup}
+use Rattle.rolling.specs.declared.text_windows.Windows.{Windows}
 use Rattle.rolling.specs.Rolling.{window, residue, key_of, ResidueAt}
-use Rattle.rolling.proofs.Windows.{window-length, window_more, window-front, window-none}
+use Rattle.rolling.proofs.Window.{window-length, window_more, window-front, window-none}
 
 one_byte : (s b : ℕ) → b < 256 → value_from s (bits (b ∷ [])) ≡ s * 256 + b
 unfolding value_from bits
@@ -50,11 +50,11 @@ module _ {p : ℕ} (pos : 0 < p) where
 
   -- ---- bytes appended, and the next window
 
-  pub residue-none : residue p [] ≡ 0
+  residue-none : residue p [] ≡ 0
   unfolding residue fingerprint_from bits value_from
   residue-none = rem-zero p
 
-  pub residue-append : (a : List ℕ) (b : ℕ) → b < 256 → residue p (a ++ b ∷ []) ≡ rem p (residue p a * 256 + b)
+  residue-append : (a : List ℕ) (b : ℕ) → b < 256 → residue p (a ++ b ∷ []) ≡ rem p (residue p a * 256 + b)
   unfolding residue fingerprint_from
   residue-append a b h =
       ap (rem p) (ap (value_from 0) (bits-append a (b ∷ [])) ∙ value-append 0 (bits a) (bits (b ∷ [])))
@@ -77,33 +77,32 @@ module _ {p : ℕ} (pos : 0 < p) where
       ∙ rem-⊕ pos (x * 2 ^ length (bits a)) (value_from 0 (bits a))
       ∙ rw (length-bits a, ⊗-pow (8 * length a) x)
 
-  pub residue-more : (m : ℕ) (text : List ℕ) (i : ℕ) → i + m < length text → get_or text (i + m) 0 < 256
+  residue-more : (m : ℕ) (text : List ℕ) (i : ℕ) → i + m < length text → get_or text (i + m) 0 < 256
       → residue p (window (m + 1) text i) ≡ rem p (residue p (window m text i) * 256 + get_or text (i + m) 0)
   residue-more m text i h l =
       rw (add-one m, window_more m text i h) (residue-append (window m text i) (get_or text (i + m) 0) l)
 
-  -- a byte comes in behind, and the first one, times t^(8m), goes out
-  pub residue-next : (m : ℕ) (text : List ℕ) (i : ℕ) → i + m < length text → get_or text i 0 < 256 → get_or text (i + m) 0 < 256
-      → residue p (window m text (i + 1)) ≡ rem p (residue p (window m text i) * 256 + get_or text (i + m) 0) ⊕ rem p (get_or text i 0 ⊗ 2 ^ (8 * m))
-  residue-next m text i h lx ly =
-      ⊕_move (rem p (get_or text i 0 ⊗ 2 ^ (8 * m))) (residue p (window m text (i + 1))) (residue p (window (m + 1) text i)) (sym front)
-      ∙ ap (λ (x : ℕ). rem p (get_or text i 0 ⊗ 2 ^ (8 * m)) ⊕ x) (residue-more m text i h ly)
-      ∙ ⊕_comm (rem p (get_or text i 0 ⊗ 2 ^ (8 * m))) (rem p (residue p (window m text i) * 256 + get_or text (i + m) 0))
+  -- the first byte, times t^(8m), goes out
+  residue-next : (m : ℕ) (text : List ℕ) (i : ℕ) → i + m < length text → get_or text i 0 < 256
+      → residue p (window m text (i + 1)) ≡ residue p (window (m + 1) text i) ⊕ rem p (get_or text i 0 ⊗ 2 ^ (8 * m))
+  residue-next m text i h l =
+      ⊕_move gone (residue p (window m text (i + 1))) (residue p (window (m + 1) text i)) (sym front)
+      ∙ ⊕_comm gone (residue p (window (m + 1) text i))
     where
-      front : residue p (window (m + 1) text i) ≡ rem p (get_or text i 0 ⊗ 2 ^ (8 * m)) ⊕ residue p (window m text (i + 1))
+      gone : ℕ
+      gone = rem p (get_or text i 0 ⊗ 2 ^ (8 * m))
+
+      front : residue p (window (m + 1) text i) ≡ gone ⊕ residue p (window m text (i + 1))
       front =
           rw (add-one m, add-one i, window-front m text i (omega arith))
-          (residue-front (get_or text i 0) (window m text (suc i)) lx
+          (residue-front (get_or text i 0) (window m text (suc i)) l
           ∙ rw (window-length m text (suc i) (omega arith)))
 
-  -- the same as the code goes: x is the residue of a window, and r is made of it, the byte at e, and the table's entry for the first byte
-  pub rolled : (m : ℕ) (text outgoing : List ℕ) (i e x r : ℕ) → i + m ≡ e → e < length text → get_or text i 0 < 256 → get_or text e 0 < 256
-      → Multiples p (2 ^ (8 * m)) 0 256 outgoing → x ≡ residue p (window m text i)
-      → r ≡ rem p (x * 256 + get_or text e 0) ⊕ get_or outgoing (get_or text i 0) 0 → r ≡ residue p (window m text (i + 1))
-  rolled m text outgoing i e x r q h lx ly t ex er =
-      er
-      ∙ rw (ex, ← q, rw zero-add at (t (get_or text i 0) lx))
-      (sym (residue-next m text i (rw q h) lx (rw q ly)))
+  -- the same as the code goes: x is the residue of a window and the byte behind it, and r is made of it and the table's entry for the first byte
+  pub rolled : (m : ℕ) (text outgoing : List ℕ) (i x r : ℕ) → i + m < length text → get_or text i 0 < 256
+      → Multiples p (2 ^ (8 * m)) 0 256 outgoing → x ≡ residue p (window (m + 1) text i)
+      → r ≡ x ⊕ get_or outgoing (get_or text i 0) 0 → r ≡ residue p (window m text (i + 1))
+  rolled m text outgoing i x r h l t ex er = er ∙ rw (ex, rw zero-add at (t (get_or text i 0) l)) (sym (residue-next m text i h l))
 
 -- ---- a window read byte by byte: x is the residue of its first j bytes
 
@@ -129,8 +128,8 @@ module _ (p : Modulus) (proper : Proper p) (text : List ℕ) (i : ℕ) where
   pub read_all : (j m x : ℕ) → j ≡ m → Read j x → Read m x
   read_all j m x e h = rw (← e) h
 
-pub same_place : (s : Setup) (text : List ℕ) (i j x : ℕ) → i ≡ j → ResidueAt s text i x → ResidueAt s text j x
-same_place s text i j x e h = h ∙ ap (λ (n : ℕ). residue (key_of s) (window s.m text n)) e
+pub same_place : (w : Windows) (i j x : ℕ) → i ≡ j → ResidueAt w i x → ResidueAt w j x
+same_place w i j x e h = h ∙ ap (λ (n : ℕ). residue (key_of w) (window w.m w.text.now n)) e
 
 -- ---- the tables
 

@@ -13,11 +13,11 @@ use Rattle.lists.specs.Lists.{passing, overlay}
 use Rattle.lists.proofs.Lent.{overlay_sets}
 use Rattle.files.specs.Files.{bits, fingerprint}
 use Rattle.comparing.specs.declared.Counts.{Counts}
-use Rattle.rolling.specs.declared.Setup.{Setup}
+use Rattle.rolling.specs.declared.text_windows.Windows.{Windows}
 use Rattle.search.specs.Searching.{windows, is_place, is_alarm, places, alarms, counts}
 use Rattle.rolling.specs.Rolling.{window, residue, key_of}
 use Rattle.windows.specs.Flags.{Filled, hit}
-use Rattle.rolling.proofs.Windows.{window-length}
+use Rattle.rolling.proofs.Window.{window-length}
 use Rattle.comparing.specs.Flagged.{flagged_place, flagged_alarm, flagged_places, flagged_alarms}
 use Rattle.comparing.proofs.Comparing.{same-is}
 use Rattle.rolling.proofs.Residues.{without_one}
@@ -39,31 +39,31 @@ and_implied true b h = refl
 and_implied false true h = h refl
 and_implied false false h = refl
 
-module _ (s : Setup) (text pattern : List ℕ) (from size : ℕ) (flags : List Bool) (pos : 0 < key_of s) (em : s.m ≡ length pattern)
-    (ew : s.wanted ≡ residue (key_of s) pattern) (fits : from + size + length pattern ≤ length text + 1)
-    (flagged : Filled false (hit s text from) 0 size flags) where
-  flag-alike : (i : ℕ) → from ≤ i → i < from + size → get_or flags (i - from) false ≡ alike (key_of s) text pattern i
+module _ (w : Windows) (pattern : List ℕ) (from size : ℕ) (flags : List Bool) (pos : 0 < key_of w) (em : w.m ≡ length pattern)
+    (ew : w.wanted ≡ residue (key_of w) pattern) (fits : from + size + length pattern ≤ length w.text.now + 1)
+    (flagged : Filled false (hit w from) 0 size flags) where
+  flag-alike : (i : ℕ) → from ≤ i → i < from + size → get_or flags (i - from) false ≡ alike (key_of w) w.text.now pattern i
   unfolding hit alike
   flag-alike i l h =
       let e : from + (i - from) ≡ i = omega arith in
       flagged.entry (i - from) (omega arith) (omega arith)
       ∙ rw (e, em, ew)
-      (sym (without_one pos (window (length pattern) text i) pattern (window-length (length pattern) text i (omega arith))))
+      (sym (without_one pos (window (length pattern) w.text.now i) pattern (window-length (length pattern) w.text.now i (omega arith))))
 
-  pub flagged-places : flagged_places flags text pattern from size ≡ passing (is_place text pattern) (0 + from) size
+  pub flagged-places : flagged_places flags w.text.now pattern from size ≡ passing (is_place w.text.now pattern) (0 + from) size
   unfolding flagged_place is_place window
   flagged-places =
       rw (zero-add from)
-      (passing-same (flagged_place flags text pattern from) (is_place text pattern) from size
-      (λ i l h. ap (λ (b : Bool). b && is_place text pattern i) (flag-alike i l h)
-      ∙ and_implied (alike (key_of s) text pattern i) (is_place text pattern i) (place-alike (key_of s) text pattern i)))
+      (passing-same (flagged_place flags w.text.now pattern from) (is_place w.text.now pattern) from size
+      (λ i l h. ap (λ (b : Bool). b && is_place w.text.now pattern i) (flag-alike i l h)
+      ∙ and_implied (alike (key_of w) w.text.now pattern i) (is_place w.text.now pattern i) (place-alike (key_of w) w.text.now pattern i)))
 
-  pub flagged-alarms : flagged_alarms flags text pattern from size ≡ passing (is_alarm (key_of s) text pattern) (0 + from) size
+  pub flagged-alarms : flagged_alarms flags w.text.now pattern from size ≡ passing (is_alarm (key_of w) w.text.now pattern) (0 + from) size
   unfolding flagged_alarm is_alarm is_place alike window
   flagged-alarms =
       rw (zero-add from)
-      (passing-same (flagged_alarm flags text pattern from) (is_alarm (key_of s) text pattern) from size
-      (λ i l h. ap (λ (b : Bool). b && not (is_place text pattern i)) (flag-alike i l h)))
+      (passing-same (flagged_alarm flags w.text.now pattern from) (is_alarm (key_of w) w.text.now pattern) from size
+      (λ i l h. ap (λ (b : Bool). b && not (is_place w.text.now pattern i)) (flag-alike i l h)))
 
 -- what was found of all windows is what the call answers
 pub all_found : (p : ℕ) (text pattern words₀ words : List ℕ) (found : Counts) (n : ℕ) → n ≡ windows text pattern

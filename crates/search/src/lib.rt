@@ -6,36 +6,27 @@ ghost use Rattle.lists.specs.Lists.{overlay};
 ghost use Rattle.gf2.specs.Moduli.{polynomial, Proper};
 ghost use Rattle.refusals.specs.Answers.{told};
 ghost use Rattle.refusals.specs.Refusals.{first_of, state_of, longest};
-ghost use Rattle.rolling.specs.Rolling.{residue, key_of, ResidueAt, Ready};
+ghost use Rattle.rolling.specs.Rolling.{residue, key_of, ResidueAt};
 ghost use Rattle.search.specs.Searching.{places as places_of, counts, text_tests, search, places_after};
 
 use acceptance::Key;
 pub use comparing::Counts;
 use gf2::Modulus;
 use refusals::Refusal;
-use rolling::Setup;
+use rolling::Windows;
 
 // Block by block: which windows have the pattern's residue, and then which of these have its bytes.
-fn search_blocks(
-    s: Setup,
-    reduce: &[u64],
-    outgoing: &[u64; 256],
-    text: &[u8],
-    pattern: &[u8],
-    first: u64,
-    places: &mut [u32],
-) -> Counts
-    requires { Ready s reduce.now outgoing.now
-        × (s.m ≡ length pattern.now)
-        × (s.wanted ≡ residue (key_of s) pattern.now)
-        × ResidueAt s text.now 0 first
-        × (length pattern.now ≤ length text.now)
-        × (8 * length text.now ≤ longest) }
-    ensures { (result ≡ counts (key_of s) text.now pattern.now)
-        × (places.new ≡ overlay (places_of text.now pattern.now) places.old) }
+fn search_blocks(w: Windows<'_>, pattern: &[u8], first: u64, places: &mut [u32]) -> Counts
+    requires { (w.m ≡ length pattern.now)
+        × (w.wanted ≡ residue (key_of w) pattern.now)
+        × ResidueAt w 0 first
+        × (length pattern.now ≤ length w.text.now)
+        × (8 * length w.text.now ≤ longest) }
+    ensures { (result ≡ counts (key_of w.entry) w.entry.text.now pattern.now)
+        × (places.new ≡ overlay (places_of w.entry.text.now pattern.now) places.old) }
 {
     let mut flags: [bool; 1024] = [false; 1024];
-    let windows = text.len() - pattern.len() + 1;
+    let windows = w.text.len() - w.m + 1;
     let mut found = Counts {
         places: 0,
         alarms: 0,
@@ -43,8 +34,8 @@ fn search_blocks(
     let mut g = first;
     let mut from: usize = 0;
     while from < windows {
-        let b = windows::flag_block(s, reduce, outgoing, text, from, g, &mut flags);
-        found = comparing::compare(text, pattern, &flags, from, b.size, found, places);
+        let b = windows::flag_block(w, from, g, &mut flags);
+        found = comparing::compare(w.text, pattern, &flags, from, b.size, found, places);
         from += b.size;
         g = b.next;
     }
@@ -62,12 +53,15 @@ fn search_text(p: Modulus, text: &[u8], pattern: &[u8], places: &mut [u32]) -> C
     let begin = rolling::read_first(p, &reduce, text, pattern);
     let mut outgoing: [u64; 256] = [0; 256];
     multiples::fill_row(&mut outgoing, 0, 8, p, begin.shift);
-    let s = Setup {
+    let w = Windows {
         modulus: p,
         m: pattern.len(),
         wanted: begin.wanted,
+        text,
+        reduce: &reduce,
+        outgoing: &outgoing,
     };
-    search_blocks(s, &reduce, &outgoing, text, pattern, begin.first, places)
+    search_blocks(w, pattern, begin.first, places)
 }
 
 // The search under an opened key. Numbers 7, 11.

@@ -11,15 +11,6 @@ ghost use Rattle.table_lanes.specs.Lanes.{EachLane, FourMore, FedLane, TwoRows, 
 use gf2::Modulus;
 use lookups::KeyTable;
 
-// Four lanes of windows, a residue each, in the crates rolling and windows.
-#[derive(Clone, Copy)]
-pub struct Lanes {
-    pub a: u64,
-    pub b: u64,
-    pub c: u64,
-    pub d: u64,
-}
-
 // Four bytes more in each of four lanes of n bytes: four chains of look-ups that do not wait for each other. The bytes are read before the first
 // look-up, so that the compiler knows four of them as one load.
 fn feed_turn(table: KeyTable<'_>, x: &mut [u64; 4], part: &[u8], n: usize, i: usize)

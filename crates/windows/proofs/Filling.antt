@@ -12,9 +12,6 @@ use Rattle.windows.specs.Flags.{Filled}
 -- ---- entries that follow a rule
 
 module _ {A : Type 0} {d : A} {rule : ℕ → A} where
-  pub filled_none : (n : ℕ) (l : List A) → Filled d rule n n l
-  filled_none n l = record { entry = λ i h g. absurd (omega arith) }
-
   -- one more, behind them
   pub filled_more : (n c : ℕ) (l : List A) (v : A) → Filled d rule n c l → c < length l → v ≡ rule c → Filled d rule n (c + 1) (set l c v)
   filled_more n c l v f h e = record { entry = λ i a b. go i a b (ℕ_discrete i c) }
@@ -36,15 +33,14 @@ module _ {A : Type 0} {d : A} {rule : ℕ → A} where
 module _ {A : Type 0} (d : A) (rule : ℕ → A) where
   abbrev pub LanesFilled : ℕ → List A → Type 0
   LanesFilled j l =
-      (length l ≡ 1024)
-      × Filled d rule 0 j l
+      Filled d rule 0 j l
       × Filled d rule 256 (j + 256) l
       × Filled d rule 512 (j + 512) l
       × Filled d rule 768 (j + 768) l
 
-  pub lanes-more : (j : ℕ) (l : List A) (u v w x : A) → j < 256 → LanesFilled j l → u ≡ rule j → v ≡ rule (j + 256) → w ≡ rule (j + 512) → x ≡ rule (j + 768)
+  pub lanes-more : (j : ℕ) (l : List A) (u v w x : A) → j < 256 → length l ≡ 1024 → LanesFilled j l → u ≡ rule j → v ≡ rule (j + 256) → w ≡ rule (j + 512) → x ≡ rule (j + 768)
       → LanesFilled (j + 1) (set (set (set (set l j u) (j + 256) v) (j + 512) w) (j + 768) x)
-  lanes-more j l u v w x h (n, p, q, r, s) eu ev ew ex =
+  lanes-more j l u v w x h n (p, q, r, s) eu ev ew ex =
       let l1 = set l j u in
       let l2 = set l1 (j + 256) v in
       let l3 = set l2 (j + 512) w in
@@ -52,7 +48,6 @@ module _ {A : Type 0} (d : A) (rule : ℕ → A) where
       let e3 : j + 512 + 1 ≡ j + 1 + 512 = omega arith in
       let e4 : j + 768 + 1 ≡ j + 1 + 768 = omega arith in
       let long : length l3 ≡ 1024 = simp length-set n in (
-        simp length-set n,
         filled-other 0 (j + 1) (j + 768) l3 x
             (filled-other 0 (j + 1) (j + 512) l2 w
             (filled-other 0 (j + 1) (j + 256) l1 v (filled_more 0 j l u p (omega arith) eu) (inr (omega arith)))

@@ -1,14 +1,12 @@
 -- Laws of the flags of windows.
 use mathlib.Core.Path.{◌≡◌, ap}
-use mathlib.Core.Bool.{Bool, false}
-use mathlib.Core.List.{List}
-use Prim.Native.Nat.{ℕ, ◌+◌, ◌≤◌}
+use Prim.Native.Nat.{ℕ, ◌+◌}
 use lib.Dec.{eqb}
-use lib.ListN.{length, get_or}
-use Rattle.rolling.specs.declared.Setup.{Setup}
+use Rattle.rolling.specs.declared.text_windows.Windows.{Windows}
 use Rattle.rolling.specs.Rolling.{ResidueAt}
-use Rattle.windows.specs.Flags.{Filled, hit, Flagged}
+use Rattle.rolling.proofs.Residues.{same_place}
+use Rattle.windows.specs.Flags.{hit}
 
-pub hit-is : (s : Setup) (text : List ℕ) (from j x : ℕ) → ResidueAt s text (from + j) x → eqb x s.wanted ≡ hit s text from j
+pub hit-is : (w : Windows) (from j i x : ℕ) → i ≡ from + j → ResidueAt w i x → eqb x w.wanted ≡ hit w from j
 unfolding hit
-hit-is s text from j x e = ap (λ (y : ℕ). eqb y s.wanted) e
+hit-is w from j i x e h = ap (λ (y : ℕ). eqb y w.wanted) (same_place w i (from + j) x e h)

@@ -3,11 +3,10 @@
 #![tactic(auto)]
 
 ghost use Rattle.std.specs.Prelude.{◌≡◌, false, ◌+◌, ◌≤◌, ◌<◌, length};
-ghost use Rattle.rolling.specs.Rolling.{ResidueAt, Ready};
+ghost use Rattle.rolling.specs.Rolling.{ResidueAt};
 ghost use Rattle.windows.specs.Flags.{hit, Filled, Flagged};
 
-use rolling::Setup;
-use table_lanes::Lanes;
+use rolling::Windows;
 
 // How many windows were looked at, and the residue of the next one.
 #[derive(Clone, Copy)]
@@ -17,100 +16,56 @@ pub struct Block {
 }
 
 // 1,024 windows in four lanes of 256, rolled side by side: a step waits for the last one of its own lane alone.
-fn four_lanes(
-    s: Setup,
-    reduce: &[u64],
-    outgoing: &[u64; 256],
-    text: &[u8],
-    from: usize,
-    g: u64,
-    flags: &mut [bool; 1024],
-) -> u64
-    requires { Ready s reduce.now outgoing.now
-        × (length flags.old ≡ 1024)
-        × (from + 1024 + s.m ≤ length text.now)
-        × ResidueAt s text.now from g }
-    ensures { ResidueAt s text.now (from + 1024) result
-        × Filled false (hit s text.now from) 0 1024 flags.new
-        × (length flags.new ≡ 1024) }
+fn four_lanes(w: Windows<'_>, from: usize, g: u64, flags: &mut [bool; 1024]) -> u64
+    requires { (from + 1024 + w.m ≤ length w.text.now) × ResidueAt w from g }
+    ensures { ResidueAt w.entry (from + 1024) result × Filled false (hit w.entry from) 0 1024 flags.new }
 {
-    let starts: Lanes = rolling::start_lanes(s, reduce, text, from, g);
-    let mut a = starts.a;
-    let mut b = starts.b;
-    let mut c = starts.c;
-    let mut d = starts.d;
+    let [mut a, mut b, mut c, mut d] = w.start_lanes(from, g);
     for j in 0..256 {
-        flags[j] = a == s.wanted;
-        flags[j + 256] = b == s.wanted;
-        flags[j + 512] = c == s.wanted;
-        flags[j + 768] = d == s.wanted;
+        flags[j] = a == w.wanted;
+        flags[j + 256] = b == w.wanted;
+        flags[j + 512] = c == w.wanted;
+        flags[j + 768] = d == w.wanted;
         let i = from + j;
-        a = rolling::roll(s, reduce, outgoing, text, i, a);
-        b = rolling::roll(s, reduce, outgoing, text, i + 256, b);
-        c = rolling::roll(s, reduce, outgoing, text, i + 512, c);
-        d = rolling::roll(s, reduce, outgoing, text, i + 768, d);
+        a = w.roll(i, a);
+        b = w.roll(i + 256, b);
+        c = w.roll(i + 512, c);
+        d = w.roll(i + 768, d);
     }
     d
 }
 
 // `size` windows, one after the other. There is no next residue behind the text's last window.
-fn one_by_one(
-    s: Setup,
-    reduce: &[u64],
-    outgoing: &[u64; 256],
-    text: &[u8],
-    from: usize,
-    size: usize,
-    g: u64,
-    flags: &mut [bool; 1024],
-) -> u64
-    requires { Ready s reduce.now outgoing.now
-        × (length flags.old ≡ 1024)
-        × (from + size + s.m ≤ length text.now + 1)
-        × (size ≤ 1024)
-        × ResidueAt s text.now from g }
-    ensures { Flagged s text.now from size result flags.old flags.new × (length flags.new ≡ 1024) }
+fn one_by_one(w: Windows<'_>, from: usize, size: usize, g: u64, flags: &mut [bool; 1024]) -> u64
+    requires { (from + size + w.m ≤ length w.text.now + 1) × (size ≤ 1024) × ResidueAt w from g }
+    ensures { Flagged w.entry from size result flags.old flags.new }
 {
     let mut a = g;
     for j in 0..size {
-        flags[j] = a == s.wanted;
+        flags[j] = a == w.wanted;
         let i = from + j;
-        if i + s.m < text.len() {
-            a = rolling::roll(s, reduce, outgoing, text, i, a);
+        if i + w.m < w.text.len() {
+            a = w.roll(i, a);
         }
     }
     a
 }
 
 // The next 1,024 windows, or all that are left. Four lanes pay off where the windows that three of them start with are not too long to read.
-pub fn flag_block(
-    s: Setup,
-    reduce: &[u64],
-    outgoing: &[u64; 256],
-    text: &[u8],
-    from: usize,
-    g: u64,
-    flags: &mut [bool; 1024],
-) -> Block
-    requires { Ready s reduce.now outgoing.now
-        × (length flags.old ≡ 1024)
-        × (from + s.m ≤ length text.now)
-        × ResidueAt s text.now from g }
+pub fn flag_block(w: Windows<'_>, from: usize, g: u64, flags: &mut [bool; 1024]) -> Block
+    requires { (from + w.m ≤ length w.text.now) × ResidueAt w from g }
     ensures { (0 < result.size)
         × (result.size ≤ 1024)
-        × (from + result.size + s.m ≤ length text.now + 1)
-        × (result.size < 1024 → from + result.size + s.m ≡ length text.now + 1)
-        × Flagged s text.now from result.size result.next flags.old flags.new
-        × (length flags.new ≡ 1024) }
+        × (from + result.size + w.entry.m ≤ length w.entry.text.now + 1)
+        × (result.size < 1024 → from + result.size + w.entry.m ≡ length w.entry.text.now + 1)
+        × Flagged w.entry from result.size result.next flags.old flags.new }
 {
-    let left = text.len() - s.m + 1 - from;
-    if s.m <= 512 {
-        if 1024 < left {
-            let next = four_lanes(s, reduce, outgoing, text, from, g, flags);
-            return Block { size: 1024, next };
-        }
+    let left = w.text.len() - w.m + 1 - from;
+    if w.m <= 512 && 1024 < left {
+        let next = four_lanes(w, from, g, flags);
+        return Block { size: 1024, next };
     }
     let size = left.min(1024);
-    let next = one_by_one(s, reduce, outgoing, text, from, size, g, flags);
+    let next = one_by_one(w, from, size, g, flags);
     Block { size, next }
 }

@@ -9,7 +9,7 @@ use Rattle.gf2.specs.Moduli.{polynomial}
 use Rattle.gf2.proofs.Monics.{monic-pos}
 use Rattle.gf2.proofs.Steps.{residue-below, residue-one}
 use Rattle.rolling.specs.Rolling.{residue}
-use Rattle.rolling.proofs.Windows.{window-whole}
+use Rattle.rolling.proofs.Window.{window-whole}
 use Rattle.rolling.proofs.Residues.{read_none, read_below, read_more, read_all, shift-more}
 use Rattle.rolling.proofs.read_first.Goals as goal
 
@@ -40,12 +40,10 @@ pub loop-i-preserved : goal.loop-i-preserved
 loop-i-preserved c =
     let a = c.args in
     let l = c.loop-i in
-    let more = read_more a.p c.requires.0.0 in
-    let byte = c.shared_slice_known-in-loop-i-1.given l.i in
-    let byte₂ = c.shared_slice_known-in-loop-i-2-1.given l.i in (
-      more a.text.now 0 l.i l.i l.first _ (zero-add l.i) (omega arith) (omega (arith, byte)) l.invariant.0
+    let more = read_more a.p c.requires.0.0 in (
+      more a.text.now 0 l.i l.i l.first _ (zero-add l.i) (omega arith) (search) l.invariant.0
           c.feed_one-first.ensures,
-      more a.pattern.now 0 l.i l.i l.wanted _ (zero-add l.i) (omega arith) (omega (arith, byte₂)) l.invariant.1 c.feed_one-wanted.ensures,
+      more a.pattern.now 0 l.i l.i l.wanted _ (zero-add l.i) (omega arith) (search) l.invariant.1 c.feed_one-wanted.ensures,
       shift-more (monic-pos a.p.degree a.p.low c.requires.0.0.2) l.i l.shift _ l.invariant.2 c.feed_one-shift.ensures,
     )
 

@@ -9,8 +9,8 @@ use Rattle.windows.proofs.four_lanes.Given as goal
 
 abbrev pub invariant-loop-j : goal.invariant-loop-j
 invariant-loop-j l =
-    ResidueAt l.s l.text (l.from + (l.j + 0)) l.a
-    × ResidueAt l.s l.text (l.from + (l.j + 256)) l.b
-    × ResidueAt l.s l.text (l.from + (l.j + 512)) l.c
-    × ResidueAt l.s l.text (l.from + (l.j + 768)) l.d
-    × LanesFilled false (hit l.s l.text l.from) l.j l.flags
+    ResidueAt l.w (l.from + l.j) l.a
+    × ResidueAt l.w (l.from + l.j + 256) l.b
+    × ResidueAt l.w (l.from + l.j + 512) l.c
+    × ResidueAt l.w (l.from + l.j + 768) l.d
+    × LanesFilled false (hit l.w l.from) l.j l.flags

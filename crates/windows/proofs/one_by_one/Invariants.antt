@@ -1,6 +1,5 @@
 -- `windows::one_by_one` meets its contract. The loop's invariant: j windows have their flags, the other flags stay, and the
 -- residue is that of the next window, if there is one.
-use mathlib.Core.Path.{◌≡◌}
 use mathlib.Core.Bool.{false}
 use Prim.Native.Nat.{◌+◌, ◌≤◌}
 use lib.ListN.{length, get_or}
@@ -10,7 +9,6 @@ use Rattle.windows.proofs.one_by_one.Given as goal
 
 abbrev pub invariant-loop-j : goal.invariant-loop-j
 invariant-loop-j l =
-    (length l.flags ≡ 1024)
-    × (l.from + l.j + l.s.m ≤ length l.text → ResidueAt l.s l.text (l.from + l.j) l.a)
-    × Filled false (hit l.s l.text l.from) 0 l.j l.flags
+    (l.from + l.j + l.w.m ≤ length l.w.text.now → ResidueAt l.w (l.from + l.j) l.a)
+    × Filled false (hit l.w l.from) 0 l.j l.flags
     × Filled false (λ i. get_or l.initial.flags i false) l.size 1024 l.flags

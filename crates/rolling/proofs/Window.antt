@@ -12,6 +12,10 @@ module _ (m : ℕ) (text : List ℕ) (i : ℕ) where
   unfolding window
   window-length h = rw (length-take, length-drop) (omega arith)
 
+  pub window-at : (j : ℕ) → j < m → get_or (window m text i) j 0 ≡ get_or text (i + j) 0
+  unfolding window
+  window-at j h = get_or-take m (drop i text) j 0 h ∙ get_or-drop i text j 0
+
   -- one byte more behind
   pub window_more : i + m < length text → window (suc m) text i ≡ window m text i ++ get_or text (i + m) 0 ∷ []
   unfolding window
