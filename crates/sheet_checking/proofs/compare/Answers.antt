@@ -48,11 +48,8 @@ returns-then-part_length-y c =
 pub page_fields-pages-requires : goal.page_fields-pages-requires
 page_fields-pages-requires c =
     let a = c.args in
-    omega (
-      arith,
-      total a.sheet.now a.x c.requires (as_part a.file.now a.used) (fits (goal.at.page_fields-pages-requires c).Else-file-gt-LONGEST_BYTES)
-          (as_long c),
-    )
+    let few = fits (goal.at.page_fields-pages-requires c).Else-file-gt-LONGEST_BYTES in
+    omega (arith, total a.sheet.now a.x c.requires (as_part a.file.now a.used) few (as_long c))
 
 pub over_pages-same-requires : goal.over_pages-same-requires
 over_pages-same-requires c =
