@@ -4,7 +4,6 @@
 ghost use Rattle.std.specs.Prelude.{◌≡◌, not, ◌+◌, ◌*◌, ◌<◌, ltb};
 ghost use Rattle.refusals.specs.Refusals.{first_of};
 ghost use Rattle.acceptance.specs.Keys.{polynomial_of};
-ghost use Rattle.acceptance.specs.Opened.{Opened};
 ghost use Rattle.files.specs.Files.{as_part, joined_from, replaced};
 ghost use Rattle.marks.specs.Answers.{mark_in, fed, fed_under};
 ghost use Rattle.compose.specs.Composing.{marks_tests, join_tests, join_behind_from, join_behind, join_in_front_from, join_in_front};
@@ -12,22 +11,17 @@ ghost use Rattle.compose.specs.Composing.{page_tests, replace_page};
 ghost use Rattle.compose.specs.PlainMarks.{join_plain_behind, join_plain_in_front};
 
 use files::Mark;
-use gf2::Modulus;
-use marks::{RefusedMark, Running};
+use marks::{OpenMark, RefusedMark, Running};
 use refusals::Refusal;
 
-// Two marks joined, after the test of the key. The running mark m goes back where they are refused.
-fn join_under(
-    p: Modulus,
-    start: u64,
-    m: Running,
-    first: Mark,
-    second: Mark,
-) -> Result<Running, RefusedMark>
-    requires { Opened m.key p × (start < 2) }
-    ensures { fed result ≡ fed_under m.key (first_of (marks_tests (polynomial_of m.key) first second) (mark_in m)
-        (joined_from start (polynomial_of m.key) first second)) }
+// Two marks joined, under an opened key. The running mark goes back where they are refused.
+fn join_under(open: OpenMark, start: u64, first: Mark, second: Mark) -> Result<Running, RefusedMark>
+    requires { start < 2 }
+    ensures { fed result ≡ fed_under open.mark.key (first_of (marks_tests (polynomial_of open.mark.key) first second) (mark_in open.mark)
+        (joined_from start (polynomial_of open.mark.key) first second)) }
 {
+    let p = open.p;
+    let m = open.mark;
     let f = first.fingerprint;
     let g = second.fingerprint;
     if !refusals::fits(first.length, second.length) {
@@ -45,7 +39,7 @@ fn join(start: u64, m: Running, first: Mark, second: Mark) -> Result<Running, Re
     requires { start < 2 }
     ensures { fed result ≡ fed_under m.key (first_of (join_tests m.key first second) (mark_in m) (joined_from start (polynomial_of m.key) first second)) }
 {
-    join_under(m.opened()?, start, m, first, second)
+    join_under(m.opened()?, start, first, second)
 }
 
 // Number 10 does not apply to a page of n bits, from the byte at a place on, in a file of so many bits. The page's end is not made: it might not
@@ -60,21 +54,21 @@ fn page_within(length: u64, place: u64, n: u64) -> bool
     place <= last / 8
 }
 
-// A page changed, after the test of the key.
+// A page changed, under an opened key.
 fn replace(
-    p: Modulus,
-    m: Running,
+    open: OpenMark,
     place: u64,
     old: &[u8],
     old_used: u32,
     new: &[u8],
     new_used: u32,
 ) -> Result<Running, RefusedMark>
-    requires { Opened m.key p }
-    ensures { fed result ≡ fed_under m.key (first_of (page_tests (polynomial_of m.key) (mark_in m) place (as_part old.now old_used)
-        (as_part new.now new_used)) (mark_in m)
-        (replaced (polynomial_of m.key) (mark_in m) place (as_part old.now old_used) (as_part new.now new_used))) }
+    ensures { fed result ≡ fed_under open.mark.key (first_of (page_tests (polynomial_of open.mark.key) (mark_in open.mark) place
+        (as_part old.now old_used) (as_part new.now new_used)) (mark_in open.mark)
+        (replaced (polynomial_of open.mark.key) (mark_in open.mark) place (as_part old.now old_used) (as_part new.now new_used))) }
 {
+    let p = open.p;
+    let m = open.mark;
     let n = files::part_length(old, old_used);
     let other = files::part_length(new, new_used);
     if !refusals::within(m.length, n, other) {
@@ -155,5 +149,5 @@ pub fn replace_page(
     ensures { fed result ≡ fed_under m.key (replace_page m.key (mark_in m) place (as_part old.now old_used)
         (as_part new.now new_used)) }
 {
-    replace(m.opened()?, m, place, old, old_used, new, new_used)
+    replace(m.opened()?, place, old, old_used, new, new_used)
 }

@@ -6,12 +6,12 @@ use Rattle.compose.proofs.join_under.Goals as goal
 
 pub returns-then-not-is_residue : goal.returns-then-not-is_residue
 returns-then-not-is_residue c =
-    let e = opened-degree c.requires.0 in
+    let e = opened-degree c.args.open.opened in
     search rules
 
 pub returns : goal.returns
 unfolding joined_from
 returns c =
-    let e = opened-degree c.requires.0 in
-    let f = opened-whole c.requires.0 in
+    let e = opened-degree c.args.open.opened in
+    let f = opened-whole c.args.open.opened in
     search rules

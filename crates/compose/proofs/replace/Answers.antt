@@ -28,7 +28,7 @@ new s = as_part s.args.new.now s.args.new_used
 
 -- the lengths are those that were counted
 lengths : (c : Else-not-within)
-    → (c.part_length-n.result ≡ part_length (old c)) × (c.part_length-other.result ≡ part_length (new c)) × (c.args.m.length ≤ longest)
+    → (c.part_length-n.result ≡ part_length (old c)) × (c.part_length-other.result ≡ part_length (new c)) × (c.args.open.mark.length ≤ longest)
 lengths c = counted-pages _ _ _ _ _ c.part_length-n.ensures c.part_length-other.ensures c.if-not-within.ensures
 
 -- as many bytes in either page, and as many used bits
@@ -52,31 +52,31 @@ after-page n page place = omega arith
 
 pub returns-then-not-is_residue : goal.returns-then-not-is_residue
 returns-then-not-is_residue c =
-    let e = opened-degree c.requires in
+    let e = opened-degree c.args.open.opened in
     search rules
 
 pub returns-then-n-other : goal.returns-then-n-other
 returns-then-n-other c =
-    let e = opened-degree c.requires in
+    let e = opened-degree c.args.open.opened in
     let k = lengths (goal.at.returns-then-n-other c).Else-not-within in
     search rules
 
 pub returns-then-not-page_within : goal.returns-then-not-page_within
 returns-then-not-page_within c =
-    let e = opened-degree c.requires in
+    let e = opened-degree c.args.open.opened in
     let k = lengths (goal.at.returns-then-not-page_within c).Else-not-within in
     search rules
 
 pub returns-then-is_misused : goal.returns-then-is_misused
 returns-then-is_misused c =
-    let e = opened-degree c.requires in
+    let e = opened-degree c.args.open.opened in
     let k = lengths (goal.at.returns-then-is_misused c).Else-not-within in
     search rules
 
 pub page_difference-change-requires : goal.page_difference-change-requires
 page_difference-change-requires c =
     let u = used c in (
-      opened-proper c.requires,
+      opened-proper c.args.open.opened,
       u.0,
       sym c.if-is_misused.ensures,
       subst (λ (n : ℕ). misused (as_part c.args.new.now n) ≡ false) (sym u.1) (sym c.if-is_misused-2.ensures),
@@ -84,18 +84,18 @@ page_difference-change-requires c =
 
 pub replaced_residue-replaced-requires : goal.replaced_residue-replaced-requires
 replaced_residue-replaced-requires c =
-    let proper = opened-proper c.requires in (
+    let proper = opened-proper c.args.open.opened in (
       proper,
       leb-false _ _ (not-true _ (sym c.if-not-is_residue.ensures)),
-      rw c.page_difference-change.ensures (fingerprints-lt c.args.p proper _ _),
+      rw c.page_difference-change.ensures (fingerprints-lt c.args.open.p proper _ _),
     )
 
 pub returns : goal.returns
 unfolding replaced
 returns c =
-    let e = opened-degree c.requires in
+    let e = opened-degree c.args.open.opened in
     let k = lengths (goal.at.returns c).Else-not-within in
     let u = used (goal.at.returns c).Else-is_misused-2 in
-    let after = after-page c.args.m.length c.part_length-n.result c.args.place in
-    let whole = opened-whole c.requires in
+    let after = after-page c.args.open.mark.length c.part_length-n.result c.args.place in
+    let whole = opened-whole c.args.open.opened in
     search rules

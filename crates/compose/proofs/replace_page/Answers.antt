@@ -4,7 +4,7 @@ use Rattle.std.proofs.lemmas.Result.{err_from_is_err_and}
 use Rattle.acceptance.specs.Keys.{polynomial_of, key_tests}
 use Rattle.files.specs.Files.{as_part, replaced}
 use Rattle.marks.specs.Answers.{mark_in}
-use Rattle.marks.proofs.Laws.{opened, still-refused}
+use Rattle.marks.proofs.Laws.{still-refused, same-mark}
 use Rattle.compose.specs.Composing.{page_tests, replace_page}
 use Rattle.compose.proofs.replace_page.Goals as goal
 
@@ -20,9 +20,6 @@ returns-in_err-opened c =
     rw (q.1, q.2)
     (still-refused (key_tests a.m.key) (page_tests key m a.place old new) a.m _ (replaced key m a.place old new) _ c.in_err-opened.ensures)
 
-pub replace-requires : goal.replace-requires
-replace-requires c = search (rules, opened)
-
 pub returns : goal.returns
 unfolding replace_page
-returns c = search rules
+returns c = let e = same-mark c.args.m _ c.in_ok-opened.ensures in search rules
