@@ -140,12 +140,22 @@ impl Running {
         }
     }
 
+    // Its key, copied field by field: its degree and word were just stored apart, and a copy of both at once would wait for that.
+    fn key_by_fields(self) -> Key
+        ensures { result ≡ self.key }
+    {
+        Key {
+            degree: self.key.degree,
+            word: self.key.word,
+        }
+    }
+
     // Another mark under its key.
     pub fn with_mark(self, fingerprint: u64, length: u64) -> Running
         ensures { result ≡ running self.key (record { fingerprint = fingerprint; length = length }) }
     {
         Running {
-            key: self.key,
+            key: self.key_by_fields(),
             fingerprint,
             length,
         }
@@ -156,7 +166,7 @@ impl Running {
         ensures { result ≡ record { refusal = refusal; mark = self } }
     {
         RefusedMark {
-            mark: self,
+            mark: self.with_mark(self.fingerprint, self.length),
             refusal,
         }
     }
@@ -165,7 +175,7 @@ impl Running {
     pub fn opened(self) -> Result<Modulus, RefusedMark>
         ensures { fed result ≡ first_of (key_tests self.key) self (as_modulus self.key) }
     {
-        keys::test(self.key).map_err(|refusal| self.refused(refusal))
+        keys::test(self.key_by_fields()).map_err(|refusal| self.refused(refusal))
     }
 
     // The mark of the empty file under a key. Numbers 1, 2.
