@@ -157,7 +157,7 @@ impl Running {
         ensures { result ≡ record { refusal = refusal; mark = self } }
     {
         RefusedMark {
-            mark: self,
+            mark: self.with_mark(self.fingerprint, self.length),
             refusal,
         }
     }
