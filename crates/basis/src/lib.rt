@@ -47,6 +47,7 @@ pub fn lowest_one(v: u64) -> u32
 pub fn independent(rows: &mut [u64]) -> bool
     ensures { ((result ≡ true) ↔ Independent rows.old) × Scratch rows.old rows.new }
 {
+    // A while: n counts the rows that are left, one or none of them behind the loop. A for by step_by(2) would have to count these again.
     let mut n = rows.len();
     while 1 < n {
         n -= 2;
