@@ -33,8 +33,8 @@ pub struct Running {
 // A refusal, and the running mark as it was handed in.
 #[derive(Clone, Copy)]
 pub struct RefusedMark {
-    pub refusal: Refusal,
     pub mark: Running,
+    pub refusal: Refusal,
 }
 
 impl From<RefusedMark> for Refusal {
@@ -156,8 +156,8 @@ impl Running {
         ensures { result ≡ record { refusal = refusal; mark = self } }
     {
         RefusedMark {
-            refusal,
             mark: self,
+            refusal,
         }
     }
 

@@ -15,7 +15,7 @@ use gf2::Modulus;
 use refusals::Refusal;
 use rolling::Windows;
 
-// Block by block: which windows have the pattern's residue, and then which of these have its bytes.
+// Block by block, each as long as `flag_block` makes it: which windows have the pattern's residue, and then which of these have its bytes.
 fn search_blocks(w: Windows<'_>, pattern: &[u8], first: u64, places: &mut [u32]) -> Counts
     requires { (w.m ≡ length pattern.now)
         × (w.wanted ≡ residue (key_of w) pattern.now)

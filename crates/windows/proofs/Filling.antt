@@ -38,8 +38,8 @@ module _ {A : Type 0} (d : A) (rule : ℕ → A) where
       × Filled d rule 512 (j + 512) l
       × Filled d rule 768 (j + 768) l
 
-  pub lanes-more : (j : ℕ) (l : List A) (u v w x : A) → j < 256 → length l ≡ 1024 → LanesFilled j l → u ≡ rule j → v ≡ rule (j + 256) → w ≡ rule (j + 512) → x
-      ≡ rule (j + 768)
+  pub lanes-more : (j : ℕ) (l : List A) (u v w x : A) → j < 256 → length l ≡ 1024 → LanesFilled j l
+      → u ≡ rule j → v ≡ rule (j + 256) → w ≡ rule (j + 512) → x ≡ rule (j + 768)
       → LanesFilled (j + 1) (set (set (set (set l j u) (j + 256) v) (j + 512) w) (j + 768) x)
   lanes-more j l u v w x h n (p, q, r, s) eu ev ew ex =
       let l1 = set l j u in

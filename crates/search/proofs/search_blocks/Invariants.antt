@@ -12,8 +12,8 @@ invariant-loop-from l =
     × (l.found.places ≤ l.from)
     × (l.found.alarms ≤ l.from)
     × (l.from < l.windows → ResidueAt l.w l.from l.g)
-    × Tally (is_place l.w.text.now l.pattern) (is_alarm (key_of l.w) l.w.text.now l.pattern) 0 l.windows l.initial.places 0 0 l.places l.found.places
-    l.found.alarms l.from
+    × Tally (is_place l.w.text.now l.pattern) (is_alarm (key_of l.w) l.w.text.now l.pattern) 0 l.windows l.initial.places 0 0 l.places
+    l.found.places l.found.alarms l.from
 
 abbrev pub decreases-loop-from : goal.decreases-loop-from
 decreases-loop-from l = l.windows - l.from
