@@ -1,19 +1,19 @@
 -- Laws of comparing two lists byte by byte, and of flagged windows.
 use mathlib.Core.Path.{◌≡◌, refl, sym, ap, ◌∙◌}
-use mathlib.Core.Bool.{Bool, true, false, true≢false, not, ◌||◌}
+use mathlib.Core.Bool.{Bool, true, false, not, ◌||◌}
 use mathlib.Core.List.{List, [], ◌∷◌}
 use Prim.Native.Nat.{ℕ, ◌+◌, ◌-◌, ◌≤◌, ◌<◌}
 use native.Mathlib.Decide.{dec_lt}
 use native.Mathlib.Omega.{arith}
 use borrow.Author.Tests.{eq-eqb}
-use lib.ListN.{length, take, drop, get_or}
-use Rattle.std.specs.Prelude.{Option, Some, None}
-use Rattle.std.specs.Bool.{Decides}
+use lib.ListN.{length, get_or}
+use Rattle.std.proofs.lemmas.List.{ext_get_or}
 use Rattle.lists.specs.Lists.{same}
 use Rattle.lists.proofs.Lists.{same-eq}
 use Rattle.lists.proofs.Truth.{or-neither}
 use Rattle.rolling.specs.Rolling.{window}
-use Rattle.comparing.specs.Flagged.{NoneFlagged, NextFlagged, flagged_place, flagged_alarm}
+use Rattle.rolling.proofs.Window.{window-length, window-at}
+use Rattle.comparing.specs.Flagged.{NoneFlagged, flagged_place, flagged_alarm}
 
 -- ---- the same bytes
 
@@ -29,18 +29,21 @@ false-unless : (b : Bool) → (b ≡ true → ⊥) → b ≡ false
 false-unless true n = absurd (n refl)
 false-unless false n = refl
 
--- the slice that the code compares is the window
-cut : (text : List ℕ) (at m : ℕ) → take (at + m - at) (drop at text) ≡ window m text at
-unfolding window
-cut text at m = let e : at + m - at ≡ m = omega arith in ap (λ (n : ℕ). take n (drop at text)) e
+-- every byte of the window is the pattern's
+pub same_bytes : (text pattern : List ℕ) (at : ℕ) → at + length pattern ≤ length text
+    → ((k : ℕ) → k < length pattern → get_or text (at + k) 0 ≡ get_or pattern k 0) → same (window (length pattern) text at) pattern ≡ true
+same_bytes text pattern at fits h =
+    let long = window-length (length pattern) text at fits in
+    let bytes = ext_get_or 0 (window (length pattern) text at) pattern long
+    (λ k l. window-at (length pattern) text at k (omega arith) ∙ h k (omega arith)) in
+    rw bytes (same_refl pattern)
 
--- what a comparison of it with the pattern says
-pub compared : (text pattern : List ℕ) (at : ℕ) (b : Bool) → Decides b (take (at + length pattern - at) (drop at text) ≡ pattern)
-    → same (window (length pattern) text at) pattern ≡ b
-compared text pattern at true d = ap (λ (x : List ℕ). same x pattern) (sym (cut text at (length pattern)) ∙ d.0 refl) ∙ same_refl pattern
-compared text pattern at false d =
-    false-unless (same (window (length pattern) text at) pattern)
-    (λ t. true≢false (sym (d.1 (cut text at (length pattern) ∙ same-is (window (length pattern) text at) pattern t))))
+-- one byte of it is not
+pub byte_differs : (text pattern : List ℕ) (at j : ℕ) → j < length pattern → (get_or text (at + j) 0 ≡ get_or pattern j 0 → ⊥)
+    → same (window (length pattern) text at) pattern ≡ false
+byte_differs text pattern at j h n =
+    let w = window (length pattern) text at in
+    false-unless (same w pattern) (λ t. n (sym (window-at (length pattern) text at j h) ∙ ap (λ (x : List ℕ). get_or x j 0) (same-is w pattern t)))
 
 -- ---- flagged windows
 

@@ -76,21 +76,23 @@ pub fn compare(
         × (places.new ≡ sets places.old found.places
         (flagged_places flags.now text.now pattern.now from size)) }
 {
-    let m = pattern.len();
     let mut counts = found;
     let mut next = next_flagged(flags, 0, size);
-    while let Some(i) = next {
+    // Document 01 names this form: the loop over windows holds a loop over the pattern's bytes, left by a label at the first difference.
+    'windows: while let Some(i) = next {
         let at = from + i;
-        if &text[at..at + m] == pattern {
-            let n = counts.places as usize;
-            if n < places.len() {
-                places[n] = at as u32;
-            }
-            counts.places += 1;
-        } else {
-            counts.alarms += 1;
-        }
         next = next_flagged(flags, i + 1, size);
+        for (j, b) in pattern.iter().enumerate() {
+            if text[at + j] != *b {
+                counts.alarms += 1;
+                continue 'windows;
+            }
+        }
+        let n = counts.places as usize;
+        if n < places.len() {
+            places[n] = at as u32;
+        }
+        counts.places += 1;
     }
     counts
 }
