@@ -107,24 +107,22 @@ pub extern "C" fn gfp_check_file(
         × (outcome.new ∷ page.new ∷ []
         ≡ value_or (outcome.old ∷ page.old ∷ []) (mapped outcome_in (check_sheet sheet.now (as_part file.now used)))) }
 {
-    match sheet_checking::check(sheet, file, used) {
-        Ok(Comparison::Same) => {
-            *outcome = 0;
-            *page = 0;
-            0
-        }
-        Ok(Comparison::Page(i)) => {
-            *outcome = 1;
-            *page = i;
-            0
-        }
-        Ok(Comparison::OtherLength) => {
-            *outcome = 2;
-            *page = 0;
-            0
-        }
-        Err(r) => refusals::number(r),
-    }
+    let found = match sheet_checking::check(sheet, file, used) {
+        Ok(found) => found,
+        Err(r) => return refusals::number(r),
+    };
+    // (document 01 names this form: the answer is taken apart, and only a page goes on)
+    let Comparison::Page(i) = found else {
+        *outcome = match found {
+            Comparison::Same => 0,
+            _ => 2,
+        };
+        *page = 0;
+        return 0;
+    };
+    *outcome = 1;
+    *page = i;
+    0
 }
 
 // The bytes of the first changed page of a file, from the first to before the last: outcome 0 for same, 1 for a page, 2 for another length;

@@ -2,7 +2,7 @@
 use mathlib.Core.Path.{◌≡◌, refl, sym, ap, ap₂, ◌∙◌}
 use mathlib.Core.Bool.{true, false}
 use mathlib.Core.List.{List, [], ◌∷◌, ◌++◌}
-use Prim.Native.Nat.{ℕ, ◌+◌, ◌*◌, ◌≤◌, ◌<◌, min}
+use Prim.Native.Nat.{ℕ, ◌*◌, ◌≤◌, ◌<◌}
 use native.Mathlib.Decide.{ℕ_discrete}
 use lib.ListN.{length}
 use borrow.Author.Tests.{eq-eqb, lt-ltb, le-ltb}
@@ -15,16 +15,14 @@ use Rattle.files.specs.Files.{Part, part_length, part_bits, misused, bytes_for}
 use Rattle.files.proofs.Parts.{part-length, part_bytes}
 use Rattle.sheets.specs.declared.Sheet.{Sheet}
 use Rattle.big_endian.specs.Numbers.{numbers_at}
-use Rattle.sheets.specs.Layout.{layouts, layout_of, sheet_length, page_count, pages_for, Contents, contents_in}
+use Rattle.sheets.specs.Layout.{layouts, layout_of, sheet_length, page_count, pages_for, contents_in}
 use Rattle.sheets.specs.Sheets.{page_fingerprints, contents_of, read_tests, read_sheet, Page, OtherLength, first_change, compared, check_sheet}
 use Rattle.sheets.specs.Outputs.{range_in}
 use Rattle.sheets.specs.Answers.{sheet_read}
 use Rattle.sheets.specs.Sheets.{check_tests}
-use Rattle.sheets.specs.Answers.{changed_range, outcome_of, range_of}
-use Rattle.sheets.specs.Comparisons.{PageMapped}
+use Rattle.sheets.specs.Answers.{changed_range}
 use Rattle.sheets.specs.declared.Comparison.{Comparison}
 use Rattle.sheets.specs.declared.Comparison.TheVariants as cases
-use Rattle.std.specs.declared.ops.Range.{Range}
 use Rattle.sheets.specs.Inner.{ReadAs, comparison, ranged, fingerprints_part}
 use Rattle.refusals.proofs.Replies.{first-mapped}
 use Rattle.refusals.proofs.Laws.{Clear, done-clear, more-refused, more-clear, first_true, first_false}
@@ -140,14 +138,8 @@ module _ (sheet : List ℕ) (file : Part) (i : ℕ) (e : check_sheet sheet file 
   pub named-bytes : bytes_for (contents_in sheet).length ≡ length file.bytes
   named-bytes = sym (ap bytes_for (sym (part-length file) ∙ named-equal)) ∙ part_bytes file
 
--- the range is that of the page which is named; else the answer stays
-pub range-told : (x : Contents) (n : ℕ) (found : Comparison ℕ) (r : Comparison (Range ℕ)) {R : ℕ → Range ℕ → Type 0} → PageMapped R found r
-    → ((i : ℕ) → outcome_of found ≡ Page i → bytes_for x.length ≡ n)
-    → ((i : ℕ) (b : Range ℕ) → R i b → b ≡ record { start = i * x.page_size; end = min (i * x.page_size + x.page_size) n })
-    → range_of r ≡ range_in x (outcome_of found)
-range-told x n cases.Same r m held told = ap range_of m
-range-told x n (cases.Page i) r m held told =
-    ap range_of m.2
-    ∙ ap (λ (b : Range ℕ). 1 ∷ b.start ∷ b.end ∷ []) (told i m.0 m.1)
-    ∙ ap (λ (k : ℕ). 1 ∷ i * x.page_size ∷ min (i * x.page_size + x.page_size) k ∷ []) (sym (held i refl))
-range-told x n cases.OtherLength r m held told = ap range_of m
+-- a check's answer that is neither a page nor same
+pub other-length : (f : Comparison ℕ) → ((i : ℕ) → f ≡ cases.Page i → ⊥) → (f ≡ cases.Same → ⊥) → f ≡ cases.OtherLength
+other-length cases.Same page same = absurd (same refl)
+other-length (cases.Page i) page same = absurd (page i refl)
+other-length cases.OtherLength page same = refl

@@ -68,5 +68,12 @@ pub fn first_changed_range(
     let x = sheet_opening::open_sheet(sheet)?;
     let size = x.numbers.size;
     let found = compare(sheet, x, file, used)?;
-    Ok(found.map(|i| bytes_of_page(i, size, file.len() as u64)))
+    // (document 01 names this form: the answer is taken apart, and only a page goes on)
+    let Comparison::Page(i) = found else {
+        return match found {
+            Comparison::Same => Ok(Comparison::Same),
+            _ => Ok(Comparison::OtherLength),
+        };
+    };
+    Ok(Comparison::Page(bytes_of_page(i, size, file.len() as u64)))
 }

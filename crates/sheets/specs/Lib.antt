@@ -2,6 +2,5 @@ pub mod Layout
 pub mod Sheets
 pub mod Outputs
 pub mod Claims
-pub mod Comparisons
 pub mod Answers
 pub mod Inner

@@ -1,9 +1,6 @@
 // Page sheets: the numbers of a sheet, and what a check finds. The definitions are in specs/, their laws in proofs/; the layout in code is in the crate
-// sheet_layout, and the calls are in the crates sheet_writing, sheet_reading and sheet_checking. `Comparison::map` is for the project's own crates: what
-// it requires, every caller proves.
+// sheet_layout, and the calls are in the crates sheet_writing, sheet_reading and sheet_checking.
 #![tactic(auto)]
-
-ghost use Rattle.sheets.specs.Comparisons.{ForPage, PageMapped};
 
 use acceptance::Key;
 
@@ -26,18 +23,4 @@ pub enum Comparison<P> {
     Same,
     Page(P),
     OtherLength,
-}
-
-impl<P> Comparison<P> {
-    // The same with f of the page.
-    pub fn map<Q, F: FnOnce(P) -> Q>(self, f: F) -> Comparison<Q>
-        requires { ForPage self (F.pre f) }
-        ensures { PageMapped (F.post f) self result }
-    {
-        match self {
-            Comparison::Same => Comparison::Same,
-            Comparison::Page(p) => Comparison::Page(f(p)),
-            Comparison::OtherLength => Comparison::OtherLength,
-        }
-    }
 }
