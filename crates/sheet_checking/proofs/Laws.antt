@@ -1,5 +1,5 @@
 -- How a check answers, by what reading answers.
-use mathlib.Core.Path.{◌≡◌, refl, sym, ap, ap₂, ◌∙◌}
+use mathlib.Core.Path.{◌≡◌, sym, ap, ap₂, ◌∙◌}
 use mathlib.Core.Bool.{true, false}
 use mathlib.Core.List.{List, [], ◌∷◌, ◌++◌}
 use Prim.Native.Nat.{ℕ, ◌*◌, ◌≤◌, ◌<◌}
@@ -21,8 +21,6 @@ use Rattle.sheets.specs.Outputs.{range_in}
 use Rattle.sheets.specs.Answers.{sheet_read}
 use Rattle.sheets.specs.Sheets.{check_tests}
 use Rattle.sheets.specs.Answers.{changed_range}
-use Rattle.sheets.specs.declared.Comparison.{Comparison}
-use Rattle.sheets.specs.declared.Comparison.TheVariants as cases
 use Rattle.sheets.specs.Inner.{ReadAs, comparison, ranged, fingerprints_part}
 use Rattle.refusals.proofs.Replies.{first-mapped}
 use Rattle.refusals.proofs.Laws.{Clear, done-clear, more-refused, more-clear, first_true, first_false}
@@ -137,9 +135,3 @@ module _ (sheet : List ℕ) (file : Part) (i : ℕ) (e : check_sheet sheet file 
   -- the file has as many bytes as the sheet says
   pub named-bytes : bytes_for (contents_in sheet).length ≡ length file.bytes
   named-bytes = sym (ap bytes_for (sym (part-length file) ∙ named-equal)) ∙ part_bytes file
-
--- a check's answer that is neither a page nor same
-pub other-length : (f : Comparison ℕ) → ((i : ℕ) → f ≡ cases.Page i → ⊥) → (f ≡ cases.Same → ⊥) → f ≡ cases.OtherLength
-other-length cases.Same page same = absurd (same refl)
-other-length (cases.Page i) page same = absurd (page i refl)
-other-length cases.OtherLength page same = refl

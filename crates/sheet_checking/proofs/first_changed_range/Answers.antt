@@ -1,16 +1,18 @@
 -- `first_changed_range` meets its contract.
 use mathlib.Core.Path.{◌≡◌, sym, ap, ◌∙◌}
 use Prim.Native.Nat.{ℕ}
+use native.Mathlib.Omega.{arith}
 use Rattle.std.proofs.lemmas.Result.{err_from_is_err_and}
 use Rattle.refusals.specs.Refusals.{Done}
 use Rattle.files.specs.Files.{as_part}
 use Rattle.sheets.specs.declared.Comparison.{Comparison}
+use Rattle.sheets.specs.declared.Comparison.TheVariants as cases
 use Rattle.sheets.specs.Layout.{contents_in}
 use Rattle.sheets.specs.Sheets.{check_sheet}
 use Rattle.sheets.specs.Answers.{changed_range, outcome_of}
 use Rattle.sheets.specs.Inner.{ReadAs, ranged}
 use Rattle.sheets.proofs.Known.{read_as}
-use Rattle.sheet_checking.proofs.Laws.{check_refused, check_done, size_is, changed_by_check, named-bytes, other-length}
+use Rattle.sheet_checking.proofs.Laws.{check_refused, check_done, size_is, changed_by_check, named-bytes}
 use Rattle.sheet_checking.proofs.Pages.{size_right}
 use Rattle.sheet_checking.proofs.first_changed_range.Goals as goal
 use Rattle.sheet_checking.proofs.first_changed_range.Goals.{In_ok-x, In_ok-found}
@@ -52,8 +54,7 @@ pub returns-in-Same : goal.returns-in-Same
 returns-in-Same c = told (goal.at.returns-in-Same c).In_ok-found _ c.in-Same.is
 
 pub returns-in_default-found : goal.returns-in_default-found
-returns-in_default-found c =
-    told (goal.at.returns-in_default-found c).In_ok-found _ (other-length c.in_ok-found.found c.in_default.not-Page c.in_default-found.not-Same)
+returns-in_default-found c = told (goal.at.returns-in_default-found c).In_ok-found cases.OtherLength (grind arith)
 
 pub bytes_of_page-requires : goal.bytes_of_page-requires
 bytes_of_page-requires c = (size_right c.args.sheet.now c.in_ok-x.x (known (goal.at.bytes_of_page-requires c).In_ok-x)).1
