@@ -178,14 +178,17 @@ module _ (n : ℕ) (input : List ℕ) where
   key-digits h lo hi e = rw (lt-ltb n (length input) h, le-leb 1 n lo, le-leb n 17 hi, e)
 
 -- by the place of the first newline, where there is one
+pub line_at : (input : List ℕ) (r : ℕ) → r ≡ index_of 10 input → key_line input ≡ key_before r input
+unfolding key_line
+line_at input r e = ap (λ (n : ℕ). key_before n input) (sym e)
+
 pub unended : (input : List ℕ) → length input ≤ index_of 10 input → key_line input ≡ Err NoKey
 unfolding key_line
 unended input h = no_newline (index_of 10 input) input h
 
 module _ (input : List ℕ) (n : ℕ) (at : (n < length input) × (n ≡ index_of 10 input)) where
   key-before : key_line input ≡ key_before n input
-  unfolding key_line
-  key-before = ap (λ (k : ℕ). key_before k input) (sym at.1)
+  key-before = line_at input n at.1
 
   pub line-length : (n < 1) ⊎ (17 < n) → key_line input ≡ Err NoKey
   line-length (inl h) = key-before ∙ empty-line n input h
