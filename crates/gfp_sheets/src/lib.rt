@@ -113,11 +113,11 @@ pub extern "C" fn gfp_check_file(
     };
     // (document 01 names this form: the answer is taken apart, and only a page goes on)
     let Comparison::Page(i) = found else {
+        *page = 0;
         *outcome = match found {
             Comparison::Same => 0,
             _ => 2,
         };
-        *page = 0;
         return 0;
     };
     *outcome = 1;

@@ -32,9 +32,11 @@ use Rattle.marks.specs.Answers.{mark_in, running, begun_under, fed_under}
 use Rattle.printing.specs.Printing.{mark_file}
 use Rattle.input_feeding.specs.declared.Stopped.{Stopped}
 use Rattle.input_feeding.specs.declared.Stopped.TheVariants as StoppedCases
+use Rattle.input_feeding.specs.declared.Unfed.{Unfed}
+use Rattle.input_feeding.specs.declared.Unfed.TheVariants as UnfedCases
 use Rattle.input_feeding.specs.declared.Marking.{Marking}
 use Rattle.input_feeding.specs.Turns.{fed_on, Turned}
-use Rattle.input_feeding.specs.Marking.{feeds, stateless, Gives, FedInParts, MarkedInParts}
+use Rattle.input_feeding.specs.Marking.{feeds, stateless, as_stopped, Gives, FedInParts, MarkedInParts}
 use Rattle.input_calls.specs.declared.Got.{Got}
 use Rattle.input_calls.specs.declared.Got.TheVariants.{Bytes, End, Interrupted, Failed}
 use Rattle.input_calls.specs.declared.Input.{Input}
@@ -90,7 +92,7 @@ pub at_first : (start : Running) (words : List ℕ) (input : Input) → SoFar st
 at_first start words input = (refl, ([], (gave-none input input refl, refl)))
 
 -- behind the end
-at-end : (start : Running) (words : List ℕ) (input : Input) (m : Running) (at : Input) → SoFar start words input m at → at.last ≡ End
+pub at-end : (start : Running) (words : List ℕ) (input : Input) (m : Running) (at : Input) → SoFar start words input m at → at.last ≡ End
     → FedInParts start words input (record { marked = Ok m; input = at })
 at-end start words input m at s e = (
   s.1.0,
@@ -106,7 +108,7 @@ at-end start words input m at s e = (
 
 -- what a turn answers
 abbrev pub Step : Type 0
-Step = Result (Option Running) Stopped
+Step = Result (Option Running) Unfed
 
 fed-on_next : (b : Answer Running Running) (now : Running) → ◌≡◌ {A = Step} (Ok (Some now)) (fed_on b) → Done now ≡ b
 fed-on_next (Done m) now e = cc
@@ -116,17 +118,17 @@ fed-on_end : (b : Answer Running Running) → ◌≡◌ {A = Step} (Ok None) (fe
 fed-on_end (Done m) e = let z : ◌≡◌ {A = ℕ} 0 1 = cc in omega arith
 fed-on_end (Refused r m) e = let z : ◌≡◌ {A = ℕ} 0 1 = cc in omega arith
 
-fed-on_stopped : (b : Answer Running Running) (s : Stopped) → ◌≡◌ {A = Step} (Err s) (fed_on b)
-    → (r : Refusal) × ((kept : Running) × ((s ≡ StoppedCases.Refused r) × (Refused r kept ≡ b)))
-fed-on_stopped (Done m) s e = absurd (let z : ◌≡◌ {A = ℕ} 0 1 = cc in omega arith)
-fed-on_stopped (Refused r m) s e = (r, (m, (cc, refl)))
+fed-on_stopped : (b : Answer Running Running) (u : Unfed) → ◌≡◌ {A = Step} (Err u) (fed_on b)
+    → (r : Refusal) × ((kept : Running) × ((u ≡ UnfedCases.Refused (record { mark = kept; refusal = r })) × (Refused r kept ≡ b)))
+fed-on_stopped (Done m) u e = absurd (let z : ◌≡◌ {A = ℕ} 0 1 = cc in omega arith)
+fed-on_stopped (Refused r m) u e = (r, (m, (cc, refl)))
 
 -- what a turn leaves, by its answer
 pub record Turn (start : Running) (words : List ℕ) (input : Input) (m : Running) (next : Input) (step : Step) : Type 0 where
   pub ends : step ≡ Ok None → FedInParts start words input (record { marked = Ok m; input = next })
   pub goes_on : (now : Running) → step ≡ Ok (Some now)
       → SoFar start words input now next × ((m.length < now.length) × (now.length ≤ longest))
-  pub stops : (s : Stopped) → step ≡ Err s → FedInParts start words input (record { marked = Err s; input = next })
+  pub stops : (u : Unfed) → step ≡ Err u → FedInParts start words input (record { marked = Err (as_stopped u); input = next })
 
 module _ (start : Running) (words : List ℕ) (input : Input) (m : Running) (at : Input) (s : SoFar start words input m at) where
   -- one part more
@@ -162,17 +164,17 @@ module _ (start : Running) (words : List ℕ) (input : Input) (m : Running) (at 
           let g = fed-longer m.key (mark_in m) words part (mark_in now) h.1 in
           ((h.0 ∙ s.0, (s.1.0 ++ part ∷ [], (gave, one_more part ∙ h.1))), (omega (arith, g.0, b.0.0, b.0.1.1), g.1))
 
-      turn-refused : (t : Stopped) → step ≡ Err t → FedInParts start words input (record { marked = Err t; input = next })
+      turn-refused : (t : Unfed) → step ≡ Err t → FedInParts start words input (record { marked = Err (as_stopped t); input = next })
       turn-refused t e =
           let answer = feed_table m.key (mark_in m) words (whole part) in
           let f = fed-on_stopped (fed_under m.key answer) t (sym e ∙ fed) in
-          subst (λ (x : Stopped). FedInParts start words input (record { marked = Err x; input = next })) (sym f.1.1.0)
+          subst (λ (x : Unfed). FedInParts start words input (record { marked = Err (as_stopped x); input = next })) (sym f.1.1.0)
           (s.1.0 ++ part ∷ [], (gave, ap (begun_under start.key) (ap stateless (one_more part) ∙ fed-refused m.key answer f.0 f.1.0 f.1.1.1)))
 
-    turn-failed : (t : Stopped) → next.last ≡ Failed → t ≡ StoppedCases.Unread → FedInParts start words input (record { marked = Err t; input = next })
+    turn-failed : (t : Unfed) → next.last ≡ Failed → t ≡ UnfedCases.Unread → FedInParts start words input (record { marked = Err (as_stopped t); input = next })
     turn-failed t l e =
         let so = turn-none (ap given l) in
-        subst (λ (x : Stopped). FedInParts start words input (record { marked = Err x; input = next })) (sym e) (so.1.0, (so.1.1.0, l))
+        subst (λ (x : Unfed). FedInParts start words input (record { marked = Err (as_stopped x); input = next })) (sym e) (so.1.0, (so.1.1.0, l))
 
     pub turn_of : Turned next.last m words buffer step → (next.last ≡ Interrupted → ⊥) → Turn start words input m next step
     turn_of h never = go next.last refl h

@@ -17,6 +17,8 @@ use Rattle.input_calls.specs.declared.Input.{Input}
 use Rattle.input_calls.specs.Reading.{Gave}
 use Rattle.input_feeding.specs.declared.Stopped.{Stopped}
 use Rattle.input_feeding.specs.declared.Stopped.TheVariants as StoppedCases
+use Rattle.input_feeding.specs.declared.Unfed.{Unfed}
+use Rattle.input_feeding.specs.declared.Unfed.TheVariants as UnfedCases
 use Rattle.input_feeding.specs.declared.Marking.{Marking}
 
 -- feeds by the words of a table, one after another, until one is refused
@@ -29,6 +31,11 @@ feeds key words (Refused r m) (part ∷ parts) = Refused r m
 abbrev pub stateless : Answer Mark Mark → Answer Unit Mark
 stateless (Done m) = Done m
 stateless (Refused r m) = Refused r tt
+
+-- why there is no mark, by what a turn says
+abbrev pub as_stopped : Unfed → Stopped
+as_stopped (UnfedCases.Refused e) = StoppedCases.Refused e.refusal
+as_stopped UnfedCases.Unread = StoppedCases.Unread
 
 -- the code's answer, by what the last read gave: this one behind the end; this one, which is a refusal; none, where a read failed
 abbrev pub Gives : Result Running Stopped → Got → Answer Unit Running → Type 0

@@ -4,9 +4,10 @@
 
 ghost use Rattle.std.specs.Prelude.{◌≡◌};
 ghost use Rattle.input_feeding.specs.declared.Stopped.TheVariants.{Refused};
+ghost use Rattle.input_feeding.specs.declared.Unfed.TheVariants as UnfedCases;
 ghost use Rattle.input_calls.specs.Reading.{InFront};
 ghost use Rattle.input_feeding.specs.Turns.{Turned};
-ghost use Rattle.input_feeding.specs.Marking.{FirstFed, FedInParts, MarkedInParts};
+ghost use Rattle.input_feeding.specs.Marking.{as_stopped, FirstFed, FedInParts, MarkedInParts};
 
 use acceptance::Key;
 use input_calls::{Got, Input};
@@ -29,6 +30,32 @@ impl From<RefusedMark> for Stopped {
     }
 }
 
+// Why a turn hands no mark on: the feed was refused, and the running mark goes back as it was handed in, or standard input cannot be read.
+#[derive(Clone, Copy)]
+enum Unfed {
+    Refused(RefusedMark),
+    Unread,
+}
+
+impl From<RefusedMark> for Unfed {
+    ghost from_gives = { λ e u. u ≡ UnfedCases.Refused e };
+
+    fn from(e: RefusedMark) -> Unfed {
+        Unfed::Refused(e)
+    }
+}
+
+impl From<Unfed> for Stopped {
+    ghost from_gives = { λ u s. s ≡ as_stopped u };
+
+    fn from(u: Unfed) -> Stopped {
+        match u {
+            Unfed::Refused(e) => e.into(),
+            Unfed::Unread => Stopped::Unread,
+        }
+    }
+}
+
 // The mark of what was read to its end, and the input as it was left.
 #[derive(Clone, Copy)]
 pub struct Marking {
@@ -37,14 +64,14 @@ pub struct Marking {
 }
 
 // What a turn makes of what a read gave: bytes at the front of the buffer are fed to the running mark by its key's table. At the end there is no next mark.
-fn turn(got: Got, m: Running, words: &[u64], buffer: &[u8]) -> Result<Option<Running>, Stopped>
+fn turn(got: Got, m: Running, words: &[u64], buffer: &[u8]) -> Result<Option<Running>, Unfed>
     requires { InFront got buffer.now }
     ensures { Turned got m words.now buffer.now result }
 {
     match got {
         Got::Bytes(n) => Ok(Some(m.feed_table(words, &buffer[..n], 8)?)),
         Got::End => Ok(None),
-        Got::Interrupted | Got::Failed => Err(Stopped::Unread),
+        Got::Interrupted | Got::Failed => Err(Unfed::Unread),
     }
 }
 
@@ -59,7 +86,7 @@ fn feed_rest(stdin: Stdin, start: Running, words: &[u64], mut input: Input) -> M
         match turn(input.last(), m, words, &buffer) {
             Ok(Some(next)) => m = next,
             Ok(None) => break Ok(m),
-            Err(stopped) => break Err(stopped),
+            Err(unfed) => break Err(unfed.into()),
         }
     };
     Marking { marked, input }

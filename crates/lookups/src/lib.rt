@@ -74,20 +74,35 @@ impl KeyTable<'_> {
         below ^ self.look_two(0, above) ^ self.look_two(2, above / 65536)
     }
 
-    // Four bytes behind a residue. Of x the coefficients below t^k are the residue; those above are left over from the step before and count
-    // for nothing, here as in the result: so no step has to clear them. Where the degree is below 32, some of the new bits reach t^k
-    // themselves; else what reaches t^k is known before the new bits are. In a loop the compiler takes the branch, which is on the degree
-    // alone, out of it.
-    pub fn append(self, x: u64, v: u32) -> u64
+    // Four bytes behind a residue, where the degree is below 32: some of the new bits reach t^k themselves. Of x the coefficients below t^k are
+    // the residue; those above are left over from the step before and count for nothing, here as in the result: so no step has to clear them.
+    pub fn append_low(self, x: u64, v: u32) -> u64
+        requires { self.p.degree < 32 }
         ensures { Appended self.entry.p x v result }
     {
         let y = x % 4294967296 * 4294967296 + u64::from(v);
-        let above = if self.p.degree < 32 {
-            y >> self.p.degree
-        } else {
-            x >> (self.p.degree - 32)
-        };
-        self.look_up(y, above)
+        self.look_up(y, y >> self.p.degree)
+    }
+
+    // The same where the degree is at least 32: what reaches t^k is known before the new bits are.
+    pub fn append_high(self, x: u64, v: u32) -> u64
+        requires { 32 ≤ self.p.degree }
+        ensures { Appended self.entry.p x v result }
+    {
+        self.look_up(
+            x % 4294967296 * 4294967296 + u64::from(v),
+            x >> (self.p.degree - 32),
+        )
+    }
+
+    // The same for every degree. In a loop of one lane the compiler takes the branch, which is on the degree alone, out of it.
+    pub fn append(self, x: u64, v: u32) -> u64
+        ensures { Appended self.entry.p x v result }
+    {
+        if self.p.degree < 32 {
+            return self.append_low(x, v);
+        }
+        self.append_high(x, v)
     }
 
     // Four bytes behind a residue, cleared.

@@ -50,11 +50,11 @@ module _ {p : ℕ} (pos : 0 < p) where
 
   -- ---- bytes appended, and the next window
 
-  residue-none : residue p [] ≡ 0
+  pub residue-none : residue p [] ≡ 0
   unfolding residue fingerprint_from bits value_from
   residue-none = rem-zero p
 
-  residue-append : (a : List ℕ) (b : ℕ) → b < 256 → residue p (a ++ b ∷ []) ≡ rem p (residue p a * 256 + b)
+  pub residue-append : (a : List ℕ) (b : ℕ) → b < 256 → residue p (a ++ b ∷ []) ≡ rem p (residue p a * 256 + b)
   unfolding residue fingerprint_from
   residue-append a b h =
       ap (rem p) (ap (value_from 0) (bits-append a (b ∷ [])) ∙ value-append 0 (bits a) (bits (b ∷ [])))
@@ -77,13 +77,13 @@ module _ {p : ℕ} (pos : 0 < p) where
       ∙ rem-⊕ pos (x * 2 ^ length (bits a)) (value_from 0 (bits a))
       ∙ rw (length-bits a, ⊗-pow (8 * length a) x)
 
-  residue-more : (m : ℕ) (text : List ℕ) (i : ℕ) → i + m < length text → get_or text (i + m) 0 < 256
+  pub residue-more : (m : ℕ) (text : List ℕ) (i : ℕ) → i + m < length text → get_or text (i + m) 0 < 256
       → residue p (window (m + 1) text i) ≡ rem p (residue p (window m text i) * 256 + get_or text (i + m) 0)
   residue-more m text i h l =
       rw (add-one m, window_more m text i h) (residue-append (window m text i) (get_or text (i + m) 0) l)
 
   -- the first byte, times t^(8m), goes out
-  residue-next : (m : ℕ) (text : List ℕ) (i : ℕ) → i + m < length text → get_or text i 0 < 256
+  pub residue-next : (m : ℕ) (text : List ℕ) (i : ℕ) → i + m < length text → get_or text i 0 < 256
       → residue p (window m text (i + 1)) ≡ residue p (window (m + 1) text i) ⊕ rem p (get_or text i 0 ⊗ 2 ^ (8 * m))
   residue-next m text i h l =
       ⊕_move gone (residue p (window m text (i + 1))) (residue p (window (m + 1) text i)) (sym front)

@@ -9,8 +9,7 @@ ghost use Rattle.sheets.specs.Inner.{ReadAs, comparison};
 
 use refusals::Refusal;
 use sheet_opening::OpenSheet;
-use sheets::Comparison;
-use std::ops::Range;
+use sheets::{Comparison, PageBytes};
 
 // A file against a sheet that was opened as x: its first changed page is counted from 0. Numbers 7, 19.
 fn compare(sheet: &[u8], x: OpenSheet, file: &[u8], used: u32) -> Result<Comparison<u32>, Refusal>
@@ -47,13 +46,16 @@ pub fn check(sheet: &[u8], file: &[u8], used: u32) -> Result<Comparison<u32>, Re
 }
 
 // The bytes of page i, by the page size and the file's bytes.
-fn bytes_of_page(i: u32, size: u64, n: u64) -> Range<u64>
+fn bytes_of_page(i: u32, size: u64, n: u64) -> PageBytes
     requires { size ≤ 4096 }
     ensures { result ≡ record { start = i * size; end = min (i * size + size) n } }
 {
     let from = u64::from(i) * size;
     let end = from + size;
-    from..end.min(n)
+    PageBytes {
+        start: from,
+        end: end.min(n),
+    }
 }
 
 // The bytes of the first changed page, where the check names a page.
@@ -62,7 +64,7 @@ pub fn first_changed_range(
     sheet: &[u8],
     file: &[u8],
     used: u32,
-) -> Result<Comparison<Range<u64>>, Refusal>
+) -> Result<Comparison<PageBytes>, Refusal>
     ensures { change_answer result ≡ changed_range sheet.now (as_part file.now used) }
 {
     let x = sheet_opening::open_sheet(sheet)?;

@@ -91,7 +91,7 @@ pub fn open_head(sheet: &[u8]) -> Option<Head>
         sheet_layout::LETTERS_WIDTH,
         sheet_layout::VERSION_WIDTH,
     );
-    let v = sheet_layout::fields_of(version)?;
+    let v = sheet_layout::known_fields(version)?;
     head_in(sheet, version, v)
 }
 

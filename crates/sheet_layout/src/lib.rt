@@ -94,15 +94,24 @@ pub fn newest() -> Fields
     VERSION_4
 }
 
+// The fields of a version; those of the newest where there is no such version.
+pub fn fields_of(version: u64) -> Fields
+    ensures { LaidOut (layout_of version) result }
+{
+    match version {
+        1 => VERSION_1,
+        2 => VERSION_2,
+        3 => VERSION_3,
+        _ => newest(),
+    }
+}
+
 // The fields of a version, if there is such a version.
-pub fn fields_of(version: u64) -> Option<Fields>
+pub fn known_fields(version: u64) -> Option<Fields>
     ensures { FieldsOf version result }
 {
     match version {
-        1 => Some(VERSION_1),
-        2 => Some(VERSION_2),
-        3 => Some(VERSION_3),
-        NEWEST => Some(newest()),
+        1..=NEWEST => Some(fields_of(version)),
         _ => None,
     }
 }

@@ -1,7 +1,7 @@
 -- Laws of the versions: what the layouts that are read have in common.
 use mathlib.Core.Path.{◌≡◌, refl, sym, ap}
 use mathlib.Core.Logic.{◌≢◌}
-use mathlib.Core.Bool.{true, false≢true}
+use mathlib.Core.Bool.{true, false, false≢true}
 use mathlib.Core.List.{[], ◌∷◌}
 use Prim.Native.Nat.{ℕ, ◌+◌, ◌*◌, ◌/◌, ◌^◌, ◌≤◌, ◌<◌}
 use native.Mathlib.Nat.{mul-zero, add-zero, div-lt_iff_lt-mul}
@@ -101,3 +101,25 @@ known_small n e = go (ℕ_discrete 1 n) (ℕ_discrete 2 n) (ℕ_discrete 3 n) (�
     go (no a) (no b) (yes c) d = rw (← c) (lit< tt)
     go (no a) (no b) (no c) (yes d) = rw (← d) (lit< tt)
     go (no a) (no b) (no c) (no d) = absurd (false≢true (rw (ne_eqb 1 n a, ne_eqb 2 n b, ne_eqb 3 n c, ne_eqb 4 n d) at e))
+
+-- the versions that are known are 1 to 4
+module _ (n : ℕ) where
+  pub known_between : 1 ≤ n → n ≤ 4 → known layouts n ≡ true
+  unfolding known
+  known_between l h = go (ℕ_discrete 1 n) (ℕ_discrete 2 n) (ℕ_discrete 3 n) (ℕ_discrete 4 n)
+    where
+      go : Dec (1 ≡ n) → Dec (2 ≡ n) → Dec (3 ≡ n) → Dec (4 ≡ n) → known layouts n ≡ true
+      go (yes a) b c d = rw (← a) refl
+      go (no a) (yes b) c d = rw (← b) refl
+      go (no a) (no b) (yes c) d = rw (← c) refl
+      go (no a) (no b) (no c) (yes d) = rw (← d) refl
+      go (no a) (no b) (no c) (no d) = absurd (omega arith)
+
+  pub not-known : (1 ≤ n → n ≤ 4 → ⊥) → known layouts n ≡ false
+  unfolding known
+  not-known out = rw (
+    ne_eqb 1 n (λ e. out (omega arith) (omega arith)),
+    ne_eqb 2 n (λ e. out (omega arith) (omega arith)),
+    ne_eqb 3 n (λ e. out (omega arith) (omega arith)),
+    ne_eqb 4 n (λ e. out (omega arith) (omega arith)),
+  ) refl

@@ -1,6 +1,5 @@
 -- For callers in Rattle: the answers of the calls in code, as those of the definitions. A reader of the functions for C need not read this page.
 use Rattle.std.specs.Prelude.{List, [], ◌∷◌, ℕ, Result}
-use Rattle.std.specs.declared.ops.Range.{Range}
 use Rattle.refusals.specs.declared.Refusal.{Refusal}
 use Rattle.refusals.specs.Refusals.{Answer, mapped, first_of}
 use Rattle.refusals.specs.Answers.{told}
@@ -11,6 +10,7 @@ use Rattle.sheets.specs.Outputs.{numbers_of, range_in}
 use Rattle.sheets.specs.declared.Sheet.{Sheet}
 use Rattle.sheets.specs.declared.Comparison.{Comparison}
 use Rattle.sheets.specs.declared.Comparison.TheVariants as cases
+use Rattle.sheets.specs.declared.PageBytes.{PageBytes}
 
 -- the call that answers the changed range: a check, and the range of the page that it names
 unfoldable pub changed_range : List ℕ → Part → Answer Unit (List ℕ)
@@ -28,7 +28,7 @@ outcome_of (cases.Page i) = Page i
 outcome_of cases.OtherLength = OtherLength
 
 -- one that gives the page's bytes, by the numbers of `range_in`
-abbrev pub range_of : Comparison (Range ℕ) → List ℕ
+abbrev pub range_of : Comparison PageBytes → List ℕ
 range_of cases.Same = 0 ∷ 0 ∷ 0 ∷ []
 range_of (cases.Page bytes) = 1 ∷ bytes.start ∷ bytes.end ∷ []
 range_of cases.OtherLength = 2 ∷ 0 ∷ 0 ∷ []
@@ -36,5 +36,5 @@ range_of cases.OtherLength = 2 ∷ 0 ∷ 0 ∷ []
 abbrev pub check_answer : Result (Comparison ℕ) Refusal → Answer Unit Outcome
 check_answer r = mapped outcome_of (told r)
 
-abbrev pub change_answer : Result (Comparison (Range ℕ)) Refusal → Answer Unit (List ℕ)
+abbrev pub change_answer : Result (Comparison PageBytes) Refusal → Answer Unit (List ℕ)
 change_answer r = mapped range_of (told r)

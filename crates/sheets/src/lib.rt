@@ -24,3 +24,10 @@ pub enum Comparison<P> {
     Page(P),
     OtherLength,
 }
+
+// The bytes of a page in its file, from the first to before the last. A type of its own, since an answer can be copied, and std's Range cannot.
+#[derive(Clone, Copy)]
+pub struct PageBytes {
+    pub start: u64,
+    pub end: u64,
+}

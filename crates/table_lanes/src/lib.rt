@@ -11,8 +11,8 @@ ghost use Rattle.table_lanes.specs.Lanes.{EachLane, FourMore, FedLane, TwoRows, 
 use gf2::Modulus;
 use lookups::KeyTable;
 
-// Four bytes more in each of four lanes of n bytes: four chains of look-ups that do not wait for each other. The bytes are read before the first
-// look-up, so that the compiler knows four of them as one load.
+// Four bytes more in each of four lanes of n bytes: four chains of look-ups that do not wait for each other. The branch stands once before the four
+// steps, so that the compiler takes it out of the loop, and the bytes are read before it, so that it knows four of them as one load.
 fn feed_turn(table: KeyTable<'_>, x: &mut [u64; 4], part: &[u8], n: usize, i: usize)
     requires { (i + 4 ≤ n) × (4 * n ≤ length part.now) }
     ensures { EachLane (λ j. FourMore table.entry.p part.now (i + j * n) (get_or x.old j 0) (get_or x.new j 0)) }
@@ -23,8 +23,14 @@ fn feed_turn(table: KeyTable<'_>, x: &mut [u64; 4], part: &[u8], n: usize, i: us
         big_endian::four_at(part, i + 2 * n),
         big_endian::four_at(part, i + 3 * n),
     ];
-    for (j, y) in x.iter_mut().enumerate() {
-        *y = table.append(*y, v[j]);
+    if table.p.degree < 32 {
+        for (j, y) in x.iter_mut().enumerate() {
+            *y = table.append_low(*y, v[j]);
+        }
+    } else {
+        for (j, y) in x.iter_mut().enumerate() {
+            *y = table.append_high(*y, v[j]);
+        }
     }
 }
 

@@ -31,5 +31,5 @@ loop-next-preserved c =
 
 pub returns-in-Err : goal.returns-in-Err
 returns-in-Err c =
-    let e : ◌≡◌ {A = Step} c.turn.result (Err c.in-Err.stopped) = cc in
-    (facts (goal.at.returns-in-Err c).After-turn).stops _ e
+    let e : ◌≡◌ {A = Step} c.turn.result (Err c.in-Err.unfed) = cc in
+    rw c.into.ensures ((facts (goal.at.returns-in-Err c).After-turn).stops _ e)
